@@ -1,0 +1,5 @@
+pub mod NumberLaws
+pub mod UnitLaws
+pub mod FrameLaws
+pub mod ReadLaws
+pub mod HeaderLaws

@@ -1,0 +1,18 @@
+//! The frames of a capture: the file header, and then one frame for the consumed part of each
+//! write to the Binder driver and of each read from it.
+#![tactic(auto)]
+
+mod direction;
+mod fault;
+mod frame;
+mod frames;
+mod header;
+mod number;
+
+pub use direction::Direction;
+pub use fault::{Fault, FaultKind};
+pub use frame::Frame;
+pub use frames::Frames;
+
+#[cfg(test)]
+mod tests;
