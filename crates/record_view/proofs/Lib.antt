@@ -1,0 +1,2 @@
+pub mod RecordLaws
+pub mod ReadLaws

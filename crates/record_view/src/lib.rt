@@ -1,0 +1,12 @@
+//! The records of a frame: each a code of the Binder driver's protocol and its payload.
+#![tactic(auto)]
+
+mod protocol;
+mod record;
+mod records;
+
+pub use record::Record;
+pub use records::Records;
+
+#[cfg(test)]
+mod tests;

@@ -1,0 +1,17 @@
+ghost use Rattle.std.specs.Prelude.{◌+◌, ◌<◌, ◌^◌, length};
+
+use binder_code::{Code, Kind};
+
+/// A record of a frame's command bytes. Its payload is the capture's own bytes.
+#[derive(Clone, Copy, Debug)]
+pub struct Record<'c> {
+    /// Where the record's code begins in the capture, in bytes.
+    pub place: u64,
+    /// What the code stands for.
+    pub kind: Kind,
+    /// The code word as read.
+    pub code: Code,
+    /// The bytes after the code, as many as the code's size says.
+    pub payload: &'c [u8],
+    ghost fits: { place + 4 + length payload.now < 2 ^ 64 },
+}

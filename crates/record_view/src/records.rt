@@ -1,0 +1,114 @@
+//! The reader of a frame's records.
+
+ghost use Rattle.std.specs.Prelude.{◌≡◌, ◌<◌, ◌+◌, ◌^◌, length, IfOk, IfErr};
+ghost use Rattle.record_view.specs.Reading.{BeginsWith};
+ghost use Rattle.record_view.specs.Records.{RecordFails};
+
+use crate::protocol::protocol;
+use crate::record::Record;
+use binder_code::{Code, CodeFault, Protocol};
+use byteorder::{ByteOrder, LittleEndian};
+use capture_frame::{Fault, FaultKind, Frame};
+use std::marker::Model;
+
+/// The length of a code, in bytes.
+const CODE: usize = 4;
+
+/// Where a reader stands: before the record at an offset into the command bytes, or at the fault
+/// that ended it.
+#[derive(Clone, Copy, Debug)]
+enum State {
+    At { offset: usize },
+    Failed(Fault),
+}
+
+/// Reads the records of a frame in order. A reader that has failed gives its fault again at every
+/// later call, and one that has ended gives `None`.
+#[derive(Debug, Drop)]
+pub struct Records<'c> {
+    commands: &'c [u8],
+    place: u64,
+    protocol: Protocol,
+    state: State,
+}
+
+impl<'c> Model for Records<'c> {
+    ghost use Rattle.std.specs.Prelude.{◌≡◌, ◌≤◌, ◌<◌, ◌+◌, ◌^◌, length};
+    ghost use Rattle.record_view.specs.Reading.{Reading};
+
+    ghost Value = { Reading };
+
+    ghost use Rattle.record_view.specs.State.{reading_of, IsWithin};
+
+    ghost view = { λ r. reading_of r.protocol r.commands.now r.place r.state };
+
+    ghost invariant = { λ r. (r.place + length r.commands.now < 2 ^ 64) × IsWithin r.commands.now r.state };
+}
+
+impl<'c> Records<'c> {
+    ghost use Rattle.record_view.specs.Reading.{at, failed, Steps};
+    ghost use Rattle.record_view.specs.Records.{protocol_of};
+
+    /// A reader of the frame's records.
+    pub fn of(frame: Frame<'c>) -> Records<'c>
+        ensures { result ≡ at (protocol_of frame.entry.direction) frame.entry.commands.now (frame.entry.place + 32) 0 }
+    {
+        Records {
+            commands: frame.commands,
+            place: frame.place + 32,
+            protocol: protocol(frame.direction),
+            state: State::At { offset: 0 },
+        }
+    }
+
+    /// The next record, or the fault of the bytes that stand there.
+    pub fn next_record(&mut self) -> Result<Option<Record<'c>>, Fault>
+        ensures { Steps self.old result self.new }
+    {
+        let offset = match self.state {
+            State::At { offset } => offset,
+            State::Failed(fault) => return Err(fault),
+        };
+        let rest = &self.commands[offset..];
+        if rest.is_empty() {
+            return Ok(None);
+        }
+        let place = self.place + offset as u64;
+        match record_at(rest, place, self.protocol) {
+            Ok(record) => {
+                self.state = State::At { offset: offset + CODE + record.payload.len() };
+                Ok(Some(record))
+            }
+            Err(kind) => {
+                let fault = Fault { kind, place };
+                self.state = State::Failed(fault);
+                Err(fault)
+            }
+        }
+    }
+}
+
+/// The record at the front of the bytes, which stand at `place` in the capture.
+fn record_at(bytes: &[u8], place: u64, protocol: Protocol) -> Result<Record<'_>, FaultKind>
+    requires fits { place + length bytes.now < 2 ^ 64 }
+    requires some { 0 < length bytes.now }
+    ensures found { IfOk result (λ found. BeginsWith protocol bytes.now place found) }
+    ensures fails { IfErr result (λ kind. RecordFails protocol bytes.now kind) }
+{
+    if bytes.len() < CODE {
+        return Err(FaultKind::RecordShort);
+    }
+    let code = Code(LittleEndian::read_u32(bytes));
+    let kind = match binder_code::kind(protocol, code) {
+        Ok(kind) => kind,
+        Err(CodeFault::Direction) => return Err(FaultKind::RecordDirection),
+        Err(CodeFault::Size) => return Err(FaultKind::RecordSize),
+    };
+    let rest = &bytes[CODE..];
+    let size = usize::from(code.size());
+    if rest.len() < size {
+        return Err(FaultKind::RecordShort);
+    }
+    let (payload, _) = rest.split_at(size);
+    Ok(Record { place, kind, code, payload })
+}
