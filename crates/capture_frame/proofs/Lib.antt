@@ -3,3 +3,4 @@ pub mod UnitLaws
 pub mod FrameLaws
 pub mod ReadLaws
 pub mod HeaderLaws
+pub mod CaptureLaws

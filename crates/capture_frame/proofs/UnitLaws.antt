@@ -1,8 +1,9 @@
 -- What holds of every format whose units are judged one by one: a text is read in one way, or has one first
 -- failure, and never both.
-use Rattle.std.proofs.Common.{◌≡◌, ℕ, zero, suc, ◌+◌, ◌<◌, ◌≤◌, ◌⊎◌, inl, inr, List, [], ◌∷◌, ◌++◌, length, refl, sym, ap, subst, ◌∙◌, append_assoc, length-append, arith}
+use Rattle.std.proofs.Common.{◌≡◌, ℕ, zero, suc, ◌+◌, ◌<◌, ◌≤◌, ◌⊎◌, inl, inr, List, [], ◌∷◌, ◌++◌, length, drop, refl, sym, ap, subst, ◌∙◌, append_assoc, length-append, arith}
 use Rattle.std.specs.List.{flat_map}
-use Rattle.std.proofs.lemmas.List.{get_or-append-add}
+use Rattle.std.proofs.lemmas.List.{append-nil, drop-drop, get_or-append-add}
+use Rattle.std.proofs.lemmas.Grind.{flat_map-append}
 use Rattle.std.proofs.lemmas.List.Concat.{flat_map-cons}
 use Rattle.capture_frame.proofs.NumberLaws.{IsBytes}
 use Rattle.capture_frame.specs.Units.{Format, AllStand, state_after, spelling_of, Splits, Reads, FirstFailure}
@@ -170,3 +171,60 @@ pub one_failure : {S U K : Type 0} (format : Format S U K) (decided : IsDecided 
 one_failure format decided state bytes k j x y a b =
     let same = same_failure format decided state bytes a.before b.before a.rest b.rest k j a.within b.within a.splits b.splits a.fails b.fails in
     (same.0, a.stands ∙ same.1 ∙ sym b.stands)
+
+-- ---- a walk from unit to unit
+
+AllStand-snoc : {S U K : Type 0} (format : Format S U K) (state : S) (units : List U) (unit : U) → AllStand format state units → format.MayStand (state_after format state units) unit
+    → AllStand format state (units ++ unit ∷ [])
+AllStand-snoc format state [] unit all stands = (stands, tt)
+AllStand-snoc format state (u ∷ units) unit all stands = (all.0, AllStand-snoc format (format.after state u) units unit all.1 stands)
+
+pub state_after-snoc : {S U K : Type 0} (format : Format S U K) (state : S) (units : List U) (unit : U)
+    → state_after format state (units ++ unit ∷ []) ≡ format.after (state_after format state units) unit
+state_after-snoc format state [] unit = refl
+state_after-snoc format state (u ∷ units) unit = state_after-snoc format (format.after state u) units unit
+
+spelling_of-snoc : {S U K : Type 0} (format : Format S U K) (units : List U) (unit : U) → spelling_of format (units ++ unit ∷ []) ≡ spelling_of format units ++ format.spelling unit
+spelling_of-snoc format units unit = flat_map-append format.spelling units (unit ∷ []) ∙ ap (λ (t : List ℕ). spelling_of format units ++ t) (append-nil (format.spelling unit))
+
+-- the bytes before the offset are these units
+pub record Walks {S U K : Type 0} (format : Format S U K) (state : S) (bytes : List ℕ) (done : List U) (offset : ℕ) : Type 0 where
+  pub splits : Splits format state bytes done (drop offset bytes)
+  pub length_is : offset ≡ length (spelling_of format done)
+
+pub walk_start : {S U K : Type 0} (format : Format S U K) (state : S) (bytes : List ℕ) → Walks format state bytes [] 0
+walk_start format state bytes = record { splits = record { joined = refl; stand = tt }; length_is = refl }
+
+-- one unit further
+pub walk_step : {S U K : Type 0} (format : Format S U K) (state : S) (bytes : List ℕ) (done : List U) (offset : ℕ) (unit : U) → Walks format state bytes done offset
+    → format.MayStand (state_after format state done) unit → drop offset bytes ≡ format.spelling unit ++ drop (length (format.spelling unit)) (drop offset bytes)
+    → Walks format state bytes (done ++ unit ∷ []) (offset + length (format.spelling unit))
+walk_step format state bytes done offset unit walks stands parts =
+    let rest : drop (length (format.spelling unit)) (drop offset bytes) ≡ drop (offset + length (format.spelling unit)) bytes = drop-drop (length (format.spelling unit)) offset bytes in
+    record {
+      splits = record {
+        joined = walks.splits.joined ∙ ap (λ (t : List ℕ). spelling_of format done ++ t) (parts ∙ ap (λ (t : List ℕ). format.spelling unit ++ t) rest)
+            ∙ sym (append_assoc (spelling_of format done) (format.spelling unit) (drop (offset + length (format.spelling unit)) bytes))
+            ∙ ap (λ (t : List ℕ). t ++ drop (offset + length (format.spelling unit)) bytes) (sym (spelling_of-snoc format done unit));
+        stand = AllStand-snoc format state done unit walks.splits.stand stands;
+      };
+      length_is =
+          let whole = ap length (spelling_of-snoc format done unit) ∙ length-append (spelling_of format done) (format.spelling unit) in
+          omega (arith, whole, walks.length_is);
+    }
+
+-- the end of a walk
+pub walk_end : {S U K : Type 0} (format : Format S U K) (state : S) (bytes : List ℕ) (done : List U) (offset : ℕ) → Walks format state bytes done offset → drop offset bytes ≡ [] → Reads format state bytes done
+walk_end format state bytes done offset walks none = subst (Splits format state bytes done) none walks.splits
+
+-- a walk meets what fails
+pub walk_fails : {S U K : Type 0} (format : Format S U K) (state : S) (bytes : List ℕ) (done : List U) (offset : ℕ) (kind : K) (within : ℕ) → Walks format state bytes done offset
+    → format.Fails (state_after format state done) (drop offset bytes) kind within → FirstFailure format state bytes kind (offset + within)
+walk_fails format state bytes done offset kind within walks fails = record {
+  before = done;
+  rest = drop offset bytes;
+  within = within;
+  splits = walks.splits;
+  fails = fails;
+  stands = ap (λ (n : ℕ). n + within) walks.length_is;
+}
