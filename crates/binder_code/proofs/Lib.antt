@@ -1,0 +1,3 @@
+pub mod FlagBits
+pub mod KindOf
+pub mod Names

@@ -1,0 +1,4 @@
+pub mod Code
+pub mod CommandLaws
+pub mod Commands
+pub mod Flags
