@@ -1,0 +1,7 @@
+pub mod FrameWalk
+pub mod GrammarLaws
+pub mod RecordWalk
+pub mod RequestLemmas
+pub mod RunLaws
+pub mod TextLaws
+pub mod TotalsLaws

@@ -1,0 +1,66 @@
+use Rattle.std.proofs.Common.{◌≡◌, ℕ, List, [], ◌∷◌, ◌++◌, length, map, sym, ap, subst, ◌∙◌, arith}
+use Rattle.std.proofs.lemmas.Result.{err_from_is_err_and}
+use Rattle.record_view.specs.Records.{RecordText}
+use Rattle.binder_audit.specs.Findings.{code_words}
+use Rattle.binder_audit.specs.Totals.{SumsWords}
+use Rattle.binder_audit.proofs.FrameWalk.{whole_of, stands_behind_next, left_falls, header_fails, audit_fails, frames_end, code_words-snoc, room_for_frame, sequences_rise, sums_next, missing_is, frames_counted}
+use Rattle.binder_audit.proofs.audit.audit.Goals as goal
+
+pub returns-in_err-frame-clause-malformed : goal.returns-in_err-frame-clause-malformed
+returns-in_err-frame-clause-malformed c =
+    let p = err_from_is_err_and c.from_residual-in_err-frame.result c.from_residual-in_err-frame.ensures.1 in
+    let done = c.loop-totals.invariant in
+    rw (p.1, p.2) (header_fails c.args.capture.now c.loop-totals.frames done.0 done.1 c.in_err-frame.field-0.0 c.next_frame.new.self c.in_err-frame.ensures)
+
+pub count_records-requires : goal.count_records-requires
+count_records-requires c =
+    let done = c.loop-totals.invariant in
+    let room = room_for_frame c.args.capture.now c.loop-totals.frames done.0 done.1 c.in-Some.frame c.next_frame.new.self (rw c.in-Some.is at c.in_ok-frame.ensures) in
+    (code_words done.0, done.2, room.0)
+
+pub returns-in_err-count_records-clause-malformed : goal.returns-in_err-count_records-clause-malformed
+returns-in_err-count_records-clause-malformed c =
+    let p = err_from_is_err_and c.from_residual-in_err-count_records.result c.from_residual-in_err-count_records.ensures.1 in
+    let done = c.loop-totals.invariant in
+    rw (p.1, p.2) (audit_fails c.args.capture.now c.loop-totals.frames done.0 done.1 c.in-Some.frame c.next_frame.new.self c.in_err-count_records.field-0.0
+    (rw c.in-Some.is at c.in_ok-frame.ensures) c.in_err-count_records.ensures.malformed)
+
+pub add-requires : goal.add-requires
+add-requires c =
+    let done = c.loop-totals.invariant in
+    let room = room_for_frame c.args.capture.now c.loop-totals.frames done.0 done.1 c.in-Some.frame c.next_frame.new.self (rw c.in-Some.is at c.in_ok-frame.ensures) in
+    omega (arith, room.1, frames_counted c.loop-totals.sequences done.0 done.3)
+
+pub loop-totals-smaller : goal.loop-totals-smaller
+loop-totals-smaller c =
+    let done = c.loop-totals.invariant in
+    left_falls c.args.capture.now c.loop-totals.frames done.0 done.1 c.in-Some.frame c.next_frame.new.self (rw c.in-Some.is at c.in_ok-frame.ensures)
+
+pub loop-totals-preserved : goal.loop-totals-preserved
+loop-totals-preserved c =
+    let done = c.loop-totals.invariant in
+    let found = c.in-Some.frame in
+    let has = c.in_ok-count_records.ensures.counted in
+    let whole = whole_of found has.0 in
+    (done.0 ++ whole ∷ [],
+    stands_behind_next c.args.capture.now c.loop-totals.frames done.0 done.1 found has.0 c.next_frame.new.self (rw c.in-Some.is at c.in_ok-frame.ensures) has.1,
+    subst (λ (t : List ℕ). SumsWords c.count_records.new.totals t) (code_words-snoc done.0 whole) (has.2 (code_words done.0) done.2),
+    sums_next c.loop-totals.sequences c.add.new.self done.0 whole done.3 c.add.ensures.frames c.add.ensures.first c.add.ensures.last)
+
+pub missing-requires : goal.missing-requires
+missing-requires c =
+    let done = c.loop-totals.invariant in
+    sequences_rise c.loop-totals.sequences done.0 done.1.walks.splits.stand done.3
+
+pub returns-clause-read : goal.returns-clause-read
+returns-clause-read c =
+    let done = c.loop-totals.invariant in
+    (done.0,
+    frames_end c.args.capture.now c.loop-totals.frames done.0 done.1 c.next_frame.new.self (rw c.in_default.is at c.in_ok-frame.ensures),
+    record {
+      frame_count = frames_counted c.loop-totals.sequences done.0 done.3;
+      record_count = done.2.record_count;
+      opaque_count = done.2.opaque_count;
+      missing_frames = missing_is c.loop-totals.sequences done.0 c.missing.result done.3 c.missing.ensures;
+      code_rows = c.in_ok-codes.ensures (code_words done.0) done.2;
+    })

@@ -1,0 +1,10 @@
+use Rattle.std.proofs.Common.{[], ◌∷◌, arith}
+use Rattle.binder_audit.specs.Text.{title, totals, codes_head, codes_row, ended}
+use Rattle.binder_audit.proofs.TextLaws.{next_line}
+use Rattle.binder_audit.proofs.text.report.Goals as goal
+
+pub loop-row-preserved : goal.loop-row-preserved
+loop-row-preserved c =
+    let found = c.args.found.now in
+    next_line codes_row ended (title ∷ totals found ∷ codes_head found ∷ []) c.as_slice-row-items.result.now c.loop-row.row-index _ _ _ _
+    (omega arith) c.loop-row.invariant c.codes_row_line.ensures c.in_ok-push_line-4.ensures

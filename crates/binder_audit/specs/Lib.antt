@@ -1,0 +1,10 @@
+pub mod Audit
+pub mod CommandLine
+pub mod Failure
+pub mod Findings
+pub mod Grammar
+pub mod KnownBytes
+pub mod Run
+pub mod RunError
+pub mod Text
+pub mod Totals

@@ -1,0 +1,59 @@
+//! Audits a capture of Android Binder traffic.
+#![tactic(auto)]
+
+ghost use Rattle.std.specs.Prelude.{◌≡◌, ◌⊎◌, IfErr};
+
+mod audit;
+mod code_rows;
+mod command_line;
+#[cfg(test)]
+mod devices;
+mod findings;
+mod first_fault;
+mod laws;
+mod limits;
+mod line;
+mod program;
+mod reading;
+mod record_totals;
+mod run;
+mod run_error;
+mod sequences;
+#[cfg(test)]
+mod tests;
+mod text;
+mod writing;
+
+use crate::program::{Failure, fail, program};
+use crate::run_error::RunError;
+use std::env;
+use std::io::ErrorKind;
+use std::process::ExitCode;
+use std::rt::Env;
+
+/// The words of the command line, the program's own name first.
+fn words_of(rt: &(impl Env + AllocGlobal)) -> Result<Vec<String>, Failure>
+    ensures { IfErr result (λ failure. (failure ≡ Failure.Usage) ⊎ (failure ≡ Failure.Run RunError.Memory)) }
+{
+    let words = env::args(rt).map_err(|error| match error.kind() {
+        ErrorKind::OutOfMemory => Failure::Run(RunError::Memory),
+        _ => Failure::Usage,
+    })?;
+    words
+        .collect(rt.alloc())
+        .map_err(|_| Failure::Run(RunError::Memory))
+}
+
+fn main(rt: HostRuntime) -> ExitCode {
+    let status = match words_of(&rt) {
+        Ok(words) => program(
+            &rt,
+            rt.alloc(),
+            words.as_slice(),
+            &mut rt.stdout(),
+            &mut rt.stderr(),
+        ),
+        Err(failure) => fail(failure, &mut rt.stderr()),
+    };
+    ExitCode::from(status)
+}
