@@ -83,9 +83,11 @@ whole_capture capture header = sym (take-append-drop 16 capture) ∙ ap (λ (t :
 -- at the end the capture is these frames
 pub frames_end : (capture : List ℕ) (reading : Reading) (done : List WholeFrame) (stands : StandsBehind capture reading done) (new : Reading) → Steps reading (Ok None) new → IsInGrammar capture done
 frames_end capture reading done stands new steps =
-    let s = steps_from capture reading done stands (Ok None) new steps in
-    (drop 16 capture, whole_capture capture stands.header,
-    walk_end whole_format None (drop 16 capture) done stands.offset stands.walks (sym (rest_is capture stands.offset) ∙ s.0))
+    let s = steps_from capture reading done stands (Ok None) new steps in (
+      drop 16 capture,
+      whole_capture capture stands.header,
+      walk_end whole_format None (drop 16 capture) done stands.offset stands.walks (sym (rest_is capture stands.offset) ∙ s.0),
+    )
 
 first_in_frames : (capture : List ℕ) (reading : Reading) (done : List WholeFrame) (stands : StandsBehind capture reading done) (fault : Fault) (within : ℕ)
     → WholeFrameFails (state_after whole_format None done) (drop (16 + stands.offset) capture) fault.kind within → fault.place ≡ 16 + stands.offset + within → HasFirstFault capture fault
@@ -166,10 +168,11 @@ pub sums_next : (old new : Sequences) (done : List WholeFrame) (whole : WholeFra
 sums_next old new [] whole sums frames first last =
     (omega (arith, frames, sums), first ∙ ap (λ (n : ℕ). cond (eqb n 0) whole.frame.sequence old.first) sums, last)
 sums_next old new (f ∷ others) whole sums frames first last =
-    let some : old.frames ≡ 0 → ⊥ = λ e. absurd (omega (arith, e, sums.0)) in
-    (omega (arith, frames, sums.0, length_push others whole),
-    first ∙ ap (λ (b : Bool). cond b whole.frame.sequence old.first) (ne_eqb old.frames 0 some) ∙ sums.1,
-    last ∙ sym (last_sequence-snoc f others whole))
+    let some : old.frames ≡ 0 → ⊥ = λ e. absurd (omega (arith, e, sums.0)) in (
+      omega (arith, frames, sums.0, length_push others whole),
+      first ∙ ap (λ (b : Bool). cond b whole.frame.sequence old.first) (ne_eqb old.frames 0 some) ∙ sums.1,
+      last ∙ sym (last_sequence-snoc f others whole),
+    )
 
 -- what is missing, from the sequences
 pub missing_is : (sequences : Sequences) (done : List WholeFrame) (n : ℕ) → SumsFrames sequences done

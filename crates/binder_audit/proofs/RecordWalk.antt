@@ -73,9 +73,11 @@ records_end frame reading done stands new steps =
 -- a fault is the first of the frame's records
 pub records_fail : (frame : Frame) (reading : Reading) (done : List RecordText) (stands : StandsBehind frame reading done) (fault : Fault) (new : Reading) → Steps reading (Err fault) new → CommandsFail frame fault
 records_fail frame reading done stands fault new steps =
-    let s = steps_from frame reading done stands (Err fault) new steps in
-    (stands.offset + 0, walk_fails (record_format (protocol_of frame.direction)) tt frame.commands.now done stands.offset fault.kind 0 stands.walks (s.0, refl),
-    let e = s.1 in omega arith)
+    let s = steps_from frame reading done stands (Err fault) new steps in (
+      stands.offset + 0,
+      walk_fails (record_format (protocol_of frame.direction)) tt frame.commands.now done stands.offset fault.kind 0 stands.walks (s.0, refl),
+      let e = s.1 in omega arith,
+    )
 
 -- records are at least as long as their codes
 records_long : (format : Format (Unit {0}) RecordText FaultKind) → ((r : RecordText) → format.spelling r ≡ record_bytes r) → (records : List RecordText) → 4 * length records ≤ length (spelling_of format records)

@@ -11,5 +11,4 @@ pub fn one_reading()
     ensures one_reading { (capture : List ℕ) (frames others : List WholeFrame) → IsInGrammar capture frames → IsInGrammar capture others → frames ≡ others }
     ensures one_fault { (capture : List ℕ) (fault other : Fault) → HasFirstFault capture fault → HasFirstFault capture other → fault ≡ other }
     ensures never_both { (capture : List ℕ) (fault : Fault) → IsReadable capture → HasFirstFault capture fault → ⊥ }
-{
-}
+{}

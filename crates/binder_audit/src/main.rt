@@ -4,6 +4,8 @@
 ghost use Rattle.std.specs.Prelude.{◌≡◌, ◌⊎◌, IfErr};
 
 mod audit;
+#[cfg(test)]
+mod captures;
 mod code_rows;
 mod command_line;
 #[cfg(test)]
@@ -16,6 +18,8 @@ mod line;
 mod program;
 mod reading;
 mod record_totals;
+#[cfg(test)]
+mod report_tests;
 mod run;
 mod run_error;
 mod sequences;

@@ -22,7 +22,11 @@ impl RecordTotals {
     pub fn new(alloc: Global) -> Self
         ensures { SumsWords result [] }
     {
-        RecordTotals { records: 0, opaque: 0, counts: BTreeMap::new(alloc) }
+        RecordTotals {
+            records: 0,
+            opaque: 0,
+            counts: BTreeMap::new(alloc),
+        }
     }
 
     /// Adds a record.
@@ -55,6 +59,9 @@ fn rows_of(alloc: Global, counts: &BTreeMap<u32, u64>) -> Result<Vec<CodeRow>, A
 {
     counts
         .iter()
-        .map(|(word, count)| CodeRow { word: *word, count: *count })
+        .map(|(word, count)| CodeRow {
+            word: *word,
+            count: *count,
+        })
         .collect(alloc)
 }

@@ -11,7 +11,11 @@ pub(crate) struct Sequences {
 }
 
 impl Sequences {
-    pub const NONE: Self = Sequences { frames: 0, first: 0, last: 0 };
+    pub const NONE: Self = Sequences {
+        frames: 0,
+        first: 0,
+        last: 0,
+    };
 
     /// Adds the next frame's.
     pub fn add(&mut self, sequence: u64)

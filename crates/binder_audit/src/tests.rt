@@ -30,7 +30,7 @@ fn words_of(alloc: Global, line: &str) -> Result<Vec<String>, AllocError> {
 }
 
 /// Runs the program, and compares its status and what it wrote.
-fn expect_answer<T: Files + Threads + Sync + Abort>(
+pub(crate) fn expect_answer<T: Files + Threads + Sync + Abort>(
     rt: &T,
     alloc: Global,
     line: &str,

@@ -98,7 +98,11 @@ fn word_name(word: u32) -> &'static str
     ensures short { length result.now ≤ 33 }
 {
     let code = Code(word);
-    let protocol = if code.letter() == b'c' { Protocol::Command } else { Protocol::Return };
+    let protocol = if code.letter() == b'c' {
+        Protocol::Command
+    } else {
+        Protocol::Return
+    };
     match kind(protocol, code) {
         Ok(kind) => kind.name(),
         Err(_) => "",

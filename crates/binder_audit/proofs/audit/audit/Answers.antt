@@ -41,11 +41,12 @@ loop-totals-preserved c =
     let done = c.loop-totals.invariant in
     let found = c.in-Some.frame in
     let has = c.in_ok-count_records.ensures.counted in
-    let whole = whole_of found has.0 in
-    (done.0 ++ whole ∷ [],
-    stands_behind_next c.args.capture.now c.loop-totals.frames done.0 done.1 found has.0 c.next_frame.new.self (rw c.in-Some.is at c.in_ok-frame.ensures) has.1,
-    subst (λ (t : List ℕ). SumsWords c.count_records.new.totals t) (code_words-snoc done.0 whole) (has.2 (code_words done.0) done.2),
-    sums_next c.loop-totals.sequences c.add.new.self done.0 whole done.3 c.add.ensures.frames c.add.ensures.first c.add.ensures.last)
+    let whole = whole_of found has.0 in (
+      done.0 ++ whole ∷ [],
+      stands_behind_next c.args.capture.now c.loop-totals.frames done.0 done.1 found has.0 c.next_frame.new.self (rw c.in-Some.is at c.in_ok-frame.ensures) has.1,
+      subst (λ (t : List ℕ). SumsWords c.count_records.new.totals t) (code_words-snoc done.0 whole) (has.2 (code_words done.0) done.2),
+      sums_next c.loop-totals.sequences c.add.new.self done.0 whole done.3 c.add.ensures.frames c.add.ensures.first c.add.ensures.last,
+    )
 
 pub missing-requires : goal.missing-requires
 missing-requires c =
@@ -54,13 +55,14 @@ missing-requires c =
 
 pub returns-clause-read : goal.returns-clause-read
 returns-clause-read c =
-    let done = c.loop-totals.invariant in
-    (done.0,
-    frames_end c.args.capture.now c.loop-totals.frames done.0 done.1 c.next_frame.new.self (rw c.in_default.is at c.in_ok-frame.ensures),
-    record {
-      frame_count = frames_counted c.loop-totals.sequences done.0 done.3;
-      record_count = done.2.record_count;
-      opaque_count = done.2.opaque_count;
-      missing_frames = missing_is c.loop-totals.sequences done.0 c.missing.result done.3 c.missing.ensures;
-      code_rows = c.in_ok-codes.ensures (code_words done.0) done.2;
-    })
+    let done = c.loop-totals.invariant in (
+      done.0,
+      frames_end c.args.capture.now c.loop-totals.frames done.0 done.1 c.next_frame.new.self (rw c.in_default.is at c.in_ok-frame.ensures),
+      record {
+        frame_count = frames_counted c.loop-totals.sequences done.0 done.3;
+        record_count = done.2.record_count;
+        opaque_count = done.2.opaque_count;
+        missing_frames = missing_is c.loop-totals.sequences done.0 c.missing.result done.3 c.missing.ensures;
+        code_rows = c.in_ok-codes.ensures (code_words done.0) done.2;
+      },
+    )

@@ -27,8 +27,9 @@ loop-record-smaller c =
 pub loop-record-preserved : goal.loop-record-preserved
 loop-record-preserved c =
     let done = c.loop-record.invariant.0 in
-    let found = c.in-Some.record in
-    (done ++ text_of found ∷ [],
-    stands_behind_next c.args.frame c.loop-record.records done c.loop-record.invariant.1 found c.next_record.new.self (rw c.in-Some.is at c.in_ok-record.ensures),
-    λ words sums. subst (λ (t : List ℕ). SumsWords c.add.new.self t) (codes-snoc words done (text_of found))
-    (c.in_ok-add.ensures (words ++ map (λ (r : RecordText). r.code) done) (c.loop-record.invariant.2 words sums)))
+    let found = c.in-Some.record in (
+      done ++ text_of found ∷ [],
+      stands_behind_next c.args.frame c.loop-record.records done c.loop-record.invariant.1 found c.next_record.new.self (rw c.in-Some.is at c.in_ok-record.ensures),
+      λ words sums. subst (λ (t : List ℕ). SumsWords c.add.new.self t) (codes-snoc words done (text_of found))
+          (c.in_ok-add.ensures (words ++ map (λ (r : RecordText). r.code) done) (c.loop-record.invariant.2 words sums)),
+    )

@@ -16,10 +16,11 @@ loop-frame-smaller c =
 
 pub loop-frame-preserved : goal.loop-frame-preserved
 loop-frame-preserved c =
-    let has = c.in_ok-check_records.ensures in
-    (c.loop-frame.invariant.0 ++ whole_of c.in-Some.frame has.0 ∷ [],
-    stands_behind_next c.args.capture.now c.loop-frame.frames c.loop-frame.invariant.0 c.loop-frame.invariant.1 c.in-Some.frame has.0 c.next_frame.new.self
-    (rw c.in-Some.is at c.in_ok-frame.ensures) has.1)
+    let has = c.in_ok-check_records.ensures in (
+      c.loop-frame.invariant.0 ++ whole_of c.in-Some.frame has.0 ∷ [],
+      stands_behind_next c.args.capture.now c.loop-frame.frames c.loop-frame.invariant.0 c.loop-frame.invariant.1 c.in-Some.frame has.0 c.next_frame.new.self
+          (rw c.in-Some.is at c.in_ok-frame.ensures) has.1,
+    )
 
 pub returns-in_err-check_records : goal.returns-in_err-check_records
 returns-in_err-check_records c =

@@ -9,7 +9,8 @@ loop-smaller c =
     (rw c.in-Some.is at c.in_ok-next_record.ensures)
 
 pub loop-preserved : goal.loop-preserved
-loop-preserved c =
-    (c.loop.invariant.0 ++ text_of c.in-Some.field-0 ∷ [],
-    stands_behind_next c.args.frame c.loop.records c.loop.invariant.0 c.loop.invariant.1 c.in-Some.field-0 c.next_record.new.self
-    (rw c.in-Some.is at c.in_ok-next_record.ensures))
+loop-preserved c = (
+  c.loop.invariant.0 ++ text_of c.in-Some.field-0 ∷ [],
+  stands_behind_next c.args.frame c.loop.records c.loop.invariant.0 c.loop.invariant.1 c.in-Some.field-0 c.next_record.new.self
+      (rw c.in-Some.is at c.in_ok-next_record.ensures),
+)
