@@ -1,10 +1,9 @@
 -- Frames are judged in one way: what is spelled is read back, what is read is spelled so, and a header fails by
 -- one kind.
-use Rattle.std.proofs.Common.{◌≡◌, ◌≢◌, ℕ, zero, suc, ◌+◌, ◌-◌, ◌^◌, ◌<◌, ◌≤◌, ◌⊎◌, inl, inr, Bool, true, false, cond, ltb, eqb, ◌&&◌, List, [], ◌∷◌, ◌++◌, length, get_or, take, drop, slice_index, Option, Some, None, refl, sym, ap, subst, ◌∙◌, append_assoc, length-append, arith}
-use Rattle.std.specs.Prelude.{IfSome}
-use Rattle.std.proofs.lemmas.Bool.{cases_lt, cases_eq, lt-ltb, le-ltb, eq-eqb, ne_eqb}
+use Rattle.std.proofs.Common.{◌≡◌, ◌≢◌, ℕ, zero, suc, ◌+◌, ◌^◌, ◌<◌, ◌≤◌, ◌⊎◌, inl, inr, Bool, true, false, ltb, eqb, ◌&&◌, List, [], ◌∷◌, ◌++◌, length, take, drop, Option, Some, None, refl, sym, ap, subst, ◌∙◌, append_assoc, length-append, arith}
+use Rattle.std.proofs.lemmas.Bool.{cases_lt, lt-ltb, le-ltb, ne_eqb}
 use Rattle.std.proofs.lemmas.List.{take-append-drop, drop-drop, drop_at, take_at, drop_more, length-take, length-drop}
-use Rattle.byteorder.specs.Endian.{little_number, little_bytes}
+use Rattle.byteorder.specs.Endian.{little_bytes}
 use Rattle.byteorder.specs.Numbers.{little_number-reads_back, little_from-lt}
 use Rattle.capture_frame.specs.declared.direction.Direction.{Direction}
 use Rattle.capture_frame.specs.declared.direction.Direction.TheVariants.{Write, Read}
@@ -263,9 +262,10 @@ frame_judged before (b ∷ bytes) h = elim (cases_lt (length (b ∷ bytes)) 32) 
 
 frames_one_unit : (before : Option ℕ) (u v : FrameText) (rest others : List ℕ) → MayStand before u → MayStand before v → frame_bytes u ++ rest ≡ frame_bytes v ++ others → (u ≡ v) × (rest ≡ others)
 frames_one_unit before u v rest others a b e =
-    let ways = direction_number-injective u.direction v.direction (sym (header_said u rest a.fits).direction ∙ ap direction_at e ∙ (header_said v others b.fits).direction) in
-    (sym (text_at-spelled u rest a.fits) ∙ ap (λ (t : List ℕ). text_at u.direction t) e ∙ ap (λ (d : Direction). text_at d (frame_bytes v ++ others)) ways ∙ text_at-spelled v others b.fits,
-    sym (rest_at-spelled u rest a.fits) ∙ ap rest_at e ∙ rest_at-spelled v others b.fits)
+    let ways = direction_number-injective u.direction v.direction (sym (header_said u rest a.fits).direction ∙ ap direction_at e ∙ (header_said v others b.fits).direction) in (
+      sym (text_at-spelled u rest a.fits) ∙ ap (λ (t : List ℕ). text_at u.direction t) e ∙ ap (λ (d : Direction). text_at d (frame_bytes v ++ others)) ways ∙ text_at-spelled v others b.fits,
+      sym (rest_at-spelled u rest a.fits) ∙ ap rest_at e ∙ rest_at-spelled v others b.fits,
+    )
 
 some_kind : (k j : FaultKind) (o : Option FaultKind) → o ≡ Some k → o ≡ Some j → k ≡ j
 some_kind k j o a b = cc

@@ -4,3 +4,4 @@ pub mod FrameLaws
 pub mod ReadLaws
 pub mod HeaderLaws
 pub mod CaptureLaws
+pub mod Vectors

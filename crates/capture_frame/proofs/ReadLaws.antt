@@ -1,9 +1,8 @@
 -- What the reader's steps rest on: a frame made of what stands at the front of the bytes begins them.
-use Rattle.std.proofs.Common.{◌≡◌, ℕ, ◌+◌, ◌-◌, ◌<◌, ◌≤◌, List, [], ◌++◌, length, take, drop, Option, Some, Ok, refl, sym, ap, subst, ◌∙◌, length-append, arith}
-use Rattle.std.specs.Prelude.{slice_range}
-use Rattle.std.proofs.lemmas.List.{take_rest, drop_at, drop-drop, length-take, length-drop}
+use Rattle.std.proofs.Common.{◌≡◌, ℕ, ◌+◌, ◌-◌, ◌≤◌, List, ◌++◌, length, take, drop, Option, Some, Ok, refl, sym, ap, subst, ◌∙◌, length-append, arith}
+use Rattle.std.proofs.lemmas.List.{take_rest, drop_at, length-take, length-drop}
 use Rattle.capture_frame.specs.declared.frame.Frame.{Frame}
-use Rattle.capture_frame.specs.Envelope.{FrameText, FitsHeader, number_at, frame_bytes, text_of, IsAbove, MayStand, direction_number, sequence_at, direction_at, reserved_at, command_length, attachment_length}
+use Rattle.capture_frame.specs.Envelope.{FrameText, FitsHeader, number_at, frame_bytes, text_of, IsAbove, direction_number, sequence_at, direction_at, reserved_at, command_length, attachment_length}
 use Rattle.capture_frame.specs.Reading.{Reading, at, BeginsWith, Steps}
 use Rattle.capture_frame.proofs.NumberLaws.{IsBytes}
 use Rattle.capture_frame.proofs.FrameLaws.{text_at, rest_at, length-frame_bytes, header_spelled, text_at-fits}

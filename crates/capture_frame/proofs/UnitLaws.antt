@@ -1,7 +1,6 @@
 -- What holds of every format whose units are judged one by one: a text is read in one way, or has one first
 -- failure, and never both.
-use Rattle.std.proofs.Common.{◌≡◌, ℕ, zero, suc, ◌+◌, ◌<◌, ◌≤◌, ◌⊎◌, inl, inr, List, [], ◌∷◌, ◌++◌, length, drop, refl, sym, ap, subst, ◌∙◌, append_assoc, length-append, arith}
-use Rattle.std.specs.List.{flat_map}
+use Rattle.std.proofs.Common.{◌≡◌, ℕ, zero, suc, ◌+◌, ◌<◌, List, [], ◌∷◌, ◌++◌, length, drop, refl, sym, ap, subst, ◌∙◌, append_assoc, length-append, arith}
 use Rattle.std.proofs.lemmas.List.{append-nil, drop-drop, get_or-append-add}
 use Rattle.std.proofs.lemmas.Grind.{flat_map-append}
 use Rattle.std.proofs.lemmas.List.Concat.{flat_map-cons}
@@ -39,10 +38,11 @@ Splits-cons format state bytes middle unit units rest stands parts splits = reco
 pub Splits-tail : {S U K : Type 0} (format : Format S U K) (state : S) (bytes : List ℕ) (unit : U) (units : List U) (rest : List ℕ)
     → Splits format state bytes (unit ∷ units) rest → (bytes ≡ format.spelling unit ++ (spelling_of format units ++ rest)) × format.MayStand state unit
     × Splits format (format.after state unit) (spelling_of format units ++ rest) units rest
-Splits-tail format state bytes unit units rest splits =
-    (splits.joined ∙ ap (λ (t : List ℕ). t ++ rest) (flat_map-cons format.spelling unit units) ∙ append_assoc (format.spelling unit) (spelling_of format units) rest,
-    splits.stand.0,
-    record { joined = refl; stand = splits.stand.1 })
+Splits-tail format state bytes unit units rest splits = (
+  splits.joined ∙ ap (λ (t : List ℕ). t ++ rest) (flat_map-cons format.spelling unit units) ∙ append_assoc (format.spelling unit) (spelling_of format units) rest,
+  splits.stand.0,
+  record { joined = refl; stand = splits.stand.1 },
+)
 
 -- a unit goes in front of a first failure of what follows it
 pub FirstFailure-cons : {S U K : Type 0} (format : Format S U K) (state : S) (bytes middle : List ℕ) (unit : U) (kind : K) (place : ℕ)

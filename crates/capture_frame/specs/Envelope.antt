@@ -1,5 +1,5 @@
 -- The capture format: a file header, and then frames to the end (docs/ENVELOPE.md).
-use Rattle.std.specs.Prelude.{◌≡◌, ℕ, ◌+◌, ◌^◌, ◌<◌, ◌⊎◌, List, [], ◌∷◌, ◌++◌, length, drop, slice_index, codes, Option, Some, None, IfSome}
+use Rattle.std.specs.Prelude.{◌≡◌, ℕ, ◌^◌, ◌<◌, ◌⊎◌, List, ◌∷◌, ◌++◌, length, drop, slice_index, codes, Option, IfSome}
 use Rattle.byteorder.specs.Endian.{little_bytes, little_number}
 use Rattle.capture_frame.specs.declared.direction.Direction.{Direction}
 use Rattle.capture_frame.specs.declared.direction.Direction.TheVariants.{Write, Read}

@@ -1,6 +1,5 @@
 -- The first fault of a capture, as far as its file header and its frame headers tell (docs/ENVELOPE.md).
-use Rattle.std.specs.Prelude.{◌≡◌, ◌≢◌, ℕ, ◌+◌, ◌<◌, ◌≤◌, List, [], ◌++◌, length, take, drop, codes, Option, Some, None}
-use Rattle.byteorder.specs.Endian.{little_number}
+use Rattle.std.specs.Prelude.{◌≡◌, ◌≢◌, ℕ, ◌+◌, ◌<◌, ◌≤◌, List, ◌++◌, length, take, codes, Option, Some, None}
 use Rattle.capture_frame.specs.declared.fault.Fault.{Fault}
 use Rattle.capture_frame.specs.declared.fault.FaultKind.{FaultKind}
 use Rattle.capture_frame.specs.declared.fault.FaultKind.TheVariants.{HeaderShort, HeaderMagic, HeaderProtocol, HeaderReserved, FrameShort, FrameSequence, FrameDirection, FrameReserved, FrameLength}

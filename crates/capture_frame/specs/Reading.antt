@@ -2,7 +2,7 @@
 use Rattle.std.specs.Prelude.{◌≡◌, ℕ, ◌+◌, List, [], ◌++◌, length, drop, slice_range, Option, Some, None, Result, Ok, Err}
 use Rattle.capture_frame.specs.declared.fault.Fault.{Fault}
 use Rattle.capture_frame.specs.declared.frame.Frame.{Frame}
-use Rattle.capture_frame.specs.Envelope.{FrameText, frame_bytes, text_of, MayStand}
+use Rattle.capture_frame.specs.Envelope.{frame_bytes, text_of, MayStand}
 use Rattle.capture_frame.specs.FirstFault.{FrameFails}
 
 -- before the frame at a place of the capture, after the one with that sequence; or ended by a fault

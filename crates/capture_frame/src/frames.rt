@@ -54,7 +54,13 @@ impl<'c> Frames<'c> {
             (λ fault. HeaderFails capture.now fault.kind fault.place) }
     {
         header::check_header(capture)?;
-        Ok(Frames { capture, state: State::At { place: FILE_HEADER, before: None } })
+        Ok(Frames {
+            capture,
+            state: State::At {
+                place: FILE_HEADER,
+                before: None,
+            },
+        })
     }
 
     /// The next frame, or the fault of the frame header that stands there.
@@ -72,11 +78,17 @@ impl<'c> Frames<'c> {
         match frame_at(rest, place as u64, before) {
             Ok(frame) => {
                 let length = FRAME_HEADER + frame.commands.len() + frame.attachments.len();
-                self.state = State::At { place: place + length, before: Some(frame.sequence) };
+                self.state = State::At {
+                    place: place + length,
+                    before: Some(frame.sequence),
+                };
                 Ok(Some(frame))
             }
             Err(kind) => {
-                let fault = Fault { kind, place: place as u64 };
+                let fault = Fault {
+                    kind,
+                    place: place as u64,
+                };
                 self.state = State::Failed(fault);
                 Err(fault)
             }

@@ -20,16 +20,28 @@ pub(crate) fn check_header(capture: &[u8]) -> Result<(), Fault>
     ensures { MatchResult result (λ _. take 16 capture.now ≡ file_header) (λ fault. HeaderFails capture.now fault.kind fault.place) }
 {
     if capture.len() < FILE_HEADER {
-        return Err(Fault { kind: FaultKind::HeaderShort, place: 0 });
+        return Err(Fault {
+            kind: FaultKind::HeaderShort,
+            place: 0,
+        });
     }
     if &capture[..8] != MAGIC {
-        return Err(Fault { kind: FaultKind::HeaderMagic, place: 0 });
+        return Err(Fault {
+            kind: FaultKind::HeaderMagic,
+            place: 0,
+        });
     }
     if u32_at(capture, 8) != PROTOCOL {
-        return Err(Fault { kind: FaultKind::HeaderProtocol, place: 8 });
+        return Err(Fault {
+            kind: FaultKind::HeaderProtocol,
+            place: 8,
+        });
     }
     if u32_at(capture, 12) != 0 {
-        return Err(Fault { kind: FaultKind::HeaderReserved, place: 12 });
+        return Err(Fault {
+            kind: FaultKind::HeaderReserved,
+            place: 12,
+        });
     }
     Ok(())
 }

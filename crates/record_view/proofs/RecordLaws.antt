@@ -1,6 +1,6 @@
 -- Records are judged in one way: what is spelled is read back, what is read is spelled so, and what fails does so
 -- by one kind.
-use Rattle.std.proofs.Common.{◌≡◌, ℕ, ◌+◌, ◌-◌, ◌^◌, ◌<◌, ◌≤◌, ◌⊎◌, inl, inr, Bool, true, false, ltb, List, [], ◌∷◌, ◌++◌, length, take, drop, Option, Some, None, Result, Ok, Err, refl, sym, ap, subst, ◌∙◌, length-append, arith}
+use Rattle.std.proofs.Common.{◌≡◌, ℕ, ◌+◌, ◌^◌, ◌<◌, ◌≤◌, inl, inr, Bool, true, false, ltb, List, [], ◌∷◌, ◌++◌, length, take, drop, Option, Some, None, Result, Ok, Err, refl, sym, ap, ◌∙◌, length-append, arith}
 use Rattle.std.specs.Prelude.{IsOk}
 use Rattle.std.proofs.lemmas.Bool.{cases_lt, lt-ltb, le-ltb}
 use Rattle.std.proofs.lemmas.List.{take-append-drop, take_at, drop_at, drop-drop, length-take, length-drop}
@@ -16,7 +16,7 @@ use Rattle.capture_frame.specs.declared.fault.FaultKind.{FaultKind}
 use Rattle.capture_frame.specs.declared.fault.FaultKind.TheVariants.{HeaderShort, HeaderMagic, HeaderProtocol, HeaderReserved, FrameShort, FrameSequence, FrameDirection, FrameReserved, FrameLength, RecordShort, RecordDirection, RecordSize, AttachShort, AttachRecord, AttachSize}
 use Rattle.capture_frame.proofs.NumberLaws.{IsBytes, number_spelled}
 use Rattle.capture_frame.proofs.UnitLaws.{IsDecided, Judged, ended, good, bad}
-use Rattle.record_view.specs.Records.{RecordText, record_bytes, IsRecord, code_at, IsCutShort, RecordFails, record_format}
+use Rattle.record_view.specs.Records.{RecordText, record_bytes, IsRecord, code_at, RecordFails, record_format}
 
 -- what stands at the front, read by places
 abbrev pub text_at : List ℕ → RecordText
@@ -156,9 +156,10 @@ record_judged protocol (b ∷ bytes) h = elim (cases_lt (length (b ∷ bytes)) 4
 ]
 
 one_record : (protocol : Protocol) (u v : RecordText) (rest others : List ℕ) → IsRecord protocol u → IsRecord protocol v → record_bytes u ++ rest ≡ record_bytes v ++ others → (u ≡ v) × (rest ≡ others)
-one_record protocol u v rest others a b e =
-    (sym (text_at-spelled u rest a.fits a.sized) ∙ ap text_at e ∙ text_at-spelled v others b.fits b.sized,
-    sym (rest_at-spelled u rest a.fits a.sized) ∙ ap rest_at e ∙ rest_at-spelled v others b.fits b.sized)
+one_record protocol u v rest others a b e = (
+  sym (text_at-spelled u rest a.fits a.sized) ∙ ap text_at e ∙ text_at-spelled v others b.fits b.sized,
+  sym (rest_at-spelled u rest a.fits a.sized) ∙ ap rest_at e ∙ rest_at-spelled v others b.fits b.sized,
+)
 
 end_is_good : (protocol : Protocol) (kind : FaultKind) → RecordFails protocol [] kind → ⊥
 end_is_good protocol RecordShort (inl h) = absurd (omega (arith, h.0))

@@ -1,5 +1,5 @@
 -- The records of a frame's command bytes: each a code and its payload (`linux/android/binder.h`, BINDER_WRITE_READ).
-use Rattle.std.specs.Prelude.{◌≡◌, ℕ, ◌+◌, ◌^◌, ◌<◌, ◌≤◌, ◌⊎◌, List, ◌++◌, length, Result, Ok, Err, IsOk}
+use Rattle.std.specs.Prelude.{◌≡◌, ℕ, ◌+◌, ◌^◌, ◌<◌, ◌≤◌, ◌⊎◌, List, ◌++◌, length, Err, IsOk}
 use Rattle.byteorder.specs.Endian.{little_bytes, little_number}
 use Rattle.binder_code.specs.declared.protocol.Protocol.{Protocol}
 use Rattle.binder_code.specs.declared.protocol.Protocol.TheVariants.{Command, Return}

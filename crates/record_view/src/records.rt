@@ -76,7 +76,9 @@ impl<'c> Records<'c> {
         let place = self.place + offset as u64;
         match record_at(rest, place, self.protocol) {
             Ok(record) => {
-                self.state = State::At { offset: offset + CODE + record.payload.len() };
+                self.state = State::At {
+                    offset: offset + CODE + record.payload.len(),
+                };
                 Ok(Some(record))
             }
             Err(kind) => {
@@ -110,5 +112,10 @@ fn record_at(bytes: &[u8], place: u64, protocol: Protocol) -> Result<Record<'_>,
         return Err(FaultKind::RecordShort);
     }
     let (payload, _) = rest.split_at(size);
-    Ok(Record { place, kind, code, payload })
+    Ok(Record {
+        place,
+        kind,
+        code,
+        payload,
+    })
 }

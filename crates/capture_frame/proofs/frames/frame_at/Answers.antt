@@ -1,4 +1,4 @@
-use Rattle.std.proofs.Common.{ℕ, List, ◌+◌, take, drop, refl, sym, ap, ◌∙◌, arith, rules}
+use Rattle.std.proofs.Common.{ℕ, List, ◌+◌, take, drop, refl, ap, ◌∙◌, arith, rules}
 use Rattle.std.proofs.lemmas.List.{take_rest, drop-drop}
 use Rattle.capture_frame.proofs.ReadLaws.{begins_with}
 use Rattle.capture_frame.proofs.frames.frame_at.Goals as goal

@@ -1,4 +1,4 @@
-use Rattle.std.proofs.Common.{List, ℕ, take, ap, refl, arith, rules}
+use Rattle.std.proofs.Common.{List, ℕ, take, ap, arith, rules}
 use Rattle.capture_frame.proofs.HeaderLaws.{header_read}
 use Rattle.capture_frame.proofs.header.check_header.Goals as goal
 

@@ -1,4 +1,4 @@
-use Rattle.std.proofs.Common.{sym, ap, ◌∙◌, arith, rules}
+use Rattle.std.proofs.Common.{sym, ap, ◌∙◌, rules}
 use Rattle.capture_frame.specs.State.{reading_of}
 use Rattle.capture_frame.proofs.ReadLaws.{begins_within, steps_over}
 use Rattle.capture_frame.proofs.frames.Frames.next_frame.Goals as goal

@@ -1,4 +1,4 @@
-use Rattle.std.proofs.Common.{sym, ap, ◌∙◌, arith, rules}
+use Rattle.std.proofs.Common.{sym, ap, ◌∙◌, rules}
 use Rattle.record_view.specs.State.{reading_of}
 use Rattle.record_view.proofs.ReadLaws.{begins_within, steps_over}
 use Rattle.record_view.proofs.records.Records.next_record.Goals as goal
