@@ -7,9 +7,9 @@ use Rattle.std.proofs.lemmas.List.Concat.{flat_map-cons}
 use Rattle.capture_frame.specs.declared.fault.Fault.{Fault}
 use Rattle.capture_frame.specs.declared.frame.Frame.{Frame}
 use Rattle.capture_frame.specs.Units.{AllStand, state_after, spelling_of}
-use Rattle.capture_frame.specs.Envelope.{FrameText, file_header, frame_bytes, text_of, MayStand}
-use Rattle.capture_frame.specs.FirstFault.{HeaderFails, IsFirstFault, in_header, in_frames}
-use Rattle.capture_frame.specs.Reading.{Reading, at, failed, BeginsWith, Steps}
+use Rattle.capture_frame.specs.Envelope.{file_header, frame_bytes, text_of}
+use Rattle.capture_frame.specs.FirstFault.{in_frames}
+use Rattle.capture_frame.specs.Reading.{Reading, at, failed, Steps}
 use Rattle.capture_frame.proofs.UnitLaws.{Walks, state_after-snoc, walk_start, walk_step, walk_end, walk_fails}
 use Rattle.capture_frame.proofs.FrameLaws.{length-frame_bytes}
 use Rattle.record_view.specs.Records.{RecordText}

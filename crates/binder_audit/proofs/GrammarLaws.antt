@@ -1,10 +1,9 @@
 -- Whole frames are judged in one way.
-use Rattle.std.proofs.Common.{◌≡◌, ℕ, ◌+◌, ◌<◌, ◌⊎◌, inl, inr, List, [], ◌++◌, length, Option, refl, sym, ap, subst, ◌∙◌, append_assoc, length-append, arith}
+use Rattle.std.proofs.Common.{◌≡◌, ℕ, ◌+◌, ◌<◌, inl, inr, List, [], ◌++◌, length, Option, refl, sym, ap, subst, ◌∙◌, length-append, arith}
 use Rattle.std.proofs.lemmas.Bool.{cases_lt}
 use Rattle.std.proofs.lemmas.List.{get_or_append_left, get_or_past}
 use Rattle.capture_frame.specs.declared.fault.FaultKind.{FaultKind}
-use Rattle.capture_frame.specs.Units.{Reads}
-use Rattle.capture_frame.specs.Envelope.{FrameText, frame_header, frame_bytes, MayStand}
+use Rattle.capture_frame.specs.Envelope.{FrameText, frame_bytes, MayStand}
 use Rattle.capture_frame.specs.FirstFault.{FrameFails, frame_format}
 use Rattle.capture_frame.proofs.NumberLaws.{IsBytes, IsBytes-drop}
 use Rattle.capture_frame.proofs.UnitLaws.{IsDecided, Judged, ended, good, bad, Outcome, read, failed, outcome}

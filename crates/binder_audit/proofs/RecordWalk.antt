@@ -19,7 +19,7 @@ use Rattle.capture_frame.specs.Envelope as envelope
 use Rattle.capture_frame.proofs.UnitLaws.{Walks, walk_start, walk_step, walk_end, walk_fails}
 use Rattle.record_view.specs.declared.record.Record.{Record}
 use Rattle.record_view.specs.Records.{RecordText, record_bytes, protocol_of, record_format}
-use Rattle.record_view.specs.Reading.{Reading, at, failed, text_of, BeginsWith, Steps}
+use Rattle.record_view.specs.Reading.{Reading, at, failed, text_of, Steps}
 use Rattle.record_view.proofs.RecordLaws.{length-record_bytes}
 use Rattle.binder_audit.specs.Grammar.{HasRecords, CommandsFail}
 use Rattle.binder_audit.specs.Findings.{protocol_of_word, kind_of_word, is_opaque_kind, is_opaque}

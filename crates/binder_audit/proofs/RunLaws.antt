@@ -1,6 +1,6 @@
 -- What a run rests on: what holds of the bytes that were read holds of those that the reader had.
 use Rattle.std.proofs.Common.{◌≡◌, ℕ, List, Option, Some, None, Result, Ok, Err, refl, sym, subst}
-use Rattle.std.specs.Prelude.{IfOk, IfSome, ⊤}
+use Rattle.std.specs.Prelude.{IfOk, IfSome}
 use Rattle.capture_frame.specs.declared.fault.Fault.{Fault}
 use Rattle.binder_audit.specs.declared.run_error.RunError.{RunError}
 use Rattle.binder_audit.specs.declared.run_error.RunError.TheVariants.{Write}

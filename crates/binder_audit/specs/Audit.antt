@@ -1,5 +1,5 @@
 -- What the steps of an audit answer.
-use Rattle.std.specs.Prelude.{◌≡◌, List, ◌++◌, ℕ, map, ⊤}
+use Rattle.std.specs.Prelude.{List, ◌++◌, ℕ, map, ⊤}
 use Rattle.capture_frame.specs.declared.frame.Frame.{Frame}
 use Rattle.capture_frame.specs.Envelope.{FrameText}
 use Rattle.record_view.specs.Records.{RecordText}

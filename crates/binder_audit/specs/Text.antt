@@ -1,5 +1,5 @@
 -- The text that is written for a capture (docs/REPORT.md).
-use Rattle.std.specs.Prelude.{◌≡◌, ℕ, zero, suc, ◌+◌, ◌/◌, ◌%◌, List, [], ◌∷◌, ◌++◌, length, map, codes, Option, Some, None, false}
+use Rattle.std.specs.Prelude.{◌≡◌, ℕ, zero, suc, ◌/◌, ◌%◌, List, [], ◌∷◌, ◌++◌, length, map, codes, Option, Some, None, false}
 use Rattle.std.specs.List.{flat_map}
 use Rattle.std.specs.Fmt.{decimal, digit_glyph}
 use Rattle.binder_code.specs.declared.record_kind.Kind.{Kind}
@@ -7,7 +7,7 @@ use Rattle.binder_code.specs.Commands.{name_of}
 use Rattle.capture_frame.specs.declared.fault.Fault.{Fault}
 use Rattle.capture_frame.specs.declared.fault.FaultKind.{FaultKind}
 use Rattle.capture_frame.specs.declared.fault.FaultKind.TheVariants.{HeaderShort, HeaderMagic, HeaderProtocol, HeaderReserved, FrameShort, FrameSequence, FrameDirection, FrameReserved, FrameLength, RecordShort, RecordDirection, RecordSize, AttachShort, AttachRecord, AttachSize}
-use Rattle.binder_audit.specs.Grammar.{WholeFrame, IsInGrammar, HasFirstFault}
+use Rattle.binder_audit.specs.Grammar.{WholeFrame, IsInGrammar}
 use Rattle.binder_audit.specs.declared.findings.Findings.{Findings}
 use Rattle.binder_audit.specs.declared.code_rows.CodeRow.{CodeRow}
 use Rattle.binder_audit.specs.Findings.{AreFindings, kind_of_word}

@@ -1,6 +1,6 @@
 -- What the counts of records stand for while they are made.
 use Rattle.std.specs.Prelude.{◌≡◌, ℕ, zero, suc, ◌+◌, ◌^◌, ◌<◌, ◌==◌, List, [], ◌∷◌, length, count_by, Option, Some, None}
-use Rattle.std.specs.BTreeMap.{BTreeMap, IsOrdered, get}
+use Rattle.std.specs.BTreeMap.{IsOrdered, get}
 use Rattle.std.specs.Ordering.{nat_cmp}
 use Rattle.binder_audit.specs.declared.code_rows.CodeRow.{CodeRow}
 use Rattle.binder_audit.specs.declared.record_totals.RecordTotals.{RecordTotals}

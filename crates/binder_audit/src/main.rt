@@ -15,6 +15,8 @@ mod first_fault;
 mod laws;
 mod limits;
 mod line;
+#[cfg(test)]
+mod memory_tests;
 mod program;
 mod reading;
 mod record_totals;

@@ -288,6 +288,17 @@ fn judges_and_counts_sequences(rt: HostRuntime) -> Result<(), Fail> {
         text,
     )?;
 
+    let capture = empty_frames(rt.alloc(), &[5, 5, 9])?;
+    let text = "malformed FrameSequence at 48\n";
+    expect_fault(
+        &rt,
+        rt.alloc(),
+        &capture.bytes,
+        FaultKind::FrameSequence,
+        48,
+        text,
+    )?;
+
     let text = "\
 BINDER AUDIT 1
 frames 2 records 0 opaque 0 missing 18446744073709551614
@@ -373,6 +384,67 @@ fn names_cut_frames(rt: HostRuntime) -> Result<(), Fail> {
             fault,
             text,
         )?;
+    }
+    let capture = Capture::new(alloc)?.frame_header(Way::Write, 1, (1, 1), 1)?;
+    let text = "malformed FrameLength at 16\n";
+    expect_fault(&rt, alloc, &capture.bytes, FaultKind::FrameLength, 16, text)
+}
+
+/// Three write frames of one looper's entry each, but for one frame with these command bytes.
+fn frames_but_one(alloc: Global, other: usize, commands: &[u8]) -> Result<Capture, Fail> {
+    let good = Commands::new(alloc).record(BC_ENTER_LOOPER, &[])?;
+    let mut wrong = Commands::new(alloc);
+    wrong.bytes.extend_from_slice(commands)?;
+    let mut capture = Capture::new(alloc)?;
+    for frame in 0..3usize {
+        let commands = if frame == other { &wrong } else { &good };
+        capture = capture.frame(Way::Write, frame as u64, (1, 1), commands)?;
+    }
+    Ok(capture)
+}
+
+/// The records of the three frames begin at 48, 84 and 120.
+#[test]
+fn names_faults_of_records_in_each_frame(rt: HostRuntime) -> Result<(), Fail> {
+    let alloc = rt.alloc();
+    let short = [
+        "malformed RecordShort at 48\n",
+        "malformed RecordShort at 84\n",
+        "malformed RecordShort at 120\n",
+    ];
+    let direction = [
+        "malformed RecordDirection at 48\n",
+        "malformed RecordDirection at 84\n",
+        "malformed RecordDirection at 120\n",
+    ];
+    let size = [
+        "malformed RecordSize at 48\n",
+        "malformed RecordSize at 84\n",
+        "malformed RecordSize at 120\n",
+    ];
+    for (commands, kind, texts) in [
+        // A code that is cut, and a payload that passes the end of the frame.
+        (b"\x0c\x63".as_slice(), FaultKind::RecordShort, short),
+        (
+            b"\x05\x63\x04\x40".as_slice(),
+            FaultKind::RecordShort,
+            short,
+        ),
+        (
+            b"\x0c\x72\0\0".as_slice(),
+            FaultKind::RecordDirection,
+            direction,
+        ),
+        (
+            b"\x0c\x63\x04\x40\0\0\0\0".as_slice(),
+            FaultKind::RecordSize,
+            size,
+        ),
+    ] {
+        for (at, place) in [(0usize, 48), (1, 84), (2, 120)] {
+            let capture = frames_but_one(alloc, at, commands)?;
+            expect_fault(&rt, alloc, &capture.bytes, kind, place, texts[at])?;
+        }
     }
     Ok(())
 }

@@ -13,14 +13,14 @@ use std::process::Abort;
 use std::test::Fail;
 use std::thread::Threads;
 
-const USAGE: &str =
+pub(crate) const USAGE: &str =
     "usage: binder_audit report [--workers N] [--piece N] FILE or first-fault FILE\n";
 
 /// A capture with no frame.
 const EMPTY_CAPTURE: &[u8] = b"BNDRCAP1\x08\0\0\0\0\0\0\0";
 
 /// The words of a command line, after the program's own name.
-fn words_of(alloc: Global, line: &str) -> Result<Vec<String>, AllocError> {
+pub(crate) fn words_of(alloc: Global, line: &str) -> Result<Vec<String>, AllocError> {
     let mut words = Vec::new(alloc);
     words.push(String::from_str(alloc, "binder_audit")?)?;
     for word in line.split_whitespace() {

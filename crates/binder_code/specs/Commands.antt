@@ -115,7 +115,7 @@ listed =
     BrTransactionPendingFrozen ∷
     []
 
--- a kind's name: the header's own, or `OPAQUE` where the header lists none (`linux/android/binder.h`)
+-- a kind's name: the header's own, or `OPAQUE` where the table lists none (`linux/android/binder.h`)
 abbrev pub name_of : Kind → List ℕ
 name_of kind = option_map_or (λ row. row.name) (row_of kind) (codes "OPAQUE")
 

@@ -1,6 +1,5 @@
-use Rattle.std.proofs.Common.{◌≡◌, ℕ, List, [], ◌∷◌, ◌++◌, length, map, sym, ap, subst, ◌∙◌, arith}
+use Rattle.std.proofs.Common.{ℕ, List, [], ◌∷◌, ◌++◌, subst, arith}
 use Rattle.std.proofs.lemmas.Result.{err_from_is_err_and}
-use Rattle.record_view.specs.Records.{RecordText}
 use Rattle.binder_audit.specs.Findings.{code_words}
 use Rattle.binder_audit.specs.Totals.{SumsWords}
 use Rattle.binder_audit.proofs.FrameWalk.{whole_of, stands_behind_next, left_falls, header_fails, audit_fails, frames_end, code_words-snoc, room_for_frame, sequences_rise, sums_next, missing_is, frames_counted}

@@ -1,5 +1,5 @@
 use Rattle.clap.specs.Words.{found_of, rows_of}
-use Rattle.binder_audit.proofs.RequestLemmas.{IfNone-always, no_piece, no_report_file, no_workers}
+use Rattle.binder_audit.proofs.RequestLemmas.{IfNone-always, no_piece, no_workers}
 use Rattle.binder_audit.proofs.command_line.report_of.Goals as goal
 
 pub returns-in_err-number_of-clause-none : goal.returns-in_err-number_of-clause-none

@@ -1,6 +1,5 @@
-use Rattle.std.proofs.Common.{◌≡◌, ◌++◌, ◌∷◌, [], Ok, Err, Some, ap, sym, ◌∙◌, subst}
+use Rattle.std.proofs.Common.{◌++◌, ◌∷◌, []}
 use Rattle.std.proofs.lemmas.Result.{err_from_is_err_and}
-use Rattle.binder_audit.specs.Grammar.{HasFirstFault}
 use Rattle.binder_audit.proofs.FrameWalk.{whole_of, stands_behind_next, left_falls, header_fails, commands_fail}
 use Rattle.binder_audit.proofs.first_fault.check.Goals as goal
 

@@ -1,5 +1,5 @@
-use Rattle.std.proofs.Common.{◌≡◌, ◌++◌, ◌∷◌, [], Ok, Some, ap, ◌∙◌, subst}
-use Rattle.record_view.specs.Reading.{Steps, text_of}
+use Rattle.std.proofs.Common.{◌++◌, ◌∷◌, []}
+use Rattle.record_view.specs.Reading.{text_of}
 use Rattle.binder_audit.proofs.RecordWalk.{stands_behind_next, left_falls}
 use Rattle.binder_audit.proofs.first_fault.check_records.Goals as goal
 

@@ -1,5 +1,4 @@
-use Rattle.std.proofs.Common.{◌≡◌, ℕ, ◌++◌, take, rules, arith}
-use Rattle.std.specs.Io.KnownBytes.{Consumes}
+use Rattle.std.proofs.Common.{◌++◌, take, arith}
 use Rattle.std.proofs.KnownBytes.{Consumes-trans}
 use Rattle.binder_audit.proofs.reading.read_through.Goals as goal
 
