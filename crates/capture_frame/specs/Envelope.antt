@@ -46,9 +46,9 @@ pub record FitsHeader (f : FrameText) : Type 0 where
   pub commands : length f.commands < 2 ^ 32
   pub attachments : length f.attachments < 2 ^ 32
 
--- the sequence is above that of the frame before, if there is one
+-- the number is above the one before, if there is one
 abbrev pub IsAbove : Option ℕ → ℕ → Type 0
-IsAbove before sequence = IfSome before (λ last. last < sequence)
+IsAbove before number = IfSome before (λ last. last < number)
 
 -- a frame may stand where its numbers fit and its sequence is above the one before
 pub record MayStand (before : Option ℕ) (f : FrameText) : Type 0 where

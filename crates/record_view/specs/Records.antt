@@ -1,5 +1,6 @@
 -- The records of a frame's command bytes: each a code and its payload (`linux/android/binder.h`, BINDER_WRITE_READ).
-use Rattle.std.specs.Prelude.{◌≡◌, ℕ, ◌+◌, ◌^◌, ◌<◌, ◌≤◌, ◌⊎◌, List, ◌++◌, length, Err, IsOk}
+use Rattle.std.specs.Prelude.{◌≡◌, ℕ, ◌+◌, ◌^◌, ◌<◌, ◌≤◌, ◌⊎◌, List, ◌∷◌, ◌++◌, length, Err, IsOk}
+use Rattle.std.specs.List.{flat_map}
 use Rattle.byteorder.specs.Endian.{little_bytes, little_number}
 use Rattle.binder_code.specs.declared.protocol.Protocol.{Protocol}
 use Rattle.binder_code.specs.declared.protocol.Protocol.TheVariants.{Command, Return}
@@ -10,7 +11,8 @@ use Rattle.capture_frame.specs.declared.direction.Direction.{Direction}
 use Rattle.capture_frame.specs.declared.direction.Direction.TheVariants.{Write, Read}
 use Rattle.capture_frame.specs.declared.fault.FaultKind.{FaultKind}
 use Rattle.capture_frame.specs.declared.fault.FaultKind.TheVariants.{RecordShort, RecordDirection, RecordSize}
-use Rattle.capture_frame.specs.Units.{Format}
+use Rattle.capture_frame.specs.Units.{Format, Reads, FirstFailure}
+use Rattle.capture_frame.specs.Envelope.{FrameText}
 
 -- the protocol whose codes a frame of this direction holds
 abbrev pub protocol_of : Direction → Protocol
@@ -57,3 +59,26 @@ record_format protocol = record {
   after = λ _ r. tt;
   Fails = λ _ bytes kind within. RecordFails protocol bytes kind × (within ≡ 0);
 }
+
+-- the command bytes of a frame are these records
+abbrev pub HasRecords : FrameText → List RecordText → Type 0
+HasRecords frame records = Reads (record_format (protocol_of frame.direction)) tt frame.commands records
+
+-- the command bytes of a frame are records
+abbrev pub HasReadableRecords : FrameText → Type 0
+HasReadableRecords frame = (records : List RecordText) × HasRecords frame records
+
+-- the command bytes of a frame begin with whole good records, and what stands so far into them fails by this kind
+abbrev pub RecordsFail : FrameText → FaultKind → ℕ → Type 0
+RecordsFail frame kind distance = FirstFailure (record_format (protocol_of frame.direction)) tt frame.commands kind distance
+
+-- how many command bytes these records take
+abbrev pub span_of : List RecordText → ℕ
+span_of records = length (flat_map record_bytes records)
+
+-- the frame's command bytes are records, and this one of them begins so many bytes into them
+pub record StandsAt (frame : FrameText) (offset : ℕ) (found : RecordText) : Type 0 where
+  pub before : List RecordText
+  pub behind : List RecordText
+  pub has_records : HasRecords frame (before ++ found ∷ behind)
+  pub offset_is : offset ≡ span_of before

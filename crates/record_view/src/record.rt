@@ -1,4 +1,6 @@
-ghost use Rattle.std.specs.Prelude.{◌+◌, ◌<◌, ◌^◌, length};
+ghost use Rattle.std.specs.Prelude.{◌≡◌, ◌+◌, ◌<◌, ◌^◌, length};
+ghost use Rattle.std.specs.Option.{ForSome};
+ghost use Rattle.binder_code.specs.Commands.{row_of};
 
 use binder_code::{Code, Kind};
 
@@ -14,4 +16,6 @@ pub struct Record<'c> {
     /// The bytes after the code, as many as the code's size says.
     pub payload: &'c [u8],
     ghost fits: { place + 4 + length payload.now < 2 ^ 64 },
+    // The payload of a listed kind is as long as the header says.
+    ghost sized: { ForSome (row_of kind) (λ row. length payload.now ≡ row.size) },
 }

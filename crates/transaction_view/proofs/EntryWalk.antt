@@ -1,0 +1,73 @@
+-- A reader of entries goes through a frame's attachment bytes, and what it has given so far are the entries before it.
+use Rattle.std.proofs.Common.{◌≡◌, ℕ, ◌+◌, ◌-◌, ◌<◌, List, [], ◌∷◌, ◌++◌, length, drop, Option, Some, None, Result, Ok, Err, refl, sym, ap, subst, ◌∙◌, length-append, arith}
+use Rattle.std.proofs.lemmas.List.{length-drop}
+use Rattle.capture_frame.specs.declared.fault.Fault.{Fault}
+use Rattle.capture_frame.specs.declared.frame.Frame.{Frame}
+use Rattle.capture_frame.specs.Envelope.{text_of}
+use Rattle.capture_frame.specs.Units.{state_after}
+use Rattle.capture_frame.proofs.UnitLaws.{Walks, state_after-snoc, walk_start, walk_step, walk_end, walk_fails}
+use Rattle.record_view.specs.Records.{HasReadableRecords}
+use Rattle.transaction_view.specs.declared.entry.Entry.{Entry}
+use Rattle.transaction_view.specs.Attachments.{EntryText, entry_bytes, entry_format, HasEntries}
+use Rattle.transaction_view.specs.FirstFault.{HasContentFault, in_entries}
+use Rattle.transaction_view.specs.Reading.{Reading, at, failed, Steps}
+use Rattle.transaction_view.proofs.EntryLaws.{length-entry_bytes}
+
+-- the reader stands behind these entries of the frame
+pub record StandsBehind (frame : Frame) (reading : Reading) (done : List EntryText) : Type 0 where
+  pub distance : ℕ
+  pub reading_is : reading ≡ at (text_of frame) frame.place distance (state_after (entry_format (text_of frame)) None done)
+  pub walks : Walks (entry_format (text_of frame)) None frame.attachments.now done distance
+
+-- how many attachment bytes a reader has left
+abbrev pub left_of : Reading → ℕ
+left_of (at frame frame_place distance before) = length frame.attachments - distance
+left_of (failed fault) = 0
+
+pub stands_at_start : (frame : Frame) (reading : Reading) → reading ≡ at (text_of frame) frame.place 0 None → StandsBehind frame reading []
+stands_at_start frame reading is = record { distance = 0; reading_is = is; walks = walk_start (entry_format (text_of frame)) None frame.attachments.now }
+
+steps_from : (frame : Frame) (reading : Reading) (done : List EntryText) (stands : StandsBehind frame reading done) (result : Result (Option Entry) Fault) (new : Reading) → Steps reading result new
+    → Steps (at (text_of frame) frame.place stands.distance (state_after (entry_format (text_of frame)) None done)) result new
+steps_from frame reading done stands result new steps = subst (λ (r : Reading). Steps r result new) stands.reading_is steps
+
+-- behind one entry more
+pub stands_behind_next : (frame : Frame) (reading : Reading) (done : List EntryText) (stands : StandsBehind frame reading done) (found : Entry) (new : Reading) → Steps reading (Ok (Some found)) new
+    → (next : List EntryText) × StandsBehind frame new next
+stands_behind_next frame reading done stands found new steps =
+    let s = steps_from frame reading done stands (Ok (Some found)) new steps in
+    let e = s.0 in
+    let format = entry_format (text_of frame) in (
+      done ++ e ∷ [],
+      record {
+        distance = stands.distance + length (entry_bytes e);
+        reading_is = s.2 ∙ ap (λ (b : Option ℕ). at (text_of frame) frame.place (stands.distance + length (entry_bytes e)) b) (sym (state_after-snoc format None done e));
+        walks = walk_step format None frame.attachments.now done stands.distance e stands.walks s.1.may_stand s.1.joined;
+      },
+    )
+
+-- an entry takes some bytes
+pub step_falls : (reading : Reading) (found : Entry) (new : Reading) → Steps reading (Ok (Some found)) new → left_of new < left_of reading
+step_falls (failed fault) found new steps = let wrong = steps.0 in cc
+step_falls (at frame frame_place distance before) found new steps =
+    let e = steps.0 in
+    let n = length (entry_bytes e) in
+    let parts : length (drop distance frame.attachments) ≡ n + length (drop n (drop distance frame.attachments)) = ap length steps.1.joined ∙ length-append (entry_bytes e) (drop n (drop distance frame.attachments)) in
+    let fell : length frame.attachments - (distance + n) < length frame.attachments - distance = omega (arith, parts, length-drop distance frame.attachments, length-entry_bytes e) in
+    subst (λ (r : Reading). left_of r < length frame.attachments - distance) (sym steps.2) fell
+
+-- at the end the attachment bytes are the entries
+pub entries_end : (frame : Frame) (reading : Reading) (done : List EntryText) (stands : StandsBehind frame reading done) (new : Reading) → Steps reading (Ok None) new → HasEntries (text_of frame) done
+entries_end frame reading done stands new steps =
+    let s = steps_from frame reading done stands (Ok None) new steps in
+    walk_end (entry_format (text_of frame)) None frame.attachments.now done stands.distance stands.walks s.0
+
+-- a fault is the first of the frame's content
+pub entries_fail : (frame : Frame) (reading : Reading) (done : List EntryText) (stands : StandsBehind frame reading done) (fault : Fault) (new : Reading) → HasReadableRecords (text_of frame) → Steps reading (Err fault) new
+    → HasContentFault frame fault
+entries_fail frame reading done stands fault new readable steps =
+    let s = steps_from frame reading done stands (Err fault) new steps in (
+      32 + (length frame.commands.now + (stands.distance + 0)),
+      in_entries (stands.distance + 0) readable (walk_fails (entry_format (text_of frame)) None frame.attachments.now done stands.distance fault.kind 0 stands.walks (s.0, refl)) refl,
+      let e = s.1 in omega arith,
+    )

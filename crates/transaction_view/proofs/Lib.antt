@@ -1,0 +1,9 @@
+pub mod FieldLaws
+pub mod RecordPlaces
+pub mod EntryLaws
+pub mod SearchLaws
+pub mod ReadLaws
+pub mod RecordWalk
+pub mod EntryWalk
+pub mod GrammarLaws
+pub mod CaptureWalk

@@ -1,0 +1,44 @@
+-- The grammar of a whole capture, and its first fault: its frames, judged with all that stands in them
+-- (docs/ENVELOPE.md).
+use Rattle.std.specs.Prelude.{ℕ, List, Option, Some}
+use Rattle.capture_frame.specs.declared.fault.Fault.{Fault}
+use Rattle.capture_frame.specs.declared.fault.FaultKind.{FaultKind}
+use Rattle.capture_frame.specs.Units.{Format}
+use Rattle.capture_frame.specs.Envelope.{FrameText, frame_bytes, MayStand}
+use Rattle.capture_frame.specs.FirstFault.{IsCapture, IsFirstFault}
+use Rattle.record_view.specs.Records.{RecordText, HasRecords}
+use Rattle.transaction_view.specs.Attachments.{EntryText, HasEntries}
+use Rattle.transaction_view.specs.FirstFault.{WholeFrameFails}
+
+-- a frame with what its command bytes and its attachment bytes say
+pub record WholeFrame : Type 0 where
+  pub frame : FrameText
+  pub records : List RecordText
+  pub entries : List EntryText
+
+-- a whole frame may stand where its header may, its command bytes are its records, and its attachment bytes its entries
+pub record MayStandWhole (before : Option ℕ) (whole : WholeFrame) : Type 0 where
+  pub header : MayStand before whole.frame
+  pub has_records : HasRecords whole.frame whole.records
+  pub has_entries : HasEntries whole.frame whole.entries
+
+-- frames, judged with all that stands in them
+abbrev pub whole_format : Format (Option ℕ) WholeFrame FaultKind
+whole_format = record {
+  spelling = λ whole. frame_bytes whole.frame;
+  MayStand = MayStandWhole;
+  after = λ before whole. Some whole.frame.sequence;
+  Fails = WholeFrameFails;
+}
+
+-- the capture is in the grammar, as these frames
+abbrev pub IsInGrammar : List ℕ → List WholeFrame → Type 0
+IsInGrammar capture frames = IsCapture whole_format capture frames
+
+-- the capture is in the grammar
+abbrev pub IsReadable : List ℕ → Type 0
+IsReadable capture = (frames : List WholeFrame) × IsInGrammar capture frames
+
+-- the first fault of the capture
+abbrev pub HasFirstFault : List ℕ → Fault → Type 0
+HasFirstFault capture fault = IsFirstFault whole_format capture fault

@@ -1,0 +1,6 @@
+pub mod Transaction
+pub mod Attachments
+pub mod FirstFault
+pub mod Grammar
+pub mod Reading
+pub mod State

@@ -1,0 +1,16 @@
+//! Transactions and replies, the attachments of a frame, and the first fault of a whole capture.
+#![tactic(auto)]
+
+mod attachments;
+mod check;
+mod entry;
+pub mod laws;
+mod transaction;
+
+pub use attachments::Attachments;
+pub use check::{check_frame, first_fault};
+pub use entry::Entry;
+pub use transaction::Transaction;
+
+#[cfg(test)]
+mod tests;
