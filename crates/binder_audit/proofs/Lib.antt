@@ -1,5 +1,4 @@
 pub mod FrameWalk
-pub mod GrammarLaws
 pub mod RecordWalk
 pub mod RequestLemmas
 pub mod RunLaws

@@ -4,7 +4,7 @@ use Rattle.std.specs.Prelude.{IfOk, IfSome}
 use Rattle.capture_frame.specs.declared.fault.Fault.{Fault}
 use Rattle.binder_audit.specs.declared.run_error.RunError.{RunError}
 use Rattle.binder_audit.specs.declared.run_error.RunError.TheVariants.{Write}
-use Rattle.binder_audit.specs.Grammar.{HasFirstFault}
+use Rattle.transaction_view.specs.Grammar.{HasFirstFault}
 use Rattle.binder_audit.specs.KnownBytes.{AppendsPrefix}
 use Rattle.binder_audit.specs.Run.{StaysOrBegins, StaysOrBeginsLine, malformed, named}
 use Rattle.binder_audit.specs.Text.{fault_line}

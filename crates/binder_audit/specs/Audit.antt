@@ -1,23 +1,17 @@
 -- What the steps of an audit answer.
 use Rattle.std.specs.Prelude.{List, ◌++◌, ℕ, map, ⊤}
-use Rattle.capture_frame.specs.declared.frame.Frame.{Frame}
 use Rattle.capture_frame.specs.Envelope.{FrameText}
-use Rattle.record_view.specs.Records.{RecordText}
+use Rattle.record_view.specs.Records.{RecordText, HasRecords}
 use Rattle.binder_audit.specs.declared.audit.AuditError.{AuditError}
 use Rattle.binder_audit.specs.declared.audit.AuditError.TheVariants.{Memory, Malformed}
 use Rattle.binder_audit.specs.declared.record_totals.RecordTotals.{RecordTotals}
-use Rattle.binder_audit.specs.Grammar.{HasRecords, CommandsFail, HasFirstFault}
+use Rattle.transaction_view.specs.Grammar.{HasFirstFault}
 use Rattle.binder_audit.specs.Totals.{SumsWords}
 
 -- what is malformed is the capture's first fault
 abbrev pub IsMalformed : List ℕ → AuditError → Type 0
 IsMalformed capture Memory = ⊤
 IsMalformed capture (Malformed fault) = HasFirstFault capture fault
-
--- what is malformed is the fault of the frame's records
-abbrev pub FailsIn : Frame → AuditError → Type 0
-FailsIn frame Memory = ⊤
-FailsIn frame (Malformed fault) = CommandsFail frame fault
 
 -- the frame has records, and the totals have theirs besides
 abbrev pub AddsRecords : FrameText → RecordTotals → RecordTotals → Type 0

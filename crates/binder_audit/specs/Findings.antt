@@ -11,7 +11,7 @@ use Rattle.binder_code.specs.Code.{letter}
 use Rattle.binder_code.specs.Commands.{kind_of, letter_of}
 use Rattle.binder_audit.specs.declared.findings.Findings.{Findings}
 use Rattle.binder_audit.specs.declared.code_rows.CodeRow.{CodeRow}
-use Rattle.binder_audit.specs.Grammar.{WholeFrame}
+use Rattle.transaction_view.specs.Grammar.{WholeFrame}
 
 -- the code words of these frames' records, in their order
 abbrev pub code_words : List WholeFrame → List ℕ

@@ -2,7 +2,6 @@ pub mod Audit
 pub mod CommandLine
 pub mod Failure
 pub mod Findings
-pub mod Grammar
 pub mod KnownBytes
 pub mod Run
 pub mod RunError

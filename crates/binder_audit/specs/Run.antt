@@ -6,7 +6,7 @@ use Rattle.binder_audit.specs.declared.run.Written.{Written}
 use Rattle.binder_audit.specs.declared.run.Written.TheVariants.{Report, Malformed}
 use Rattle.binder_audit.specs.declared.run_error.RunError.{RunError}
 use Rattle.binder_audit.specs.declared.run_error.RunError.TheVariants.{Memory, Write, Open}
-use Rattle.binder_audit.specs.Grammar.{IsReadable, HasFirstFault}
+use Rattle.transaction_view.specs.Grammar.{IsReadable, HasFirstFault}
 use Rattle.binder_audit.specs.KnownBytes.{AppendsPrefix}
 use Rattle.binder_audit.specs.Text.{IsReportOn, fault_line, no_fault_line}
 

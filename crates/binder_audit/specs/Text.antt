@@ -7,7 +7,7 @@ use Rattle.binder_code.specs.Commands.{name_of}
 use Rattle.capture_frame.specs.declared.fault.Fault.{Fault}
 use Rattle.capture_frame.specs.declared.fault.FaultKind.{FaultKind}
 use Rattle.capture_frame.specs.declared.fault.FaultKind.TheVariants.{HeaderShort, HeaderMagic, HeaderProtocol, HeaderReserved, FrameShort, FrameSequence, FrameDirection, FrameReserved, FrameLength, RecordShort, RecordDirection, RecordSize, AttachShort, AttachRecord, AttachSize}
-use Rattle.binder_audit.specs.Grammar.{WholeFrame, IsInGrammar}
+use Rattle.transaction_view.specs.Grammar.{WholeFrame, IsInGrammar}
 use Rattle.binder_audit.specs.declared.findings.Findings.{Findings}
 use Rattle.binder_audit.specs.declared.code_rows.CodeRow.{CodeRow}
 use Rattle.binder_audit.specs.Findings.{AreFindings, kind_of_word}

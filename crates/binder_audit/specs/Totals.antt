@@ -5,7 +5,7 @@ use Rattle.std.specs.Ordering.{nat_cmp}
 use Rattle.binder_audit.specs.declared.code_rows.CodeRow.{CodeRow}
 use Rattle.binder_audit.specs.declared.record_totals.RecordTotals.{RecordTotals}
 use Rattle.binder_audit.specs.declared.sequences.Sequences.{Sequences}
-use Rattle.binder_audit.specs.Grammar.{WholeFrame}
+use Rattle.transaction_view.specs.Grammar.{WholeFrame}
 use Rattle.binder_audit.specs.Findings.{is_opaque, last_sequence}
 
 -- a number, where it is not 0

@@ -2,9 +2,10 @@
 
 ghost use Rattle.std.specs.Prelude.{◌≡◌, List, length, Some, IfErr, IfOk, OnOk};
 ghost use Rattle.capture_frame.specs.Envelope.{text_of};
-ghost use Rattle.binder_audit.specs.Audit.{FailsIn, IsMalformed, AddsRecords};
+ghost use Rattle.binder_audit.specs.Audit.{IsMalformed, AddsRecords};
 ghost use Rattle.binder_audit.specs.Findings.{AreFindings, is_opaque_kind};
-ghost use Rattle.binder_audit.specs.Grammar.{WholeFrame, IsInGrammar};
+ghost use Rattle.record_view.specs.Records.{HasReadableRecords};
+ghost use Rattle.transaction_view.specs.Grammar.{WholeFrame, IsInGrammar};
 ghost use Rattle.binder_audit.specs.Totals.{HasRoomFor};
 
 use crate::findings::Findings;
@@ -14,6 +15,7 @@ use binder_code::Kind;
 use capture_frame::{Fault, Frame, Frames};
 use record_view::Records;
 use std::alloc::{AllocError, Global};
+use transaction_view::check_frame;
 
 /// Why there are no findings.
 #[derive(Clone, Copy, Debug, PartialEq, Eq)]
@@ -55,6 +57,9 @@ pub(crate) fn audit(alloc: Global, capture: &[u8]) -> Result<Findings, AuditErro
     let mut sequences = Sequences::NONE;
     let mut totals = RecordTotals::new(alloc);
     while let Some(frame) = frames.next_frame()? {
+        if let Some(fault) = check_frame(frame) {
+            return Err(AuditError::Malformed(fault));
+        }
         count_records(&mut totals, frame)?;
         sequences.add(frame.sequence);
     }
@@ -68,14 +73,14 @@ pub(crate) fn audit(alloc: Global, capture: &[u8]) -> Result<Findings, AuditErro
     })
 }
 
-/// Counts the records of a frame.
-fn count_records(totals: &mut RecordTotals, frame: Frame<'_>) -> Result<(), AuditError>
-    requires { HasRoomFor (length frame.commands.now) totals.old }
-    ensures counted { OnOk result (AddsRecords (text_of frame.entry) totals.old totals.new) }
-    ensures malformed { IfErr result (FailsIn frame.entry) }
+/// Counts the records of a frame, which have no fault.
+fn count_records(totals: &mut RecordTotals, frame: Frame<'_>) -> Result<(), AllocError>
+    requires readable { HasReadableRecords (text_of frame) }
+    requires room { HasRoomFor (length frame.commands.now) totals.old }
+    ensures { OnOk result (AddsRecords (text_of frame.entry) totals.old totals.new) }
 {
     let mut records = Records::of(frame);
-    while let Some(record) = records.next_record()? {
+    while let Some(record) = records.next_record().unwrap_or(None) {
         totals.add(record.code.0, is_opaque(record.kind))?;
     }
     Ok(())

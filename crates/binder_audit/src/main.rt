@@ -11,8 +11,6 @@ mod command_line;
 #[cfg(test)]
 mod devices;
 mod findings;
-mod first_fault;
-mod laws;
 mod limits;
 mod line;
 #[cfg(test)]

@@ -8,7 +8,6 @@ ghost use Rattle.binder_audit.specs.Run.{Reports, NamesFirstFault, StaysOrBegins
 ghost use Rattle.binder_audit.specs.declared.limits.TheConstants.{CAPTURE_LIMIT};
 
 use crate::audit::{AuditError, audit};
-use crate::first_fault::first_fault;
 use crate::limits::{CAPTURE_LIMIT, Piece, Workers};
 use crate::reading::read_capture;
 use crate::run_error::RunError;
@@ -18,6 +17,7 @@ use capture_frame::Fault;
 use std::alloc::Global;
 use std::io::{Read, Write};
 use std::thread::Threads;
+use transaction_view::first_fault;
 
 /// What was written.
 #[derive(Clone, Copy, Debug, PartialEq, Eq)]

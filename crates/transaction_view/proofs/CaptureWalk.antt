@@ -30,7 +30,7 @@ left_of (failed fault) = 0
 pub stands_at_start : (capture : List ℕ) (reading : Reading) → take 16 capture ≡ file_header → reading ≡ at capture 16 None → StandsBehind capture reading []
 stands_at_start capture reading header is = record { offset = 0; header = header; reading_is = is; walks = walk_start whole_format None (drop 16 capture) }
 
-steps_from : (capture : List ℕ) (reading : Reading) (done : List WholeFrame) (stands : StandsBehind capture reading done) (result : Result (Option Frame) Fault) (new : Reading) → Steps reading result new
+pub steps_from : (capture : List ℕ) (reading : Reading) (done : List WholeFrame) (stands : StandsBehind capture reading done) (result : Result (Option Frame) Fault) (new : Reading) → Steps reading result new
     → Steps (at capture (16 + stands.offset) (state_after whole_format None done)) result new
 steps_from capture reading done stands result new steps = subst (λ (r : Reading). Steps r result new) stands.reading_is steps
 

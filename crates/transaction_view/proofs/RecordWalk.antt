@@ -4,11 +4,11 @@ use Rattle.std.proofs.lemmas.List.{length-drop}
 use Rattle.capture_frame.specs.declared.fault.Fault.{Fault}
 use Rattle.capture_frame.specs.declared.frame.Frame.{Frame}
 use Rattle.capture_frame.specs.Envelope as envelope
-use Rattle.capture_frame.proofs.UnitLaws.{Walks, walk_start, walk_step, walk_end, walk_fails}
+use Rattle.capture_frame.proofs.UnitLaws.{Walks, never_both, walk_start, walk_step, walk_end, walk_fails}
 use Rattle.record_view.specs.declared.record.Record.{Record}
-use Rattle.record_view.specs.Records.{RecordText, record_bytes, HasRecords, protocol_of, record_format}
+use Rattle.record_view.specs.Records.{RecordText, record_bytes, HasRecords, HasReadableRecords, protocol_of, record_format}
 use Rattle.record_view.specs.Reading.{Reading, at, failed, text_of, Steps}
-use Rattle.record_view.proofs.RecordLaws.{length-record_bytes}
+use Rattle.record_view.proofs.RecordLaws.{records_decided, length-record_bytes}
 use Rattle.transaction_view.specs.FirstFault.{HasContentFault, in_records}
 
 -- the reader stands behind these records of the frame
@@ -25,7 +25,7 @@ left_of (failed fault) = 0
 pub stands_at_start : (frame : Frame) (reading : Reading) → reading ≡ at (protocol_of frame.direction) frame.commands.now (frame.place + 32) 0 → StandsBehind frame reading []
 stands_at_start frame reading is = record { offset = 0; reading_is = is; walks = walk_start _ tt frame.commands.now }
 
-steps_from : (frame : Frame) (reading : Reading) (done : List RecordText) (stands : StandsBehind frame reading done) (result : Result (Option Record) Fault) (new : Reading) → Steps reading result new
+pub steps_from : (frame : Frame) (reading : Reading) (done : List RecordText) (stands : StandsBehind frame reading done) (result : Result (Option Record) Fault) (new : Reading) → Steps reading result new
     → Steps (at (protocol_of frame.direction) frame.commands.now (frame.place + 32) stands.offset) result new
 steps_from frame reading done stands result new steps = subst (λ (r : Reading). Steps r result new) stands.reading_is steps
 
@@ -63,3 +63,10 @@ records_fail frame reading done stands fault new steps =
       in_records (stands.offset + 0) (walk_fails (record_format (protocol_of frame.direction)) tt frame.commands.now done stands.offset fault.kind 0 stands.walks (s.0, refl)) refl,
       let e = s.1 in omega arith,
     )
+
+-- where the frame's records have no fault, the reader has none
+pub fails_never : (frame : Frame) (reading : Reading) (done : List RecordText) (stands : StandsBehind frame reading done) (fault : Fault) (new : Reading) → HasReadableRecords (envelope.text_of frame) → Steps reading (Err fault) new → ⊥
+fails_never frame reading done stands fault new readable steps =
+    let s = steps_from frame reading done stands (Err fault) new steps in
+    never_both (record_format (protocol_of frame.direction)) (records_decided (protocol_of frame.direction)) tt frame.commands.now readable.0 done (drop stands.offset frame.commands.now) fault.kind 0 readable.1
+    stands.walks.splits (s.0, refl)

@@ -2,7 +2,8 @@ use Rattle.std.proofs.Common.{ℕ, List, [], ◌∷◌, ◌++◌, subst, arith}
 use Rattle.std.proofs.lemmas.Result.{err_from_is_err_and}
 use Rattle.binder_audit.specs.Findings.{code_words}
 use Rattle.binder_audit.specs.Totals.{SumsWords}
-use Rattle.binder_audit.proofs.FrameWalk.{whole_of, stands_behind_next, left_falls, header_fails, audit_fails, frames_end, code_words-snoc, room_for_frame, sequences_rise, sums_next, missing_is, frames_counted}
+use Rattle.transaction_view.proofs.CaptureWalk.{whole_of, stands_behind_next, left_falls, header_fails, content_fails, frames_end}
+use Rattle.binder_audit.proofs.FrameWalk.{code_words-snoc, room_for_frame, sequences_rise, sums_next, missing_is, frames_counted}
 use Rattle.binder_audit.proofs.audit.audit.Goals as goal
 
 pub returns-in_err-frame-clause-malformed : goal.returns-in_err-frame-clause-malformed
@@ -11,18 +12,19 @@ returns-in_err-frame-clause-malformed c =
     let done = c.loop-totals.invariant in
     rw (p.1, p.2) (header_fails c.args.capture.now c.loop-totals.frames done.0 done.1 c.in_err-frame.field-0.0 c.next_frame.new.self c.in_err-frame.ensures)
 
-pub count_records-requires : goal.count_records-requires
-count_records-requires c =
+pub returns-in-Some-check_frame-clause-malformed : goal.returns-in-Some-check_frame-clause-malformed
+returns-in-Some-check_frame-clause-malformed c =
+    let done = c.loop-totals.invariant in
+    content_fails c.args.capture.now c.loop-totals.frames done.0 done.1 c.in-Some.frame c.next_frame.new.self c.in-Some-check_frame.fault (rw c.in-Some.is at c.in_ok-frame.ensures) c.in-Some-check_frame.ensures
+
+pub count_records-requires-clause-readable : goal.count_records-requires-clause-readable
+count_records-requires-clause-readable c = c.in_default-check_frame.ensures.0
+
+pub count_records-requires-clause-room : goal.count_records-requires-clause-room
+count_records-requires-clause-room c =
     let done = c.loop-totals.invariant in
     let room = room_for_frame c.args.capture.now c.loop-totals.frames done.0 done.1 c.in-Some.frame c.next_frame.new.self (rw c.in-Some.is at c.in_ok-frame.ensures) in
     (code_words done.0, done.2, room.0)
-
-pub returns-in_err-count_records-clause-malformed : goal.returns-in_err-count_records-clause-malformed
-returns-in_err-count_records-clause-malformed c =
-    let p = err_from_is_err_and c.from_residual-in_err-count_records.result c.from_residual-in_err-count_records.ensures.1 in
-    let done = c.loop-totals.invariant in
-    rw (p.1, p.2) (audit_fails c.args.capture.now c.loop-totals.frames done.0 done.1 c.in-Some.frame c.next_frame.new.self c.in_err-count_records.field-0.0
-    (rw c.in-Some.is at c.in_ok-frame.ensures) c.in_err-count_records.ensures.malformed)
 
 pub add-requires : goal.add-requires
 add-requires c =
@@ -39,10 +41,11 @@ pub loop-totals-preserved : goal.loop-totals-preserved
 loop-totals-preserved c =
     let done = c.loop-totals.invariant in
     let found = c.in-Some.frame in
-    let has = c.in_ok-count_records.ensures.counted in
-    let whole = whole_of found has.0 in (
+    let has = c.in_ok-count_records.ensures in
+    let entries = c.in_default-check_frame.ensures.1 in
+    let whole = whole_of found has.0 entries.0 in (
       done.0 ++ whole ∷ [],
-      stands_behind_next c.args.capture.now c.loop-totals.frames done.0 done.1 found has.0 c.next_frame.new.self (rw c.in-Some.is at c.in_ok-frame.ensures) has.1,
+      stands_behind_next c.args.capture.now c.loop-totals.frames done.0 done.1 found has.0 entries.0 c.next_frame.new.self (rw c.in-Some.is at c.in_ok-frame.ensures) has.1 entries.1,
       subst (λ (t : List ℕ). SumsWords c.count_records.new.totals t) (code_words-snoc done.0 whole) (has.2 (code_words done.0) done.2),
       sums_next c.loop-totals.sequences c.add.new.self done.0 whole done.3 c.add.ensures.frames c.add.ensures.first c.add.ensures.last,
     )

@@ -1,8 +1,8 @@
 use Rattle.std.proofs.Common.{List}
-use Rattle.binder_audit.specs.Grammar.{WholeFrame}
+use Rattle.transaction_view.specs.Grammar.{WholeFrame}
 use Rattle.binder_audit.specs.Findings.{code_words}
 use Rattle.binder_audit.specs.Totals.{SumsWords, SumsFrames}
-use Rattle.binder_audit.proofs.FrameWalk.{StandsBehind, left_of}
+use Rattle.transaction_view.proofs.CaptureWalk.{StandsBehind, left_of}
 use Rattle.binder_audit.proofs.audit.audit.Given as goal
 
 -- the reader stands behind these frames, and the totals and the sequences are theirs

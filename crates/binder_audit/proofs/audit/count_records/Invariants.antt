@@ -1,7 +1,7 @@
 use Rattle.std.proofs.Common.{List, ℕ, ◌++◌, map}
 use Rattle.record_view.specs.Records.{RecordText}
 use Rattle.binder_audit.specs.Totals.{SumsWords}
-use Rattle.binder_audit.proofs.RecordWalk.{StandsBehind, left_of}
+use Rattle.transaction_view.proofs.RecordWalk.{StandsBehind, left_of}
 use Rattle.binder_audit.proofs.audit.count_records.Given as goal
 
 -- the reader stands behind these records, and the totals have theirs besides
