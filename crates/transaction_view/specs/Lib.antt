@@ -4,3 +4,5 @@ pub mod FirstFault
 pub mod Grammar
 pub mod Reading
 pub mod State
+pub use Rattle.capture_frame.specs.Envelope
+pub use Rattle.capture_frame.specs.Units

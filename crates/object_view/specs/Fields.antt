@@ -1,0 +1,80 @@
+-- The objects of a transaction's data (`linux/android/binder.h`): their sorts, and the fields of each by their places.
+use Rattle.std.specs.Prelude.{ℕ, List, Option, Some, None}
+use Rattle.std.specs.Option.{option_map}
+use Rattle.transaction_view.specs.Envelope.{number_at}
+use Rattle.object_view.specs.declared.sort.Sort.{Sort}
+use Rattle.object_view.specs.declared.sort.Sort.TheVariants.{Binder, WeakBinder, Handle, WeakHandle, Fd, Fda, Ptr}
+
+-- the number that an object's first four bytes say its sort by, `BINDER_TYPE_..` of the header
+abbrev pub sort_number : Sort → ℕ
+sort_number Binder = 0x73622a85
+sort_number WeakBinder = 0x77622a85
+sort_number Handle = 0x73682a85
+sort_number WeakHandle = 0x77682a85
+sort_number Fd = 0x66642a85
+sort_number Fda = 0x66646185
+sort_number Ptr = 0x70742a85
+
+-- how many bytes an object of the sort has
+abbrev pub sort_length : Sort → ℕ
+sort_length Fda = 32
+sort_length Ptr = 40
+sort_length _ = 24
+
+-- where a field stands in an object of the sort, if it has the field: `flags` of flat_binder_object and of
+-- binder_buffer_object
+abbrev pub flags_place : Sort → Option ℕ
+flags_place Fd = None
+flags_place Fda = None
+flags_place _ = Some 4
+
+-- `binder` and `handle` of flat_binder_object
+abbrev pub binder_place : Sort → Option ℕ
+binder_place Binder = Some 8
+binder_place WeakBinder = Some 8
+binder_place _ = None
+
+abbrev pub handle_place : Sort → Option ℕ
+handle_place Handle = Some 8
+handle_place WeakHandle = Some 8
+handle_place _ = None
+
+-- `cookie` of flat_binder_object and of binder_fd_object
+abbrev pub cookie_place : Sort → Option ℕ
+cookie_place Fda = None
+cookie_place Ptr = None
+cookie_place _ = Some 16
+
+-- `fd` of binder_fd_object
+abbrev pub fd_place : Sort → Option ℕ
+fd_place Fd = Some 8
+fd_place _ = None
+
+-- `buffer` and `length` of binder_buffer_object
+abbrev pub buffer_place : Sort → Option ℕ
+buffer_place Ptr = Some 8
+buffer_place _ = None
+
+abbrev pub length_place : Sort → Option ℕ
+length_place Ptr = Some 16
+length_place _ = None
+
+-- `num_fds` of binder_fd_array_object
+abbrev pub num_fds_place : Sort → Option ℕ
+num_fds_place Fda = Some 8
+num_fds_place _ = None
+
+-- `parent` and `parent_offset` of binder_buffer_object and of binder_fd_array_object
+abbrev pub parent_place : Sort → Option ℕ
+parent_place Ptr = Some 24
+parent_place Fda = Some 16
+parent_place _ = None
+
+abbrev pub parent_offset_place : Sort → Option ℕ
+parent_offset_place Ptr = Some 32
+parent_offset_place Fda = Some 24
+parent_offset_place _ = None
+
+-- the number in so many bytes of an object, from the place of a field, if it has the field
+abbrev pub field : ℕ → Option ℕ → List ℕ → Option ℕ
+field size place bytes = option_map (λ p. number_at size p bytes) place

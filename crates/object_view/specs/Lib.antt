@@ -1,0 +1,4 @@
+pub mod Fields
+pub mod Objects
+pub mod Reading
+pub mod State

@@ -1,0 +1,34 @@
+-- A reader of an attachment's objects, and what one call of it does.
+use Rattle.std.specs.Prelude.{◌≡◌, ℕ, ◌+◌, ◌*◌, ◌≤◌, List, [], length, drop, Option, Some, None, Result, Ok, Err}
+use Rattle.object_view.specs.declared.bad_object.BadObject.{BadObject}
+use Rattle.object_view.specs.declared.bad_object.Cause.{Cause}
+use Rattle.object_view.specs.declared.bad_object.Cause.TheVariants.{ListLength}
+use Rattle.object_view.specs.declared.object.Object.{Object}
+use Rattle.object_view.specs.Fields.{sort_length}
+use Rattle.object_view.specs.Objects.{ObjectText, MayStandObject, FailsAt, IsWholeList, first_offset, bad_at}
+
+-- before the object of this number of data and its list of offsets, behind the end of the one before; or ended
+pub data Reading : Type 0 where
+  at : (body list : List ℕ) (index end : ℕ) → Reading
+  ended : Reading
+
+-- the object of the attachment says this
+abbrev pub text_of : ℕ → Object → ObjectText
+text_of offset found = record { offset = offset; sort = found.sort; bytes = found.bytes.now }
+
+-- the object of this number is bad: the whole list is no list of offsets, or what stands at the offset is no good object
+pub data IsBadAt (body list : List ℕ) (index end : ℕ) (bad : BadObject) : Type 0 where
+  no_list : ¬ IsWholeList list → bad ≡ bad_at 0 0 ListLength → IsBadAt body list index end bad
+  no_object : IsWholeList list → 8 * index + 8 ≤ length list → (cause : Cause) → FailsAt body end (first_offset (drop (8 * index) list)) cause
+      → bad ≡ bad_at index (first_offset (drop (8 * index) list)) cause → IsBadAt body list index end bad
+
+-- one call: an ended reader gives nothing; else it gives the object at the offset of that number and goes behind it,
+-- gives nothing at the end of the list and stays, or gives the bad one and ends
+abbrev pub Steps : Reading → Option (Result Object BadObject) → Reading → Type 0
+Steps ended result new = (result ≡ None) × (new ≡ ended)
+Steps (at body list index end) (Some (Ok found)) new =
+    IsWholeList list × (8 * index + 8 ≤ length list)
+    × MayStandObject body end (text_of (first_offset (drop (8 * index) list)) found)
+    × (new ≡ at body list (index + 1) (first_offset (drop (8 * index) list) + sort_length found.sort))
+Steps (at body list index end) (Some (Err bad)) new = IsBadAt body list index end bad × (new ≡ ended)
+Steps (at body list index end) None new = (drop (8 * index) list ≡ []) × (new ≡ at body list index end)

@@ -1,0 +1,15 @@
+//! The objects of an attachment: binders, handles, file descriptors and buffers.
+#![tactic(auto)]
+
+mod bad_object;
+mod object;
+mod objects;
+mod sort;
+
+pub use bad_object::{BadObject, Cause};
+pub use object::Object;
+pub use objects::Objects;
+pub use sort::Sort;
+
+#[cfg(test)]
+mod tests;

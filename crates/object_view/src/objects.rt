@@ -1,0 +1,130 @@
+//! The reader of an attachment's objects.
+
+ghost use Rattle.std.specs.Prelude.{◌≡◌, ◌≤◌, ◌<◌, ◌+◌, ◌^◌, ◌%◌, length, IfOk, IfErr};
+ghost use Rattle.object_view.specs.Objects.{MayStandObject, FailsAt};
+ghost use Rattle.object_view.specs.Reading.{text_of};
+
+use crate::bad_object::{BadObject, Cause};
+use crate::object::Object;
+use crate::sort::Sort;
+use byteorder::{ByteOrder, LittleEndian};
+use std::marker::Model;
+use transaction_view::Entry;
+
+/// The length of an offset, in bytes.
+const OFFSET: usize = 8;
+
+/// The length of the number that names an object's sort, in bytes.
+const SORT: usize = 4;
+
+/// Where a reader stands: before the offset of this number, behind an object that ends there in the
+/// data; or at its end.
+#[derive(Clone, Copy, Debug)]
+enum State {
+    At { index: usize, end: usize },
+    Ended,
+}
+
+/// Reads the objects of an attachment in the order of its offsets, up to the first bad one. One that
+/// has ended gives nothing more.
+#[derive(Debug, Drop)]
+pub struct Objects<'c> {
+    body: &'c [u8],
+    offsets: &'c [u8],
+    state: State,
+}
+
+impl<'c> Model for Objects<'c> {
+    ghost use Rattle.std.specs.Prelude.{◌≡◌};
+    ghost use Rattle.object_view.specs.Reading.{Reading};
+
+    ghost Value = { Reading };
+
+    ghost use Rattle.object_view.specs.State.{reading_of, IsWithin};
+
+    ghost view = { λ r. reading_of r.body.now r.offsets.now r.state };
+
+    ghost invariant = { λ r. IsWithin r.body.now r.offsets.now r.state };
+}
+
+impl<'c> Objects<'c> {
+    ghost use Rattle.object_view.specs.Reading.{at, Steps};
+
+    /// A reader of the attachment's objects.
+    pub fn of(entry: Entry<'c>) -> Objects<'c>
+        ensures { result ≡ at entry.entry.body.now entry.entry.offsets.now 0 0 }
+    {
+        Objects {
+            body: entry.body,
+            offsets: entry.offsets,
+            state: State::At { index: 0, end: 0 },
+        }
+    }
+
+    /// The next object, or the first bad one, behind which nothing is given.
+    pub fn next_object(&mut self) -> Option<Result<Object<'c>, BadObject>>
+        ensures { Steps self.old result self.new }
+    {
+        let State::At { index, end } = self.state else {
+            return None;
+        };
+        if self.offsets.len() % OFFSET != 0 {
+            self.state = State::Ended;
+            return Some(Err(BadObject {
+                index: 0,
+                offset: 0,
+                cause: Cause::ListLength,
+            }));
+        }
+        let rest = &self.offsets[OFFSET * index..];
+        if rest.is_empty() {
+            return None;
+        }
+        let offset = LittleEndian::read_u64(rest);
+        match object_at(self.body, offset, end) {
+            Ok(object) => {
+                self.state = State::At {
+                    index: index + 1,
+                    end: offset as usize + object.bytes.len(),
+                };
+                Some(Ok(object))
+            }
+            Err(cause) => {
+                self.state = State::Ended;
+                Some(Err(BadObject {
+                    index: index as u64,
+                    offset,
+                    cause,
+                }))
+            }
+        }
+    }
+}
+
+/// The object that begins at an offset of the data, behind one that ends at `end`.
+fn object_at(body: &[u8], offset: u64, end: usize) -> Result<Object<'_>, Cause>
+    ensures found { IfOk result (λ found. MayStandObject body.now end (text_of offset found)) }
+    ensures fails { IfErr result (FailsAt body.now end offset) }
+{
+    if offset % 4 != 0 {
+        return Err(Cause::Misaligned);
+    }
+    if offset < end as u64 {
+        return Err(Cause::Overlap);
+    }
+    if offset > body.len() as u64 {
+        return Err(Cause::Short);
+    }
+    let rest = &body[offset as usize..];
+    if rest.len() < SORT {
+        return Err(Cause::Short);
+    }
+    let Some(sort) = Sort::of(LittleEndian::read_u32(rest)) else {
+        return Err(Cause::UnknownSort);
+    };
+    if rest.len() < sort.length() {
+        return Err(Cause::Short);
+    }
+    let (bytes, _) = rest.split_at(sort.length());
+    Ok(Object { sort, bytes })
+}
