@@ -39,7 +39,7 @@ IsBytes-attachments frame rest h =
 
 -- ---- the content of a frame is judged in one way
 
-content_one_failure : (frame : FrameText) (k j : FaultKind) (x y : ℕ) → ContentFails frame k x → ContentFails frame j y → (k ≡ j) × (x ≡ y)
+pub content_one_failure : (frame : FrameText) (k j : FaultKind) (x y : ℕ) → ContentFails frame k x → ContentFails frame j y → (k ≡ j) × (x ≡ y)
 content_one_failure frame k j x y (in_records a fails p) (in_records b fails_too q) =
     let one = units.one_failure (record_format (protocol_of frame.direction)) (records_decided (protocol_of frame.direction)) tt frame.commands k j a b fails fails_too in
     (one.0, p ∙ ap (λ (n : ℕ). 32 + n) one.1 ∙ sym q)
@@ -51,7 +51,7 @@ content_one_failure frame k j x y (in_entries a readable fails p) (in_entries b 
     let one = units.one_failure (entry_format frame) (entries_decided frame readable.0 readable.1) None frame.attachments k j a b fails fails_too in
     (one.0, p ∙ ap (λ (n : ℕ). 32 + (length frame.commands + n)) one.1 ∙ sym q)
 
-content_never_both : (frame : FrameText) (records : List RecordText) (entries : List EntryText) (k : FaultKind) (x : ℕ) → HasRecords frame records → HasEntries frame entries → ContentFails frame k x → ⊥
+pub content_never_both : (frame : FrameText) (records : List RecordText) (entries : List EntryText) (k : FaultKind) (x : ℕ) → HasRecords frame records → HasEntries frame entries → ContentFails frame k x → ⊥
 content_never_both frame records entries k x has_records has_entries (in_records a fails p) =
     units.never_both (record_format (protocol_of frame.direction)) (records_decided (protocol_of frame.direction)) tt frame.commands records fails.before fails.rest k fails.within has_records fails.splits fails.fails
 content_never_both frame records entries k x has_records has_entries (in_entries a readable fails p) =

@@ -114,7 +114,7 @@ struct Parts<'c> {
     offsets: &'c [u8],
 }
 
-/// The entry at the front of the bytes, and the place of its record.
+/// Judges the entry that the bytes begin with: its parts and the place of its record, or its fault.
 fn judge<'c>(
     frame: Frame<'c>,
     records: &mut Records<'c>,
@@ -146,7 +146,7 @@ fn judge<'c>(
     Ok((parts, found.place))
 }
 
-/// The front of an entry that the bytes hold whole.
+/// The parts of the entry that the bytes begin with, where they hold it whole.
 fn parts_of(bytes: &[u8]) -> Option<Parts<'_>>
     ensures parts { IfSome result (ArePartsOf bytes.now) }
     ensures short { IfNone result ((length bytes.now < 12) ⊎ ((12 ≤ length bytes.now) × (length bytes.now < entry_length bytes.now))) }

@@ -1,6 +1,7 @@
 //! The first fault of a frame's content, and of a whole capture. No call here takes memory.
 
-ghost use Rattle.std.specs.Prelude.{MatchOption, MatchResult};
+ghost use Rattle.std.specs.Prelude.{◌≡◌, Some, IsNone, MatchOption, MatchResult};
+ghost use Rattle.capture_frame.specs.declared.fault.Fault.{Fault};
 ghost use Rattle.capture_frame.specs.Envelope.{text_of};
 ghost use Rattle.record_view.specs.Records.{HasReadableRecords};
 ghost use Rattle.transaction_view.specs.Attachments.{HasReadableEntries};
@@ -20,7 +21,11 @@ pub fn first_fault(capture: &[u8]) -> Option<Fault>
 
 /// The first malformed record of a frame, or behind good records its first malformed entry, or none.
 pub fn check_frame(frame: Frame<'_>) -> Option<Fault>
-    ensures { MatchOption result (HasGoodContent (text_of frame.entry)) (HasContentFault frame.entry) }
+    ensures first { MatchOption result (HasGoodContent (text_of frame.entry)) (HasContentFault frame.entry) }
+
+    // There is no other answer.
+    ensures good { HasGoodContent (text_of frame.entry) → IsNone result }
+    ensures fault { (fault : Fault) → HasContentFault frame.entry fault → result ≡ Some fault }
 {
     check_content(frame).err()
 }

@@ -51,8 +51,7 @@ impl<'c> Transaction<'c> {
     /// The transaction or reply that a record carries, and none where it carries neither.
     pub fn of(carrier: Record<'c>) -> Option<Transaction<'c>>
         ensures carries { IsSome result ↔ IsTrue (has_transaction_data carrier.entry.kind) }
-        ensures same { IfSome result (λ found.
-            (found.carrier.kind ≡ carrier.entry.kind) × (found.carrier.payload.now ≡ carrier.entry.payload.now)) }
+        ensures same { IfSome result (λ found. found.carrier ≡ carrier.entry) }
     {
         if has_transaction_data(carrier.kind) {
             Some(Transaction { carrier })

@@ -15,10 +15,10 @@ returns-in_err-frame-clause-malformed c =
 pub returns-in-Some-check_frame-clause-malformed : goal.returns-in-Some-check_frame-clause-malformed
 returns-in-Some-check_frame-clause-malformed c =
     let done = c.loop-totals.invariant in
-    content_fails c.args.capture.now c.loop-totals.frames done.0 done.1 c.in-Some.frame c.next_frame.new.self c.in-Some-check_frame.fault (rw c.in-Some.is at c.in_ok-frame.ensures) c.in-Some-check_frame.ensures
+    content_fails c.args.capture.now c.loop-totals.frames done.0 done.1 c.in-Some.frame c.next_frame.new.self c.in-Some-check_frame.fault (rw c.in-Some.is at c.in_ok-frame.ensures) c.in-Some-check_frame.ensures.first
 
 pub count_records-requires-clause-readable : goal.count_records-requires-clause-readable
-count_records-requires-clause-readable c = c.in_default-check_frame.ensures.0
+count_records-requires-clause-readable c = c.in_default-check_frame.ensures.first.0
 
 pub count_records-requires-clause-room : goal.count_records-requires-clause-room
 count_records-requires-clause-room c =
@@ -42,7 +42,7 @@ loop-totals-preserved c =
     let done = c.loop-totals.invariant in
     let found = c.in-Some.frame in
     let has = c.in_ok-count_records.ensures in
-    let entries = c.in_default-check_frame.ensures.1 in
+    let entries = c.in_default-check_frame.ensures.first.1 in
     let whole = whole_of found has.0 entries.0 in (
       done.0 ++ whole ∷ [],
       stands_behind_next c.args.capture.now c.loop-totals.frames done.0 done.1 found has.0 entries.0 c.next_frame.new.self (rw c.in-Some.is at c.in_ok-frame.ensures) has.1 entries.1,

@@ -3,6 +3,7 @@ use Rattle.std.specs.Prelude.{IsTrue}
 use Rattle.binder_code.specs.declared.record_kind.Kind.{Kind}
 use Rattle.capture_frame.specs.Envelope.{text_of}
 use Rattle.record_view.specs.Reading as records
+use Rattle.record_view.specs.declared.record.Record.{Record}
 use Rattle.transaction_view.specs.Transaction.{has_transaction_data, data_size, offsets_size}
 use Rattle.transaction_view.specs.Attachments.{Names}
 use Rattle.transaction_view.proofs.ReadLaws.{names_found, names_none, parts_fit, sizes_of_parts}
@@ -31,7 +32,7 @@ returns-in_default-of-clause-fails c =
 pub returns-then-data_size-parts-clause-fails : goal.returns-then-data_size-parts-clause-fails
 returns-then-data_size-parts-clause-fails c =
     let are = c.in-Some.ensures.parts in
-    let has = subst (λ (k : Kind). IsTrue (has_transaction_data k)) c.in-Some-of.ensures.same.0 c.in-Some-of.owner.carries in
+    let has = subst (λ (k : Kind). IsTrue (has_transaction_data k)) (ap (λ (r : Record). r.kind) c.in-Some-of.ensures.same) c.in-Some-of.owner.carries in
     let names = names_found (text_of c.args.frame) c.args.frame.place c.args.before c.in-Some.parts.offset c.in-Some-record_at.found c.in-Some-record_at.ensures.above c.in-Some-record_at.ensures.found has in (
       are.whole,
       (
@@ -40,9 +41,9 @@ returns-then-data_size-parts-clause-fails c =
         λ sizes.
             let equal = sizes_of_parts c.args.bytes.now c.in-Some.parts (records.text_of c.in-Some-record_at.found) are sizes in
             elim c.then-data_size-parts.branch [
-              | then-data_size-parts-via-then-data_size-parts w ↦ w.if-data_size-parts.true (c.data_size.ensures ∙ ap data_size c.in-Some-of.ensures.same.1 ∙ sym equal.0)
+              | then-data_size-parts-via-then-data_size-parts w ↦ w.if-data_size-parts.true (c.data_size.ensures ∙ ap (λ (r : Record). data_size r.payload.now) c.in-Some-of.ensures.same ∙ sym equal.0)
               | then-data_size-parts-via-else-data_size-parts+then-offsets_size-parts w ↦
-                  w.if-offsets_size-parts.true (w.offsets_size.ensures ∙ ap offsets_size c.in-Some-of.ensures.same.1 ∙ sym equal.1)
+                  w.if-offsets_size-parts.true (w.offsets_size.ensures ∙ ap (λ (r : Record). offsets_size r.payload.now) c.in-Some-of.ensures.same ∙ sym equal.1)
             ],
       ),
     )
@@ -50,7 +51,7 @@ returns-then-data_size-parts-clause-fails c =
 pub returns-clause-stands : goal.returns-clause-stands
 returns-clause-stands c =
     let are = c.in-Some.ensures.parts in
-    let has = subst (λ (k : Kind). IsTrue (has_transaction_data k)) c.in-Some-of.ensures.same.0 c.in-Some-of.owner.carries in
+    let has = subst (λ (k : Kind). IsTrue (has_transaction_data k)) (ap (λ (r : Record). r.kind) c.in-Some-of.ensures.same) c.in-Some-of.owner.carries in
     let names = names_found (text_of c.args.frame) c.args.frame.place c.args.before c.in-Some.parts.offset c.in-Some-record_at.found c.in-Some-record_at.ensures.above c.in-Some-record_at.ensures.found has in
     record {
       fits = parts_fit c.args.bytes.now c.in-Some.parts (λ i. omega (arith, c.type_inv.bytes i)) are;
@@ -58,8 +59,8 @@ returns-clause-stands c =
         records.text_of c.in-Some-record_at.found,
         names,
         (
-          sym c.if-data_size-parts.false ∙ c.data_size.ensures ∙ ap data_size c.in-Some-of.ensures.same.1,
-          sym c.if-offsets_size-parts.false ∙ c.offsets_size.ensures ∙ ap offsets_size c.in-Some-of.ensures.same.1,
+          sym c.if-data_size-parts.false ∙ c.data_size.ensures ∙ ap (λ (r : Record). data_size r.payload.now) c.in-Some-of.ensures.same,
+          sym c.if-offsets_size-parts.false ∙ c.offsets_size.ensures ∙ ap (λ (r : Record). offsets_size r.payload.now) c.in-Some-of.ensures.same,
         ),
       );
     }
