@@ -6,6 +6,6 @@ pub mod ReadLaws
 pub mod RecordWalk
 pub mod EntryWalk
 pub mod GrammarLaws
-pub mod ContentLaws
+pub mod OneAnswer
 pub mod CaptureWalk
 pub mod Vectors

@@ -14,7 +14,11 @@ use record_view::Records;
 
 /// The first malformed unit of a capture, or none where the capture is in the grammar.
 pub fn first_fault(capture: &[u8]) -> Option<Fault>
-    ensures { MatchOption result (IsReadable capture.now) (HasFirstFault capture.now) }
+    ensures first { MatchOption result (IsReadable capture.now) (HasFirstFault capture.now) }
+
+    // There is no other answer.
+    ensures good { IsReadable capture.now → IsNone result }
+    ensures fault { (fault : Fault) → HasFirstFault capture.now fault → result ≡ Some fault }
 {
     check(capture).err()
 }

@@ -1,0 +1,54 @@
+-- A check has one answer: what is good has no first fault, and what fails has one.
+use Rattle.std.proofs.Common.{◌≡◌, ℕ, ◌+◌, List, Option, Some, None, Result, Ok, Err, refl, sym, ap, ◌∙◌}
+use Rattle.std.specs.Prelude.{IsNone, MatchOption, MatchResult}
+use Rattle.std.specs.Result.{result_err}
+use Rattle.capture_frame.specs.declared.fault.Fault.{Fault}
+use Rattle.capture_frame.specs.declared.fault.FaultKind.{FaultKind}
+use Rattle.capture_frame.specs.declared.frame.Frame.{Frame}
+use Rattle.capture_frame.specs.Envelope.{text_of}
+use Rattle.capture_frame.proofs.CaptureLaws.{capture_one_fault, capture_never_both}
+use Rattle.transaction_view.specs.FirstFault.{HasGoodContent, HasContentFault}
+use Rattle.transaction_view.specs.Grammar.{whole_format, IsReadable, HasFirstFault}
+use Rattle.transaction_view.proofs.GrammarLaws.{content_one_failure, content_never_both, whole_decided}
+
+-- of what is good, and what fails by a fault, one holds at most, and one fault
+pub record IsOneOf (Good : Type 0) (Fails : Fault → Type 0) : Type 0 where
+  pub one_fault : (a b : Fault) → Fails a → Fails b → a ≡ b
+  pub never_both : (a : Fault) → Good → Fails a → ⊥
+
+pub good_is_none : (Good : Type 0) (Fails : Fault → Type 0) → IsOneOf Good Fails → (result : Option Fault) → MatchOption result Good Fails → Good → IsNone result
+good_is_none Good Fails one None first good = refl
+good_is_none Good Fails one (Some fault) first good = absurd (one.never_both fault good first)
+
+pub fault_is_some : (Good : Type 0) (Fails : Fault → Type 0) → IsOneOf Good Fails → (result : Option Fault) → MatchOption result Good Fails → (fault : Fault) → Fails fault → result ≡ Some fault
+fault_is_some Good Fails one None first fault fails = absurd (one.never_both fault first fails)
+fault_is_some Good Fails one (Some found) first fault fails = ap Some (one.one_fault found fault first fails)
+
+-- an error taken as the answer
+pub answer_first : (Good : Type 0) (Fails : Fault → Type 0) (result : Result (Unit {0}) Fault) (answer : Option Fault) → answer ≡ result_err result → MatchResult result (λ _. Good) Fails → MatchOption answer Good Fails
+answer_first Good Fails (Ok done) answer is good = rw is good
+answer_first Good Fails (Err fault) answer is fails = rw is fails
+
+-- ---- a frame's content, and a capture
+
+same_fault : (a b : Fault) → a.kind ≡ b.kind → a.place ≡ b.place → a ≡ b
+same_fault a b kind place =
+    let made : FaultKind → ℕ → Fault = λ k p. record { kind = k; place = p } in
+    ap (λ (k : FaultKind). made k a.place) kind ∙ ap (made b.kind) place
+
+one_content_fault : (frame : Frame) (a b : Fault) → HasContentFault frame a → HasContentFault frame b → a ≡ b
+one_content_fault frame a b x y =
+    let same = content_one_failure (text_of frame) a.kind b.kind x.0 y.0 x.1 y.1 in
+    same_fault a b same.0 (x.2 ∙ ap (λ (n : ℕ). frame.place + n) same.1 ∙ sym y.2)
+
+pub content_one_of : (frame : Frame) → IsOneOf (HasGoodContent (text_of frame)) (HasContentFault frame)
+content_one_of frame = record {
+  one_fault = one_content_fault frame;
+  never_both = λ a good fails. content_never_both (text_of frame) good.0.0 good.1.0 a.kind fails.0 good.0.1 good.1.1 fails.1;
+}
+
+pub capture_one_of : (capture : List ℕ) → IsOneOf (IsReadable capture) (HasFirstFault capture)
+capture_one_of capture = record {
+  one_fault = λ a b x y. capture_one_fault whole_format whole_decided capture a b x y;
+  never_both = λ a good fails. capture_never_both whole_format whole_decided capture good.0 a good.1 fails;
+}
