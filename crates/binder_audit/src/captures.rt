@@ -1,4 +1,4 @@
-//! Builds captures for tests, from frames and records.
+//! Builds captures for tests, from frames, records and attachment entries.
 
 use std::alloc::{AllocError, Global};
 
@@ -7,6 +7,8 @@ pub(crate) const BC_TRANSACTION: u32 = 0x4040_6300;
 pub(crate) const BC_ACQUIRE: u32 = 0x4004_6305;
 
 pub(crate) const BC_ENTER_LOOPER: u32 = 0x0000_630c;
+
+pub(crate) const BR_TRANSACTION: u32 = 0x8040_7202;
 
 pub(crate) const BR_REPLY: u32 = 0x8040_7203;
 
@@ -63,6 +65,48 @@ impl Commands {
         payload[48..56].copy_from_slice(&buffer.to_le_bytes());
         self.record(record, &payload)
     }
+
+    /// A oneway transaction that arrives with so many body bytes and offset bytes at the address
+    /// 0x9000, and whose other fields are 0.
+    pub(crate) fn oneway(self, data_size: u64, offsets_size: u64) -> Result<Self, AllocError> {
+        let mut payload = [0u8; 64];
+        payload[20] = 1;
+        payload[32..40].copy_from_slice(&data_size.to_le_bytes());
+        payload[40..48].copy_from_slice(&offsets_size.to_le_bytes());
+        payload[48..56].copy_from_slice(&0x9000u64.to_le_bytes());
+        self.record(BR_TRANSACTION, &payload)
+    }
+}
+
+/// Attachment bytes in the making.
+#[derive(Drop)]
+pub(crate) struct Attached {
+    pub(crate) bytes: Vec<u8>,
+}
+
+impl Attached {
+    pub(crate) fn new(alloc: Global) -> Self {
+        Attached {
+            bytes: Vec::new(alloc),
+        }
+    }
+
+    /// An entry for the record at this offset of the command bytes.
+    pub(crate) fn entry(
+        mut self,
+        record: u32,
+        body: &[u8],
+        offsets: &[u8],
+    ) -> Result<Self, AllocError> {
+        self.bytes.extend_from_slice(&record.to_le_bytes())?;
+        self.bytes
+            .extend_from_slice(&length_of(body).to_le_bytes())?;
+        self.bytes
+            .extend_from_slice(&length_of(offsets).to_le_bytes())?;
+        self.bytes.extend_from_slice(body)?;
+        self.bytes.extend_from_slice(offsets)?;
+        Ok(self)
+    }
 }
 
 /// A capture in the making.
@@ -87,19 +131,46 @@ impl Capture {
         (process, thread): (u32, u32),
         commands: &Commands,
     ) -> Result<Self, AllocError> {
-        let length = commands.bytes.len().min(u32::MAX as usize) as u32;
+        let length = length_of(&commands.bytes);
         let mut capture = self.frame_header(way, sequence, (process, thread), length)?;
         capture.bytes.extend_from_slice(&commands.bytes)?;
         Ok(capture)
     }
 
-    /// The header of a frame that tells of this many command bytes.
+    /// A frame of process and thread with these commands and attachments.
+    pub(crate) fn attached_frame(
+        self,
+        way: Way,
+        sequence: u64,
+        (process, thread): (u32, u32),
+        commands: &Commands,
+        attached: &Attached,
+    ) -> Result<Self, AllocError> {
+        let lengths = (length_of(&commands.bytes), length_of(&attached.bytes));
+        let mut capture = self.header(way, sequence, (process, thread), lengths)?;
+        capture.bytes.extend_from_slice(&commands.bytes)?;
+        capture.bytes.extend_from_slice(&attached.bytes)?;
+        Ok(capture)
+    }
+
+    /// The header of a frame that tells of this many command bytes and no attachments.
     pub(crate) fn frame_header(
-        mut self,
+        self,
         way: Way,
         sequence: u64,
         (process, thread): (u32, u32),
         length: u32,
+    ) -> Result<Self, AllocError> {
+        self.header(way, sequence, (process, thread), (length, 0))
+    }
+
+    /// The header of a frame that tells of this many command bytes and attachment bytes.
+    fn header(
+        mut self,
+        way: Way,
+        sequence: u64,
+        (process, thread): (u32, u32),
+        (command_length, attachment_length): (u32, u32),
     ) -> Result<Self, AllocError> {
         let direction = match way {
             Way::Write => 1,
@@ -109,8 +180,10 @@ impl Capture {
         self.bytes.extend_from_slice(&process.to_le_bytes())?;
         self.bytes.extend_from_slice(&thread.to_le_bytes())?;
         self.bytes.extend_from_slice(&[direction, 0, 0, 0])?;
-        self.bytes.extend_from_slice(&length.to_le_bytes())?;
-        self.bytes.extend_from_slice(&[0; 8])?;
+        self.bytes.extend_from_slice(&command_length.to_le_bytes())?;
+        self.bytes
+            .extend_from_slice(&attachment_length.to_le_bytes())?;
+        self.bytes.extend_from_slice(&[0; 4])?;
         Ok(self)
     }
 
@@ -126,4 +199,9 @@ impl Capture {
         }
         self
     }
+}
+
+/// The length that a field of four bytes tells.
+fn length_of(bytes: &[u8]) -> u32 {
+    bytes.len().min(u32::MAX as usize) as u32
 }

@@ -3,6 +3,8 @@
 
 ghost use Rattle.std.specs.Prelude.{◌≡◌, ◌⊎◌, IfErr};
 
+#[cfg(test)]
+mod attachment_tests;
 mod audit;
 #[cfg(test)]
 mod captures;

@@ -34,7 +34,8 @@ fn expect<T: Threads + Sync + Abort>(
     Ok(())
 }
 
-fn expect_report<T: Threads + Sync + Abort>(
+/// The capture is good, and this is its report.
+pub(crate) fn expect_report<T: Threads + Sync + Abort>(
     rt: &T,
     alloc: Global,
     capture: &Capture,
@@ -48,7 +49,8 @@ fn expect_report<T: Threads + Sync + Abort>(
     Ok(())
 }
 
-fn expect_fault<T: Threads + Sync + Abort>(
+/// The capture's first fault is this one, and so is what is written.
+pub(crate) fn expect_fault<T: Threads + Sync + Abort>(
     rt: &T,
     alloc: Global,
     capture: &[u8],
