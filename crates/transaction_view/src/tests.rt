@@ -5,7 +5,7 @@ use crate::captures::{
     Attached, BC_ACQUIRE, BC_REPLY, BC_REPLY_SG, BC_TRANSACTION, BC_TRANSACTION_SG, BR_NOOP,
     BR_REPLY, BR_TRANSACTION, BR_TRANSACTION_SEC_CTX, Capture, Commands, Way, first_frame,
 };
-use binder_code::Kind;
+use binder_code::{Code, Kind};
 use capture_frame::{Fault, FaultKind};
 use record_view::{Record, Records};
 use std::alloc::Global;
@@ -79,6 +79,7 @@ fn reads_each_field_at_its_place(rt: HostRuntime) -> Result<(), Fail> {
         let record = first_record(&capture.bytes)?;
         let transaction = Transaction::of(record).ok_or("no transaction")?;
         assert_eq!(rt; transaction.carrier.kind, kind);
+        assert_eq!(rt; transaction.carrier.code, Code(code));
         assert_eq!(rt; transaction.carrier.place, 48);
         assert_eq!(rt; transaction.carrier.payload, payload);
         expect_call(&rt, transaction);
