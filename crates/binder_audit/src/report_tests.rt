@@ -477,6 +477,7 @@ fn answers_for_files(rt: HostRuntime) -> Result<(), Fail> {
         TWO_ACQUIRES,
         "",
     )?;
+    fs::remove_file(&rt, "acquires.cap")?;
     save(&rt, "wrong.cap", &loopers(alloc, 900, &[2, 900])?)?;
     let text = "malformed RecordDirection at 84\n";
     expect_answer(&rt, alloc, "first-fault wrong.cap", 2, text, "")?;
@@ -488,6 +489,7 @@ fn answers_for_files(rt: HostRuntime) -> Result<(), Fail> {
         text,
         "",
     )?;
+    fs::remove_file(&rt, "wrong.cap")?;
     expect_answer(
         &rt,
         alloc,
