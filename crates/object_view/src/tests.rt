@@ -476,6 +476,24 @@ fn judges_the_causes_in_order(rt: HostRuntime) -> Result<(), Fail> {
     Ok(())
 }
 
+#[test]
+fn reads_one_handle_or_two(rt: HostRuntime) -> Result<(), Fail> {
+    let handle = joined(rt.alloc(), &[HANDLE, &FILLING[..20]])?;
+    expect_good(&rt, rt.alloc(), handle.as_slice(), &[0])?;
+    let apart = joined(rt.alloc(), &[b"\0\0", handle.as_slice(), b"\0\0"])?;
+    expect_last_bad(&rt, rt.alloc(), apart.as_slice(), &[2], Cause::Misaligned)?;
+    let two = repeated(rt.alloc(), handle.as_slice(), 2)?;
+    expect_good(&rt, rt.alloc(), two.as_slice(), &[0, 24])?;
+    let list = list_of(rt.alloc(), &[0, 20, 24])?;
+    let bad = BadObject {
+        index: 1,
+        offset: 20,
+        cause: Cause::Overlap,
+    };
+    expect(&rt, two.as_slice(), list.as_slice(), 1, Some(bad));
+    Ok(())
+}
+
 /// Good objects follow the bad one in the list and are not given.
 #[test]
 fn ends_at_the_first_bad_object(rt: HostRuntime) -> Result<(), Fail> {
