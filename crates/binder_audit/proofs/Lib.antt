@@ -1,3 +1,8 @@
+pub mod PlaceLaws
+pub mod ObjectWalk
+pub mod OutcomeLaws
+pub mod FindingLaws
+pub mod FlagLaws
 pub mod FrameWalk
 pub mod RecordWalk
 pub mod RequestLemmas

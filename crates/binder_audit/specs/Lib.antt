@@ -1,6 +1,10 @@
 pub mod Audit
 pub mod CommandLine
 pub mod Failure
+pub mod Places
+pub mod Flags
+pub mod Objects
+pub mod ObjectTotals
 pub mod Findings
 pub mod KnownBytes
 pub mod Run

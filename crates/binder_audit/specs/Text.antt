@@ -9,7 +9,11 @@ use Rattle.capture_frame.specs.declared.fault.FaultKind.{FaultKind}
 use Rattle.capture_frame.specs.declared.fault.FaultKind.TheVariants.{HeaderShort, HeaderMagic, HeaderProtocol, HeaderReserved, FrameShort, FrameSequence, FrameDirection, FrameReserved, FrameLength, RecordShort, RecordDirection, RecordSize, AttachShort, AttachRecord, AttachSize}
 use Rattle.transaction_view.specs.Grammar.{WholeFrame, IsInGrammar}
 use Rattle.binder_audit.specs.declared.findings.Findings.{Findings}
+use Rattle.object_view.specs.declared.bad_object.Cause.{Cause}
+use Rattle.object_view.specs.declared.bad_object.Cause.TheVariants.{ListLength, Misaligned, Overlap, Short, UnknownSort}
+use Rattle.binder_audit.specs.declared.bad_rows.BadRow.{BadRow}
 use Rattle.binder_audit.specs.declared.code_rows.CodeRow.{CodeRow}
+use Rattle.binder_audit.specs.declared.flag_rows.FlagRow.{FlagRow}
 use Rattle.binder_audit.specs.Findings.{AreFindings, kind_of_word}
 
 -- the last k hexadecimal digits of a number, lower case
@@ -47,9 +51,51 @@ codes_head found = codes "codes " ++ decimal (length found.codes)
 abbrev pub codes_row : CodeRow → List ℕ
 codes_row row = codes "  " ++ hex_word row.word ++ codes " " ++ name_of_word row.word ++ codes " " ++ decimal row.count
 
+-- the section `codes`
+abbrev pub codes_lines : Findings → List (List ℕ)
+codes_lines found = codes_head found ∷ map codes_row found.codes
+
+-- the head of the section `objects`: how many good objects of each sort there are, and how many bad ones
+abbrev pub objects_head : Findings → List ℕ
+objects_head found =
+    codes "objects binder " ++ decimal found.objects.binder ++ codes " weak_binder " ++ decimal found.objects.weak_binder
+    ++ codes " handle " ++ decimal found.objects.handle ++ codes " weak_handle " ++ decimal found.objects.weak_handle
+    ++ codes " fd " ++ decimal found.objects.fd ++ codes " fda " ++ decimal found.objects.fda
+    ++ codes " ptr " ++ decimal found.objects.ptr ++ codes " bad " ++ decimal (length found.bad_objects)
+
+-- the name of a cause, as it is printed
+abbrev pub cause_name : Cause → List ℕ
+cause_name ListLength = codes "ListLength"
+cause_name Misaligned = codes "Misaligned"
+cause_name Overlap = codes "Overlap"
+cause_name Short = codes "Short"
+cause_name UnknownSort = codes "UnknownSort"
+
+-- a row of it: place of the owning record, process, index, offset, cause
+abbrev pub bad_row : BadRow → List ℕ
+bad_row row =
+    codes "  " ++ decimal row.owner ++ codes " " ++ decimal row.process ++ codes " " ++ decimal row.bad.index
+    ++ codes " " ++ decimal row.bad.offset ++ codes " " ++ cause_name row.bad.cause
+
+-- the section `objects`
+abbrev pub objects_lines : Findings → List (List ℕ)
+objects_lines found = objects_head found ∷ map bad_row found.bad_objects
+
+-- the head of the section `flags`: how many rows there are
+abbrev pub flags_head : Findings → List ℕ
+flags_head found = codes "flags " ++ decimal (length found.flags)
+
+-- a row of it: place, process, unknown bits
+abbrev pub flag_row : FlagRow → List ℕ
+flag_row row = codes "  " ++ decimal row.place ++ codes " " ++ decimal row.process ++ codes " " ++ hex_word row.bits
+
+-- the section `flags`
+abbrev pub flags_lines : Findings → List (List ℕ)
+flags_lines found = flags_head found ∷ map flag_row found.flags
+
 -- the lines of the report
 abbrev pub report_lines : Findings → List (List ℕ)
-report_lines found = title ∷ totals found ∷ codes_head found ∷ map codes_row found.codes
+report_lines found = title ∷ totals found ∷ codes_lines found ++ (objects_lines found ++ flags_lines found)
 
 -- a line, ended by one line feed
 abbrev pub ended : List ℕ → List ℕ

@@ -9,7 +9,10 @@ ghost use Rattle.transaction_view.specs.Grammar.{WholeFrame, IsInGrammar};
 ghost use Rattle.binder_audit.specs.Totals.{HasRoomFor};
 
 use crate::findings::Findings;
+use crate::flag_rows::add_flag_rows;
+use crate::object_totals::{ObjectTotals, count_objects};
 use crate::record_totals::RecordTotals;
+use crate::rows::Rows;
 use crate::sequences::Sequences;
 use binder_code::Kind;
 use capture_frame::{Fault, Frame, Frames};
@@ -56,11 +59,15 @@ pub(crate) fn audit(alloc: Global, capture: &[u8]) -> Result<Findings, AuditErro
     let mut frames = Frames::new(capture)?;
     let mut sequences = Sequences::NONE;
     let mut totals = RecordTotals::new(alloc);
+    let mut objects = ObjectTotals::new(alloc);
+    let mut flags = Vec::new(alloc);
     while let Some(frame) = frames.next_frame()? {
         if let Some(fault) = check_frame(frame) {
             return Err(AuditError::Malformed(fault));
         }
         count_records(&mut totals, frame)?;
+        count_objects(&mut objects, frame)?;
+        add_flag_rows(&mut flags, frame)?;
         sequences.add(frame.sequence);
     }
     let codes = totals.rows(alloc)?;
@@ -70,6 +77,9 @@ pub(crate) fn audit(alloc: Global, capture: &[u8]) -> Result<Findings, AuditErro
         opaque: totals.opaque,
         missing: sequences.missing(),
         codes,
+        objects: objects.counts,
+        bad_objects: Rows::of(objects.bad),
+        flags: Rows::of(flags),
     })
 }
 

@@ -6,6 +6,7 @@ ghost use Rattle.std.specs.Prelude.{◌≡◌, ◌⊎◌, IfErr};
 #[cfg(test)]
 mod attachment_tests;
 mod audit;
+mod bad_rows;
 #[cfg(test)]
 mod captures;
 mod code_rows;
@@ -13,18 +14,22 @@ mod command_line;
 #[cfg(test)]
 mod devices;
 mod findings;
+mod flag_rows;
 mod limits;
 mod line;
 #[cfg(test)]
 mod memory_tests;
+mod object_totals;
 mod program;
 mod reading;
 mod record_totals;
 #[cfg(test)]
 mod report_tests;
+mod rows;
 mod run;
 mod run_error;
 mod sequences;
+mod sort_counts;
 #[cfg(test)]
 mod tests;
 mod text;

@@ -3,7 +3,8 @@
 ghost use Rattle.std.specs.Prelude.{◌≡◌, ℕ, ◌++◌, ◌∷◌, [], List, map, OnOk, IfOk};
 ghost use Rattle.binder_audit.specs.Totals.{row_of};
 
-use crate::code_rows::{CodeRow, CodeRows};
+use crate::code_rows::CodeRow;
+use crate::rows::Rows;
 use std::alloc::{AllocError, Global};
 use std::collections::BTreeMap;
 
@@ -45,11 +46,11 @@ impl RecordTotals {
     }
 
     /// The rows of the section `codes`.
-    pub fn rows(&self, alloc: Global) -> Result<CodeRows, AllocError>
+    pub fn rows(&self, alloc: Global) -> Result<Rows<CodeRow>, AllocError>
         ensures { IfOk result (λ rows. (words : List ℕ) → SumsWords self.now words → AreCodeRows words rows) }
     {
         let rows = rows_of(alloc, &self.counts)?;
-        Ok(CodeRows::of(rows))
+        Ok(Rows::of(rows))
     }
 }
 

@@ -1,5 +1,6 @@
 -- A reader of an attachment's objects, and what one call of it does.
-use Rattle.std.specs.Prelude.{◌≡◌, ℕ, ◌+◌, ◌*◌, ◌≤◌, List, [], length, drop, Option, Some, None, Result, Ok, Err}
+use Rattle.std.specs.Prelude.{◌≡◌, ℕ, ◌+◌, ◌*◌, ◌≤◌, List, [], ◌++◌, length, drop, Option, Some, None, Result, Ok, Err}
+use Rattle.byteorder.specs.Endian.{little_bytes}
 use Rattle.object_view.specs.declared.bad_object.BadObject.{BadObject}
 use Rattle.object_view.specs.declared.bad_object.Cause.{Cause}
 use Rattle.object_view.specs.declared.bad_object.Cause.TheVariants.{ListLength}
@@ -19,7 +20,7 @@ text_of offset found = record { offset = offset; sort = found.sort; bytes = foun
 -- the object of this number is bad: the whole list is no list of offsets, or what stands at the offset is no good object
 pub data IsBadAt (body list : List ℕ) (index end : ℕ) (bad : BadObject) : Type 0 where
   no_list : ¬ IsWholeList list → bad ≡ bad_at 0 0 ListLength → IsBadAt body list index end bad
-  no_object : IsWholeList list → 8 * index + 8 ≤ length list → (cause : Cause) → FailsAt body end (first_offset (drop (8 * index) list)) cause
+  no_object : IsWholeList list → 8 ≤ length (drop (8 * index) list) → (cause : Cause) → FailsAt body end (first_offset (drop (8 * index) list)) cause
       → bad ≡ bad_at index (first_offset (drop (8 * index) list)) cause → IsBadAt body list index end bad
 
 -- one call: an ended reader gives nothing; else it gives the object at the offset of that number and goes behind it,
@@ -27,7 +28,7 @@ pub data IsBadAt (body list : List ℕ) (index end : ℕ) (bad : BadObject) : Ty
 abbrev pub Steps : Reading → Option (Result Object BadObject) → Reading → Type 0
 Steps ended result new = (result ≡ None) × (new ≡ ended)
 Steps (at body list index end) (Some (Ok found)) new =
-    IsWholeList list × (8 * index + 8 ≤ length list)
+    IsWholeList list × (drop (8 * index) list ≡ little_bytes 8 (first_offset (drop (8 * index) list)) ++ drop (8 * index + 8) list)
     × MayStandObject body end (text_of (first_offset (drop (8 * index) list)) found)
     × (new ≡ at body list (index + 1) (first_offset (drop (8 * index) list) + sort_length found.sort))
 Steps (at body list index end) (Some (Err bad)) new = IsBadAt body list index end bad × (new ≡ ended)

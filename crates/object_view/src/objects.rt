@@ -1,7 +1,8 @@
 //! The reader of an attachment's objects.
 
-ghost use Rattle.std.specs.Prelude.{◌≡◌, ◌≤◌, ◌<◌, ◌+◌, ◌^◌, ◌%◌, length, IfOk, IfErr};
-ghost use Rattle.object_view.specs.Objects.{MayStandObject, FailsAt};
+ghost use Rattle.std.specs.Prelude.{◌≡◌, ◌≤◌, ◌<◌, ◌+◌, ◌^◌, ◌%◌, ◌++◌, length, drop, IfOk, IfErr};
+ghost use Rattle.byteorder.specs.Endian.{little_bytes};
+ghost use Rattle.object_view.specs.Objects.{MayStandObject, FailsAt, first_offset};
 ghost use Rattle.object_view.specs.Reading.{text_of};
 
 use crate::bad_object::{BadObject, Cause};
@@ -80,7 +81,7 @@ impl<'c> Objects<'c> {
         if rest.is_empty() {
             return None;
         }
-        let offset = LittleEndian::read_u64(rest);
+        let offset = offset_of(rest);
         match object_at(self.body, offset, end) {
             Ok(object) => {
                 self.state = State::At {
@@ -99,6 +100,15 @@ impl<'c> Objects<'c> {
             }
         }
     }
+}
+
+/// The first offset of a list.
+fn offset_of(list: &[u8]) -> u64
+    requires { 8 ≤ length list.now }
+    ensures read { result ≡ first_offset list.now }
+    ensures spelled { list.now ≡ little_bytes 8 result ++ drop 8 list.now }
+{
+    LittleEndian::read_u64(list)
 }
 
 /// The object that begins at an offset of the data, behind one that ends at `end`.

@@ -1,3 +1,4 @@
+pub use Rattle.capture_frame.proofs.NumberLaws
 pub mod FieldLaws
 pub mod RecordPlaces
 pub mod EntryLaws

@@ -1,10 +1,14 @@
-use Rattle.std.proofs.Common.{[], ◌∷◌, arith}
-use Rattle.binder_audit.specs.Text.{title, totals, codes_head, codes_row, ended}
-use Rattle.binder_audit.proofs.TextLaws.{next_line}
+use Rattle.std.proofs.Common.{ℕ, List, ◌++◌, ap, ◌∙◌}
+use Rattle.std.specs.Prelude.{string_bytes}
+use Rattle.binder_audit.specs.Text.{title, totals, codes_lines, objects_lines, flags_lines, ended, report_text}
+use Rattle.binder_audit.proofs.TextLaws.{sections}
 use Rattle.binder_audit.proofs.text.report.Goals as goal
 
-pub loop-row-preserved : goal.loop-row-preserved
-loop-row-preserved c =
+pub returns : goal.returns
+unfolding report_text
+returns c =
     let found = c.args.found.now in
-    next_line codes_row ended (title ∷ totals found ∷ codes_head found ∷ []) c.as_slice-row-items.result.now c.loop-row.row-index _ _ _ _
-    (omega arith) c.loop-row.invariant c.codes_row_line.ensures c.in_ok-push_line-4.ensures
+    sections ended title (totals found) (codes_lines found) (objects_lines found) (flags_lines found) _ _ _ _ _
+    (c.in_ok-push_line.ensures ∙ ap (λ (t : List ℕ). t ++ ended c.title_line.result.bytes) c.new-text.ensures.bytes ∙ ap ended c.title_line.ensures)
+    (c.in_ok-push_line-2.ensures ∙ ap (λ (t : List ℕ). string_bytes c.push_line.new.text ++ ended t) c.totals_line.ensures)
+    c.in_ok-push_codes.ensures c.in_ok-push_objects.ensures c.in_ok-push_flags.ensures

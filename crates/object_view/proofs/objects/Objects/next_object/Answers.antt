@@ -1,17 +1,14 @@
-use Rattle.std.proofs.Common.{◌*◌, ◌<◌, ◌≤◌, length, sym, ap, ◌∙◌, rules}
+use Rattle.std.proofs.Common.{◌≡◌, ℕ, ◌*◌, ◌<◌, ◌≤◌, length, sym, ap, ◌∙◌, rules}
 use Rattle.object_view.specs.State.{reading_of}
-use Rattle.object_view.proofs.ReadLaws.{rest_of, offset_read, one_more, steps_good, steps_bad}
+use Rattle.object_view.proofs.ReadLaws.{rest_of, one_more, steps_good, steps_bad}
 use Rattle.object_view.proofs.objects.Objects.next_object.Goals as goal
 
 pub returns-in-Ok : goal.returns-in-Ok
 returns-in-Ok c =
     let body = c.self.inside.body.now in
     let list = c.self.inside.offsets.now in
-    let within : 8 * c.in-At.index ≤ length list = search rules in
-    let some : 0 < length (rest_of list c.in-At.index) = search rules in
-    steps_good c.args.self.now body list c.in-At.index c.in-At.end c.read_u64-offset.result c.in-Ok.object
-    (sym c.self.view_is ∙ ap (reading_of body list) c.in-At.is) c.if-self-ne0.false (one_more list c.in-At.index c.if-self-ne0.false within some)
-    (offset_read list c.in-At.index c.read_u64-offset.result c.read_u64-offset.ensures) c.in-Ok.ensures.found
+    steps_good c.args.self.now body list c.in-At.index c.in-At.end c.offset_of-offset.result c.in-Ok.object
+    (sym c.self.view_is ∙ ap (reading_of body list) c.in-At.is) c.if-self-ne0.false c.offset_of-offset.ensures.read c.offset_of-offset.ensures.spelled c.in-Ok.ensures.found
 
 pub returns-in-Err : goal.returns-in-Err
 returns-in-Err c =
@@ -19,6 +16,6 @@ returns-in-Err c =
     let list = c.self.inside.offsets.now in
     let within : 8 * c.in-At.index ≤ length list = search rules in
     let some : 0 < length (rest_of list c.in-At.index) = search rules in
-    steps_bad c.args.self.now body list c.in-At.index c.in-At.end c.read_u64-offset.result c.in-Err.cause
+    steps_bad c.args.self.now body list c.in-At.index c.in-At.end c.offset_of-offset.result c.in-Err.cause
     (sym c.self.view_is ∙ ap (reading_of body list) c.in-At.is) c.if-self-ne0.false (one_more list c.in-At.index c.if-self-ne0.false within some)
-    (offset_read list c.in-At.index c.read_u64-offset.result c.read_u64-offset.ensures) c.in-Err.ensures.fails
+    c.offset_of-offset.ensures.read c.in-Err.ensures.fails

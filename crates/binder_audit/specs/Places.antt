@@ -1,0 +1,45 @@
+-- Where records and entries stand in a capture.
+use Rattle.std.specs.Prelude.{ℕ, ◌+◌, List, [], ◌∷◌, length, map}
+use Rattle.std.specs.List.{flat_map}
+use Rattle.capture_frame.specs.Envelope.{FrameText, frame_bytes}
+use Rattle.record_view.specs.Records.{RecordText, record_bytes}
+use Rattle.transaction_view.specs.Attachments.{EntryText}
+use Rattle.transaction_view.specs.Grammar.{WholeFrame}
+
+-- units with their places: the first at this place, and each behind the bytes of the one before it
+abbrev pub placed : {U : Type 0} → (U → List ℕ) → ℕ → List U → List (ℕ × U)
+placed spelling place [] = []
+placed spelling place (unit ∷ units) = (place, unit) ∷ placed spelling (place + length (spelling unit)) units
+
+-- the frames of a capture, behind its file header
+abbrev pub placed_frames : List WholeFrame → List (ℕ × WholeFrame)
+placed_frames frames = placed (λ whole. frame_bytes whole.frame) 16 frames
+
+-- a record of the capture: its place, its frame, and what it says
+pub record PlacedRecord : Type 0 where
+  pub place : ℕ
+  pub frame : FrameText
+  pub said : RecordText
+
+-- the records of a frame at that place
+abbrev pub placed_records : ℕ → FrameText → List RecordText → List PlacedRecord
+placed_records frame_place frame records =
+    map (λ r. record { place = r.0; frame = frame; said = r.1 }) (placed record_bytes (frame_place + 32) records)
+
+-- the records of a capture, in rising place
+abbrev pub all_records : List WholeFrame → List PlacedRecord
+all_records frames = flat_map (λ x. placed_records x.0 x.1.frame x.1.records) (placed_frames frames)
+
+-- an entry of the capture: the place of the record that it belongs to, its frame, and what it says
+pub record PlacedEntry : Type 0 where
+  pub owner : ℕ
+  pub frame : FrameText
+  pub said : EntryText
+
+-- the entries of a frame at that place
+abbrev pub placed_entries : ℕ → FrameText → List EntryText → List PlacedEntry
+placed_entries frame_place frame entries = map (λ e. record { owner = frame_place + 32 + e.offset; frame = frame; said = e }) entries
+
+-- the entries of a capture, in rising place
+abbrev pub all_entries : List WholeFrame → List PlacedEntry
+all_entries frames = flat_map (λ x. placed_entries x.0 x.1.frame x.1.entries) (placed_frames frames)
