@@ -7,20 +7,42 @@ use std::alloc::{AllocError, Global};
 use std::test::Fail;
 
 /// An object of the sort HANDLE: its sort, and 20 bytes that are 0.
-const HANDLE: &[u8] = b"\x85\x2a\x68\x73\0\0\0\0\0\0\0\0\0\0\0\0\0\0\0\0\0\0\0\0";
+pub(crate) const HANDLE: &[u8] = b"\x85\x2a\x68\x73\0\0\0\0\0\0\0\0\0\0\0\0\0\0\0\0\0\0\0\0";
 
 /// The list of the one offset 0.
-const AT_0: &[u8] = b"\0\0\0\0\0\0\0\0";
+pub(crate) const AT_0: &[u8] = b"\0\0\0\0\0\0\0\0";
 
-const ONE_TRANSACTION: &str = "\
+const ONE_HANDLE: &str = "\
 BINDER AUDIT 1
 frames 1 records 1 opaque 0 missing 0
 codes 1
   0x80407202 BR_TRANSACTION 1
+objects binder 0 weak_binder 0 handle 1 weak_handle 0 fd 0 fda 0 ptr 0 bad 0
+flags 0
+";
+
+const MISALIGNED: &str = "\
+BINDER AUDIT 1
+frames 1 records 1 opaque 0 missing 0
+codes 1
+  0x80407202 BR_TRANSACTION 1
+objects binder 0 weak_binder 0 handle 0 weak_handle 0 fd 0 fda 0 ptr 0 bad 1
+  48 100 0 2 Misaligned
+flags 0
+";
+
+const OVERLAPPING: &str = "\
+BINDER AUDIT 1
+frames 1 records 1 opaque 0 missing 0
+codes 1
+  0x80407202 BR_TRANSACTION 1
+objects binder 0 weak_binder 0 handle 1 weak_handle 0 fd 0 fda 0 ptr 0 bad 1
+  48 100 1 20 Overlap
+flags 0
 ";
 
 /// One read of a transaction that tells of these sizes: its record at 48, the attachments at 116.
-fn delivery(
+pub(crate) fn delivery(
     alloc: Global,
     (data_size, offsets_size): (u64, u64),
     attached: &Attached,
@@ -51,13 +73,13 @@ fn three_deliveries(alloc: Global) -> Result<Capture, AllocError> {
 fn reports_an_attachment(rt: HostRuntime) -> Result<(), Fail> {
     let capture = one_handle(rt.alloc())?;
     assert_eq!(rt; capture.bytes.len(), 160);
-    expect_report(&rt, rt.alloc(), &capture, ONE_TRANSACTION)
+    expect_report(&rt, rt.alloc(), &capture, ONE_HANDLE)
 }
 
-/// What an attachment holds is no matter of the format: here an object at an offset that is no
-/// multiple of 4, and one that begins within another.
+/// A bad object is no fault of the capture: here one at an offset that is no multiple of 4, and one
+/// that begins within another. The third of the second list is good and is not read.
 #[test]
-fn reports_whatever_an_attachment_holds(rt: HostRuntime) -> Result<(), Fail> {
+fn reports_bad_objects(rt: HostRuntime) -> Result<(), Fail> {
     let alloc = rt.alloc();
     let mut body = Vec::from_slice(alloc, b"\0\0")?;
     body.extend_from_slice(HANDLE)?;
@@ -65,7 +87,7 @@ fn reports_whatever_an_attachment_holds(rt: HostRuntime) -> Result<(), Fail> {
     let attached = Attached::new(alloc).entry(0, &body, b"\x02\0\0\0\0\0\0\0")?;
     let misaligned = delivery(alloc, (28, 8), &attached)?;
     assert_eq!(rt; misaligned.bytes.len(), 164);
-    expect_report(&rt, alloc, &misaligned, ONE_TRANSACTION)?;
+    expect_report(&rt, alloc, &misaligned, MISALIGNED)?;
 
     let mut body = Vec::from_slice(alloc, HANDLE)?;
     body.extend_from_slice(HANDLE)?;
@@ -73,7 +95,7 @@ fn reports_whatever_an_attachment_holds(rt: HostRuntime) -> Result<(), Fail> {
     let attached = Attached::new(alloc).entry(0, &body, list)?;
     let overlapping = delivery(alloc, (48, 24), &attached)?;
     assert_eq!(rt; overlapping.bytes.len(), 200);
-    expect_report(&rt, alloc, &overlapping, ONE_TRANSACTION)
+    expect_report(&rt, alloc, &overlapping, OVERLAPPING)
 }
 
 #[test]

@@ -4,11 +4,19 @@ use std::alloc::{AllocError, Global};
 
 pub(crate) const BC_TRANSACTION: u32 = 0x4040_6300;
 
+pub(crate) const BC_REPLY: u32 = 0x4040_6301;
+
 pub(crate) const BC_ACQUIRE: u32 = 0x4004_6305;
 
 pub(crate) const BC_ENTER_LOOPER: u32 = 0x0000_630c;
 
+pub(crate) const BC_TRANSACTION_SG: u32 = 0x4048_6311;
+
+pub(crate) const BC_REPLY_SG: u32 = 0x4048_6312;
+
 pub(crate) const BR_TRANSACTION: u32 = 0x8040_7202;
+
+pub(crate) const BR_TRANSACTION_SEC_CTX: u32 = 0x8048_7202;
 
 pub(crate) const BR_REPLY: u32 = 0x8040_7203;
 
@@ -75,6 +83,22 @@ impl Commands {
         payload[40..48].copy_from_slice(&offsets_size.to_le_bytes());
         payload[48..56].copy_from_slice(&0x9000u64.to_le_bytes());
         self.record(BR_TRANSACTION, &payload)
+    }
+
+    /// A transaction or reply record with this target and these flags, whose other fields are 0.
+    pub(crate) fn flagged(self, record: u32, target: u64, flags: u32) -> Result<Self, AllocError> {
+        let mut payload = [0u8; 64];
+        payload[..8].copy_from_slice(&target.to_le_bytes());
+        payload[20..24].copy_from_slice(&flags.to_le_bytes());
+        self.record(record, &payload)
+    }
+
+    /// A transaction or reply record with eight bytes more, with these flags, whose other fields
+    /// are 0.
+    pub(crate) fn flagged_long(self, record: u32, flags: u32) -> Result<Self, AllocError> {
+        let mut payload = [0u8; 72];
+        payload[20..24].copy_from_slice(&flags.to_le_bytes());
+        self.record(record, &payload)
     }
 }
 

@@ -19,6 +19,8 @@ mod limits;
 mod line;
 #[cfg(test)]
 mod memory_tests;
+#[cfg(test)]
+mod object_tests;
 mod object_totals;
 mod program;
 mod reading;

@@ -43,6 +43,8 @@ codes 12
   0x00006329 OPAQUE 1
   0x0000632a OPAQUE 1
   0x0000632b OPAQUE 1
+objects binder 0 weak_binder 0 handle 0 weak_handle 0 fd 0 fda 0 ptr 0 bad 0
+flags 0
 ";
 
 const NO_FAULT: &[u8] = b"no malformed record\n";

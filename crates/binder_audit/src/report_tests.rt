@@ -71,6 +71,8 @@ const NO_RECORD: &str = "\
 BINDER AUDIT 1
 frames 0 records 0 opaque 0 missing 0
 codes 0
+objects binder 0 weak_binder 0 handle 0 weak_handle 0 fd 0 fda 0 ptr 0 bad 0
+flags 0
 ";
 
 const TWO_ACQUIRES: &str = "\
@@ -78,6 +80,8 @@ BINDER AUDIT 1
 frames 1 records 2 opaque 0 missing 0
 codes 1
   0x40046305 BC_ACQUIRE 2
+objects binder 0 weak_binder 0 handle 0 weak_handle 0 fd 0 fda 0 ptr 0 bad 0
+flags 0
 ";
 
 const REPLY: &str = "\
@@ -88,6 +92,8 @@ codes 4
   0x0000720c BR_NOOP 1
   0x40406300 BC_TRANSACTION 1
   0x80407203 BR_REPLY 1
+objects binder 0 weak_binder 0 handle 0 weak_handle 0 fd 0 fda 0 ptr 0 bad 0
+flags 0
 ";
 
 fn two_acquires(alloc: Global) -> Result<Capture, Fail> {
@@ -251,6 +257,8 @@ BINDER AUDIT 1
 frames 257 records 257 opaque 0 missing 0
 codes 1
   0x0000630c BC_ENTER_LOOPER 257
+objects binder 0 weak_binder 0 handle 0 weak_handle 0 fd 0 fda 0 ptr 0 bad 0
+flags 0
 ";
     expect_report(&rt, rt.alloc(), &loopers(rt.alloc(), 257, &[])?, text)
 }
@@ -273,6 +281,8 @@ frames 1 records 2 opaque 1 missing 0
 codes 2
   0x0000630c BC_ENTER_LOOPER 1
   0x400c6313 OPAQUE 1
+objects binder 0 weak_binder 0 handle 0 weak_handle 0 fd 0 fda 0 ptr 0 bad 0
+flags 0
 ";
     expect_report(&rt, alloc, &capture, text)
 }
@@ -305,6 +315,8 @@ fn judges_and_counts_sequences(rt: HostRuntime) -> Result<(), Fail> {
 BINDER AUDIT 1
 frames 2 records 0 opaque 0 missing 18446744073709551614
 codes 0
+objects binder 0 weak_binder 0 handle 0 weak_handle 0 fd 0 fda 0 ptr 0 bad 0
+flags 0
 ";
     expect_report(
         &rt,
