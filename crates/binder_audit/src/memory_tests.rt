@@ -47,6 +47,29 @@ objects binder 0 weak_binder 0 handle 0 weak_handle 0 fd 0 fda 0 ptr 0 bad 0
 flags 0
 ";
 
+/// A capture of one read with a bad object and an unknown flag.
+const ROWS_CAPTURE: &[u8] = b"BNDRCAP1\x08\0\0\0\0\0\0\0\
+\x01\0\0\0\0\0\0\0\x64\0\0\0\x65\0\0\0\x02\0\0\0\x44\0\0\0\x2c\0\0\0\0\0\0\0\
+\x02\x72\x40\x80\
+\0\0\0\0\0\0\0\0\0\0\0\0\0\0\0\0\
+\0\0\0\0\x83\0\0\0\0\0\0\0\0\0\0\0\
+\x18\0\0\0\0\0\0\0\x08\0\0\0\0\0\0\0\
+\0\x90\0\0\0\0\0\0\0\0\0\0\0\0\0\0\
+\0\0\0\0\x18\0\0\0\x08\0\0\0\
+\x85\x2a\x68\x73\0\0\0\0\0\0\0\0\0\0\0\0\0\0\0\0\0\0\0\0\
+\x02\0\0\0\0\0\0\0";
+
+const ROWS_REPORT: &[u8] = b"\
+BINDER AUDIT 1
+frames 1 records 1 opaque 0 missing 0
+codes 1
+  0x80407202 BR_TRANSACTION 1
+objects binder 0 weak_binder 0 handle 0 weak_handle 0 fd 0 fda 0 ptr 0 bad 1
+  48 100 0 2 Misaligned
+flags 1
+  48 100 0x00000082
+";
+
 const NO_FAULT: &[u8] = b"no malformed record\n";
 
 /// A writer that takes up to 512 bytes, without growth.
@@ -97,15 +120,20 @@ fn memory_is_refused_or_the_capture_read(rt: HostRuntime) {
     }
 }
 
-#[test]
-fn memory_is_refused_or_the_report_written(rt: HostRuntime) -> Result<(), Fail> {
+/// The report on a capture, or want of memory and nothing written.
+fn expect_report_or_memory<T: Threads + Sync + Abort>(
+    rt: &T,
+    alloc: Global,
+    capture: &[u8],
+    report: &[u8],
+) -> Result<(), Fail> {
     let workers = Workers::new(4).ok_or("workers")?;
     let piece = Piece::new(256).ok_or("piece")?;
     let mut out = Page::new();
-    match run(&rt, rt.alloc(), &mut &CAPTURE[..], &mut out, workers, piece) {
+    match run(rt, alloc, &mut &capture[..], &mut out, workers, piece) {
         Ok(written) => {
             assert_eq!(rt; written, Written::Report);
-            assert_eq!(rt; out.text(), REPORT);
+            assert_eq!(rt; out.text(), report);
         }
         Err(error) => {
             assert_eq!(rt; error, RunError::Memory);
@@ -113,6 +141,16 @@ fn memory_is_refused_or_the_report_written(rt: HostRuntime) -> Result<(), Fail> 
         }
     }
     Ok(())
+}
+
+#[test]
+fn memory_is_refused_or_the_report_written(rt: HostRuntime) -> Result<(), Fail> {
+    expect_report_or_memory(&rt, rt.alloc(), CAPTURE, REPORT)
+}
+
+#[test]
+fn memory_is_refused_or_the_rows_written(rt: HostRuntime) -> Result<(), Fail> {
+    expect_report_or_memory(&rt, rt.alloc(), ROWS_CAPTURE, ROWS_REPORT)
 }
 
 #[test]

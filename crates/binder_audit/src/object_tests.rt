@@ -6,6 +6,7 @@ use crate::captures::{
     BR_REPLY, BR_TRANSACTION, BR_TRANSACTION_SEC_CTX, Capture, Commands, Way,
 };
 use crate::report_tests::expect_report;
+use std::alloc::{AllocError, Global};
 use std::test::Fail;
 
 /// An object of each other sort: its sort, and bytes that are 0.
@@ -26,6 +27,15 @@ const PTR: &[u8] = b"\x85\x2a\x74\x70\0\0\0\0\0\0\0\0\0\0\0\0\0\0\0\0\0\0\0\0\
 const AT_4: &[u8] = b"\x04\0\0\0\0\0\0\0";
 
 // ---- objects
+
+/// One read with these records and attachments.
+fn one_read(
+    alloc: Global,
+    commands: &Commands,
+    attached: &Attached,
+) -> Result<Capture, AllocError> {
+    Capture::new(alloc)?.attached_frame(Way::Read, 1, (100, 101), commands, attached)
+}
 
 #[test]
 fn counts_good_objects(rt: HostRuntime) -> Result<(), Fail> {
@@ -81,8 +91,8 @@ flags 0
     expect_report(&rt, alloc, &capture, text)
 }
 
-/// A list that is cut, and an offset far behind the body. The record stands behind another and
-/// behind one that has no attachment.
+/// A list that is cut, and an offset far behind the body. Before their record stand a `BR_NOOP` and
+/// a transaction without an attachment.
 #[test]
 fn names_the_record_of_a_bad_object(rt: HostRuntime) -> Result<(), Fail> {
     let alloc = rt.alloc();
@@ -115,13 +125,7 @@ flags 0
             .oneway(24, 8)?
             .oneway(24, length)?;
         let attached = Attached::new(alloc).entry(72, HANDLE, list)?;
-        let capture = Capture::new(alloc)?.attached_frame(
-            Way::Read,
-            1,
-            (100, 101),
-            &commands,
-            &attached,
-        )?;
+        let capture = one_read(alloc, &commands, &attached)?;
         expect_report(&rt, alloc, &capture, text)?;
     }
     Ok(())
@@ -164,8 +168,7 @@ fn reads_the_entry_behind_a_bad_object(rt: HostRuntime) -> Result<(), Fail> {
     let attached = Attached::new(alloc)
         .entry(0, HANDLE, b"\x04\0\0\0\0\0\0\0\0\0\0\0\0\0\0\0")?
         .entry(68, BINDER, AT_0)?;
-    let capture =
-        Capture::new(alloc)?.attached_frame(Way::Read, 1, (100, 101), &commands, &attached)?;
+    let capture = one_read(alloc, &commands, &attached)?;
     assert_eq!(rt; capture.bytes.len(), 280);
     let text = "\
 BINDER AUDIT 1
