@@ -5,14 +5,14 @@ use Rattle.binder_audit.specs.declared.object_totals.ObjectTotals.{ObjectTotals}
 use Rattle.binder_audit.specs.Objects.{Outcome, AreOutcomes, count_of, times_of, good_objects, bad_rows}
 use Rattle.binder_audit.specs.Places.{PlacedEntry}
 
--- the totals have the outcomes of these entries besides, and no more objects than bytes
+-- the totals have grown by the outcomes of these entries, which have no more good objects than these bytes
 abbrev pub AddsOutcomes : List PlacedEntry → ℕ → ObjectTotals → ObjectTotals → Type 0
 AddsOutcomes entries bytes old new =
     (outcomes : List Outcome) × AreOutcomes entries outcomes
     × ((sort : Sort) → count_of new.counts sort ≡ count_of old.counts sort + times_of sort (good_objects outcomes))
     × (new.bad.items ≡ old.bad.items ++ bad_rows outcomes) × (length (good_objects outcomes) ≤ bytes)
 
--- the totals are those of these entries, and have no more objects than bytes
+-- the totals are those of these entries, which have no more good objects than these bytes
 pub record SumsObjects (entries : List PlacedEntry) (bytes : ℕ) (totals : ObjectTotals) : Type 0 where
   pub outcomes : List Outcome
   pub are : AreOutcomes entries outcomes

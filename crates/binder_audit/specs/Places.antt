@@ -1,4 +1,4 @@
--- Where records and entries stand in a capture.
+-- Where the records of a capture stand, and those that its attachment entries belong to.
 use Rattle.std.specs.Prelude.{ℕ, ◌+◌, List, [], ◌∷◌, length, map}
 use Rattle.std.specs.List.{flat_map}
 use Rattle.capture_frame.specs.Envelope.{FrameText, frame_bytes}
@@ -11,7 +11,7 @@ abbrev pub placed : {U : Type 0} → (U → List ℕ) → ℕ → List U → Lis
 placed spelling place [] = []
 placed spelling place (unit ∷ units) = (place, unit) ∷ placed spelling (place + length (spelling unit)) units
 
--- the frames of a capture, behind its file header
+-- the frames of a capture with their places, behind its file header
 abbrev pub placed_frames : List WholeFrame → List (ℕ × WholeFrame)
 placed_frames frames = placed (λ whole. frame_bytes whole.frame) 16 frames
 
@@ -21,7 +21,7 @@ pub record PlacedRecord : Type 0 where
   pub frame : FrameText
   pub said : RecordText
 
--- the records of a frame at that place
+-- the records of a frame that stands at that place
 abbrev pub placed_records : ℕ → FrameText → List RecordText → List PlacedRecord
 placed_records frame_place frame records =
     map (λ r. record { place = r.0; frame = frame; said = r.1 }) (placed record_bytes (frame_place + 32) records)
@@ -36,10 +36,10 @@ pub record PlacedEntry : Type 0 where
   pub frame : FrameText
   pub said : EntryText
 
--- the entries of a frame at that place
+-- the entries of a frame that stands at that place
 abbrev pub placed_entries : ℕ → FrameText → List EntryText → List PlacedEntry
 placed_entries frame_place frame entries = map (λ e. record { owner = frame_place + 32 + e.offset; frame = frame; said = e }) entries
 
--- the entries of a capture, in rising place
+-- the entries of a capture, in the order of the records that they belong to
 abbrev pub all_entries : List WholeFrame → List PlacedEntry
 all_entries frames = flat_map (λ x. placed_entries x.0 x.1.frame x.1.entries) (placed_frames frames)

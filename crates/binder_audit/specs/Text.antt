@@ -47,7 +47,7 @@ totals found =
 abbrev pub codes_head : Findings → List ℕ
 codes_head found = codes "codes " ++ decimal (length found.codes)
 
--- a row of it: code word, kind, count
+-- a row of the section `codes`: code word, kind, count
 abbrev pub codes_row : CodeRow → List ℕ
 codes_row row = codes "  " ++ hex_word row.word ++ codes " " ++ name_of_word row.word ++ codes " " ++ decimal row.count
 
@@ -71,7 +71,7 @@ cause_name Overlap = codes "Overlap"
 cause_name Short = codes "Short"
 cause_name UnknownSort = codes "UnknownSort"
 
--- a row of it: place of the owning record, process, index, offset, cause
+-- a row of the section `objects`: place of the owning record, process, index, offset, cause
 abbrev pub bad_row : BadRow → List ℕ
 bad_row row =
     codes "  " ++ decimal row.owner ++ codes " " ++ decimal row.process ++ codes " " ++ decimal row.bad.index
@@ -85,7 +85,7 @@ objects_lines found = objects_head found ∷ map bad_row found.bad_objects
 abbrev pub flags_head : Findings → List ℕ
 flags_head found = codes "flags " ++ decimal (length found.flags)
 
--- a row of it: place, process, unknown bits
+-- a row of the section `flags`: place, process, unknown bits
 abbrev pub flag_row : FlagRow → List ℕ
 flag_row row = codes "  " ++ decimal row.place ++ codes " " ++ decimal row.process ++ codes " " ++ hex_word row.bits
 

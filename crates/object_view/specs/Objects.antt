@@ -34,14 +34,14 @@ pub record MayStandObject (body : List ℕ) (end : ℕ) (o : ObjectText) : Type 
 abbrev pub IsUnknown : ℕ → Type 0
 IsUnknown number = (sort : Sort) → number ≢ sort_number sort
 
--- the data is at its end before the four bytes of a sort at this offset, or before the bytes of the sort that they name
+-- the data ends within the four bytes of a sort at this offset, or within an object of the sort that they name
 abbrev pub IsCutShort : List ℕ → ℕ → Type 0
 IsCutShort body offset =
     (length body < offset + 4)
     ⊎ ((offset + 4 ≤ length body) × ((sort : Sort) × (sort_at body offset ≡ sort_number sort) × (length body < offset + sort_length sort)))
 
--- at this offset, behind an object that ends at `end`, stands no good object, by this cause and by none that is judged
--- before it
+-- in a whole list: at this offset, behind an object that ends at `end`, stands no good object, by this cause and by none
+-- that is judged before it
 abbrev pub FailsAt : List ℕ → ℕ → ℕ → Cause → Type 0
 FailsAt body end offset Misaligned = offset % 4 ≢ 0
 FailsAt body end offset Overlap = (offset % 4 ≡ 0) × (offset < end)

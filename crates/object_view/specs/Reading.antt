@@ -8,12 +8,13 @@ use Rattle.object_view.specs.declared.object.Object.{Object}
 use Rattle.object_view.specs.Fields.{sort_length}
 use Rattle.object_view.specs.Objects.{ObjectText, MayStandObject, FailsAt, IsWholeList, first_offset, bad_at}
 
--- before the object of this number of data and its list of offsets, behind the end of the one before; or ended
+-- about to read the offset of this number of a list, the object before having ended at `end` of the data; or ended by a
+-- bad object
 pub data Reading : Type 0 where
   at : (body list : List ℕ) (index end : ℕ) → Reading
   ended : Reading
 
--- the object of the attachment says this
+-- what an object that begins at this offset says
 abbrev pub text_of : ℕ → Object → ObjectText
 text_of offset found = record { offset = offset; sort = found.sort; bytes = found.bytes.now }
 

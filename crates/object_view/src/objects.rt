@@ -19,7 +19,7 @@ const OFFSET: usize = 8;
 const SORT: usize = 4;
 
 /// Where a reader stands: before the offset of this number, behind an object that ends there in the
-/// data; or at its end.
+/// data; or behind a bad object, where it has ended.
 #[derive(Clone, Copy, Debug)]
 enum State {
     At { index: usize, end: usize },
