@@ -5,12 +5,11 @@ use Rattle.std.proofs.lemmas.List.Concat.{flat_map-cons}
 use Rattle.capture_frame.specs.Units.{Splits, state_after, spelling_of}
 use Rattle.capture_frame.proofs.UnitLaws.{Walks, state_after-snoc, walk_start, walk_step, walk_end}
 use Rattle.object_view.specs.declared.bad_object.BadObject.{BadObject}
-use Rattle.object_view.specs.declared.bad_object.Cause.{Cause}
-use Rattle.object_view.specs.declared.bad_object.Cause.TheVariants.{ListLength, Misaligned, Overlap, Short, UnknownSort}
 use Rattle.object_view.specs.declared.object.Object.{Object}
-use Rattle.object_view.specs.Objects.{ObjectText, FailsAt, ObjectFails, object_format, IsWholeList, first_offset, AreObjects, all_good, until_bad, no_list}
+use Rattle.object_view.specs.Objects.{ObjectText, object_format, IsWholeList, first_offset, AreObjects, all_good, until_bad, no_list}
 use Rattle.object_view.specs.Reading.{Reading, at, ended, text_of, IsBadAt, no_object, Steps}
 use Rattle.object_view.specs.Reading as reading
+use Rattle.object_view.proofs.ListLaws.{object_fails}
 use Rattle.object_view.specs.declared.sort.Sort.{Sort}
 use Rattle.std.proofs.lemmas.List.Sums.{sum_by-append, count_by-le-length}
 use Rattle.binder_audit.specs.Objects.{same_sort, times_of}
@@ -80,13 +79,6 @@ objects_end body list reader done stands new steps =
     let split : length list ≡ length (spelling_of (object_format body) done) + length (drop (8 * length done) list) = ap length joined ∙ length-append (spelling_of (object_format body) done) (drop (8 * length done) list) in
     let whole : IsWholeList list = omega (arith, none, split, walked) in
     all_good whole (walk_end (object_format body) 0 list done (8 * length done) stands.walks s.0) refl
-
-object_fails : (body : List ℕ) (end : ℕ) (list : List ℕ) (cause : Cause) → 8 ≤ length list → FailsAt body end (first_offset list) cause → ObjectFails body end list cause
-object_fails body end list ListLength more fails = absurd fails
-object_fails body end list Misaligned more fails = (more, fails)
-object_fails body end list Overlap more fails = (more, fails)
-object_fails body end list Short more fails = (more, fails)
-object_fails body end list UnknownSort more fails = (more, fails)
 
 bad_case : (body list : List ℕ) (reader : Reading) (done : List ObjectText) (stands : StandsBehind body list reader done) (bad : BadObject)
     → IsBadAt body list (length done) (state_after (object_format body) 0 done) bad → AreObjects body list done (Some bad)

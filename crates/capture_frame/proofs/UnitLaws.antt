@@ -139,13 +139,13 @@ never_both format decided state bytes (u ∷ us) (v ∷ vs) rest kind within a b
     subst (λ (t : List ℕ). Reads format (format.after state v) t us) same.1 (subst (λ (w : _). Reads format (format.after state w) (spelling_of format us ++ []) us) same.0 left.2) in
     never_both format decided (format.after state v) (spelling_of format vs ++ rest) us vs rest kind within next right.2 fails
 
--- two first failures of a text are one
-same_failure : {S U K : Type 0} (format : Format S U K) (decided : IsDecided format) (state : S) (bytes : List ℕ) (us vs : List U) (rest others : List ℕ) (k j : K) (x y : ℕ)
+-- behind whole good units a text fails in one way
+pub same_failure : {S U K : Type 0} (format : Format S U K) (decided : IsDecided format) (state : S) (bytes : List ℕ) (us vs : List U) (rest others : List ℕ) (k j : K) (x y : ℕ)
     → Splits format state bytes us rest → Splits format state bytes vs others → format.Fails (state_after format state us) rest k x → format.Fails (state_after format state vs) others j y
-    → (k ≡ j) × (length (spelling_of format us) + x ≡ length (spelling_of format vs) + y)
+    → (us ≡ vs) × (rest ≡ others) × (k ≡ j) × (x ≡ y)
 same_failure format decided state bytes [] [] rest others k j x y a b fails fails_too =
     let same = decided.one_failure state rest k j x y fails (subst (λ (t : List ℕ). format.Fails state t j y) (sym b.joined ∙ a.joined) fails_too) in
-    (same.0, ap (λ (n : ℕ). 0 + n) same.1)
+    (refl, sym a.joined ∙ b.joined, same.0, same.1)
 same_failure format decided state bytes [] (v ∷ vs) rest others k j x y a b fails fails_too =
     let tail = Splits-tail format state bytes v vs others b in
     absurd (decided.never_both state v _ k x tail.1 (subst (λ (t : List ℕ). format.Fails state t k x) (sym a.joined ∙ tail.0) fails))
@@ -161,16 +161,14 @@ same_failure format decided state bytes (u ∷ us) (v ∷ vs) rest others k j x 
     subst (λ (t : List ℕ). Splits format (format.after state v) t us rest) same.1 (subst (λ (w : _). Splits format w (spelling_of format us ++ rest) us rest) state_same left.2) in
     let fails_there = subst (λ (w : _). format.Fails (state_after format w us) rest k x) state_same fails in
     let more = same_failure format decided (format.after state v) (spelling_of format vs ++ others) us vs rest others k j x y next right.2 fails_there fails_too in
-    let one = ap length (flat_map-cons format.spelling u us) ∙ length-append (format.spelling u) (spelling_of format us) in
-    let two = ap length (flat_map-cons format.spelling v vs) ∙ length-append (format.spelling v) (spelling_of format vs) in
-    let width : length (format.spelling u) ≡ length (format.spelling v) = ap (λ (w : _). length (format.spelling w)) same.0 in
-    (more.0, omega (arith, more.1, one, two, width))
+    (rw (same.0, more.0) refl, more.1, more.2, more.3)
 
 pub one_failure : {S U K : Type 0} (format : Format S U K) (decided : IsDecided format) (state : S) (bytes : List ℕ) (k j : K) (x y : ℕ)
     → FirstFailure format state bytes k x → FirstFailure format state bytes j y → (k ≡ j) × (x ≡ y)
 one_failure format decided state bytes k j x y a b =
     let same = same_failure format decided state bytes a.before b.before a.rest b.rest k j a.within b.within a.splits b.splits a.fails b.fails in
-    (same.0, a.stands ∙ same.1 ∙ sym b.stands)
+    let within : length (spelling_of format a.before) ≡ length (spelling_of format b.before) = ap (λ (us : _). length (spelling_of format us)) same.0 in
+    (same.2, omega (arith, a.stands, b.stands, within, same.3))
 
 -- ---- a walk from unit to unit
 

@@ -1,4 +1,5 @@
 pub mod Fields
 pub mod Objects
 pub mod Reading
+pub mod Calls
 pub mod State

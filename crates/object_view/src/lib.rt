@@ -2,6 +2,7 @@
 #![tactic(auto)]
 
 mod bad_object;
+pub mod laws;
 mod object;
 mod objects;
 mod sort;

@@ -1,4 +1,5 @@
 pub use Rattle.capture_frame.proofs.NumberLaws
+pub use Rattle.capture_frame.proofs.UnitLaws
 pub mod FieldLaws
 pub mod RecordPlaces
 pub mod EntryLaws

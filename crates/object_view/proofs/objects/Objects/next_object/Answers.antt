@@ -1,4 +1,4 @@
-use Rattle.std.proofs.Common.{◌≡◌, ℕ, ◌*◌, ◌<◌, ◌≤◌, length, sym, ap, ◌∙◌, rules}
+use Rattle.std.proofs.Common.{◌*◌, ◌<◌, ◌≤◌, length, sym, ap, ◌∙◌, rules}
 use Rattle.object_view.specs.State.{reading_of}
 use Rattle.object_view.proofs.ReadLaws.{rest_of, one_more, steps_good, steps_bad}
 use Rattle.object_view.proofs.objects.Objects.next_object.Goals as goal
