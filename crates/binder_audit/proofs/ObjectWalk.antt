@@ -1,8 +1,7 @@
 -- A reader of objects goes through an attachment, and what it has given so far are the objects before it.
 use Rattle.std.proofs.Common.{◌≡◌, ℕ, cond, ◌+◌, ◌-◌, ◌*◌, ◌<◌, ◌≤◌, ◌⊎◌, inl, inr, List, [], ◌∷◌, ◌++◌, length, drop, Option, Some, None, Result, Ok, Err, refl, sym, ap, subst, ◌∙◌, length-append, arith}
 use Rattle.std.proofs.lemmas.List.{drop-drop, length-drop, length_push}
-use Rattle.std.proofs.lemmas.List.Concat.{flat_map-cons}
-use Rattle.capture_frame.specs.Units.{Splits, state_after, spelling_of}
+use Rattle.capture_frame.specs.Units.{state_after, spelling_of}
 use Rattle.capture_frame.proofs.UnitLaws.{Walks, state_after-snoc, walk_start, walk_step, walk_end}
 use Rattle.object_view.specs.declared.bad_object.BadObject.{BadObject}
 use Rattle.object_view.specs.declared.object.Object.{Object}
@@ -94,24 +93,6 @@ pub objects_bad : (body list : List ℕ) (reader : Reading) (done : List ObjectT
     → AreObjects body list done (Some bad)
 objects_bad body list reader done stands bad new steps =
     bad_case body list reader done stands bad (steps_from body list reader done stands (Some (Err bad)) new steps).0
-
--- eight bytes of the list for each object
-spelled_long : (body : List ℕ) (objects : List ObjectText) → length (spelling_of (object_format body) objects) ≡ 8 * length objects
-spelled_long body [] = refl
-spelled_long body (o ∷ objects) =
-    let format = object_format body in
-    let split = ap length (flat_map-cons format.spelling o objects) ∙ length-append (format.spelling o) (spelling_of format objects) in
-    omega (arith, split, spelled_long body objects)
-
-split_short : (body list rest : List ℕ) (objects : List ObjectText) → Splits (object_format body) 0 list objects rest → 8 * length objects ≤ length list
-split_short body list rest objects splits =
-    let whole = ap length splits.joined ∙ length-append (spelling_of (object_format body) objects) rest in
-    omega (arith, whole, spelled_long body objects)
-
-pub objects_short : (body list : List ℕ) (objects : List ObjectText) (bad : Option BadObject) → AreObjects body list objects bad → 8 * length objects ≤ length list
-objects_short body list objects bad (all_good whole reads is) = split_short body list [] objects reads
-objects_short body list objects bad (until_bad whole rest cause splits fails is) = split_short body list rest objects splits
-objects_short body list objects bad (no_list never none is) = let e : length objects ≡ 0 = ap length none in omega (arith, e)
 
 -- ---- how many there are of a sort
 

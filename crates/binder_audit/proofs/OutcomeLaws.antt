@@ -20,7 +20,8 @@ use Rattle.binder_audit.specs.declared.bad_rows.BadRow.{BadRow}
 use Rattle.binder_audit.specs.declared.object_totals.ObjectTotals.{ObjectTotals}
 use Rattle.binder_audit.specs.Objects.{Outcome, AreOutcomes, count_of, times_of, good_objects, row_of_bad, bad_rows}
 use Rattle.binder_audit.specs.Places.{PlacedEntry, placed_entries}
-use Rattle.binder_audit.proofs.ObjectWalk.{times_of-append, objects_short}
+use Rattle.object_view.proofs.ListLaws.{objects_short}
+use Rattle.binder_audit.proofs.ObjectWalk.{times_of-append}
 
 -- the outcome is that of its entry
 abbrev pub IsOutcome : Outcome → Type 0

@@ -7,7 +7,8 @@ use Rattle.std.proofs.lemmas.List.Concat.{flat_map-cons}
 use Rattle.capture_frame.specs.Envelope.{FrameText}
 use Rattle.record_view.specs.Records.{RecordText, record_bytes, span_of}
 use Rattle.binder_audit.specs.Flags.{flag_row, flag_rows}
-use Rattle.binder_audit.specs.Places.{placed, PlacedRecord, placed_records}
+use Rattle.capture_frame.specs.Units.{placed}
+use Rattle.binder_audit.specs.Places.{PlacedRecord, placed_records}
 
 pub placed-snoc : {U : Type 0} (spelling : U → List ℕ) (place : ℕ) (units : List U) (unit : U)
     → placed spelling place (units ++ unit ∷ []) ≡ placed spelling place units ++ (place + length (flat_map spelling units), unit) ∷ []

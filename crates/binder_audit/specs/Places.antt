@@ -1,15 +1,11 @@
 -- Where the records of a capture stand, and those that its attachment entries belong to.
-use Rattle.std.specs.Prelude.{ℕ, ◌+◌, List, [], ◌∷◌, length, map}
+use Rattle.std.specs.Prelude.{ℕ, ◌+◌, List, map}
 use Rattle.std.specs.List.{flat_map}
+use Rattle.capture_frame.specs.Units.{placed}
 use Rattle.capture_frame.specs.Envelope.{FrameText, frame_bytes}
 use Rattle.record_view.specs.Records.{RecordText, record_bytes}
 use Rattle.transaction_view.specs.Attachments.{EntryText}
 use Rattle.transaction_view.specs.Grammar.{WholeFrame}
-
--- units with their places: the first at this place, and each behind the bytes of the one before it
-abbrev pub placed : {U : Type 0} → (U → List ℕ) → ℕ → List U → List (ℕ × U)
-placed spelling place [] = []
-placed spelling place (unit ∷ units) = (place, unit) ∷ placed spelling (place + length (spelling unit)) units
 
 -- the frames of a capture with their places, behind its file header
 abbrev pub placed_frames : List WholeFrame → List (ℕ × WholeFrame)

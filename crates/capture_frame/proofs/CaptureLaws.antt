@@ -8,14 +8,10 @@ use Rattle.capture_frame.specs.Units.{Format, Reads, FirstFailure}
 use Rattle.capture_frame.specs.Envelope.{file_header}
 use Rattle.capture_frame.specs.FirstFault.{HeaderFails, IsCapture, IsFirstFault, in_header, in_frames}
 use Rattle.capture_frame.proofs.NumberLaws.{IsBytes, IsBytes-drop}
+use Rattle.capture_frame.proofs.FaultLaws.{same_fault}
 use Rattle.capture_frame.proofs.UnitLaws.{IsDecided, Outcome, read, failed, outcome}
 use Rattle.capture_frame.proofs.UnitLaws as units
 use Rattle.capture_frame.proofs.HeaderLaws.{header_judged, header_one_failure, header_never_both}
-
-same_fault : (a b : Fault) → a.kind ≡ b.kind → a.place ≡ b.place → a ≡ b
-same_fault a b kind place =
-    let made : FaultKind → ℕ → Fault = λ k p. record { kind = k; place = p } in
-    ap (λ (k : FaultKind). made k a.place) kind ∙ ap (made b.kind) place
 
 behind_header : {U : Type 0} (format : Format (Option ℕ) U FaultKind) (capture bytes : List ℕ) → capture ≡ file_header ++ bytes → Outcome format None bytes
     → ((frames : List U) × IsCapture format capture frames) ⊎ ((fault : Fault) × IsFirstFault format capture fault)

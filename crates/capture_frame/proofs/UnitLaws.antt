@@ -95,7 +95,7 @@ pub outcome : {S U K : Type 0} (format : Format S U K) (decided : IsDecided form
 outcome format decided state bytes h = outcome_up_to format decided (suc (length bytes)) state bytes h (omega arith)
 
 -- a unit that may stand somewhere is spelled by some byte
-no_unit_at_end : {S U K : Type 0} (format : Format S U K) (decided : IsDecided format) (state : S) (unit : U) (rest : List ℕ) → format.MayStand state unit → [] ≡ format.spelling unit ++ rest → ⊥
+pub no_unit_at_end : {S U K : Type 0} (format : Format S U K) (decided : IsDecided format) (state : S) (unit : U) (rest : List ℕ) → format.MayStand state unit → [] ≡ format.spelling unit ++ rest → ⊥
 no_unit_at_end format decided state unit rest stands e =
     let long = decided.longer state unit stands in
     let none : 0 ≡ length (format.spelling unit) + length rest = ap length e ∙ length-append (format.spelling unit) rest in

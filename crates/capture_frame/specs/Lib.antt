@@ -1,5 +1,6 @@
 pub mod Units
 pub mod Envelope
 pub mod FirstFault
+pub mod Calls
 pub mod Reading
 pub mod State

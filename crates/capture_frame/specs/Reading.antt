@@ -2,7 +2,9 @@
 use Rattle.std.specs.Prelude.{◌≡◌, ℕ, ◌+◌, List, [], ◌++◌, length, drop, slice_range, Option, Some, None, Result, Ok, Err}
 use Rattle.capture_frame.specs.declared.fault.Fault.{Fault}
 use Rattle.capture_frame.specs.declared.frame.Frame.{Frame}
-use Rattle.capture_frame.specs.Envelope.{frame_bytes, text_of, MayStand}
+use Rattle.capture_frame.specs.Units.{placed}
+use Rattle.capture_frame.specs.Calls.{GiveAll}
+use Rattle.capture_frame.specs.Envelope.{FrameText, frame_bytes, text_of, MayStand}
 use Rattle.capture_frame.specs.FirstFault.{FrameFails}
 
 -- before the frame at a place of the capture, after the one with that sequence; or ended by a fault
@@ -27,3 +29,11 @@ Steps (at capture place before) (Ok (Some frame)) new =
 Steps (at capture place before) (Ok None) new = (drop place capture ≡ []) × (new ≡ at capture place before)
 Steps (at capture place before) (Err fault) new =
     FrameFails before (drop place capture) fault.kind × (fault.place ≡ place) × (new ≡ failed fault)
+
+-- the call gives the frame that stands at this place
+abbrev pub GivesFrame : Result (Option Frame) Fault → ℕ × FrameText → Type 0
+GivesFrame result there = (found : Frame) × (result ≡ Ok (Some found)) × (found.place ≡ there.0) × (text_of found ≡ there.1)
+
+-- the results of calls are these frames of a capture, one by one, and then `last` again and again
+abbrev pub GiveFrames : List FrameText → Result (Option Frame) Fault → List (Result (Option Frame) Fault) → Type 0
+GiveFrames frames last results = GiveAll GivesFrame last last (placed frame_bytes 16 frames) results

@@ -24,6 +24,11 @@ state_after format state (unit ∷ units) = state_after format (format.after sta
 abbrev pub spelling_of : {S U K : Type 0} → Format S U K → List U → List ℕ
 spelling_of format units = flat_map format.spelling units
 
+-- units with their places: the first at this place, and each behind the bytes of the one before it
+abbrev pub placed : {U : Type 0} → (U → List ℕ) → ℕ → List U → List (ℕ × U)
+placed spelling place [] = []
+placed spelling place (unit ∷ units) = (place, unit) ∷ placed spelling (place + length (spelling unit)) units
+
 -- the bytes are these units, each of which may stand there, and then the rest
 pub record Splits {S U K : Type 0} (format : Format S U K) (state : S) (bytes : List ℕ) (units : List U) (rest : List ℕ) : Type 0 where
   pub joined : bytes ≡ spelling_of format units ++ rest

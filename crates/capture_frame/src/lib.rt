@@ -7,6 +7,7 @@ mod fault;
 mod frame;
 mod frames;
 mod header;
+pub mod laws;
 mod number;
 
 pub use direction::Direction;

@@ -1,10 +1,12 @@
 -- The objects of an attachment are judged in one way, and are one list.
-use Rattle.std.proofs.Common.{◌≡◌, ◌≢◌, ℕ, ◌+◌, ◌%◌, ◌^◌, ◌<◌, ◌≤◌, inl, inr, List, [], ◌∷◌, ◌++◌, length, take, drop, Option, Some, None, refl, sym, ap, subst, ◌∙◌, length-append, arith}
+use Rattle.std.proofs.Common.{◌≡◌, ◌≢◌, ℕ, ◌+◌, ◌*◌, ◌%◌, ◌^◌, ◌<◌, ◌≤◌, inl, inr, List, [], ◌∷◌, ◌++◌, length, take, drop, Option, Some, None, refl, sym, ap, subst, ◌∙◌, length-append, arith}
 use Rattle.std.proofs.lemmas.Bool.{cases_lt, cases_eq}
 use Rattle.std.proofs.lemmas.List.{drop_at}
+use Rattle.std.proofs.lemmas.List.Concat.{flat_map-cons}
 use Rattle.byteorder.specs.Endian.{little_bytes}
 use Rattle.byteorder.specs.Numbers.{little_number-reads_back, little_from-lt}
 use Rattle.transaction_view.specs.Envelope.{number_at}
+use Rattle.transaction_view.specs.Units.{Splits, spelling_of}
 use Rattle.transaction_view.proofs.NumberLaws.{IsBytes, number_spelled}
 use Rattle.transaction_view.proofs.UnitLaws.{IsDecided, Judged, ended, good, Outcome, read, failed, outcome}
 use Rattle.transaction_view.proofs.UnitLaws as units
@@ -188,3 +190,22 @@ one_list body list objects others bad worse (no_list never none is) (all_good wh
 one_list body list objects others bad worse (no_list never none is) (until_bad whole rest cause splits fails is_too) = absurd (never whole)
 one_list body list objects others bad worse (all_good whole reads is) (no_list never none is_too) = absurd (never whole)
 one_list body list objects others bad worse (until_bad whole rest cause splits fails is) (no_list never none is_too) = absurd (never whole)
+
+-- ---- eight bytes of the list for each object
+
+pub spelled_long : (body : List ℕ) (objects : List ObjectText) → length (spelling_of (object_format body) objects) ≡ 8 * length objects
+spelled_long body [] = refl
+spelled_long body (o ∷ objects) =
+    let format = object_format body in
+    let split = ap length (flat_map-cons format.spelling o objects) ∙ length-append (format.spelling o) (spelling_of format objects) in
+    omega (arith, split, spelled_long body objects)
+
+split_short : (body list rest : List ℕ) (objects : List ObjectText) → Splits (object_format body) 0 list objects rest → 8 * length objects ≤ length list
+split_short body list rest objects splits =
+    let whole = ap length splits.joined ∙ length-append (spelling_of (object_format body) objects) rest in
+    omega (arith, whole, spelled_long body objects)
+
+pub objects_short : (body list : List ℕ) (objects : List ObjectText) (bad : Option BadObject) → AreObjects body list objects bad → 8 * length objects ≤ length list
+objects_short body list objects bad (all_good whole reads is) = split_short body list [] objects reads
+objects_short body list objects bad (until_bad whole rest cause splits fails is) = split_short body list rest objects splits
+objects_short body list objects bad (no_list never none is) = let e : length objects ≡ 0 = ap length none in omega (arith, e)

@@ -46,10 +46,28 @@ no_other number a b c d e f g Fda = f
 no_other number a b c d e f g Ptr = g
 
 pub named : (number : ℕ) → Named number
-named number = elim (cases_eq number (sort_number Binder)) [ inl is ↦ known Binder is | inr a ↦
-    elim (cases_eq number (sort_number WeakBinder)) [ inl is ↦ known WeakBinder is | inr b ↦
-    elim (cases_eq number (sort_number Handle)) [ inl is ↦ known Handle is | inr c ↦
-    elim (cases_eq number (sort_number WeakHandle)) [ inl is ↦ known WeakHandle is | inr d ↦
-    elim (cases_eq number (sort_number Fd)) [ inl is ↦ known Fd is | inr e ↦
-    elim (cases_eq number (sort_number Fda)) [ inl is ↦ known Fda is | inr f ↦
-    elim (cases_eq number (sort_number Ptr)) [ inl is ↦ known Ptr is | inr g ↦ unknown (no_other number a b c d e f g) ] ] ] ] ] ] ]
+named number = elim (cases_eq number (sort_number Binder)) [
+  | inl is ↦ known Binder is
+  | inr a ↦
+      elim (cases_eq number (sort_number WeakBinder)) [
+        | inl is ↦ known WeakBinder is
+        | inr b ↦
+            elim (cases_eq number (sort_number Handle)) [
+              | inl is ↦ known Handle is
+              | inr c ↦
+                  elim (cases_eq number (sort_number WeakHandle)) [
+                    | inl is ↦ known WeakHandle is
+                    | inr d ↦
+                        elim (cases_eq number (sort_number Fd)) [
+                          | inl is ↦ known Fd is
+                          | inr e ↦
+                              elim (cases_eq number (sort_number Fda)) [
+                                | inl is ↦ known Fda is
+                                | inr f ↦
+                                    elim (cases_eq number (sort_number Ptr)) [ inl is ↦ known Ptr is | inr g ↦ unknown (no_other number a b c d e f g) ]
+                              ]
+                        ]
+                  ]
+            ]
+      ]
+]

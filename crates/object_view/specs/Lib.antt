@@ -1,5 +1,4 @@
 pub mod Fields
 pub mod Objects
 pub mod Reading
-pub mod Calls
 pub mod State

@@ -1,6 +1,8 @@
 -- A reader of an attachment's objects, and what one call of it does.
 use Rattle.std.specs.Prelude.{◌≡◌, ℕ, ◌+◌, ◌*◌, ◌≤◌, List, [], ◌++◌, length, drop, Option, Some, None, Result, Ok, Err}
+use Rattle.std.specs.Option.{option_map}
 use Rattle.byteorder.specs.Endian.{little_bytes}
+use Rattle.transaction_view.specs.Calls.{GiveAll}
 use Rattle.object_view.specs.declared.bad_object.BadObject.{BadObject}
 use Rattle.object_view.specs.declared.bad_object.Cause.{Cause}
 use Rattle.object_view.specs.declared.bad_object.Cause.TheVariants.{ListLength}
@@ -34,3 +36,12 @@ Steps (at body list index end) (Some (Ok found)) new =
     × (new ≡ at body list (index + 1) (first_offset (drop (8 * index) list) + sort_length found.sort))
 Steps (at body list index end) (Some (Err bad)) new = IsBadAt body list index end bad × (new ≡ ended)
 Steps (at body list index end) None new = (drop (8 * index) list ≡ []) × (new ≡ at body list index end)
+
+-- the call gives the object
+abbrev pub GivesObject : Option (Result Object BadObject) → ObjectText → Type 0
+GivesObject result o = (found : Object) × (result ≡ Some (Ok found)) × (found.sort ≡ o.sort) × (found.bytes.now ≡ o.bytes)
+
+-- the results of calls are these objects, one by one; then the bad one, once, if there is one; then nothing, however many
+-- more there are
+abbrev pub GiveObjects : List ObjectText → Option BadObject → List (Option (Result Object BadObject)) → Type 0
+GiveObjects objects bad results = GiveAll GivesObject (option_map Err bad) None objects results

@@ -1,11 +1,11 @@
 //! Laws of the definitions, as contracts of functions that do nothing.
 
 ghost use Rattle.std.specs.Prelude.{◌≡◌, ◌<◌, ℕ, List, Option, Result, slice_index};
+ghost use Rattle.transaction_view.specs.Calls.{Calls};
 ghost use Rattle.object_view.specs.declared.bad_object.BadObject.{BadObject};
 ghost use Rattle.object_view.specs.declared.object.Object.{Object};
 ghost use Rattle.object_view.specs.Objects.{ObjectText, AreObjects};
-ghost use Rattle.object_view.specs.Reading.{at};
-ghost use Rattle.object_view.specs.Calls.{Calls, AreGiven};
+ghost use Rattle.object_view.specs.Reading.{at, Steps, GiveObjects};
 
 /// The data and the list of offsets of any attachment have their objects, and one bad object or none,
 /// and they have no others.
@@ -17,5 +17,5 @@ pub fn one_list()
 /// A reader that is called again and again, from its start, gives an attachment's objects in order, then
 /// its bad object once if there is one, then nothing.
 pub fn all_calls()
-    ensures { (body list : List ℕ) (objects : List ObjectText) (bad : Option BadObject) → AreObjects body list objects bad → (results : List (Option (Result Object BadObject))) → Calls (at body list 0 0) results → AreGiven objects bad results }
+    ensures { (body list : List ℕ) (objects : List ObjectText) (bad : Option BadObject) → AreObjects body list objects bad → (results : List (Option (Result Object BadObject))) → Calls Steps (at body list 0 0) results → GiveObjects objects bad results }
 {}

@@ -1,3 +1,4 @@
 pub mod RecordLaws
 pub mod ReadLaws
+pub mod RecordCalls
 pub mod Vectors

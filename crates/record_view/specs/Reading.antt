@@ -3,6 +3,8 @@ use Rattle.std.specs.Prelude.{◌≡◌, ℕ, ◌+◌, List, [], ◌++◌, lengt
 use Rattle.binder_code.specs.declared.protocol.Protocol.{Protocol}
 use Rattle.binder_code.specs.Commands.{kind_of}
 use Rattle.capture_frame.specs.declared.fault.Fault.{Fault}
+use Rattle.capture_frame.specs.Units.{placed}
+use Rattle.capture_frame.specs.Calls.{GiveAll}
 use Rattle.record_view.specs.declared.record.Record.{Record}
 use Rattle.record_view.specs.Records.{RecordText, record_bytes, IsRecord, RecordFails}
 
@@ -32,3 +34,12 @@ Steps (at protocol commands place offset) (Ok (Some found)) new =
 Steps (at protocol commands place offset) (Ok None) new = (drop offset commands ≡ []) × (new ≡ at protocol commands place offset)
 Steps (at protocol commands place offset) (Err fault) new =
     RecordFails protocol (drop offset commands) fault.kind × (fault.place ≡ place + offset) × (new ≡ failed fault)
+
+-- the call gives the record that stands at this place, with the kind of its code
+abbrev pub GivesRecord : Protocol → Result (Option Record) Fault → ℕ × RecordText → Type 0
+GivesRecord protocol result there =
+    (found : Record) × (result ≡ Ok (Some found)) × (found.place ≡ there.0) × (text_of found ≡ there.1) × (kind_of protocol there.1.code ≡ Ok found.kind)
+
+-- the results of calls are these records, the first at that place, one by one, and then `last` again and again
+abbrev pub GiveRecords : Protocol → ℕ → List RecordText → Result (Option Record) Fault → List (Result (Option Record) Fault) → Type 0
+GiveRecords protocol place records last results = GiveAll (GivesRecord protocol) last last (placed record_bytes place records) results

@@ -1,6 +1,7 @@
 //! The records of a frame: each a code of the Binder driver's protocol and its payload.
 #![tactic(auto)]
 
+pub mod laws;
 mod protocol;
 mod record;
 mod records;

@@ -1,5 +1,6 @@
 pub use Rattle.capture_frame.proofs.NumberLaws
 pub use Rattle.capture_frame.proofs.UnitLaws
+pub use Rattle.capture_frame.proofs.CallLaws
 pub mod FieldLaws
 pub mod RecordPlaces
 pub mod EntryLaws
@@ -7,6 +8,7 @@ pub mod SearchLaws
 pub mod ReadLaws
 pub mod RecordWalk
 pub mod EntryWalk
+pub mod EntryCalls
 pub mod GrammarLaws
 pub mod OneAnswer
 pub mod CaptureWalk

@@ -3,9 +3,9 @@ use Rattle.std.proofs.Common.{◌≡◌, ℕ, ◌+◌, List, Option, Some, None,
 use Rattle.std.specs.Prelude.{IsNone, MatchOption, MatchResult}
 use Rattle.std.specs.Result.{result_err}
 use Rattle.capture_frame.specs.declared.fault.Fault.{Fault}
-use Rattle.capture_frame.specs.declared.fault.FaultKind.{FaultKind}
 use Rattle.capture_frame.specs.declared.frame.Frame.{Frame}
 use Rattle.capture_frame.specs.Envelope.{text_of}
+use Rattle.capture_frame.proofs.FaultLaws.{same_fault}
 use Rattle.capture_frame.proofs.CaptureLaws.{capture_one_fault, capture_never_both}
 use Rattle.transaction_view.specs.FirstFault.{HasGoodContent, HasContentFault}
 use Rattle.transaction_view.specs.Grammar.{whole_format, IsReadable, HasFirstFault}
@@ -30,11 +30,6 @@ answer_first Good Fails (Ok done) answer is good = rw is good
 answer_first Good Fails (Err fault) answer is fails = rw is fails
 
 -- ---- a frame's content, and a capture
-
-same_fault : (a b : Fault) → a.kind ≡ b.kind → a.place ≡ b.place → a ≡ b
-same_fault a b kind place =
-    let made : FaultKind → ℕ → Fault = λ k p. record { kind = k; place = p } in
-    ap (λ (k : FaultKind). made k a.place) kind ∙ ap (made b.kind) place
 
 one_content_fault : (frame : Frame) (a b : Fault) → HasContentFault frame a → HasContentFault frame b → a ≡ b
 one_content_fault frame a b x y =

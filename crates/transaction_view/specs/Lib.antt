@@ -6,3 +6,4 @@ pub mod Reading
 pub mod State
 pub use Rattle.capture_frame.specs.Envelope
 pub use Rattle.capture_frame.specs.Units
+pub use Rattle.capture_frame.specs.Calls

@@ -2,6 +2,8 @@
 use Rattle.std.specs.Prelude.{◌≡◌, ℕ, ◌+◌, List, [], ◌++◌, length, drop, slice_range, Option, Some, None, Result, Ok, Err}
 use Rattle.capture_frame.specs.declared.fault.Fault.{Fault}
 use Rattle.capture_frame.specs.Envelope.{FrameText}
+use Rattle.capture_frame.specs.Units.{placed}
+use Rattle.capture_frame.specs.Calls.{GiveAll}
 use Rattle.transaction_view.specs.declared.entry.Entry.{Entry}
 use Rattle.transaction_view.specs.Attachments.{EntryText, entry_bytes, MayStandEntry, EntryFails}
 
@@ -47,3 +49,13 @@ Steps (at frame frame_place distance before) (Ok None) new =
 Steps (at frame frame_place distance before) (Err fault) new =
     EntryFails frame before (drop distance frame.attachments) fault.kind
     × (fault.place ≡ attachments_place frame frame_place + distance) × (new ≡ failed fault)
+
+-- the call gives the entry that stands at this place, in a frame whose command bytes begin at that one
+abbrev pub GivesEntry : ℕ → Result (Option Entry) Fault → ℕ × EntryText → Type 0
+GivesEntry commands_at result there =
+    (found : Entry) × (result ≡ Ok (Some found)) × (found.place ≡ there.0) × Says commands_at found there.1
+
+-- the results of calls are these entries of a frame, one by one, and then `last` again and again
+abbrev pub GiveEntries : FrameText → ℕ → List EntryText → Result (Option Entry) Fault → List (Result (Option Entry) Fault) → Type 0
+GiveEntries frame frame_place entries last results =
+    GiveAll (GivesEntry (commands_place frame_place)) last last (placed entry_bytes (attachments_place frame frame_place) entries) results

@@ -1,5 +1,5 @@
-use Rattle.object_view.proofs.AheadLaws.{all_given}
+use Rattle.object_view.proofs.ObjectCalls.{objects_given}
 use Rattle.object_view.proofs.laws.all_calls.Goals as goal
 
 pub returns : goal.returns
-returns c = all_given
+returns c = objects_given
