@@ -18,7 +18,7 @@ use Rattle.binder_audit.specs.declared.flag_rows.FlagRow.{FlagRow}
 use Rattle.binder_audit.specs.declared.bad_rows.BadRow.{BadRow}
 use Rattle.binder_audit.specs.declared.object_totals.ObjectTotals.{ObjectTotals}
 use Rattle.binder_audit.specs.Flags.{flag_row, flag_rows}
-use Rattle.binder_audit.specs.Objects.{Outcome, count_of, times_of, good_objects, row_of_bad, bad_rows}
+use Rattle.binder_audit.specs.Objects.{Outcome, count_of, times_of, good_objects, row_of_bad, bad_rows, AreObjectFindings}
 use Rattle.binder_audit.specs.ObjectTotals.{AddsOutcomes, SumsObjects}
 use Rattle.binder_audit.specs.Places.{placed_frames, PlacedRecord, placed_records, all_records, PlacedEntry, placed_entries, all_entries}
 use Rattle.binder_audit.proofs.ObjectWalk.{times_of-append, times_of-short}
@@ -74,34 +74,34 @@ pub objects_next : (capture : List ℕ) (reading : Reading) (done : List WholeFr
 objects_next capture reading done stands found records entries new steps old after sums adds =
     let whole = whole_of found records entries in
     let more = all_entries-snoc found.place done whole (place_is capture reading done stands found new steps) in
-    let outcomes = sums.outcomes ++ adds.0 in
-    let good : good_objects outcomes ≡ good_objects sums.outcomes ++ good_objects adds.0 = flat_map-append (λ (o : Outcome). o.objects) sums.outcomes adds.0 in
+    let outcomes = sums.are.outcomes ++ adds.0 in
+    let good : good_objects outcomes ≡ good_objects sums.are.outcomes ++ good_objects adds.0 = flat_map-append (λ (o : Outcome). o.objects) sums.are.outcomes adds.0 in
     let row : Outcome → List BadRow = λ o. row_of_bad o.entry.owner o.entry.frame.process o.bad in
-    let longer = ap length good ∙ length-append (good_objects sums.outcomes) (good_objects adds.0) in
+    let longer = ap length good ∙ length-append (good_objects sums.are.outcomes) (good_objects adds.0) in
     let before = sums.short in
     let added = adds.4 in
-    record {
+    let findings : AreObjectFindings (all_entries (done ++ whole ∷ [])) after.counts after.bad.items = record {
       outcomes = outcomes;
       are = record {
-        each = map-append (λ (o : Outcome). o.entry) sums.outcomes adds.0 ∙ ap (λ (t : List PlacedEntry). t ++ map (λ (o : Outcome). o.entry) adds.0) sums.are.each
+        each = map-append (λ (o : Outcome). o.entry) sums.are.outcomes adds.0 ∙ ap (λ (t : List PlacedEntry). t ++ map (λ (o : Outcome). o.entry) adds.0) sums.are.are.each
             ∙ ap (λ (t : List PlacedEntry). all_entries done ++ t) adds.1.each ∙ sym more;
-        are_objects = All-append IsOutcome sums.outcomes adds.0 sums.are.are_objects adds.1.are_objects;
+        are_objects = All-append IsOutcome sums.are.outcomes adds.0 sums.are.are.are_objects adds.1.are_objects;
       };
       counted = λ sort.
-          let a = sums.counted sort in
+          let a = sums.are.counted sort in
           let b = adds.2 sort in
-          let c = ap (times_of sort) good ∙ times_of-append sort (good_objects sums.outcomes) (good_objects adds.0) in
+          let c = ap (times_of sort) good ∙ times_of-append sort (good_objects sums.are.outcomes) (good_objects adds.0) in
           omega (arith, a, b, c);
-      bad = adds.3 ∙ ap (λ (t : List BadRow). t ++ bad_rows adds.0) sums.bad ∙ sym (flat_map-append row sums.outcomes adds.0);
-      short = omega (arith, longer, before, added, spelled_more done whole, length-frame_bytes (text_of found));
-    }
+      bad = adds.3 ∙ ap (λ (t : List BadRow). t ++ bad_rows adds.0) sums.are.bad ∙ sym (flat_map-append row sums.are.outcomes adds.0);
+    } in
+    record { are = findings; short = omega (arith, longer, before, added, spelled_more done whole, length-frame_bytes (text_of found)) }
 
 -- with the objects of the frame that the reader gives they fit 64 bits
 pub room_for_objects : (capture : List ℕ) (reading : Reading) (done : List WholeFrame) (stands : StandsBehind capture reading done) (found : Frame) (new : Reading) → Steps reading (Ok (Some found)) new
     → (totals : ObjectTotals) → SumsObjects (all_entries done) (length (spelling_of whole_format done)) totals → (sort : Sort) → count_of totals.counts sort + length found.attachments.now < 2 ^ 64
 room_for_objects capture reading done stands found new steps totals sums sort =
-    let counted = sums.counted sort in
-    let few = times_of-short sort (good_objects sums.outcomes) in
+    let counted = sums.are.counted sort in
+    let few = times_of-short sort (good_objects sums.are.outcomes) in
     let short = sums.short in
     let place = place_is capture reading done stands found new steps in
     let fits = found.fits in

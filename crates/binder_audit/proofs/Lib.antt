@@ -2,6 +2,7 @@ pub mod PlaceLaws
 pub mod ObjectWalk
 pub mod OutcomeLaws
 pub mod FindingLaws
+pub mod RowLaws
 pub mod FlagLaws
 pub mod FrameWalk
 pub mod RecordWalk

@@ -10,13 +10,10 @@ use Rattle.binder_code.specs.declared.record_kind.Kind.TheVariants.{Opaque}
 use Rattle.binder_code.specs.Code.{letter}
 use Rattle.binder_code.specs.Commands.{kind_of, letter_of}
 use Rattle.binder_audit.specs.declared.findings.Findings.{Findings}
-use Rattle.object_view.specs.declared.sort.Sort.{Sort}
-use Rattle.binder_audit.specs.declared.bad_rows.BadRow.{BadRow}
 use Rattle.binder_audit.specs.declared.code_rows.CodeRow.{CodeRow}
-use Rattle.binder_audit.specs.declared.sort_counts.SortCounts.{SortCounts}
 use Rattle.binder_audit.specs.Flags.{flag_rows}
-use Rattle.binder_audit.specs.Objects.{Outcome, AreOutcomes, count_of, times_of, good_objects, bad_rows}
-use Rattle.binder_audit.specs.Places.{PlacedEntry, all_records, all_entries}
+use Rattle.binder_audit.specs.Objects.{AreObjectFindings}
+use Rattle.binder_audit.specs.Places.{all_records, all_entries}
 use Rattle.transaction_view.specs.Grammar.{WholeFrame}
 
 -- the code words of these frames' records, in their order
@@ -55,13 +52,6 @@ pub record AreCodeRows (words : List ℕ) (rows : List CodeRow) : Type 0 where
   pub rising : IsStrictlyIncreasing (map (λ row. row.word) rows)
   pub counted : All (λ row. (0 < row.count) × (row.count ≡ count_by (λ word. word == row.word) words)) rows
   pub whole : (word : ℕ) → Contains words word → Contains (map (λ row. row.word) rows) word
-
--- the objects of these entries: how many good ones of each sort there are, and the rows of the bad ones
-pub record AreObjectFindings (entries : List PlacedEntry) (counts : SortCounts) (rows : List BadRow) : Type 0 where
-  pub outcomes : List Outcome
-  pub are : AreOutcomes entries outcomes
-  pub counted : (sort : Sort) → count_of counts sort ≡ times_of sort (good_objects outcomes)
-  pub bad : rows ≡ bad_rows outcomes
 
 -- the findings are those of these frames
 pub record AreFindings (whole_frames : List WholeFrame) (found : Findings) : Type 0 where

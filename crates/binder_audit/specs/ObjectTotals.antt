@@ -2,7 +2,7 @@
 use Rattle.std.specs.Prelude.{◌≡◌, ℕ, ◌+◌, ◌≤◌, List, ◌++◌, length}
 use Rattle.object_view.specs.declared.sort.Sort.{Sort}
 use Rattle.binder_audit.specs.declared.object_totals.ObjectTotals.{ObjectTotals}
-use Rattle.binder_audit.specs.Objects.{Outcome, AreOutcomes, count_of, times_of, good_objects, bad_rows}
+use Rattle.binder_audit.specs.Objects.{Outcome, AreOutcomes, count_of, times_of, good_objects, bad_rows, AreObjectFindings}
 use Rattle.binder_audit.specs.Places.{PlacedEntry}
 
 -- the totals have grown by the outcomes of these entries, which have no more good objects than these bytes
@@ -12,10 +12,7 @@ AddsOutcomes entries bytes old new =
     × ((sort : Sort) → count_of new.counts sort ≡ count_of old.counts sort + times_of sort (good_objects outcomes))
     × (new.bad.items ≡ old.bad.items ++ bad_rows outcomes) × (length (good_objects outcomes) ≤ bytes)
 
--- the totals are those of these entries, which have no more good objects than these bytes
+-- the totals are the findings of these entries, which have no more good objects than these bytes
 pub record SumsObjects (entries : List PlacedEntry) (bytes : ℕ) (totals : ObjectTotals) : Type 0 where
-  pub outcomes : List Outcome
-  pub are : AreOutcomes entries outcomes
-  pub counted : (sort : Sort) → count_of totals.counts sort ≡ times_of sort (good_objects outcomes)
-  pub bad : totals.bad.items ≡ bad_rows outcomes
-  pub short : length (good_objects outcomes) ≤ bytes
+  pub are : AreObjectFindings entries totals.counts totals.bad.items
+  pub short : length (good_objects are.outcomes) ≤ bytes

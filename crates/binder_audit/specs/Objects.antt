@@ -1,9 +1,10 @@
 -- The section `objects`: the good objects of each sort, and the bad ones (docs/REPORT.md).
-use Rattle.std.specs.Prelude.{◌≡◌, ℕ, Bool, true, false, List, [], ◌∷◌, map, All, count_by, Option, Some, None}
+use Rattle.std.specs.Prelude.{◌≡◌, ◌==◌, ℕ, Bool, List, [], ◌∷◌, map, All, count_by, Option, Some, None}
 use Rattle.std.specs.List.{flat_map}
 use Rattle.object_view.specs.declared.bad_object.BadObject.{BadObject}
 use Rattle.object_view.specs.declared.sort.Sort.{Sort}
 use Rattle.object_view.specs.declared.sort.Sort.TheVariants.{Binder, WeakBinder, Handle, WeakHandle, Fd, Fda, Ptr}
+use Rattle.object_view.specs.Fields.{sort_number}
 use Rattle.object_view.specs.Objects.{ObjectText, AreObjects}
 use Rattle.binder_audit.specs.declared.sort_counts.SortCounts.{SortCounts}
 use Rattle.binder_audit.specs.declared.bad_rows.BadRow.{BadRow}
@@ -22,16 +23,9 @@ pub record AreOutcomes (entries : List PlacedEntry) (outcomes : List Outcome) : 
 
 -- whether two sorts are one
 abbrev pub same_sort : Sort → Sort → Bool
-same_sort Binder Binder = true
-same_sort WeakBinder WeakBinder = true
-same_sort Handle Handle = true
-same_sort WeakHandle WeakHandle = true
-same_sort Fd Fd = true
-same_sort Fda Fda = true
-same_sort Ptr Ptr = true
-same_sort _ _ = false
+same_sort sort other = sort_number sort == sort_number other
 
--- the number of a sort
+-- the count of a sort
 abbrev pub count_of : SortCounts → Sort → ℕ
 count_of counts Binder = counts.binder
 count_of counts WeakBinder = counts.weak_binder
@@ -57,3 +51,10 @@ row_of_bad owner process (Some bad) = record { owner = owner; process = process;
 -- the rows of these outcomes
 abbrev pub bad_rows : List Outcome → List BadRow
 bad_rows outcomes = flat_map (λ o. row_of_bad o.entry.owner o.entry.frame.process o.bad) outcomes
+
+-- the objects of these entries: how many good ones of each sort there are, and the rows of the bad ones
+pub record AreObjectFindings (entries : List PlacedEntry) (counts : SortCounts) (rows : List BadRow) : Type 0 where
+  pub outcomes : List Outcome
+  pub are : AreOutcomes entries outcomes
+  pub counted : (sort : Sort) → count_of counts sort ≡ times_of sort (good_objects outcomes)
+  pub bad : rows ≡ bad_rows outcomes

@@ -72,26 +72,26 @@ cause_name Short = codes "Short"
 cause_name UnknownSort = codes "UnknownSort"
 
 -- a row of the section `objects`: place of the owning record, process, index, offset, cause
-abbrev pub bad_row : BadRow → List ℕ
-bad_row row =
+abbrev pub objects_row : BadRow → List ℕ
+objects_row row =
     codes "  " ++ decimal row.owner ++ codes " " ++ decimal row.process ++ codes " " ++ decimal row.bad.index
     ++ codes " " ++ decimal row.bad.offset ++ codes " " ++ cause_name row.bad.cause
 
 -- the section `objects`
 abbrev pub objects_lines : Findings → List (List ℕ)
-objects_lines found = objects_head found ∷ map bad_row found.bad_objects
+objects_lines found = objects_head found ∷ map objects_row found.bad_objects
 
 -- the head of the section `flags`: how many rows there are
 abbrev pub flags_head : Findings → List ℕ
 flags_head found = codes "flags " ++ decimal (length found.flags)
 
 -- a row of the section `flags`: place, process, unknown bits
-abbrev pub flag_row : FlagRow → List ℕ
-flag_row row = codes "  " ++ decimal row.place ++ codes " " ++ decimal row.process ++ codes " " ++ hex_word row.bits
+abbrev pub flags_row : FlagRow → List ℕ
+flags_row row = codes "  " ++ decimal row.place ++ codes " " ++ decimal row.process ++ codes " " ++ hex_word row.bits
 
 -- the section `flags`
 abbrev pub flags_lines : Findings → List (List ℕ)
-flags_lines found = flags_head found ∷ map flag_row found.flags
+flags_lines found = flags_head found ∷ map flags_row found.flags
 
 -- the lines of the report
 abbrev pub report_lines : Findings → List (List ℕ)

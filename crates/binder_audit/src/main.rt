@@ -15,6 +15,7 @@ mod command_line;
 mod devices;
 mod findings;
 mod flag_rows;
+pub mod laws;
 mod limits;
 mod line;
 #[cfg(test)]

@@ -3,7 +3,7 @@
 ghost use Rattle.std.specs.Prelude.{◌≡◌, ◌+◌, ◌≤◌, ◌++◌, length, OnOk, IfOk, string_bytes};
 ghost use Rattle.std.specs.List.{flat_map};
 ghost use Rattle.arrayvec.specs.ArrayString.{array_string_len};
-ghost use Rattle.binder_audit.specs.Text.{title, totals, codes_head, codes_row, codes_lines, objects_head, cause_name, bad_row, objects_lines, flags_head, flag_row, flags_lines, name_of_word, fault_name, fault_line, ended, report_text};
+ghost use Rattle.binder_audit.specs.Text.{title, totals, codes_head, codes_row, codes_lines, objects_head, cause_name, objects_row, objects_lines, flags_head, flags_row, flags_lines, name_of_word, fault_name, fault_line, ended, report_text};
 
 use crate::bad_rows::BadRow;
 use crate::code_rows::CodeRow;
@@ -46,7 +46,7 @@ fn push_objects(text: &mut String, found: &Findings) -> Result<(), AllocError>
 {
     push_line(text, &objects_head_line(found))?;
     for row in found.bad_objects.as_slice() {
-        push_line(text, &bad_row_line(row))?;
+        push_line(text, &objects_row_line(row))?;
     }
     Ok(())
 }
@@ -57,7 +57,7 @@ fn push_flags(text: &mut String, found: &Findings) -> Result<(), AllocError>
 {
     push_line(text, &flags_head_line(found))?;
     for row in found.flags.as_slice() {
-        push_line(text, &flag_row_line(row))?;
+        push_line(text, &flags_row_line(row))?;
     }
     Ok(())
 }
@@ -151,8 +151,8 @@ fn objects_head_line(found: &Findings) -> Line
     line
 }
 
-fn bad_row_line(row: &BadRow) -> Line
-    ensures { result.bytes ≡ bad_row row.now }
+fn objects_row_line(row: &BadRow) -> Line
+    ensures { result.bytes ≡ objects_row row.now }
 {
     let mut line = Line::new();
     line.push_str("  ");
@@ -177,8 +177,8 @@ fn flags_head_line(found: &Findings) -> Line
     line
 }
 
-fn flag_row_line(row: &FlagRow) -> Line
-    ensures { result.bytes ≡ flag_row row.now }
+fn flags_row_line(row: &FlagRow) -> Line
+    ensures { result.bytes ≡ flags_row row.now }
 {
     let mut line = Line::new();
     line.push_str("  ");

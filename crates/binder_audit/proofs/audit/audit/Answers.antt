@@ -1,6 +1,8 @@
-use Rattle.std.proofs.Common.{ℕ, List, [], ◌∷◌, ◌++◌, subst, ◌∙◌, arith}
+use Rattle.std.proofs.Common.{ℕ, List, [], ◌∷◌, ◌++◌, sym, subst, ◌∙◌, arith}
 use Rattle.std.proofs.lemmas.Result.{err_from_is_err_and}
 use Rattle.binder_audit.specs.Findings.{code_words}
+use Rattle.binder_audit.specs.Objects.{AreObjectFindings}
+use Rattle.binder_audit.specs.Places.{all_entries}
 use Rattle.binder_audit.specs.Totals.{SumsWords}
 use Rattle.transaction_view.proofs.CaptureWalk.{whole_of, stands_behind_next, left_falls, header_fails, content_fails, frames_end}
 use Rattle.binder_audit.proofs.FindingLaws.{flags_next, objects_next, room_for_objects}
@@ -75,7 +77,7 @@ returns-clause-read c =
         opaque_count = done.2.opaque_count;
         missing_frames = missing_is c.loop-flags.sequences done.0 c.missing.result done.3 c.missing.ensures;
         code_rows = c.in_ok-codes.ensures (code_words done.0) done.2;
-        objects = record { outcomes = done.4.outcomes; are = done.4.are; counted = done.4.counted; bad = c.of.ensures ∙ done.4.bad };
+        objects = subst (AreObjectFindings (all_entries done.0) c.loop-flags.objects.counts) (sym c.of.ensures) done.4.are;
         flags = c.of-2.ensures ∙ done.5;
       },
     )
