@@ -1,14 +1,13 @@
 -- A reader of objects goes through an attachment, and what it has given so far are the objects before it.
 use Rattle.std.proofs.Common.{◌≡◌, ℕ, cond, ◌+◌, ◌-◌, ◌*◌, ◌<◌, ◌≤◌, ◌⊎◌, inl, inr, List, [], ◌∷◌, ◌++◌, length, drop, Option, Some, None, Result, Ok, Err, refl, sym, ap, subst, ◌∙◌, length-append, arith}
 use Rattle.std.proofs.lemmas.List.{drop-drop, length-drop, length_push}
-use Rattle.capture_frame.specs.Units.{state_after, spelling_of}
+use Rattle.capture_frame.specs.Units.{state_after}
 use Rattle.capture_frame.proofs.UnitLaws.{Walks, state_after-snoc, walk_start, walk_step, walk_end}
 use Rattle.object_view.specs.declared.bad_object.BadObject.{BadObject}
 use Rattle.object_view.specs.declared.object.Object.{Object}
-use Rattle.object_view.specs.Objects.{ObjectText, object_format, IsWholeList, first_offset, AreObjects, all_good, until_bad, no_list}
+use Rattle.object_view.specs.Objects.{ObjectText, object_format, IsWholeList, offset_of, AreObjects, all_good, until_bad, no_list}
 use Rattle.object_view.specs.Reading.{Reading, at, ended, text_of, IsBadAt, no_object, Steps}
 use Rattle.object_view.specs.Reading as reading
-use Rattle.object_view.proofs.ListLaws.{object_fails}
 use Rattle.object_view.specs.declared.sort.Sort.{Sort}
 use Rattle.std.proofs.lemmas.List.Sums.{sum_by-append, count_by-le-length}
 use Rattle.binder_audit.specs.Objects.{same_sort, times_of}
@@ -33,7 +32,7 @@ steps_from body list reader done stands result new steps = subst (λ (r : Readin
 
 -- the object that a reader gives
 abbrev pub given : List ℕ → List ObjectText → Object → ObjectText
-given list done found = text_of (first_offset (drop (8 * length done) list)) found
+given list done found = text_of (offset_of list (length done)) found
 
 -- there was room for its offset
 pub room_for_one : (body list : List ℕ) (reader : Reading) (done : List ObjectText) (stands : StandsBehind body list reader done) (found : Object) (new : Reading) → Steps reader (Some (Ok found)) new → 8 * length done + 8 ≤ length list
@@ -72,12 +71,7 @@ left_falls body list reader done stands found new steps =
 pub objects_end : (body list : List ℕ) (reader : Reading) (done : List ObjectText) (stands : StandsBehind body list reader done) (new : Reading) → Steps reader None new → AreObjects body list done None
 objects_end body list reader done stands new steps =
     let s = steps_from body list reader done stands None new steps in
-    let joined = stands.walks.splits.joined in
-    let walked = stands.walks.length_is in
-    let none : length (drop (8 * length done) list) ≡ 0 = ap length s.0 in
-    let split : length list ≡ length (spelling_of (object_format body) done) + length (drop (8 * length done) list) = ap length joined ∙ length-append (spelling_of (object_format body) done) (drop (8 * length done) list) in
-    let whole : IsWholeList list = omega (arith, none, split, walked) in
-    all_good whole (walk_end (object_format body) 0 list done (8 * length done) stands.walks s.0) refl
+    all_good s.0 (walk_end (object_format body) 0 list done (8 * length done) stands.walks s.1) refl
 
 bad_case : (body list : List ℕ) (reader : Reading) (done : List ObjectText) (stands : StandsBehind body list reader done) (bad : BadObject)
     → IsBadAt body list (length done) (state_after (object_format body) 0 done) bad → AreObjects body list done (Some bad)
@@ -86,7 +80,7 @@ bad_case body list reader done stands bad (reading.no_list never is) = elim stan
   | inr whole ↦ absurd (never whole)
 ]
 bad_case body list reader done stands bad (no_object whole more cause fails is) =
-    until_bad whole (drop (8 * length done) list) cause stands.walks.splits (object_fails body _ (drop (8 * length done) list) cause more fails) (ap Some is)
+    until_bad whole (drop (8 * length done) list) cause stands.walks.splits more fails (ap Some is)
 
 -- the bad object ends them
 pub objects_bad : (body list : List ℕ) (reader : Reading) (done : List ObjectText) (stands : StandsBehind body list reader done) (bad : BadObject) (new : Reading) → Steps reader (Some (Err bad)) new

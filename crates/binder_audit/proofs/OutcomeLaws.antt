@@ -13,7 +13,8 @@ use Rattle.object_view.specs.Objects.{ObjectText, AreObjects}
 use Rattle.transaction_view.specs.declared.entry.Entry.{Entry}
 use Rattle.transaction_view.specs.Attachments.{EntryText, entry_bytes, HasEntries}
 use Rattle.transaction_view.specs.FirstFault.{HasGoodContent}
-use Rattle.transaction_view.specs.Reading.{Reading, Says, commands_place, Steps}
+use Rattle.record_view.specs.Reading.{commands_place}
+use Rattle.transaction_view.specs.Reading.{Reading, Says, Steps}
 use Rattle.transaction_view.proofs.EntryLaws.{length-entry_bytes}
 use Rattle.transaction_view.proofs.EntryWalk.{StandsBehind, entries_end, entries_never_fail}
 use Rattle.binder_audit.specs.declared.bad_rows.BadRow.{BadRow}

@@ -1,9 +1,10 @@
 -- What holds of every reader that goes from unit to unit: its calls together give the units, and then its last answer.
-use Rattle.std.proofs.Common.{◌≡◌, ℕ, ◌+◌, List, [], ◌∷◌, ◌++◌, length, drop, refl, sym, ap, subst, ◌∙◌, length-append, arith}
+use Rattle.std.proofs.Common.{◌≡◌, ℕ, ◌+◌, List, [], ◌∷◌, ◌++◌, length, drop, All, refl, sym, ap, subst, ◌∙◌, length-append, arith}
 use Rattle.std.proofs.lemmas.List.{drop-drop, drop_at}
 use Rattle.std.proofs.lemmas.List.Concat.{flat_map-cons}
+use Rattle.std.proofs.lemmas.List.Elements.{All-cons, All-nil}
 use Rattle.capture_frame.specs.Units.{Format, state_after, spelling_of, placed, Splits, Reads}
-use Rattle.capture_frame.specs.Calls.{Calls, one_more, GiveAll}
+use Rattle.capture_frame.specs.Calls.{Calls, one_more, GiveInOrder}
 use Rattle.capture_frame.proofs.UnitLaws.{IsDecided, Splits-tail, no_unit_at_end}
 
 -- the readers of a text: how far into it one may stand, which one stands there, and how one has ended; and what their
@@ -38,7 +39,7 @@ pub record Goes {S U K R A : Type 0} (r : Reader S U K R A) : Type 0 where
 
 -- behind its failure a reader gives `later` for ever
 ended_gives : {S U K R A : Type 0} (r : Reader S U K R A) (goes : Goes r) (x : ℕ) (kind : K) (within : ℕ) (results : List A) → Calls r.Steps (r.ended x kind within) results
-    → GiveAll r.Gives (r.later x kind within) (r.later x kind within) [] results
+    → GiveInOrder r.Gives (r.later x kind within) (r.later x kind within) [] results
 ended_gives r goes x kind within [] calls = tt
 ended_gives r goes x kind within (result ∷ results) (one_more _ next _ _ steps calls) =
     let done = goes.behind_end x kind within result next steps in
@@ -74,10 +75,10 @@ call_at_unit r goes state x unit rest result next stands parts (failed kind with
 
 -- ---- what all calls come to
 
--- the calls from there on give these units, `first`, and then `later`
+-- the calls from there on give these units, `once`, and then `ever`
 abbrev FromThere : {S U K R A : Type 0} → Reader S U K R A → S → ℕ → A → A → List U → Type 0
-FromThere {S} {U} {K} {R} {A} r state x first later units =
-    (results : List A) → Calls r.Steps (r.stand state x) results → GiveAll r.Gives first later (placed r.format.spelling (r.base + x) units) results
+FromThere {S} {U} {K} {R} {A} r state x once ever units =
+    (results : List A) → Calls r.Steps (r.stand state x) results → GiveInOrder r.Gives once ever (placed r.format.spelling (r.base + x) units) results
 
 at_end : {S U K R A : Type 0} (r : Reader S U K R A) (goes : Goes r) (state : S) (x : ℕ) → r.MayReach x → drop x r.bytes ≡ [] → FromThere r state x r.at_end r.at_end []
 at_end r goes state x reach none [] calls = tt
@@ -93,48 +94,59 @@ at_failure r goes state x kind within reach fails (result ∷ results) (one_more
     (call.0, ended_gives r goes x kind within results (subst (λ (n : _). Calls r.Steps n results) call.1 calls))
 
 -- the units come before what their end comes to
-through_units : {S U K R A : Type 0} (r : Reader S U K R A) (goes : Goes r) (state : S) (x : ℕ) (units : List U) (rest : List ℕ) (first later : A) → r.MayReach x → Splits r.format state (drop x r.bytes) units rest
-    → ((y : ℕ) → r.MayReach y → y ≡ x + length (spelling_of r.format units) → drop y r.bytes ≡ rest → FromThere r (state_after r.format state units) y first later [])
-    → FromThere r state x first later units
-through_units r goes state x [] rest first later reach splits end results calls = end x reach (omega arith) splits.joined results calls
-through_units r goes state x (u ∷ us) rest first later reach splits end [] calls = tt
-through_units r goes state x (u ∷ us) rest first later reach splits end (result ∷ results) (one_more _ next _ _ steps calls) =
+through_units : {S U K R A : Type 0} (r : Reader S U K R A) (goes : Goes r) (state : S) (x : ℕ) (units : List U) (rest : List ℕ) (once ever : A) → r.MayReach x → Splits r.format state (drop x r.bytes) units rest
+    → ((y : ℕ) → r.MayReach y → y ≡ x + length (spelling_of r.format units) → drop y r.bytes ≡ rest → FromThere r (state_after r.format state units) y once ever [])
+    → FromThere r state x once ever units
+through_units r goes state x [] rest once ever reach splits end results calls = end x reach (omega arith) splits.joined results calls
+through_units r goes state x (u ∷ us) rest once ever reach splits end [] calls = tt
+through_units r goes state x (u ∷ us) rest once ever reach splits end (result ∷ results) (one_more _ next _ _ steps calls) =
     let tail = Splits-tail r.format state (drop x r.bytes) u us rest splits in
     let width = length (r.format.spelling u) in
     let call = call_at_unit r goes state x u _ result next tail.1 tail.0 (goes.calls state x result next reach steps) in
     let behind : spelling_of r.format us ++ rest ≡ drop (x + width) r.bytes =
     sym (drop_at (r.format.spelling u) (spelling_of r.format us ++ rest) width refl) ∙ ap (drop width) (sym tail.0) ∙ drop-drop width x r.bytes in
     let long : length (spelling_of r.format (u ∷ us)) ≡ width + length (spelling_of r.format us) = ap length (flat_map-cons r.format.spelling u us) ∙ length-append (r.format.spelling u) (spelling_of r.format us) in
-    let others = through_units r goes (r.format.after state u) (x + width) us rest first later (goes.further state u x tail.1 reach) (subst (λ (t : List ℕ). Splits r.format (r.format.after state u) t us rest) behind tail.2)
+    let others = through_units r goes (r.format.after state u) (x + width) us rest once ever (goes.further state u x tail.1 reach) (subst (λ (t : List ℕ). Splits r.format (r.format.after state u) t us rest) behind tail.2)
     (λ y there_reach far there. end y there_reach (omega (arith, far, long)) there) results (subst (λ (n : _). Calls r.Steps n results) call.1 calls) in
-    (call.0, subst (λ (n : ℕ). GiveAll r.Gives first later (placed r.format.spelling n us) results) (omega arith) others)
+    (call.0, subst (λ (n : ℕ). GiveInOrder r.Gives once ever (placed r.format.spelling n us) results) (omega arith) others)
 
--- the calls from the start give these units, `first`, and then `later`
-abbrev pub FromStart : {S U K R A : Type 0} → Reader S U K R A → S → A → A → List U → Type 0
-FromStart {S} {U} {K} {R} {A} r state first later units =
-    (results : List A) → Calls r.Steps (r.stand state 0) results → GiveAll r.Gives first later (placed r.format.spelling r.base units) results
+-- a text that is read from there on: its units, and then its end
+pub read_gives : {S U K R A : Type 0} (r : Reader S U K R A) (goes : Goes r) (state : S) (x : ℕ) (units : List U) → r.MayReach x → Reads r.format state (drop x r.bytes) units → FromThere r state x r.at_end r.at_end units
+read_gives r goes state x units reach reads =
+    through_units r goes state x units [] r.at_end r.at_end reach reads (λ y there_reach far none. at_end r goes (state_after r.format state units) y there_reach none)
 
-from_start : {S U K R A : Type 0} (r : Reader S U K R A) (state : S) (first later : A) (units : List U) → FromThere r state 0 first later units → FromStart r state first later units
-from_start r state first later units there results calls = subst (λ (n : ℕ). GiveAll r.Gives first later (placed r.format.spelling n units) results) (omega arith) (there results calls)
+-- a text that fails: the units before, and then the failure, which stands `y` bytes into it
+pub failure_gives : {S U K R A : Type 0} (r : Reader S U K R A) (goes : Goes r) (state : S) (x : ℕ) (kind : K) (before : List U) (rest : List ℕ) (within : ℕ) → r.MayReach x → Splits r.format state (drop x r.bytes) before rest
+    → r.format.Fails (state_after r.format state before) rest kind within → (y : ℕ) → y ≡ x + length (spelling_of r.format before) → FromThere r state x (r.failure y kind within) (r.later y kind within) before
+failure_gives r goes state x kind before rest within reach splits fails y is =
+    through_units r goes state x before rest (r.failure y kind within) (r.later y kind within) reach splits
+    (λ z there_reach far there. subst (λ (n : ℕ). FromThere r (state_after r.format state before) z (r.failure n kind within) (r.later n kind within) []) (far ∙ sym is)
+    (at_failure r goes (state_after r.format state before) z kind within there_reach (subst (λ (t : List ℕ). r.format.Fails (state_after r.format state before) t kind within) (sym there) fails)))
 
--- a text that is read: its units, and then its end
-pub read_gives : {S U K R A : Type 0} (r : Reader S U K R A) (goes : Goes r) (state : S) (units : List U) → Reads r.format state r.bytes units → FromStart r state r.at_end r.at_end units
-read_gives r goes state units reads =
-    from_start r state r.at_end r.at_end units
-    (through_units r goes state 0 units [] r.at_end r.at_end goes.start reads (λ y reach far none. at_end r goes (state_after r.format state units) y reach none))
+-- the calls of a reader from the start of its text
+pub from_start : {S U K R A : Type 0} (r : Reader S U K R A) (state : S) (once ever : A) (units : List U) → FromThere r state 0 once ever units
+    → (results : List A) → Calls r.Steps (r.stand state 0) results → GiveInOrder r.Gives once ever (placed r.format.spelling r.base units) results
+from_start r state once ever units there results calls = subst (λ (n : ℕ). GiveInOrder r.Gives once ever (placed r.format.spelling n units) results) (omega arith) (there results calls)
 
--- a text that fails: the units before, and then the failure
-pub failure_gives : {S U K R A : Type 0} (r : Reader S U K R A) (goes : Goes r) (state : S) (kind : K) (before : List U) (rest : List ℕ) (within : ℕ) → Splits r.format state r.bytes before rest
-    → r.format.Fails (state_after r.format state before) rest kind within → (x : ℕ) → x ≡ length (spelling_of r.format before) → FromStart r state (r.failure x kind within) (r.later x kind within) before
-failure_gives r goes state kind before rest within splits fails x is =
-    from_start r state (r.failure x kind within) (r.later x kind within) before
-    (through_units r goes state 0 before rest (r.failure x kind within) (r.later x kind within) goes.start splits
-    (λ y reach far there. subst (λ (n : ℕ). FromThere r (state_after r.format state before) y (r.failure n kind within) (r.later n kind within) []) (omega (arith, far, is))
-    (at_failure r goes (state_after r.format state before) y kind within reach (subst (λ (t : List ℕ). r.format.Fails (state_after r.format state before) t kind within) (sym there) fails))))
+-- ---- a reader that stays where it is
+
+-- gives one answer for ever
+pub stays : {R A : Type 0} (Steps : R → A → R → Type 0) (reader : R) (answer : A) → ((result : A) (next : R) → Steps reader result next → (result ≡ answer) × (next ≡ reader))
+    → (results : List A) → Calls Steps reader results → All (λ result. result ≡ answer) results
+stays {R} {A} Steps reader answer same [] calls = All-nil (λ (result : A). result ≡ answer)
+stays {R} {A} Steps reader answer same (result ∷ results) (one_more _ next _ _ steps calls) =
+    let one = same result next steps in
+    All-cons (λ (result : A). result ≡ answer) result results one.0 (stays Steps reader answer same results (subst (λ (n : _). Calls Steps n results) one.1 calls))
+
+-- at the end of its text
+pub stays_at_end : {S U K R A : Type 0} (r : Reader S U K R A) (goes : Goes r) (state : S) (x : ℕ) → r.MayReach x → drop x r.bytes ≡ [] → (results : List A) → Calls r.Steps (r.stand state x) results
+    → All (λ result. result ≡ r.at_end) results
+stays_at_end r goes state x reach none results calls =
+    stays r.Steps (r.stand state x) r.at_end (λ result next steps. call_at_end r goes state x result next none (goes.calls state x result next reach steps)) results calls
 
 -- the units alone, where their places are not asked for
-pub without_places : {U A : Type 0} (Gives : A → U → Type 0) (first later : A) (spelling : U → List ℕ) (place : ℕ) (units : List U) (results : List A)
-    → GiveAll (λ (a : A) (p : ℕ × U). Gives a p.1) first later (placed spelling place units) results → GiveAll Gives first later units results
-without_places Gives first later spelling place units [] gives = tt
-without_places Gives first later spelling place (u ∷ us) (result ∷ results) gives = (gives.0, without_places Gives first later spelling (place + length (spelling u)) us results gives.1)
-without_places Gives first later spelling place [] (result ∷ results) gives = (gives.0, without_places Gives later later spelling place [] results gives.1)
+pub without_places : {U A : Type 0} (Gives : A → U → Type 0) (once ever : A) (spelling : U → List ℕ) (place : ℕ) (units : List U) (results : List A)
+    → GiveInOrder (λ (a : A) (p : ℕ × U). Gives a p.1) once ever (placed spelling place units) results → GiveInOrder Gives once ever units results
+without_places Gives once ever spelling place units [] gives = tt
+without_places Gives once ever spelling place (u ∷ us) (result ∷ results) gives = (gives.0, without_places Gives once ever spelling (place + length (spelling u)) us results gives.1)
+without_places Gives once ever spelling place [] (result ∷ results) gives = (gives.0, without_places Gives ever ever spelling place [] results gives.1)

@@ -7,8 +7,9 @@ pub data Calls {R A : Type 0} (Steps : R → A → R → Type 0) : R → List A 
   one_more : (reader next : R) (result : A) (results : List A) → Steps reader result next → Calls Steps next results
       → Calls Steps reader (result ∷ results)
 
--- the results give the units, one by one, then `first`, and from then on `later` again and again, however many there are
-abbrev pub GiveAll : {U A : Type 0} → (A → U → Type 0) → A → A → List U → List A → Type 0
-GiveAll Gives first later units [] = Unit {0}
-GiveAll Gives first later (unit ∷ units) (result ∷ results) = Gives result unit × GiveAll Gives first later units results
-GiveAll Gives first later [] (result ∷ results) = (result ≡ first) × GiveAll Gives later later [] results
+-- the results, however many they are, begin what would be given for ever: the units one by one, then `once`, once, and
+-- then `ever` again and again
+abbrev pub GiveInOrder : {U A : Type 0} → (A → U → Type 0) → A → A → List U → List A → Type 0
+GiveInOrder Gives once ever units [] = Unit {0}
+GiveInOrder Gives once ever (unit ∷ units) (result ∷ results) = Gives result unit × GiveInOrder Gives once ever units results
+GiveInOrder Gives once ever [] (result ∷ results) = (result ≡ once) × GiveInOrder Gives ever ever [] results

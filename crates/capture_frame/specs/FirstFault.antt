@@ -38,6 +38,10 @@ frame_format = record {
   Fails = λ before bytes kind within. FrameFails before bytes kind × (within ≡ 0);
 }
 
+-- the bytes begin with whole good frames, as far as their headers tell, and what stands so far into them fails by this kind
+abbrev pub FramesFail : List ℕ → FaultKind → ℕ → Type 0
+FramesFail bytes kind distance = FirstFailure frame_format None bytes kind distance
+
 -- the capture is the file header and then these frames, as the format judges them
 abbrev pub IsCapture : {U : Type 0} → Format (Option ℕ) U FaultKind → List ℕ → List U → Type 0
 IsCapture format capture units = (bytes : List ℕ) × (capture ≡ file_header ++ bytes) × Reads format None bytes units
@@ -45,5 +49,5 @@ IsCapture format capture units = (bytes : List ℕ) × (capture ≡ file_header 
 -- the first fault of a capture: that of its file header, or behind a good one that of its frames
 pub data IsFirstFault {U : Type 0} (format : Format (Option ℕ) U FaultKind) (capture : List ℕ) (fault : Fault) : Type 0 where
   in_header : HeaderFails capture fault.kind fault.place → IsFirstFault format capture fault
-  in_frames : (bytes : List ℕ) (place : ℕ) → capture ≡ file_header ++ bytes → FirstFailure format None bytes fault.kind place
-      → fault.place ≡ 16 + place → IsFirstFault format capture fault
+  in_frames : (bytes : List ℕ) (distance : ℕ) → capture ≡ file_header ++ bytes → FirstFailure format None bytes fault.kind distance
+      → fault.place ≡ 16 + distance → IsFirstFault format capture fault

@@ -3,11 +3,11 @@ use Rattle.std.specs.Prelude.{◌≡◌, ℕ, ◌+◌, List, [], ◌++◌, lengt
 use Rattle.capture_frame.specs.declared.fault.Fault.{Fault}
 use Rattle.capture_frame.specs.declared.frame.Frame.{Frame}
 use Rattle.capture_frame.specs.Units.{placed}
-use Rattle.capture_frame.specs.Calls.{GiveAll}
+use Rattle.capture_frame.specs.Calls.{GiveInOrder}
 use Rattle.capture_frame.specs.Envelope.{FrameText, frame_bytes, text_of, MayStand}
 use Rattle.capture_frame.specs.FirstFault.{FrameFails}
 
--- before the frame at a place of the capture, after the one with that sequence; or ended by a fault
+-- before the frame at a place of the capture, after the one with that sequence or before the first; or ended by a fault
 pub data Reading : Type 0 where
   at : (capture : List ℕ) (place : ℕ) (before : Option ℕ) → Reading
   failed : Fault → Reading
@@ -30,10 +30,14 @@ Steps (at capture place before) (Ok None) new = (drop place capture ≡ []) × (
 Steps (at capture place before) (Err fault) new =
     FrameFails before (drop place capture) fault.kind × (fault.place ≡ place) × (new ≡ failed fault)
 
--- the call gives the frame that stands at this place
+-- a reader behind a good file header
+abbrev pub start_of : List ℕ → Reading
+start_of capture = at capture 16 None
+
+-- the call gives the frame with this place
 abbrev pub GivesFrame : Result (Option Frame) Fault → ℕ × FrameText → Type 0
 GivesFrame result there = (found : Frame) × (result ≡ Ok (Some found)) × (found.place ≡ there.0) × (text_of found ≡ there.1)
 
--- the results of calls are these frames of a capture, one by one, and then `last` again and again
+-- the results of calls are these frames of a capture, one by one, the first at 16, and then `end` again and again
 abbrev pub GiveFrames : List FrameText → Result (Option Frame) Fault → List (Result (Option Frame) Fault) → Type 0
-GiveFrames frames last results = GiveAll GivesFrame last last (placed frame_bytes 16 frames) results
+GiveFrames frames end results = GiveInOrder GivesFrame end end (placed frame_bytes 16 frames) results

@@ -1,4 +1,4 @@
--- Texts that are made of units, one after another: the frames of a capture, the records of a frame.
+-- Texts that are made of units, one after another: the frames of a capture, the records of a frame, its entries.
 use Rattle.std.specs.Prelude.{◌≡◌, ℕ, ◌+◌, List, [], ◌∷◌, ◌++◌, length}
 use Rattle.std.specs.List.{flat_map}
 

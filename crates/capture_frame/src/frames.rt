@@ -45,12 +45,12 @@ impl<'c> Model for Frames<'c> {
 }
 
 impl<'c> Frames<'c> {
-    ghost use Rattle.capture_frame.specs.Reading.{at, failed, Steps};
+    ghost use Rattle.capture_frame.specs.Reading.{at, failed, Steps, start_of};
 
     /// A reader of the capture's frames, where its file header is good.
     pub fn new(capture: &'c [u8]) -> Result<Frames<'c>, Fault>
         ensures { MatchResult result
-            (λ reader. (take 16 capture.now ≡ file_header) × (reader ≡ at capture.now 16 None))
+            (λ reader. (take 16 capture.now ≡ file_header) × (reader ≡ start_of capture.now))
             (λ fault. HeaderFails capture.now fault.kind fault.place) }
     {
         header::check_header(capture)?;

@@ -162,35 +162,6 @@ objects_decided body = record {
   end_is_good = λ end k x fails. end_is_good body end k fails.0;
 }
 
--- ---- an attachment has one list of objects
-
-of_outcome : (body list : List ℕ) → IsWholeList list → Outcome (object_format body) 0 list → (objects : List ObjectText) × (bad : Option BadObject) × AreObjects body list objects bad
-of_outcome body list whole (read objects reads) = (objects, None, all_good whole reads refl)
-of_outcome body list whole (failed cause place failure) = (failure.before, _, until_bad whole failure.rest cause failure.splits failure.fails.0 refl)
-
-pub some_objects : (body list : List ℕ) → IsBytes list → (objects : List ObjectText) × (bad : Option BadObject) × AreObjects body list objects bad
-some_objects body list h = elim (cases_eq (length list % 8) 0) [
-  | inl whole ↦ of_outcome body list whole (outcome (object_format body) (objects_decided body) 0 list h)
-  | inr never ↦ ([], _, no_list never refl refl)
-]
-
-pub one_list : (body list : List ℕ) (objects others : List ObjectText) (bad worse : Option BadObject) → AreObjects body list objects bad → AreObjects body list others worse
-    → (objects ≡ others) × (bad ≡ worse)
-one_list body list objects others bad worse (all_good whole reads is) (all_good _ reads_too is_too) =
-    (units.one_reading (object_format body) (objects_decided body) 0 list objects others reads reads_too, is ∙ sym is_too)
-one_list body list objects others bad worse (all_good whole reads is) (until_bad _ rest cause splits fails is_too) =
-    absurd (units.never_both (object_format body) (objects_decided body) 0 list objects others rest cause 0 reads splits (fails, refl))
-one_list body list objects others bad worse (until_bad whole rest cause splits fails is) (all_good _ reads is_too) =
-    absurd (units.never_both (object_format body) (objects_decided body) 0 list others objects rest cause 0 reads splits (fails, refl))
-one_list body list objects others bad worse (until_bad whole rest cause splits fails is) (until_bad _ rest_too cause_too splits_too fails_too is_too) =
-    let same = units.same_failure (object_format body) (objects_decided body) 0 list objects others rest rest_too cause cause_too 0 0 splits splits_too (fails, refl) (fails_too, refl) in
-    (same.0, is ∙ ap Some (rw (same.0, same.1, same.2) refl) ∙ sym is_too)
-one_list body list objects others bad worse (no_list never none is) (no_list _ none_too is_too) = (none ∙ sym none_too, is ∙ sym is_too)
-one_list body list objects others bad worse (no_list never none is) (all_good whole reads is_too) = absurd (never whole)
-one_list body list objects others bad worse (no_list never none is) (until_bad whole rest cause splits fails is_too) = absurd (never whole)
-one_list body list objects others bad worse (all_good whole reads is) (no_list never none is_too) = absurd (never whole)
-one_list body list objects others bad worse (until_bad whole rest cause splits fails is) (no_list never none is_too) = absurd (never whole)
-
 -- ---- eight bytes of the list for each object
 
 pub spelled_long : (body : List ℕ) (objects : List ObjectText) → length (spelling_of (object_format body) objects) ≡ 8 * length objects
@@ -207,5 +178,50 @@ split_short body list rest objects splits =
 
 pub objects_short : (body list : List ℕ) (objects : List ObjectText) (bad : Option BadObject) → AreObjects body list objects bad → 8 * length objects ≤ length list
 objects_short body list objects bad (all_good whole reads is) = split_short body list [] objects reads
-objects_short body list objects bad (until_bad whole rest cause splits fails is) = split_short body list rest objects splits
+objects_short body list objects bad (until_bad whole rest cause splits more fails is) = split_short body list rest objects splits
 objects_short body list objects bad (no_list never none is) = let e : length objects ≡ 0 = ap length none in omega (arith, e)
+
+-- ---- an attachment has one list of objects
+
+-- behind whole offsets a whole list has whole offsets
+rest_whole : (body list rest : List ℕ) (objects : List ObjectText) → IsWholeList list → Splits (object_format body) 0 list objects rest → IsWholeList rest
+rest_whole body list rest objects whole splits =
+    let parts = ap length splits.joined ∙ length-append (spelling_of (object_format body) objects) rest in
+    omega (arith, whole, parts, spelled_long body objects)
+
+-- a whole list does not end within an offset
+of_failure : (body : List ℕ) (end : ℕ) (rest : List ℕ) (cause : Cause) → IsWholeList rest → ObjectFails body end rest cause → (8 ≤ length rest) × FailsAt body end (first_offset rest) cause
+of_failure body end rest ListLength whole fails = absurd (omega (arith, whole, fails.0, fails.1))
+of_failure body end rest Misaligned whole fails = fails
+of_failure body end rest Overlap whole fails = fails
+of_failure body end rest Short whole fails = fails
+of_failure body end rest UnknownSort whole fails = fails
+
+of_outcome : (body list : List ℕ) → IsWholeList list → Outcome (object_format body) 0 list → (objects : List ObjectText) × (bad : Option BadObject) × AreObjects body list objects bad
+of_outcome body list whole (read objects reads) = (objects, None, all_good whole reads refl)
+of_outcome body list whole (failed cause place failure) =
+    let fails = of_failure body _ failure.rest cause (rest_whole body list failure.rest failure.before whole failure.splits) failure.fails.0 in
+    (failure.before, _, until_bad whole failure.rest cause failure.splits fails.0 fails.1 refl)
+
+pub some_objects : (body list : List ℕ) → IsBytes list → (objects : List ObjectText) × (bad : Option BadObject) × AreObjects body list objects bad
+some_objects body list h = elim (cases_eq (length list % 8) 0) [
+  | inl whole ↦ of_outcome body list whole (outcome (object_format body) (objects_decided body) 0 list h)
+  | inr never ↦ ([], _, no_list never refl refl)
+]
+
+pub one_list : (body list : List ℕ) (objects others : List ObjectText) (bad other_bad : Option BadObject) → AreObjects body list objects bad → AreObjects body list others other_bad
+    → (objects ≡ others) × (bad ≡ other_bad)
+one_list body list objects others bad other_bad (all_good whole reads is) (all_good _ reads_too is_too) =
+    (units.one_reading (object_format body) (objects_decided body) 0 list objects others reads reads_too, is ∙ sym is_too)
+one_list body list objects others bad other_bad (all_good whole reads is) (until_bad _ rest cause splits more fails is_too) =
+    absurd (units.never_both (object_format body) (objects_decided body) 0 list objects others rest cause 0 reads splits (object_fails body _ rest cause more fails, refl))
+one_list body list objects others bad other_bad (until_bad whole rest cause splits more fails is) (all_good _ reads is_too) =
+    absurd (units.never_both (object_format body) (objects_decided body) 0 list others objects rest cause 0 reads splits (object_fails body _ rest cause more fails, refl))
+one_list body list objects others bad other_bad (until_bad whole rest cause splits more fails is) (until_bad _ rest_too cause_too splits_too more_too fails_too is_too) =
+    let same = units.same_failure (object_format body) (objects_decided body) 0 list objects others rest rest_too cause cause_too 0 0 splits splits_too (object_fails body _ rest cause more fails, refl) (object_fails body _ rest_too cause_too more_too fails_too, refl) in
+    (same.0, is ∙ ap Some (rw (same.0, same.1, same.2) refl) ∙ sym is_too)
+one_list body list objects others bad other_bad (no_list never none is) (no_list _ none_too is_too) = (none ∙ sym none_too, is ∙ sym is_too)
+one_list body list objects others bad other_bad (no_list never none is) (all_good whole reads is_too) = absurd (never whole)
+one_list body list objects others bad other_bad (no_list never none is) (until_bad whole rest cause splits more fails is_too) = absurd (never whole)
+one_list body list objects others bad other_bad (all_good whole reads is) (no_list never none is_too) = absurd (never whole)
+one_list body list objects others bad other_bad (until_bad whole rest cause splits more fails is) (no_list never none is_too) = absurd (never whole)

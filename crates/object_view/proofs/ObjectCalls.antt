@@ -1,16 +1,16 @@
 -- All calls of a reader of objects together.
-use Rattle.std.proofs.Common.{◌≡◌, ℕ, ◌+◌, ◌*◌, ◌/◌, ◌%◌, List, [], ◌∷◌, length, drop, Option, Some, None, option_map, Result, Ok, Err, refl, sym, ap, subst, ◌∙◌, arith}
+use Rattle.std.proofs.Common.{◌≡◌, ℕ, ◌+◌, ◌*◌, ◌/◌, ◌%◌, List, [], ◌∷◌, length, drop, All, Option, Some, None, option_map, Result, Ok, Err, refl, sym, ap, subst, ◌∙◌, arith}
 use Rattle.std.proofs.lemmas.List.{drop_at}
 use Rattle.transaction_view.specs.Units.{spelling_of}
-use Rattle.transaction_view.specs.Calls.{Calls, one_more, GiveAll}
-use Rattle.transaction_view.proofs.CallLaws.{Reader, Call, gave, stayed, failed, Goes, read_gives, failure_gives, without_places}
+use Rattle.transaction_view.specs.Calls.{Calls, one_more, GiveInOrder}
+use Rattle.transaction_view.proofs.CallLaws.{Reader, Call, gave, stayed, failed, Goes, read_gives, failure_gives, from_start, stays, stays_at_end, without_places}
 use Rattle.object_view.specs.declared.bad_object.BadObject.{BadObject}
 use Rattle.object_view.specs.declared.bad_object.Cause.{Cause}
 use Rattle.object_view.specs.declared.bad_object.Cause.TheVariants.{ListLength}
 use Rattle.object_view.specs.declared.object.Object.{Object}
 use Rattle.object_view.specs.Fields.{sort_length}
 use Rattle.object_view.specs.Objects.{ObjectText, first_offset, object_format, IsWholeList, bad_at, AreObjects, all_good, until_bad, no_list}
-use Rattle.object_view.specs.Reading.{Reading, at, ended, text_of, IsBadAt, no_object, Steps, GivesObject, GiveObjects}
+use Rattle.object_view.specs.Reading.{Reading, at, ended, text_of, IsBadAt, no_object, Steps, start_of, GivesObject, GiveObjects}
 use Rattle.object_view.specs.Reading as reading
 use Rattle.object_view.proofs.ListLaws.{object_fails, objects_decided, spelled_long}
 
@@ -46,7 +46,7 @@ object_call body list whole end x (Some (Ok found)) next place steps =
     let number : x / 8 + 1 ≡ (x + 8) / 8 = omega arith in
     gave o (drop (8 * (x / 8) + 8) list) steps.2 (sym there ∙ steps.1) (found, refl, refl, refl) (steps.3 ∙ ap (λ (n : ℕ). at body list n (o.offset + sort_length o.sort)) number)
 object_call body list whole end x (Some (Err bad)) next place steps = bad_call body list whole end x bad next place steps.0 steps.1
-object_call body list whole end x None next place steps = stayed (ap (λ (n : ℕ). drop n list) (sym place) ∙ steps.0) refl steps.1
+object_call body list whole end x None next place steps = stayed (ap (λ (n : ℕ). drop n list) (sym place) ∙ steps.1) refl steps.2
 
 objects_go : (body list : List ℕ) → IsWholeList list → Goes (object_reader body list)
 objects_go body list whole = record {
@@ -61,9 +61,9 @@ ended_gives : (results : List (Option (Result Object BadObject))) → Calls Step
 ended_gives [] calls = tt
 ended_gives (_ ∷ results) (one_more _ next result _ steps calls) = (steps.0, ended_gives results (subst (λ (r : Reading). Calls Steps r results) steps.1 calls))
 
-no_list_gives : (body list : List ℕ) → ¬ IsWholeList list → (results : List (Option (Result Object BadObject))) → Calls Steps (at body list 0 0) results → GiveObjects [] (Some (bad_at 0 0 ListLength)) results
+no_list_gives : (body list : List ℕ) → ¬ IsWholeList list → (results : List (Option (Result Object BadObject))) → Calls Steps (start_of body list) results → GiveObjects [] (Some (bad_at 0 0 ListLength)) results
 no_list_gives body list never [] calls = tt
-no_list_gives body list never (None ∷ results) (one_more _ next _ _ steps calls) = absurd (never (rw steps.0 refl))
+no_list_gives body list never (None ∷ results) (one_more _ next _ _ steps calls) = absurd (never steps.0)
 no_list_gives body list never (Some (Ok found) ∷ results) (one_more _ next _ _ steps calls) = absurd (never steps.0)
 no_list_gives body list never (Some (Err found) ∷ results) (one_more _ next _ _ (reading.no_list _ is, last) calls) =
     (ap (λ (b : BadObject). Some (Err b)) is, ended_gives results (subst (λ (r : Reading). Calls Steps r results) last calls))
@@ -71,16 +71,33 @@ no_list_gives body list never (Some (Err found) ∷ results) (one_more _ next _ 
 
 -- the calls of a reader from its start give the objects, and the bad one
 pub objects_given : (body list : List ℕ) (objects : List ObjectText) (bad : Option BadObject) → AreObjects body list objects bad → (results : List (Option (Result Object BadObject)))
-    → Calls Steps (at body list 0 0) results → GiveObjects objects bad results
+    → Calls Steps (start_of body list) results → GiveObjects objects bad results
 objects_given body list objects bad (all_good whole reads is) results calls =
-    rw is (without_places GivesObject None None (object_format body).spelling 0 objects results (read_gives (object_reader body list) (objects_go body list whole) 0 objects reads results calls))
-objects_given body list objects bad (until_bad whole rest cause splits fails is) results calls =
-    let x = length (spelling_of (object_format body) objects) in
-    let first : Option (Result Object BadObject) = Some (Err (bad_at (x / 8) (first_offset (drop x list)) cause)) in
-    let given = without_places GivesObject first None (object_format body).spelling 0 objects results
-    (failure_gives (object_reader body list) (objects_go body list whole) 0 cause objects rest 0 splits (fails, refl) x refl results calls) in
-    let number : x / 8 ≡ length objects = omega (arith, spelled_long body objects) in
-    let there : drop x list ≡ rest = ap (drop x) splits.joined ∙ drop_at (spelling_of (object_format body) objects) rest x refl in
-    let same : first ≡ option_map Err bad = rw (is, number, there) refl in
-    subst (λ (f : Option (Result Object BadObject)). GiveAll GivesObject f None objects results) same given
+    let reader = object_reader body list in
+    rw is (without_places GivesObject None None (object_format body).spelling 0 objects results
+    (from_start reader 0 None None objects (read_gives reader (objects_go body list whole) 0 0 objects refl reads) results calls))
+objects_given body list objects bad (until_bad whole rest cause splits more fails is) results calls =
+    let reader = object_reader body list in
+    let y = length (spelling_of (object_format body) objects) in
+    let once : Option (Result Object BadObject) = Some (Err (bad_at (y / 8) (first_offset (drop y list)) cause)) in
+    let given = without_places GivesObject once None (object_format body).spelling 0 objects results
+    (from_start reader 0 once None objects (failure_gives reader (objects_go body list whole) 0 0 cause objects rest 0 refl splits (object_fails body _ rest cause more fails, refl) y (omega arith)) results calls) in
+    let number : y / 8 ≡ length objects = omega (arith, spelled_long body objects) in
+    let there : drop y list ≡ rest = ap (drop y) splits.joined ∙ drop_at (spelling_of (object_format body) objects) rest y refl in
+    let same : once ≡ option_map Err bad = rw (is, number, there) refl in
+    subst (λ (answer : Option (Result Object BadObject)). GiveInOrder GivesObject answer None objects results) same given
 objects_given body list objects bad (no_list never none is) results calls = rw (none, is) (no_list_gives body list never results calls)
+
+ended_for_ever : (next : Reading) → next ≡ ended → (results : List (Option (Result Object BadObject))) → Calls Steps next results → All (λ result. result ≡ None) results
+ended_for_ever next is results calls = stays Steps ended None (λ result new steps. steps) results (subst (λ (r : Reading). Calls Steps r results) is calls)
+
+pub failed_stays : (reader next : Reading) (bad : BadObject) → Steps reader (Some (Err bad)) next → (results : List (Option (Result Object BadObject))) → Calls Steps next results → All (λ result. result ≡ None) results
+failed_stays ended next bad steps results calls = ended_for_ever next steps.1 results calls
+failed_stays (at body list index end) next bad steps results calls = ended_for_ever next steps.1 results calls
+
+pub ended_stays : (reader next : Reading) → Steps reader None next → (results : List (Option (Result Object BadObject))) → Calls Steps next results → All (λ result. result ≡ None) results
+ended_stays ended next steps results calls = ended_for_ever next steps.1 results calls
+ended_stays (at body list index end) next steps results calls =
+    let number : index ≡ 8 * index / 8 = omega arith in
+    let there : next ≡ at body list (8 * index / 8) end = steps.2 ∙ ap (λ (n : ℕ). at body list n end) number in
+    stays_at_end (object_reader body list) (objects_go body list steps.0) end (8 * index) (omega arith) steps.1 results (subst (λ (r : Reading). Calls Steps r results) there calls)

@@ -1,6 +1,6 @@
 -- The objects of an attachment: what stands in its data at the offsets of its list, up to the first that is bad
 -- (docs/COMMANDS.md).
-use Rattle.std.specs.Prelude.{◌≡◌, ◌≢◌, ℕ, ◌+◌, ◌%◌, ◌^◌, ◌<◌, ◌≤◌, ◌⊎◌, List, [], length, take, drop, Option, Some, None}
+use Rattle.std.specs.Prelude.{◌≡◌, ◌≢◌, ℕ, ◌+◌, ◌*◌, ◌%◌, ◌^◌, ◌<◌, ◌≤◌, ◌⊎◌, List, [], length, take, drop, Option, Some, None}
 use Rattle.byteorder.specs.Endian.{little_bytes}
 use Rattle.transaction_view.specs.Units.{Format, Reads, Splits, state_after}
 use Rattle.transaction_view.specs.Envelope.{number_at}
@@ -16,12 +16,12 @@ pub record ObjectText : Type 0 where
   pub sort : Sort
   pub bytes : List ℕ
 
--- the four bytes of the data at this offset
+-- the number in the four bytes of the data at this offset
 abbrev pub sort_at : List ℕ → ℕ → ℕ
 sort_at body offset = number_at 4 offset body
 
--- an object may stand in the data behind the end of the one before where its offset is a multiple of 4, the four bytes
--- there name its sort, and the data has the sort's bytes there, which are the object's
+-- an object may stand in the data from `end` on, where the one before ends, if its offset fits eight bytes and is a
+-- multiple of 4, the four bytes there name its sort, and the data has the sort's bytes there, which are the object's
 pub record MayStandObject (body : List ℕ) (end : ℕ) (o : ObjectText) : Type 0 where
   pub fits : o.offset < 2 ^ 64
   pub aligned : o.offset % 4 ≡ 0
@@ -34,14 +34,14 @@ pub record MayStandObject (body : List ℕ) (end : ℕ) (o : ObjectText) : Type 
 abbrev pub IsUnknown : ℕ → Type 0
 IsUnknown number = (sort : Sort) → number ≢ sort_number sort
 
--- the data ends within the four bytes of a sort at this offset, or within an object of the sort that they name
+-- the data ends before the four bytes at this offset do, or before an object of the sort that they name does
 abbrev pub IsCutShort : List ℕ → ℕ → Type 0
 IsCutShort body offset =
     (length body < offset + 4)
     ⊎ ((offset + 4 ≤ length body) × ((sort : Sort) × (sort_at body offset ≡ sort_number sort) × (length body < offset + sort_length sort)))
 
--- in a whole list: at this offset, behind an object that ends at `end`, stands no good object, by this cause and by none
--- that is judged before it
+-- at this offset, after an object that ends at `end`, stands no good object, by this cause and by none that is judged
+-- before it
 abbrev pub FailsAt : List ℕ → ℕ → ℕ → Cause → Type 0
 FailsAt body end offset Misaligned = offset % 4 ≢ 0
 FailsAt body end offset Overlap = (offset % 4 ≡ 0) × (offset < end)
@@ -50,11 +50,15 @@ FailsAt body end offset UnknownSort =
     (offset % 4 ≡ 0) × (end ≤ offset) × (offset + 4 ≤ length body) × IsUnknown (sort_at body offset)
 FailsAt body end offset ListLength = ⊥
 
--- the first offset of the list
+-- the first offset of a list
 abbrev pub first_offset : List ℕ → ℕ
 first_offset list = number_at 8 0 list
 
--- the list is at its end within an offset; or at its first offset stands no good object
+-- the offset of this number in a list, from 0
+abbrev pub offset_of : List ℕ → ℕ → ℕ
+offset_of list index = first_offset (drop (8 * index) list)
+
+-- how the offsets of a list fail to go on: the list ends within one; or at the first one stands no good object
 abbrev pub ObjectFails : List ℕ → ℕ → List ℕ → Cause → Type 0
 ObjectFails body end list ListLength = (0 < length list) × (length list < 8)
 ObjectFails body end list cause = (8 ≤ length list) × FailsAt body end (first_offset list) cause
@@ -76,11 +80,11 @@ IsWholeList list = length list % 8 ≡ 0
 abbrev pub bad_at : ℕ → ℕ → Cause → BadObject
 bad_at index offset cause = record { index = index; offset = offset; cause = cause }
 
--- the objects of data and a list of offsets: all at its offsets, none of them bad; or those before the first bad one,
--- and that one; or none, as the list's length is no multiple of 8
+-- the objects of data and a list of offsets: those at all its offsets, none of them bad; or those before the first bad
+-- one, and that one; or none, and a bad one that says that the list's length is no multiple of 8
 pub data AreObjects (body list : List ℕ) (objects : List ObjectText) (bad : Option BadObject) : Type 0 where
   all_good : IsWholeList list → Reads (object_format body) 0 list objects → bad ≡ None → AreObjects body list objects bad
   until_bad : IsWholeList list → (rest : List ℕ) (cause : Cause) → Splits (object_format body) 0 list objects rest
-      → ObjectFails body (state_after (object_format body) 0 objects) rest cause
+      → 8 ≤ length rest → FailsAt body (state_after (object_format body) 0 objects) (first_offset rest) cause
       → bad ≡ Some (bad_at (length objects) (first_offset rest) cause) → AreObjects body list objects bad
   no_list : ¬ IsWholeList list → objects ≡ [] → bad ≡ Some (bad_at 0 0 ListLength) → AreObjects body list objects bad

@@ -2,16 +2,16 @@
 use Rattle.std.specs.Prelude.{◌≡◌, ℕ, ◌+◌, ◌*◌, ◌≤◌, List, [], ◌++◌, length, drop, Option, Some, None, Result, Ok, Err}
 use Rattle.std.specs.Option.{option_map}
 use Rattle.byteorder.specs.Endian.{little_bytes}
-use Rattle.transaction_view.specs.Calls.{GiveAll}
+use Rattle.transaction_view.specs.Calls.{GiveInOrder}
 use Rattle.object_view.specs.declared.bad_object.BadObject.{BadObject}
 use Rattle.object_view.specs.declared.bad_object.Cause.{Cause}
 use Rattle.object_view.specs.declared.bad_object.Cause.TheVariants.{ListLength}
 use Rattle.object_view.specs.declared.object.Object.{Object}
 use Rattle.object_view.specs.Fields.{sort_length}
-use Rattle.object_view.specs.Objects.{ObjectText, MayStandObject, FailsAt, IsWholeList, first_offset, bad_at}
+use Rattle.object_view.specs.Objects.{ObjectText, MayStandObject, FailsAt, IsWholeList, offset_of, bad_at}
 
--- about to read the offset of this number of a list, the object before having ended at `end` of the data; or ended by a
--- bad object
+-- before the offset of this number of a list, the object before having ended at `end` of the data; or ended by a bad
+-- object
 pub data Reading : Type 0 where
   at : (body list : List ℕ) (index end : ℕ) → Reading
   ended : Reading
@@ -20,28 +20,33 @@ pub data Reading : Type 0 where
 abbrev pub text_of : ℕ → Object → ObjectText
 text_of offset found = record { offset = offset; sort = found.sort; bytes = found.bytes.now }
 
--- the object of this number is bad: the whole list is no list of offsets, or what stands at the offset is no good object
+-- the reader at the offset of this number meets this bad object: the length of the list is no multiple of 8; or what
+-- stands at the offset is no good object
 pub data IsBadAt (body list : List ℕ) (index end : ℕ) (bad : BadObject) : Type 0 where
   no_list : ¬ IsWholeList list → bad ≡ bad_at 0 0 ListLength → IsBadAt body list index end bad
-  no_object : IsWholeList list → 8 ≤ length (drop (8 * index) list) → (cause : Cause) → FailsAt body end (first_offset (drop (8 * index) list)) cause
-      → bad ≡ bad_at index (first_offset (drop (8 * index) list)) cause → IsBadAt body list index end bad
+  no_object : IsWholeList list → 8 ≤ length (drop (8 * index) list) → (cause : Cause) → FailsAt body end (offset_of list index) cause
+      → bad ≡ bad_at index (offset_of list index) cause → IsBadAt body list index end bad
 
 -- one call: an ended reader gives nothing; else it gives the object at the offset of that number and goes behind it,
 -- gives nothing at the end of the list and stays, or gives the bad one and ends
 abbrev pub Steps : Reading → Option (Result Object BadObject) → Reading → Type 0
 Steps ended result new = (result ≡ None) × (new ≡ ended)
 Steps (at body list index end) (Some (Ok found)) new =
-    IsWholeList list × (drop (8 * index) list ≡ little_bytes 8 (first_offset (drop (8 * index) list)) ++ drop (8 * index + 8) list)
-    × MayStandObject body end (text_of (first_offset (drop (8 * index) list)) found)
-    × (new ≡ at body list (index + 1) (first_offset (drop (8 * index) list) + sort_length found.sort))
+    IsWholeList list × (drop (8 * index) list ≡ little_bytes 8 (offset_of list index) ++ drop (8 * index + 8) list)
+    × MayStandObject body end (text_of (offset_of list index) found)
+    × (new ≡ at body list (index + 1) (offset_of list index + sort_length found.sort))
 Steps (at body list index end) (Some (Err bad)) new = IsBadAt body list index end bad × (new ≡ ended)
-Steps (at body list index end) None new = (drop (8 * index) list ≡ []) × (new ≡ at body list index end)
+Steps (at body list index end) None new = IsWholeList list × (drop (8 * index) list ≡ []) × (new ≡ at body list index end)
+
+-- a reader of an attachment with these data and this list
+abbrev pub start_of : List ℕ → List ℕ → Reading
+start_of body list = at body list 0 0
 
 -- the call gives the object
 abbrev pub GivesObject : Option (Result Object BadObject) → ObjectText → Type 0
 GivesObject result o = (found : Object) × (result ≡ Some (Ok found)) × (found.sort ≡ o.sort) × (found.bytes.now ≡ o.bytes)
 
--- the results of calls are these objects, one by one; then the bad one, once, if there is one; then nothing, however many
--- more there are
+-- the results of calls are these objects, one by one; then the bad one, once, if there is one; then nothing again and
+-- again
 abbrev pub GiveObjects : List ObjectText → Option BadObject → List (Option (Result Object BadObject)) → Type 0
-GiveObjects objects bad results = GiveAll GivesObject (option_map Err bad) None objects results
+GiveObjects objects bad results = GiveInOrder GivesObject (option_map Err bad) None objects results

@@ -49,11 +49,11 @@ impl<'c> Model for Objects<'c> {
 }
 
 impl<'c> Objects<'c> {
-    ghost use Rattle.object_view.specs.Reading.{at, Steps};
+    ghost use Rattle.object_view.specs.Reading.{start_of, Steps};
 
     /// A reader of the attachment's objects.
     pub fn of(entry: Entry<'c>) -> Objects<'c>
-        ensures { result ≡ at entry.entry.body.now entry.entry.offsets.now 0 0 }
+        ensures { result ≡ start_of entry.entry.body.now entry.entry.offsets.now }
     {
         Objects {
             body: entry.body,

@@ -1,4 +1,5 @@
 pub mod RecordLaws
 pub mod ReadLaws
 pub mod RecordCalls
+pub mod OneReading
 pub mod Vectors

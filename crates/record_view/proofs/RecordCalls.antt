@@ -1,5 +1,5 @@
 -- All calls of a reader of records together.
-use Rattle.std.proofs.Common.{◌≡◌, ℕ, ◌+◌, List, length, drop, Option, Some, None, Result, Ok, Err, refl, sym, ap, subst, ◌∙◌, arith}
+use Rattle.std.proofs.Common.{◌≡◌, ℕ, ◌+◌, List, length, drop, All, Option, Some, None, Result, Ok, Err, refl, sym, ap, subst, ◌∙◌, arith}
 use Rattle.binder_code.specs.declared.protocol.Protocol.{Protocol}
 use Rattle.capture_frame.specs.declared.fault.Fault.{Fault}
 use Rattle.capture_frame.specs.declared.fault.FaultKind.{FaultKind}
@@ -7,10 +7,10 @@ use Rattle.capture_frame.specs.Units.{spelling_of}
 use Rattle.capture_frame.specs.Envelope.{FrameText}
 use Rattle.capture_frame.specs.Calls.{Calls}
 use Rattle.capture_frame.proofs.FaultLaws.{fault_at, fault_at-is}
-use Rattle.capture_frame.proofs.CallLaws.{Reader, Call, gave, stayed, failed, Goes, read_gives, failure_gives}
+use Rattle.capture_frame.proofs.CallLaws.{Reader, Call, gave, stayed, failed, Goes, read_gives, failure_gives, from_start, stays, stays_at_end}
 use Rattle.record_view.specs.declared.record.Record.{Record}
 use Rattle.record_view.specs.Records.{RecordText, record_bytes, record_format, HasRecords, RecordsFail, protocol_of}
-use Rattle.record_view.specs.Reading.{Reading, Steps, GivesRecord, GiveRecords, text_of}
+use Rattle.record_view.specs.Reading.{Reading, Steps, commands_place, start_of, GivesRecord, GiveRecords, text_of}
 use Rattle.record_view.specs.Reading as reading
 use Rattle.record_view.proofs.RecordLaws.{records_decided}
 
@@ -47,17 +47,36 @@ records_go protocol commands place = record {
   behind_end = λ x kind within result next steps. steps;
 }
 
-pub whole_gives : (frame : FrameText) (place : ℕ) (records : List RecordText) → HasRecords frame records → (results : List (Result (Option Record) Fault))
-    → Calls Steps (reading.at (protocol_of frame.direction) frame.commands place 0) results → GiveRecords (protocol_of frame.direction) place records (Ok None) results
-whole_gives frame place records has results calls =
+pub whole_gives : (frame : FrameText) (frame_place : ℕ) (records : List RecordText) → HasRecords frame records → (results : List (Result (Option Record) Fault))
+    → Calls Steps (start_of frame frame_place) results → GiveRecords frame frame_place records (Ok None) results
+whole_gives frame frame_place records has results calls =
     let protocol = protocol_of frame.direction in
-    read_gives (record_reader protocol frame.commands place) (records_go protocol frame.commands place) tt records has results calls
+    let place = commands_place frame_place in
+    let reader = record_reader protocol frame.commands place in
+    from_start reader tt (Ok None) (Ok None) records (read_gives reader (records_go protocol frame.commands place) tt 0 records tt has) results calls
 
-pub faulty_gives : (frame : FrameText) (place : ℕ) (fault : Fault) (distance : ℕ) (fails : RecordsFail frame fault.kind distance) → fault.place ≡ place + distance → (results : List (Result (Option Record) Fault))
-    → Calls Steps (reading.at (protocol_of frame.direction) frame.commands place 0) results → GiveRecords (protocol_of frame.direction) place fails.before (Err fault) results
-faulty_gives frame place fault distance fails there results calls =
+pub faulty_gives : (frame : FrameText) (frame_place : ℕ) (fault : Fault) (distance : ℕ) (fails : RecordsFail frame fault.kind distance) → fault.place ≡ commands_place frame_place + distance
+    → (results : List (Result (Option Record) Fault)) → Calls Steps (start_of frame frame_place) results → GiveRecords frame frame_place fails.before (Err fault) results
+faulty_gives frame frame_place fault distance fails there results calls =
     let protocol = protocol_of frame.direction in
-    let x = length (spelling_of (record_format protocol) fails.before) in
-    let given = failure_gives (record_reader protocol frame.commands place) (records_go protocol frame.commands place) tt fault.kind fails.before fails.rest fails.within fails.splits fails.fails x refl results calls in
-    let is : fault_at place x fault.kind fails.within ≡ fault = fault_at-is place x fails.within fault (omega (arith, there, fails.stands)) in
-    subst (λ (f : Fault). GiveRecords protocol place fails.before (Err f) results) is given
+    let place = commands_place frame_place in
+    let reader = record_reader protocol frame.commands place in
+    let y = length (spelling_of (record_format protocol) fails.before) in
+    let answer : Result (Option Record) Fault = Err (fault_at place y fault.kind fails.within) in
+    let given = from_start reader tt answer answer fails.before
+    (failure_gives reader (records_go protocol frame.commands place) tt 0 fault.kind fails.before fails.rest fails.within tt fails.splits fails.fails y (omega arith)) results calls in
+    let is : fault_at place y fault.kind fails.within ≡ fault = fault_at-is place y fails.within fault (omega (arith, there, fails.stands)) in
+    subst (λ (f : Fault). GiveRecords frame frame_place fails.before (Err f) results) is given
+
+failed_for_ever : (fault : Fault) (next : Reading) → next ≡ reading.failed fault → (results : List (Result (Option Record) Fault)) → Calls Steps next results → All (λ result. result ≡ Err fault) results
+failed_for_ever fault next is results calls = stays Steps (reading.failed fault) (Err fault) (λ result new steps. steps) results (subst (λ (r : Reading). Calls Steps r results) is calls)
+
+pub failed_stays : (reader next : Reading) (fault : Fault) → Steps reader (Err fault) next → (results : List (Result (Option Record) Fault)) → Calls Steps next results → All (λ result. result ≡ Err fault) results
+failed_stays (reading.failed given) next fault steps results calls =
+    subst (λ (answer : Result (Option Record) Fault). All (λ result. result ≡ answer) results) (sym steps.0) (failed_for_ever given next steps.1 results calls)
+failed_stays (reading.at protocol commands place offset) next fault steps results calls = failed_for_ever fault next steps.2 results calls
+
+pub ended_stays : (reader next : Reading) → Steps reader (Ok None) next → (results : List (Result (Option Record) Fault)) → Calls Steps next results → All (λ result. result ≡ Ok None) results
+ended_stays (reading.failed given) next steps results calls = let wrong : Ok None ≡ Err given = steps.0 in cc
+ended_stays (reading.at protocol commands place offset) next steps results calls =
+    stays_at_end (record_reader protocol commands place) (records_go protocol commands place) tt offset tt steps.0 results (subst (λ (r : Reading). Calls Steps r results) steps.1 calls)

@@ -4,9 +4,10 @@ use Rattle.binder_code.specs.declared.protocol.Protocol.{Protocol}
 use Rattle.binder_code.specs.Commands.{kind_of}
 use Rattle.capture_frame.specs.declared.fault.Fault.{Fault}
 use Rattle.capture_frame.specs.Units.{placed}
-use Rattle.capture_frame.specs.Calls.{GiveAll}
+use Rattle.capture_frame.specs.Calls.{GiveInOrder}
+use Rattle.capture_frame.specs.Envelope.{FrameText}
 use Rattle.record_view.specs.declared.record.Record.{Record}
-use Rattle.record_view.specs.Records.{RecordText, record_bytes, IsRecord, RecordFails}
+use Rattle.record_view.specs.Records.{RecordText, record_bytes, IsRecord, RecordFails, protocol_of}
 
 -- what a record of the capture says
 abbrev pub text_of : Record → RecordText
@@ -35,11 +36,20 @@ Steps (at protocol commands place offset) (Ok None) new = (drop offset commands 
 Steps (at protocol commands place offset) (Err fault) new =
     RecordFails protocol (drop offset commands) fault.kind × (fault.place ≡ place + offset) × (new ≡ failed fault)
 
--- the call gives the record that stands at this place, with the kind of its code
+-- where the command bytes of a frame at this place begin in the capture
+abbrev pub commands_place : ℕ → ℕ
+commands_place frame_place = frame_place + 32
+
+-- a reader of a frame at that place of the capture
+abbrev pub start_of : FrameText → ℕ → Reading
+start_of frame frame_place = at (protocol_of frame.direction) frame.commands (commands_place frame_place) 0
+
+-- the call gives the record with this place, and with the kind of its code
 abbrev pub GivesRecord : Protocol → Result (Option Record) Fault → ℕ × RecordText → Type 0
 GivesRecord protocol result there =
     (found : Record) × (result ≡ Ok (Some found)) × (found.place ≡ there.0) × (text_of found ≡ there.1) × (kind_of protocol there.1.code ≡ Ok found.kind)
 
--- the results of calls are these records, the first at that place, one by one, and then `last` again and again
-abbrev pub GiveRecords : Protocol → ℕ → List RecordText → Result (Option Record) Fault → List (Result (Option Record) Fault) → Type 0
-GiveRecords protocol place records last results = GiveAll (GivesRecord protocol) last last (placed record_bytes place records) results
+-- the results of calls are these records of a frame at that place, one by one, and then `end` again and again
+abbrev pub GiveRecords : FrameText → ℕ → List RecordText → Result (Option Record) Fault → List (Result (Option Record) Fault) → Type 0
+GiveRecords frame frame_place records end results =
+    GiveInOrder (GivesRecord (protocol_of frame.direction)) end end (placed record_bytes (commands_place frame_place) records) results

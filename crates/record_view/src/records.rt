@@ -46,12 +46,12 @@ impl<'c> Model for Records<'c> {
 }
 
 impl<'c> Records<'c> {
-    ghost use Rattle.record_view.specs.Reading.{at, failed, Steps};
-    ghost use Rattle.record_view.specs.Records.{protocol_of};
+    ghost use Rattle.capture_frame.specs.Envelope.{text_of};
+    ghost use Rattle.record_view.specs.Reading.{at, failed, Steps, start_of};
 
     /// A reader of the frame's records.
     pub fn of(frame: Frame<'c>) -> Records<'c>
-        ensures { result ≡ at (protocol_of frame.entry.direction) frame.entry.commands.now (frame.entry.place + 32) 0 }
+        ensures { result ≡ start_of (text_of frame.entry) frame.entry.place }
     {
         Records {
             commands: frame.commands,

@@ -180,6 +180,9 @@ one_entry frame before u v rest others a b e = (
   sym (rest_at-spelled u rest a.fits) ∙ ap rest_at e ∙ rest_at-spelled v others b.fits,
 )
 
+pub no_failure_at_end : (frame : FrameText) (before : Option ℕ) (kind : FaultKind) → EntryFails frame before [] kind → ⊥
+no_failure_at_end frame before kind fails = end_is_good frame before kind (failing frame before [] kind fails)
+
 -- in a frame whose records are good, entries are judged in one way
 pub entries_decided : (frame : FrameText) (records : List RecordText) → HasRecords frame records → IsDecided (entry_format frame)
 entries_decided frame records has = record {
@@ -188,5 +191,5 @@ entries_decided frame records has = record {
   one_unit = one_entry frame;
   one_failure = λ before bytes k j x y a b. (one_kind frame before bytes k j (failing frame before bytes k a.0) (failing frame before bytes j b.0), a.1 ∙ sym b.1);
   never_both = λ before e rest kind x stands fails. stands_good frame before e rest kind stands (failing frame before _ kind fails.0);
-  end_is_good = λ before kind x fails. end_is_good frame before kind (failing frame before [] kind fails.0);
+  end_is_good = λ before kind x fails. no_failure_at_end frame before kind fails.0;
 }

@@ -10,7 +10,8 @@ use Rattle.record_view.specs.Records.{HasReadableRecords}
 use Rattle.transaction_view.specs.declared.entry.Entry.{Entry}
 use Rattle.transaction_view.specs.Attachments.{EntryText, entry_bytes, entry_format, HasEntries}
 use Rattle.transaction_view.specs.FirstFault.{HasGoodContent, HasContentFault, in_entries}
-use Rattle.transaction_view.specs.Reading.{Reading, at, failed, Says, commands_place, Steps}
+use Rattle.record_view.specs.Reading.{commands_place}
+use Rattle.transaction_view.specs.Reading.{Reading, at, failed, Says, Steps}
 use Rattle.transaction_view.proofs.EntryLaws.{entries_decided, length-entry_bytes}
 
 -- the reader stands behind these entries of the frame

@@ -15,7 +15,7 @@ use Rattle.transaction_view.specs.Attachments.{EntryText, HasEntries, entry_form
 use Rattle.transaction_view.specs.FirstFault.{ContentFails, WholeFrameFails, in_header, in_content, in_records, in_entries}
 use Rattle.transaction_view.specs.Grammar.{WholeFrame, MayStandWhole, whole_format}
 use Rattle.transaction_view.proofs.EntryLaws.{entries_decided}
-use Rattle.transaction_view.proofs.RecordPlaces.{one_list}
+use Rattle.record_view.proofs.OneReading.{one_reading}
 
 -- the command bytes and the attachment bytes of a frame are bytes of the capture
 IsBytes-front : (front rest : List ℕ) → IsBytes (front ++ rest) → IsBytes front
@@ -83,7 +83,7 @@ whole_judged before bytes h (good frame rest stands parts) =
 same_whole : (u v : WholeFrame) → u.frame ≡ v.frame → HasRecords u.frame u.records → HasRecords v.frame v.records → HasEntries u.frame u.entries → HasEntries v.frame v.entries → u ≡ v
 same_whole u v same a b c d =
     let made : FrameText → List RecordText → List EntryText → WholeFrame = λ f r e. record { frame = f; records = r; entries = e } in
-    let records = one_list v.frame u.records v.records (subst (λ (f : FrameText). HasRecords f u.records) same a) b in
+    let records = one_reading v.frame u.records v.records (subst (λ (f : FrameText). HasRecords f u.records) same a) b in
     let entries = units.one_reading (entry_format v.frame) (entries_decided v.frame v.records b) None v.frame.attachments u.entries v.entries (subst (λ (f : FrameText). HasEntries f u.entries) same c) d in
     ap (λ (f : FrameText). made f u.records u.entries) same ∙ ap (λ (r : List RecordText). made v.frame r u.entries) records ∙ ap (made v.frame v.records) entries
 

@@ -9,6 +9,7 @@ pub mod ReadLaws
 pub mod RecordWalk
 pub mod EntryWalk
 pub mod EntryCalls
+pub mod OneEntryReading
 pub mod GrammarLaws
 pub mod OneAnswer
 pub mod CaptureWalk

@@ -12,7 +12,8 @@ use Rattle.transaction_view.specs.declared.attachments.Parts.{Parts}
 use Rattle.transaction_view.specs.declared.entry.Entry.{Entry}
 use Rattle.transaction_view.specs.Transaction.{has_transaction_data, IsTransactionWord}
 use Rattle.transaction_view.specs.Attachments.{EntryText, FitsEntry, entry_bytes, Names, HasSizes, MayStandEntry, offset_at, body_length, offsets_length, entry_length}
-use Rattle.transaction_view.specs.Reading.{Reading, at, commands_place, attachments_place, BeginsWith, Steps}
+use Rattle.record_view.specs.Reading.{commands_place}
+use Rattle.transaction_view.specs.Reading.{Reading, at, attachments_place, BeginsWith, Steps}
 use Rattle.transaction_view.specs.State.{IsRecordAt, text_of_parts, ArePartsOf}
 use Rattle.transaction_view.proofs.EntryLaws.{text_at, rest_at, entry_spelled, text_at-fits, length-entry_bytes}
 use Rattle.transaction_view.proofs.RecordPlaces.{one_record_at, stands_within}

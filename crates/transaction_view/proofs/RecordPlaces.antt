@@ -10,9 +10,9 @@ use Rattle.binder_code.specs.declared.code.CodeFault.{CodeFault}
 use Rattle.binder_code.specs.declared.record_kind.Kind.{Kind}
 use Rattle.binder_code.specs.Commands.{kind_of}
 use Rattle.capture_frame.specs.Envelope.{FrameText, IsAbove}
-use Rattle.capture_frame.proofs.UnitLaws as units
-use Rattle.record_view.specs.Records.{RecordText, record_bytes, HasRecords, StandsAt, span_of, protocol_of, record_format}
-use Rattle.record_view.proofs.RecordLaws.{records_decided, length-record_bytes}
+use Rattle.record_view.specs.Records.{RecordText, record_bytes, HasRecords, StandsAt, span_of, protocol_of}
+use Rattle.record_view.proofs.OneReading.{one_reading}
+use Rattle.record_view.proofs.RecordLaws.{length-record_bytes}
 use Rattle.transaction_view.specs.Transaction.{has_transaction_data, IsTransactionWord}
 use Rattle.transaction_view.specs.Attachments.{Names}
 
@@ -61,12 +61,9 @@ later_place (a ∷ us) (b ∷ vs) u v cs ds e less =
 
 -- ---- the records of one frame
 
-pub one_list : (frame : FrameText) (us vs : List RecordText) → HasRecords frame us → HasRecords frame vs → us ≡ vs
-one_list frame us vs a b = units.one_reading (record_format (protocol_of frame.direction)) (records_decided (protocol_of frame.direction)) tt frame.commands us vs a b
-
 pub one_record_at : (frame : FrameText) (offset : ℕ) (u v : RecordText) → StandsAt frame offset u → StandsAt frame offset v → u ≡ v
 one_record_at frame offset u v a b =
-    same_place a.before b.before u v a.behind b.behind (one_list frame (a.before ++ u ∷ a.behind) (b.before ++ v ∷ b.behind) a.has_records b.has_records)
+    same_place a.before b.before u v a.behind b.behind (one_reading frame (a.before ++ u ∷ a.behind) (b.before ++ v ∷ b.behind) a.has_records b.has_records)
     (sym a.offset_is ∙ b.offset_is)
 
 -- a record that begins above this one's offset begins behind it
@@ -74,7 +71,7 @@ pub stands_behind : (frame : FrameText) (before behind : List RecordText) (r : R
     → span_of before < offset → span_of (before ++ r ∷ []) ≤ offset
 stands_behind frame before behind r offset found has stands less =
     let at = stands.offset_is in
-    let lists = one_list frame (before ++ r ∷ behind) (stands.before ++ found ∷ stands.behind) has stands.has_records in
+    let lists = one_reading frame (before ++ r ∷ behind) (stands.before ++ found ∷ stands.behind) has stands.has_records in
     let later = later_place before stands.before r found behind stands.behind lists (omega (arith, at, less)) in
     omega (arith, later, at)
 
@@ -82,7 +79,7 @@ stands_behind frame before behind r offset found has stands less =
 pub stands_within : (frame : FrameText) (records : List RecordText) (offset : ℕ) (found : RecordText) → HasRecords frame records → StandsAt frame offset found → offset + 4 ≤ span_of records
 stands_within frame records offset found has stands =
     let at = stands.offset_is in
-    let lists = one_list frame records (stands.before ++ found ∷ stands.behind) has stands.has_records in
+    let lists = one_reading frame records (stands.before ++ found ∷ stands.behind) has stands.has_records in
     let split : span_of (stands.before ++ found ∷ stands.behind) ≡ span_of stands.before + span_of (found ∷ stands.behind) =
     ap length (flat_map-append record_bytes stands.before (found ∷ stands.behind)) ∙ length-append (flat_map record_bytes stands.before) (flat_map record_bytes (found ∷ stands.behind)) in
     let whole : span_of records ≡ span_of (stands.before ++ found ∷ stands.behind) = ap span_of lists in

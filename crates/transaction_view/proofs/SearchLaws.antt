@@ -14,7 +14,7 @@ use Rattle.record_view.specs.declared.record.Record.{Record}
 use Rattle.record_view.specs.Records.{RecordText, record_bytes, IsRecord, HasRecords, StandsAt, span_of, protocol_of, record_format}
 use Rattle.record_view.specs.Reading.{Reading, at, text_of, Steps}
 use Rattle.record_view.proofs.RecordLaws.{records_decided}
-use Rattle.transaction_view.specs.Reading.{commands_place}
+use Rattle.record_view.specs.Reading.{commands_place}
 use Rattle.transaction_view.specs.State.{HasNotPassed, IsRecordAt}
 use Rattle.transaction_view.proofs.RecordPlaces.{span_of-snoc, stands_behind, stands_within}
 

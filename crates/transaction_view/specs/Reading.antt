@@ -3,7 +3,8 @@ use Rattle.std.specs.Prelude.{◌≡◌, ℕ, ◌+◌, List, [], ◌++◌, lengt
 use Rattle.capture_frame.specs.declared.fault.Fault.{Fault}
 use Rattle.capture_frame.specs.Envelope.{FrameText}
 use Rattle.capture_frame.specs.Units.{placed}
-use Rattle.capture_frame.specs.Calls.{GiveAll}
+use Rattle.capture_frame.specs.Calls.{GiveInOrder}
+use Rattle.record_view.specs.Reading.{commands_place}
 use Rattle.transaction_view.specs.declared.entry.Entry.{Entry}
 use Rattle.transaction_view.specs.Attachments.{EntryText, entry_bytes, MayStandEntry, EntryFails}
 
@@ -13,11 +14,7 @@ pub data Reading : Type 0 where
   at : (frame : FrameText) (frame_place : ℕ) (distance : ℕ) (before : Option ℕ) → Reading
   failed : Fault → Reading
 
--- where the command bytes of a frame at this place begin in the capture
-abbrev pub commands_place : ℕ → ℕ
-commands_place frame_place = frame_place + 32
-
--- and where its attachment bytes begin
+-- where the attachment bytes of a frame at this place begin in the capture
 abbrev pub attachments_place : FrameText → ℕ → ℕ
 attachments_place frame frame_place = commands_place frame_place + length frame.commands
 
@@ -50,12 +47,16 @@ Steps (at frame frame_place distance before) (Err fault) new =
     EntryFails frame before (drop distance frame.attachments) fault.kind
     × (fault.place ≡ attachments_place frame frame_place + distance) × (new ≡ failed fault)
 
--- the call gives the entry that stands at this place, in a frame whose command bytes begin at that one
+-- a reader of a frame at that place of the capture
+abbrev pub start_of : FrameText → ℕ → Reading
+start_of frame frame_place = at frame frame_place 0 None
+
+-- the call gives the entry with this place, for a record of the frame whose command bytes begin at `commands_at`
 abbrev pub GivesEntry : ℕ → Result (Option Entry) Fault → ℕ × EntryText → Type 0
 GivesEntry commands_at result there =
     (found : Entry) × (result ≡ Ok (Some found)) × (found.place ≡ there.0) × Says commands_at found there.1
 
--- the results of calls are these entries of a frame, one by one, and then `last` again and again
+-- the results of calls are these entries of a frame at that place, one by one, and then `end` again and again
 abbrev pub GiveEntries : FrameText → ℕ → List EntryText → Result (Option Entry) Fault → List (Result (Option Entry) Fault) → Type 0
-GiveEntries frame frame_place entries last results =
-    GiveAll (GivesEntry (commands_place frame_place)) last last (placed entry_bytes (attachments_place frame frame_place) entries) results
+GiveEntries frame frame_place entries end results =
+    GiveInOrder (GivesEntry (commands_place frame_place)) end end (placed entry_bytes (attachments_place frame frame_place) entries) results

@@ -10,7 +10,8 @@ use Rattle.transaction_view.specs.declared.attachments.State.{State}
 use Rattle.transaction_view.specs.declared.attachments.State.TheVariants.{At, Failed}
 use Rattle.transaction_view.specs.declared.attachments.Parts.{Parts}
 use Rattle.transaction_view.specs.Attachments.{EntryText, entry_bytes, offset_at, body_length, offsets_length, entry_length}
-use Rattle.transaction_view.specs.Reading.{Reading, at, failed, commands_place}
+use Rattle.record_view.specs.Reading.{commands_place}
+use Rattle.transaction_view.specs.Reading.{Reading, at, failed}
 
 -- the state, as a reading of its frame
 abbrev pub reading_of : Frame → State → Reading

@@ -4,7 +4,7 @@ ghost use Rattle.std.specs.Prelude.{◌≡◌, ◌≤◌, ◌<◌, ◌+◌, ◌^
 ghost use Rattle.capture_frame.specs.Envelope.{text_of, IsAbove};
 ghost use Rattle.record_view.specs.Records.{RecordText, StandsAt};
 ghost use Rattle.transaction_view.specs.Attachments.{MayStandEntry, EntryFails, entry_length};
-ghost use Rattle.transaction_view.specs.Reading.{commands_place};
+ghost use Rattle.record_view.specs.Reading.{commands_place};
 ghost use Rattle.transaction_view.specs.State.{HasNotPassed, IsRecordAt, ArePartsOf, text_of_parts};
 
 use crate::entry::Entry;
@@ -54,12 +54,12 @@ impl<'c> Model for Attachments<'c> {
 impl<'c> Attachments<'c> {
     ghost use Rattle.std.specs.Prelude.{None};
     ghost use Rattle.record_view.specs.Records.{HasReadableRecords};
-    ghost use Rattle.transaction_view.specs.Reading.{at, failed, Steps};
+    ghost use Rattle.transaction_view.specs.Reading.{at, failed, Steps, start_of};
 
     /// A reader of the frame's entries, where its records have no fault.
     pub fn of(frame: Frame<'c>) -> Attachments<'c>
         requires { HasReadableRecords (text_of frame) }
-        ensures { result ≡ at (text_of frame.entry) frame.entry.place 0 None }
+        ensures { result ≡ start_of (text_of frame.entry) frame.entry.place }
     {
         Attachments {
             frame,

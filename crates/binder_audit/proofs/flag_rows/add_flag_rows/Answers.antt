@@ -2,7 +2,7 @@ use Rattle.std.proofs.Common.{List, [], ◌∷◌, ◌++◌, ap, ◌∙◌}
 use Rattle.capture_frame.specs.Envelope.{text_of}
 use Rattle.record_view.specs.Reading as records
 use Rattle.record_view.specs.Records.{RecordText}
-use Rattle.transaction_view.proofs.RecordPlaces.{one_list}
+use Rattle.record_view.proofs.OneReading.{one_reading}
 use Rattle.transaction_view.proofs.RecordWalk.{stands_behind_next, step_falls}
 use Rattle.transaction_view.proofs.SearchLaws.{record_given}
 use Rattle.binder_audit.specs.Flags.{flag_rows}
@@ -30,4 +30,4 @@ pub returns : goal.returns
 returns c others has =
     let done = c.loop-record.invariant.0 in
     let over = records_over c.args.frame c.loop-record.records done c.loop-record.invariant.1 c.next_record.result c.unwrap_or.result c.next_record.new.self c.requires c.next_record.ensures c.unwrap_or.ensures c.in_default.is in
-    c.loop-record.invariant.2 ∙ ap (λ (t : List RecordText). c.args.rows.now.items ++ flag_rows (placed_records c.args.frame.place (text_of c.args.frame) t)) (one_list (text_of c.args.frame) done others over has)
+    c.loop-record.invariant.2 ∙ ap (λ (t : List RecordText). c.args.rows.now.items ++ flag_rows (placed_records c.args.frame.place (text_of c.args.frame) t)) (one_reading (text_of c.args.frame) done others over has)
