@@ -10,3 +10,4 @@ pub mod RequestLemmas
 pub mod RunLaws
 pub mod TextLaws
 pub mod TotalsLaws
+pub mod Vectors
