@@ -1,0 +1,73 @@
+-- Lemmas on what the rows of a parse ask for.
+use Rattle.std.proofs.Common.{◌≡◌, ℕ, ◌<◌, ◌≤◌, ◌^◌, List, Option, Some, None, IfSome, IfNone, codes, arith, refl, sym, ◌∙◌, option_map}
+use Rattle.std.specs.Str.Parse.{ParsesUnsigned, ExplainsUnsignedError, HasUnsignedDigitsIfOk, IsNumeral, digits_value, without_leading_plus}
+use Rattle.std.specs.declared.num.ParseIntError.{ParseIntError}
+use Rattle.std.specs.declared.result.Result.{Result}
+use Rattle.std.specs.Borrow.{Bor}
+use Rattle.clap.specs.Words.{ReadsOne, Row, Text, first_of, one_of}
+use Rattle.audit_program.specs.CommandLine.{AsksFirstFault, AsksReport, ReadsNumber}
+use Rattle.audit_program.specs.declared.command_line.Request.{Request}
+use Rattle.audit_program.specs.declared.command_line.Request.TheVariants.{Report, FirstFault}
+
+pub IfNone-always : {T : Type 0} {P : Type 0} (o : Option T) → P → IfNone o P
+IfNone-always None p = p
+IfNone-always (Some x) p = tt
+
+-- what `get_one` gives at a `u64`
+abbrev pub GivesU64 : Text → Result ℕ ParseIntError → Type 0
+GivesU64 bs r = ParsesUnsigned 64 10 bs r × ExplainsUnsignedError 10 bs r × HasUnsignedDigitsIfOk bs r
+
+module _ (name : Text) (rows : List Row) where
+  pub number_read : (o : Option Text) (r : Option ℕ) → o ≡ one_of name rows → (o ≡ None → r ≡ None)
+      → ((t : Text) → o ≡ Some t → ReadsOne GivesU64 t r) → IfSome r (ReadsNumber name rows)
+  number_read o None is_text none value = tt
+  number_read None (Some n) is_text none value = let bad : Some n ≡ None = none refl in absurd (cc)
+  number_read (Some t) (Some n) is_text none value =
+      let given = value t refl in (t, sym is_text, given.0.0.0, given.0.1)
+
+  not_read : (t : Text) (n : ℕ) → ReadsNumber name rows n → Some t ≡ one_of name rows
+      → ¬ (IsNumeral 10 (without_leading_plus t) × (digits_value 10 (without_leading_plus t) < 2 ^ 64)) → 2 ^ 64 ≤ n
+  not_read t n reads is_text unread =
+      let same : Some reads.0 ≡ Some t = sym reads.1 ∙ sym is_text in
+      let text_is : reads.0 ≡ t = cc in
+      let numeral = rw text_is at reads.2 in
+      let value = rw text_is at reads.3 in
+      let large : digits_value 10 (without_leading_plus t) < 2 ^ 64 → ⊥ = λ small. unread (numeral, small) in
+      omega arith
+
+  pub number_large : (o : Option Text) (r : Option ℕ) → o ≡ one_of name rows → (o ≡ None → r ≡ None)
+      → ((t : Text) → o ≡ Some t → ReadsOne GivesU64 t r) → IfNone r ((n : ℕ) → ReadsNumber name rows n → 2 ^ 64 ≤ n)
+  number_large o (Some n) is_text none value = tt
+  number_large None None is_text none value =
+      λ n reads. let bad : Some reads.0 ≡ None = sym reads.1 ∙ sym is_text in absurd (cc)
+  number_large (Some t) None is_text none value = λ n reads. not_read t n reads is_text (value t refl).1.0
+
+-- what `get_str` gives
+pub file_read : (r : Option (Bor Text)) (o : Option Text) → option_map (λ s. s.now) r ≡ o → IfSome r (λ s. o ≡ Some s.now)
+file_read None o is = tt
+file_read (Some s) o is = sym is
+
+pub file_missing : (r : Option (Bor Text)) (o : Option Text) → option_map (λ s. s.now) r ≡ o → IfNone r (o ≡ None)
+file_missing None o is = sym is
+file_missing (Some s) o is = tt
+
+-- a report wants its two numbers and its file, and the first fault its file
+module _ (rows : List Row) where
+  pub no_workers : ((n : ℕ) → ReadsNumber (codes "workers") rows n → 2 ^ 64 ≤ n) → (request : Request) → ¬ AsksReport rows request
+  no_workers large (Report workers piece file) asks =
+      let big = large workers.count asks.0 in let small = workers.at_most_64 in omega arith
+  no_workers large (FirstFault file) asks = asks
+
+  pub no_piece : ((n : ℕ) → ReadsNumber (codes "piece") rows n → 2 ^ 64 ≤ n) → (request : Request) → ¬ AsksReport rows request
+  no_piece large (Report workers piece file) asks =
+      let big = large piece.frames asks.1 in let small = piece.at_most_65536 in omega arith
+  no_piece large (FirstFault file) asks = asks
+
+  pub no_report_file : first_of (codes "file") rows ≡ None → (request : Request) → ¬ AsksReport rows request
+  no_report_file none (Report workers piece file) asks =
+      let bad : None ≡ Some file.now = sym none ∙ asks.2 in cc
+  no_report_file none (FirstFault file) asks = asks
+
+  pub no_fault_file : first_of (codes "file") rows ≡ None → (request : Request) → ¬ AsksFirstFault rows request
+  no_fault_file none (Report workers piece file) asks = asks
+  no_fault_file none (FirstFault file) asks = let bad : None ≡ Some file.now = sym none ∙ asks in cc

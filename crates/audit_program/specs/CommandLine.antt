@@ -1,0 +1,64 @@
+-- The command as clap reads it, and what its subcommands ask for.
+use Rattle.std.specs.Prelude.{◌≡◌, ℕ, List, [], ◌∷◌, ◌⊎◌, Option, Some, None, true, codes}
+use Rattle.std.specs.Str.Parse.{IsNumeral, digits_value, without_leading_plus}
+use Rattle.clap.specs.Words.{App, Row, Rule, Text, fault_of, first_of, new_app, new_rule, one_of, subcommand_of, with_rule, with_subcommand}
+use Rattle.clap.specs.declared.builder.action.ArgAction.TheVariants.{Set}
+use Rattle.clap.specs.declared.builder.value_parser.ValueParser.TheVariants.{Unsigned}
+use Rattle.audit_program.specs.declared.command_line.Request.{Request}
+use Rattle.audit_program.specs.declared.command_line.Request.TheVariants.{Report, FirstFault}
+
+-- an option with a number from 1 to `most`
+abbrev pub number_rule : Text → ℕ → Text → Rule
+number_rule name most default = record (new_rule name) {
+  long = Some name;
+  action = Some Set;
+  parser = Some (Unsigned 1 most);
+  defaults = default ∷ [];
+}
+
+-- the file, which has to be given
+abbrev pub file_rule : Rule
+file_rule = record (new_rule (codes "file")) { action = Some Set; required = true }
+
+abbrev pub report_app : App
+report_app = with_rule (with_rule (with_rule (new_app (codes "report"))
+    (number_rule (codes "workers") 64 (codes "4"))) (number_rule (codes "piece") 65536 (codes "256"))) file_rule
+
+abbrev pub first_fault_app : App
+first_fault_app = with_rule (new_app (codes "first-fault")) file_rule
+
+-- the whole command
+abbrev pub audit_app : App
+audit_app = with_subcommand (with_subcommand (new_app (codes "binder_audit")) report_app.top) first_fault_app.top
+
+-- the option's text is n in decimal digits, and a plus may stand first
+abbrev pub ReadsNumber : Text → List Row → ℕ → Type 0
+ReadsNumber name rows n =
+    (text : Text) × (one_of name rows ≡ Some text) × IsNumeral 10 (without_leading_plus text) ×
+    (n ≡ digits_value 10 (without_leading_plus text))
+
+-- what the rows of the subcommand `report` ask for
+abbrev pub AsksReport : List Row → Request → Type 0
+AsksReport rows (Report workers piece file) =
+    ReadsNumber (codes "workers") rows workers.count × ReadsNumber (codes "piece") rows piece.frames ×
+    (first_of (codes "file") rows ≡ Some file.now)
+AsksReport rows (FirstFault file) = ⊥
+
+-- what the rows of the subcommand `first-fault` ask for
+abbrev pub AsksFirstFault : List Row → Request → Type 0
+AsksFirstFault rows (Report workers piece file) = ⊥
+AsksFirstFault rows (FirstFault file) = first_of (codes "file") rows ≡ Some file.now
+
+-- what the subcommand that was met asks for, by its name and its rows
+abbrev pub AsksFor : Option (Text × List Row) → Request → Type 0
+AsksFor None request = ⊥
+AsksFor (Some (name, rows)) request =
+    ((name ≡ codes "report") × AsksReport rows request) ⊎ ((name ≡ codes "first-fault") × AsksFirstFault rows request)
+
+-- what the words ask for, the program's own name first
+abbrev pub WordsAskFor : List Text → Request → Type 0
+WordsAskFor words request = AsksFor (subcommand_of audit_app words) request
+
+-- clap takes the words
+abbrev pub AreTaken : List Text → Type 0
+AreTaken words = fault_of audit_app words ≡ []

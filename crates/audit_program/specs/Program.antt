@@ -1,0 +1,84 @@
+-- What the program does with the words of a command line: what it leaves on standard output and on standard error, and
+-- the status that the process ends with (docs/REPORT.md).
+use Rattle.std.specs.Prelude.{◌≡◌, ◌≢◌, ℕ, ◌≤◌, List, map, string_bytes, Option, Some, None, Result, Ok, Err}
+use Rattle.std.specs.IoError.{error_kind}
+use Rattle.std.specs.Vec.Iter.{into_iter_items}
+use Rattle.std.specs.declared.io.Error.{Error}
+use Rattle.std.specs.declared.string.String.{String}
+use Rattle.std.specs.declared.vec.IntoIter.{IntoIter}
+use Rattle.std.specs.Io.KnownBytes.{Keeps}
+use Rattle.clap.specs.Words.{Text}
+use Rattle.capture_frame.specs.declared.fault.Fault.{Fault}
+use Rattle.audit_run.specs.declared.run_error.RunError.{RunError}
+use Rattle.audit_run.specs.declared.run_error.RunError.TheVariants.{Memory, TooLarge, Read, Write, Open}
+use Rattle.audit_run.specs.declared.runs.Written.{Written}
+use Rattle.audit_run.specs.declared.runs.Written.TheVariants.{Report, Malformed}
+use Rattle.audit_run.specs.KnownBytes.{AppendsPrefix}
+use Rattle.audit_run.specs.Run.{Reports, NamesFirstFault, IsTextOf, IsLineOn, IsRead, IsOfRead}
+use Rattle.audit_program.specs.declared.command_line.Request.{Request}
+use Rattle.audit_program.specs.declared.command_line.Request.TheVariants as request
+use Rattle.audit_program.specs.declared.failure.Failure.{Failure}
+use Rattle.audit_program.specs.declared.failure.Failure.TheVariants.{Usage, Run}
+use Rattle.audit_program.specs.CommandLine.{AreTaken, WordsAskFor}
+use Rattle.audit_program.specs.Failure.{failure_of_words, line_of, status_of}
+
+-- the status that goes with what was written for a report, and with the fault that was named
+abbrev pub report_status : Written → ℕ
+report_status Report = 0
+report_status (Malformed fault) = 2
+
+abbrev pub fault_status : Option Fault → ℕ
+fault_status None = 0
+fault_status (Some fault) = 2
+
+-- the whole answer to a request about a capture was written, and the status goes with it
+abbrev pub Answers : Request → List ℕ → Option (List ℕ) → Option (List ℕ) → ℕ → Type 0
+Answers (request.Report workers piece file) capture old new status =
+    (written : Written) × Reports capture old new written × (status ≡ report_status written)
+Answers (request.FirstFault file) capture old new status =
+    (fault : Option Fault) × NamesFirstFault capture old new fault × (status ≡ fault_status fault)
+
+-- the text is the answer to a request about a capture
+abbrev pub IsAnswer : Request → List ℕ → List ℕ → Type 0
+IsAnswer (request.Report workers piece file) capture text = IsTextOf capture text
+IsAnswer (request.FirstFault file) capture text = IsLineOn capture text
+
+-- clap takes the words, and they ask for this
+abbrev pub Ask : List Text → Request → Type 0
+Ask words asked = AreTaken words × WordsAskFor words asked
+
+-- the words ask for nothing, or clap does not take them
+abbrev pub AskForNothing : List Text → Type 0
+AskForNothing words = (asked : Request) → ¬ Ask words asked
+
+-- some capture within the limit was read, and the whole answer to what the words ask for was written
+abbrev pub AnswersWords : List Text → Option (List ℕ) → Option (List ℕ) → ℕ → Type 0
+AnswersWords words old new status =
+    (asked : Request) × Ask words asked × ((capture : List ℕ) × IsRead None capture × Answers asked capture old new status)
+
+-- what a failure leaves on standard output: nothing more, but for a failed write the beginning of an answer
+abbrev pub Leaves : List Text → Option (List ℕ) → Option (List ℕ) → Failure → Type 0
+Leaves words old new Usage = AskForNothing words × Keeps old new
+Leaves words old new (Run Memory) = Keeps old new
+Leaves words old new (Run TooLarge) = (asked : Request) × Ask words asked × Keeps old new
+Leaves words old new (Run Read) = (asked : Request) × Ask words asked × Keeps old new
+Leaves words old new (Run Open) = (asked : Request) × Ask words asked × Keeps old new
+Leaves words old new (Run Write) =
+    (asked : Request) × Ask words asked × ((text : List ℕ) × IsOfRead (IsAnswer asked) None text × AppendsPrefix old new text)
+
+-- how the program ends on the words of a command line: what standard output, then standard error, held before and hold
+-- then, and the status. With an answer standard error stays; with a failure it grows by what could be written of the
+-- failure's line.
+pub data Ends (words : List Text) (out out_after err err_after : Option (List ℕ)) (status : ℕ) : Type 0 where
+  answered : AnswersWords words out out_after status → Keeps err err_after → Ends words out out_after err err_after status
+  failed : (failure : Failure) → Leaves words out out_after failure → AppendsPrefix err err_after (line_of failure)
+      → status ≡ status_of failure → Ends words out out_after err err_after status
+
+-- the same of the words as the system gives them; where it gives none, by the kind of its error
+abbrev pub EndsOn : {A B : Type 0} → Result (IntoIter (String A) B) Error → Option (List ℕ) → Option (List ℕ)
+    → Option (List ℕ) → Option (List ℕ) → ℕ → Type 0
+EndsOn (Ok words) out out_after err err_after status =
+    Ends (map string_bytes (into_iter_items words)) out out_after err err_after status
+EndsOn (Err error) out out_after err err_after status =
+    Keeps out out_after × AppendsPrefix err err_after (line_of (failure_of_words (error_kind error)))
+    × (status ≡ status_of (failure_of_words (error_kind error)))

@@ -1,0 +1,173 @@
+//! The words of the command line, and what they ask for.
+ghost use Rattle.std.specs.Prelude.{◌≡◌, ◌≢◌, ◌≤◌, ◌^◌, ◌↔◌, ℕ, OnOk, IfOk, IfSome, IfNone, IsErrOf, codes, false, map, string_bytes, Some, None};
+ghost use Rattle.clap.specs.Words.{app_of, first_of, found_of, kind_of, rows_of, rule_of, subcommand_of, subcommand_rows_of};
+ghost use Rattle.audit_program.specs.CommandLine.{AreTaken, AsksFirstFault, AsksFor, AsksReport, ReadsNumber, WordsAskFor, audit_app, file_rule, number_rule};
+ghost use Rattle.audit_program.specs.declared.command_line.Request.{Request};
+
+use audit_run::{Piece, Workers};
+use clap::error::ErrorKind;
+use clap::{Arg, ArgAction, ArgMatches, Command, Error, value_parser};
+use std::alloc::{AllocError, Global};
+
+/// What a command line asks for.
+#[derive(Clone, Copy, Debug, PartialEq)]
+pub(crate) enum Request<'a> {
+    Report {
+        workers: Workers,
+        piece: Piece,
+        file: &'a str,
+    },
+    FirstFault {
+        file: &'a str,
+    },
+}
+
+impl<'a> Request<'a> {
+    /// The name of the file that it is about.
+    pub(crate) fn file(self) -> &'a str {
+        match self {
+            Request::Report { file, .. } | Request::FirstFault { file } => file,
+        }
+    }
+}
+
+/// Why a command line asks for nothing.
+#[derive(Clone, Copy, Debug, PartialEq, Eq)]
+pub(crate) enum WordsError {
+    Memory,
+    Usage,
+}
+
+// An option with a number from 1 to 64.
+fn workers<'a>(alloc: Global) -> Arg<'a>
+    ensures rule { rule_of result ≡ number_rule (codes "workers") 64 (codes "4") }
+    ensures local { result.global ≡ false }
+{
+    Arg::new(alloc, "workers")
+        .long("workers")
+        .action(ArgAction::Set)
+        .value_parser(value_parser!(u64).range(1..=64))
+        .default_value("4")
+}
+
+fn piece<'a>(alloc: Global) -> Arg<'a>
+    ensures rule { rule_of result ≡ number_rule (codes "piece") 65536 (codes "256") }
+    ensures local { result.global ≡ false }
+{
+    Arg::new(alloc, "piece")
+        .long("piece")
+        .action(ArgAction::Set)
+        .value_parser(value_parser!(u64).range(1..=65_536))
+        .default_value("256")
+}
+
+fn file<'a>(alloc: Global) -> Arg<'a>
+    ensures rule { rule_of result ≡ file_rule }
+    ensures local { result.global ≡ false }
+{
+    Arg::new(alloc, "file")
+        .required(true)
+        .action(ArgAction::Set)
+}
+
+fn command<'a>(alloc: Global) -> Result<Command<'a>, AllocError>
+    ensures { IfOk result (λ made. app_of made ≡ audit_app) }
+{
+    let report = Command::new(alloc, "report")
+        .arg(workers(alloc))?
+        .arg(piece(alloc))?
+        .arg(file(alloc))?;
+    let first_fault = Command::new(alloc, "first-fault").arg(file(alloc))?;
+    Command::new(alloc, "binder_audit")
+        .subcommand(report)?
+        .subcommand(first_fault)
+}
+
+// The option's value as a number.
+fn number_of(matches: &ArgMatches<'_>, name: &str) -> Option<u64>
+    ensures some { IfSome result (ReadsNumber name.now (rows_of (found_of matches.now))) }
+    ensures none { IfNone result ((n : ℕ) → ReadsNumber name.now (rows_of (found_of matches.now)) n → 2 ^ 64 ≤ n) }
+{
+    matches.get_one(name)
+}
+
+fn file_of<'a>(matches: &ArgMatches<'a>) -> Option<&'a str>
+    ensures some { IfSome result (λ name. first_of (codes "file") (rows_of (found_of matches.now)) ≡ Some name.now) }
+    ensures none { IfNone result (first_of (codes "file") (rows_of (found_of matches.now)) ≡ None) }
+{
+    matches.get_str("file")
+}
+
+fn report_of<'a>(matches: &ArgMatches<'a>) -> Option<Request<'a>>
+    ensures some { IfSome result (AsksReport (rows_of (found_of matches.now))) }
+    ensures none { IfNone result ((request : Request) → ¬ AsksReport (rows_of (found_of matches.now)) request) }
+{
+    let workers = Workers::new(number_of(matches, "workers")?)?;
+    let piece = Piece::new(number_of(matches, "piece")?)?;
+    let file = file_of(matches)?;
+    Some(Request::Report {
+        workers,
+        piece,
+        file,
+    })
+}
+
+fn first_fault_of<'a>(matches: &ArgMatches<'a>) -> Option<Request<'a>>
+    ensures some { IfSome result (AsksFirstFault (rows_of (found_of matches.now))) }
+    ensures none { IfNone result ((request : Request) → ¬ AsksFirstFault (rows_of (found_of matches.now)) request) }
+{
+    let file = file_of(matches)?;
+    Some(Request::FirstFault { file })
+}
+
+fn request_of<'a>(matches: &ArgMatches<'a>) -> Option<Request<'a>>
+    ensures some { IfSome result (AsksFor (subcommand_rows_of matches.now)) }
+    ensures none { IfNone result ((request : Request) → ¬ AsksFor (subcommand_rows_of matches.now) request) }
+{
+    let (name, inner) = matches.subcommand()?;
+    if name == "report" {
+        return report_of(inner);
+    }
+    if name == "first-fault" {
+        return first_fault_of(inner);
+    }
+    None
+}
+
+fn refusal(error: &Error) -> WordsError
+    ensures { (result ≡ WordsError.Usage) ↔ (kind_of error.now ≢ ErrorKind.OutOfMemory) }
+{
+    match error.kind() {
+        ErrorKind::OutOfMemory => WordsError::Memory,
+        _ => WordsError::Usage,
+    }
+}
+
+fn matches_of<'a>(alloc: Global, words: &'a [String]) -> Result<ArgMatches<'a>, WordsError>
+    ensures taken { OnOk result (AreTaken (map string_bytes words.now)) }
+    ensures rows { IfOk result (λ matches.
+        subcommand_rows_of matches ≡ subcommand_of audit_app (map string_bytes words.now)) }
+    ensures usage { IsErrOf result WordsError.Usage → ¬ AreTaken (map string_bytes words.now) }
+{
+    let Ok(command) = command(alloc) else {
+        return Err(WordsError::Memory);
+    };
+    match command.try_get_matches_from(words) {
+        Ok(matches) => Ok(matches),
+        Err(error) => Err(refusal(&error)),
+    }
+}
+
+/// Reads the words, of which the first is the program's own name.
+pub(crate) fn parse(alloc: Global, words: &[String]) -> Result<Request<'_>, WordsError>
+    ensures taken { OnOk result (AreTaken (map string_bytes words.now)) }
+    ensures asked { IfOk result (WordsAskFor (map string_bytes words.now)) }
+    ensures usage { IsErrOf result WordsError.Usage → AreTaken (map string_bytes words.now) →
+        (request : Request) → ¬ WordsAskFor (map string_bytes words.now) request }
+{
+    let matches = matches_of(alloc, words)?;
+    match request_of(&matches) {
+        Some(request) => Ok(request),
+        None => Err(WordsError::Usage),
+    }
+}

@@ -1,0 +1,89 @@
+//! What ends the program without an answer: a status, and a line on standard error.
+ghost use Rattle.std.specs.Prelude.{◌≡◌, OnOk, OnErr};
+ghost use Rattle.std.specs.Io.KnownBytes.{Appends};
+ghost use Rattle.audit_run.specs.KnownBytes.{AppendsPrefix};
+ghost use Rattle.audit_program.specs.Failure.{failure_of_words, line_of, status_of};
+
+use crate::command_line::WordsError;
+use audit_run::{RunError, write_text};
+use std::io::{ErrorKind, Write};
+
+/// What ended the program with a line on standard error.
+#[derive(Clone, Copy, Debug, PartialEq, Eq)]
+pub enum Failure {
+    /// The words of the command line ask for nothing.
+    Usage,
+    Run(RunError),
+}
+
+impl Failure {
+    /// The status that the process ends with.
+    pub fn status(self) -> u8
+        ensures { result ≡ status_of self }
+    {
+        match self {
+            Failure::Usage => 64,
+            Failure::Run(RunError::Memory) => 3,
+            Failure::Run(_) => 4,
+        }
+    }
+
+    /// The line of standard error.
+    pub fn line(self) -> &'static str
+        ensures { result.now ≡ line_of self }
+    {
+        match self {
+            Failure::Usage => {
+                "usage: binder_audit report [--workers N] [--piece N] FILE or first-fault FILE\n"
+            }
+            Failure::Run(RunError::Memory) => "fault Memory\n",
+            Failure::Run(RunError::TooLarge) => "fault TooLarge\n",
+            Failure::Run(RunError::Read) => "fault Read\n",
+            Failure::Run(RunError::Write) => "fault Write\n",
+            Failure::Run(RunError::Open) => "fault Open\n",
+        }
+    }
+
+    /// Writes the failure's line.
+    pub fn tell<E: Write>(self, err: &mut E) -> Result<(), RunError>
+        ensures ok { OnOk result
+            (Appends (E.contents err.old) (E.contents err.new) (line_of self)) }
+        ensures err { OnErr result
+            (AppendsPrefix (E.contents err.old) (E.contents err.new) (line_of self)) }
+    {
+        write_text(err, self.line().as_bytes())
+    }
+
+    /// The failure of a process whose words could not be had.
+    pub(crate) fn of_words(kind: ErrorKind) -> Failure
+        ensures { result ≡ failure_of_words kind }
+    {
+        match kind {
+            ErrorKind::OutOfMemory => Failure::Run(RunError::Memory),
+            _ => Failure::Usage,
+        }
+    }
+}
+
+impl From<RunError> for Failure {
+    ghost use Rattle.audit_program.specs.declared.failure.Failure.TheVariants.{Run};
+
+    ghost from_gives = { λ error failure. failure ≡ Run error };
+
+    fn from(error: RunError) -> Failure {
+        Failure::Run(error)
+    }
+}
+
+impl From<WordsError> for Failure {
+    ghost use Rattle.audit_program.specs.Failure.{failure_of};
+
+    ghost from_gives = { λ error failure. failure ≡ failure_of error };
+
+    fn from(error: WordsError) -> Failure {
+        match error {
+            WordsError::Memory => Failure::Run(RunError::Memory),
+            WordsError::Usage => Failure::Usage,
+        }
+    }
+}

@@ -1,0 +1,10 @@
+use Rattle.std.proofs.Common.{◌≤◌, vec_len}
+use Rattle.std.specs.Io.KnownBytes.{Consumes}
+use Rattle.audit_run.proofs.reading.read_through.Given as goal
+
+-- the reader lost what the capture holds, at least a byte a read, and no more than the limit
+abbrev pub invariant-loop : goal.invariant-loop
+invariant-loop g l =
+    Consumes (g.R.Read.remaining l.initial.reader) (g.R.Read.remaining l.reader) l.capture.items ×
+    (vec_len l.capture ≤ l.limit) ×
+    (l.counter ≤ vec_len l.capture)

@@ -1,0 +1,75 @@
+//! Reads a capture whole.
+ghost use Rattle.std.specs.Prelude.{◌≡◌, ◌+◌, ◌<◌, ◌≤◌, ◌↔◌, ◌++◌, length, vec_len, IfSome, IfOk, IfErr, OnOk, OnErr, IsErrOf};
+ghost use Rattle.std.specs.Io.KnownBytes.{IsAtEnd};
+ghost use Rattle.audit_run.specs.KnownBytes.{ConsumesSome};
+ghost use Rattle.audit_run.specs.RunError.{IsReadingFault};
+
+use crate::run_error::RunError;
+use std::alloc::Global;
+use std::io::Read;
+
+// How many bytes are asked for at a time.
+const ASKED: usize = 65_536;
+
+/// Reads until the reader gives no more, and at most `limit + 1` times. A read that passes the limit
+/// is `TooLarge`, and each error of the reader is `Read`, also one that a retry could mend.
+pub fn read_capture<R: Read>(
+    alloc: Global,
+    reader: &mut R,
+    limit: usize,
+) -> Result<Vec<u8>, RunError>
+    ensures bytes { IfOk result (λ capture. IfSome (R.remaining reader.old) (λ known. capture.items ≡ known)) }
+    ensures end { OnOk result (IsAtEnd (R.remaining reader.new)) }
+    ensures within { IfOk result (λ capture. vec_len capture ≤ limit) }
+    ensures too_large { IsErrOf result RunError.TooLarge →
+        IfSome (R.remaining reader.old) (λ known. limit < length known) }
+    ensures faults { IfErr result IsReadingFault }
+    ensures left { ConsumesSome (R.remaining reader.old) (R.remaining reader.new) }
+{
+    let mut buffer = vec![in alloc; 0u8; ASKED].map_err(|_| RunError::Memory)?;
+    read_through(alloc, reader, buffer.as_mut_slice(), limit)
+}
+
+// Reads by way of the buffer.
+fn read_through<R: Read>(
+    alloc: Global,
+    reader: &mut R,
+    buffer: &mut [u8],
+    limit: usize,
+) -> Result<Vec<u8>, RunError>
+    requires { 0 < length buffer.old }
+    ensures bytes { IfOk result (λ capture. IfSome (R.remaining reader.old) (λ known. capture.items ≡ known)) }
+    ensures end { OnOk result (IsAtEnd (R.remaining reader.new)) }
+    ensures within { IfOk result (λ capture. vec_len capture ≤ limit) }
+    ensures too_large { IsErrOf result RunError.TooLarge →
+        IfSome (R.remaining reader.old) (λ known. limit < length known) }
+    ensures faults { IfErr result IsReadingFault }
+    ensures left { ConsumesSome (R.remaining reader.old) (R.remaining reader.new) }
+{
+    let mut capture = Vec::new(alloc);
+    for _ in 0..=limit {
+        let count = reader.read(buffer).map_err(|_| RunError::Read)?;
+        if count == 0 {
+            return Ok(capture);
+        }
+        append_within(&mut capture, &buffer[..count], limit)?;
+    }
+    unreachable!()
+}
+
+// Appends the piece where the limit leaves room for it.
+fn append_within(capture: &mut Vec<u8>, piece: &[u8], limit: usize) -> Result<(), RunError>
+    requires { vec_len capture.old ≤ limit }
+    ensures ok { OnOk result (capture.new.items ≡ capture.old.items ++ piece.now) }
+    ensures err { OnErr result (capture.new.items ≡ capture.old.items) }
+    ensures within { vec_len capture.new ≤ limit }
+    ensures too_large { IsErrOf result RunError.TooLarge ↔ (limit < vec_len capture.old + length piece.now) }
+    ensures faults { IfErr result IsReadingFault }
+{
+    if limit - capture.len() < piece.len() {
+        return Err(RunError::TooLarge);
+    }
+    capture
+        .extend_from_slice(piece)
+        .map_err(|_| RunError::Memory)
+}

@@ -1,0 +1,150 @@
+//! From the bytes of a reader to the bytes of a writer.
+
+ghost use Rattle.std.specs.Prelude.{◌<◌, ◌≤◌, ℕ, List, length, IfOk, IfErr, IfSome, OnOk, OnErr, IsErrOf, IsOkUnless};
+ghost use Rattle.std.specs.Io.KnownBytes.{Appends};
+ghost use Rattle.audit_run.specs.KnownBytes.{AppendsPrefix};
+ghost use Rattle.audit_run.specs.Text.{fault_line};
+ghost use Rattle.audit_run.specs.Run.{Reports, NamesFirstFault, IsTextOf, IsLineOn, IsRead, IsOfRead, StaysOrBegins, IsRunFault, IsAnswerFault};
+ghost use Rattle.audit_run.specs.declared.limits.TheConstants.{CAPTURE_LIMIT};
+
+use crate::audit::{AuditError, audit};
+use crate::limits::{CAPTURE_LIMIT, Piece, Workers};
+use crate::reading::read_capture;
+use crate::run_error::RunError;
+use crate::text::{fault_text, report};
+use crate::writing::write_text;
+use capture_frame::Fault;
+use std::alloc::Global;
+use std::io::{Read, Write};
+use std::thread::Threads;
+use transaction_view::first_fault;
+
+/// What was written.
+#[derive(Clone, Copy, Debug, PartialEq, Eq)]
+pub enum Written {
+    /// The report.
+    Report,
+    /// The line that names the first malformed unit.
+    Malformed(Fault),
+}
+
+/// Reads a capture to its end, and writes its report, or the line that names its first fault. One
+/// thread does all the work, whatever the number of workers and the size of a piece.
+pub fn run<T: Threads + Sync, R: Read, W: Write>(
+    _rt: &T,
+    alloc: Global,
+    reader: &mut R,
+    writer: &mut W,
+    _workers: Workers,
+    _piece: Piece,
+) -> Result<Written, RunError>
+    // What is written is the definitions' text of what was read, and nothing else.
+    ensures written { IfOk result (λ written. IfSome (R.remaining reader.old) (λ capture.
+        Reports capture (W.contents writer.old) (W.contents writer.new) written)) }
+    ensures within { OnOk result (IfSome (R.remaining reader.old) (λ capture.
+        length capture ≤ CAPTURE_LIMIT)) }
+
+    // Of a reader whose bytes nobody knows beforehand, the same of some capture.
+    ensures read { IfOk result (λ written. (capture : List ℕ) × IsRead (R.remaining reader.old) capture
+        × Reports capture (W.contents writer.old) (W.contents writer.new) written) }
+
+    // After a failed write a prefix of the text stands written, and after another fault nothing.
+    ensures failed { IfErr result (λ error. IfSome (R.remaining reader.old) (λ capture.
+        StaysOrBegins (IsTextOf capture) (W.contents writer.old) (W.contents writer.new) error)) }
+    ensures begun { IfErr result (StaysOrBegins (IsOfRead IsTextOf (R.remaining reader.old))
+        (W.contents writer.old) (W.contents writer.new)) }
+    ensures too_large { IsErrOf result RunError.TooLarge → IfSome (R.remaining reader.old) (λ capture.
+        CAPTURE_LIMIT < length capture) }
+    ensures fault { IfErr result IsRunFault }
+{
+    let capture = read_capture(alloc, reader, CAPTURE_LIMIT)?;
+    write_answer(alloc, capture.as_slice(), writer)
+}
+
+/// Writes the report on a capture, or the line that names its first fault.
+fn write_answer<W: Write>(
+    alloc: Global,
+    capture: &[u8],
+    writer: &mut W,
+) -> Result<Written, RunError>
+    ensures written { IfOk result
+        (Reports capture.now (W.contents writer.old) (W.contents writer.new)) }
+    ensures failed { IfErr result
+        (StaysOrBegins (IsTextOf capture.now) (W.contents writer.old) (W.contents writer.new)) }
+    ensures fault { IfErr result IsAnswerFault }
+{
+    match audit(alloc, capture) {
+        Ok(found) => {
+            let text = report(alloc, &found).map_err(|_| RunError::Memory)?;
+            write_text(writer, text.as_bytes())?;
+            Ok(Written::Report)
+        }
+        Err(error) => match error {
+            AuditError::Memory => Err(RunError::Memory),
+            AuditError::Malformed(fault) => {
+                write_fault(writer, fault)?;
+                Ok(Written::Malformed(fault))
+            }
+        },
+    }
+}
+
+/// Reads a capture to its end, and writes the line that names its first fault, or that there is
+/// none. Reading alone takes memory: see `write_first_fault`.
+pub fn run_first_fault<R: Read, W: Write>(
+    alloc: Global,
+    reader: &mut R,
+    writer: &mut W,
+) -> Result<Option<Fault>, RunError>
+    ensures written { IfOk result (λ fault. IfSome (R.remaining reader.old) (λ capture.
+        NamesFirstFault capture (W.contents writer.old) (W.contents writer.new) fault)) }
+    ensures within { OnOk result (IfSome (R.remaining reader.old) (λ capture.
+        length capture ≤ CAPTURE_LIMIT)) }
+    ensures read { IfOk result (λ fault. (capture : List ℕ) × IsRead (R.remaining reader.old) capture
+        × NamesFirstFault capture (W.contents writer.old) (W.contents writer.new) fault) }
+    ensures failed { IfErr result (λ error. IfSome (R.remaining reader.old) (λ capture.
+        StaysOrBegins (IsLineOn capture) (W.contents writer.old) (W.contents writer.new) error)) }
+    ensures begun { IfErr result (StaysOrBegins (IsOfRead IsLineOn (R.remaining reader.old))
+        (W.contents writer.old) (W.contents writer.new)) }
+    ensures too_large { IsErrOf result RunError.TooLarge → IfSome (R.remaining reader.old) (λ capture.
+        CAPTURE_LIMIT < length capture) }
+    ensures fault { IfErr result IsRunFault }
+{
+    let capture = read_capture(alloc, reader, CAPTURE_LIMIT)?;
+    write_first_fault(capture.as_slice(), writer)
+}
+
+/// Writes the line that names a capture's first fault, or that there is none. It takes no memory.
+pub fn write_first_fault<W: Write>(
+    capture: &[u8],
+    writer: &mut W,
+) -> Result<Option<Fault>, RunError>
+    ensures written { IfOk result
+        (NamesFirstFault capture.now (W.contents writer.old) (W.contents writer.new)) }
+    ensures failed { IfErr result
+        (StaysOrBegins (IsLineOn capture.now) (W.contents writer.old) (W.contents writer.new)) }
+    ensures fault { IsOkUnless result RunError.Write }
+{
+    match first_fault(capture) {
+        Some(fault) => {
+            write_fault(writer, fault)?;
+            Ok(Some(fault))
+        }
+        None => {
+            write_text(writer, b"no malformed record\n")?;
+            Ok(None)
+        }
+    }
+}
+
+/// Writes the line that names a fault.
+fn write_fault<W: Write>(writer: &mut W, fault: Fault) -> Result<(), RunError>
+    ensures ok { OnOk result
+        (Appends (W.contents writer.old) (W.contents writer.new) (fault_line fault)) }
+    ensures err { OnErr result
+        (AppendsPrefix (W.contents writer.old) (W.contents writer.new) (fault_line fault)) }
+    ensures fault { IsOkUnless result RunError.Write }
+{
+    let line = fault_text(fault);
+    write_text(writer, line.as_str().as_bytes())
+}

@@ -1,5 +1,0 @@
-use Rattle.binder_audit.proofs.RowLaws.{objects_rise, flags_rise}
-use Rattle.binder_audit.proofs.laws.rows_rise.Goals as goal
-
-pub returns : goal.returns
-returns c = record { objects = objects_rise; flags = flags_rise }
