@@ -54,7 +54,8 @@ AskForNothing words = (asked : Request) → ¬ Ask words asked
 -- some capture within the limit was read, and the whole answer to what the words ask for was written
 abbrev pub AnswersWords : List Text → Option (List ℕ) → Option (List ℕ) → ℕ → Type 0
 AnswersWords words old new status =
-    (asked : Request) × Ask words asked × ((capture : List ℕ) × IsRead None capture × Answers asked capture old new status)
+    (asked : Request) × Ask words asked
+        × ((capture : List ℕ) × IsRead None capture × Answers asked capture old new status)
 
 -- what a failure leaves on standard output: nothing more, but for a failed write the beginning of an answer
 abbrev pub Leaves : List Text → Option (List ℕ) → Option (List ℕ) → Failure → Type 0
@@ -64,13 +65,15 @@ Leaves words old new (Run TooLarge) = (asked : Request) × Ask words asked × Ke
 Leaves words old new (Run Read) = (asked : Request) × Ask words asked × Keeps old new
 Leaves words old new (Run Open) = (asked : Request) × Ask words asked × Keeps old new
 Leaves words old new (Run Write) =
-    (asked : Request) × Ask words asked × ((text : List ℕ) × IsOfRead (IsAnswer asked) None text × AppendsPrefix old new text)
+    (asked : Request) × Ask words asked
+        × ((text : List ℕ) × IsOfRead (IsAnswer asked) None text × AppendsPrefix old new text)
 
 -- how the program ends on the words of a command line: what standard output, then standard error, held before and hold
 -- then, and the status. With an answer standard error stays; with a failure it grows by what could be written of the
 -- failure's line.
 pub data Ends (words : List Text) (out out_after err err_after : Option (List ℕ)) (status : ℕ) : Type 0 where
-  answered : AnswersWords words out out_after status → Keeps err err_after → Ends words out out_after err err_after status
+  answered : AnswersWords words out out_after status → Keeps err err_after
+      → Ends words out out_after err err_after status
   failed : (failure : Failure) → Leaves words out out_after failure → AppendsPrefix err err_after (line_of failure)
       → status ≡ status_of failure → Ends words out out_after err err_after status
 

@@ -22,12 +22,14 @@ pub(crate) fn answer<T: Threads + Sync, R: Read, W: Write>(
     reader: &mut R,
     out: &mut W,
 ) -> Result<u8, RunError>
-    ensures answered { IfOk result (λ status. (capture : List ℕ) × IsRead (R.remaining reader.old) capture
+    ensures answered { IfOk result
+        (λ status. (capture : List ℕ) × IsRead (R.remaining reader.old) capture
         × Answers request.entry capture (W.contents out.old) (W.contents out.new) status) }
-    ensures failed { IfErr result (StaysOrBegins (IsOfRead (IsAnswer request.entry) (R.remaining reader.old))
+    ensures failed { IfErr result
+        (StaysOrBegins (IsOfRead (IsAnswer request.entry) (R.remaining reader.old))
         (W.contents out.old) (W.contents out.new)) }
-    ensures too_large { IsErrOf result RunError.TooLarge → IfSome (R.remaining reader.old) (λ capture.
-        CAPTURE_LIMIT < length capture) }
+    ensures too_large { IsErrOf result RunError.TooLarge
+        → IfSome (R.remaining reader.old) (λ capture. CAPTURE_LIMIT < length capture) }
     ensures fault { IfErr result IsRunFault }
 {
     match request {

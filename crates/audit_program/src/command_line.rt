@@ -86,13 +86,15 @@ fn command<'a>(alloc: Global) -> Result<Command<'a>, AllocError>
 // The option's value as a number.
 fn number_of(matches: &ArgMatches<'_>, name: &str) -> Option<u64>
     ensures some { IfSome result (ReadsNumber name.now (rows_of (found_of matches.now))) }
-    ensures none { IfNone result ((n : ℕ) → ReadsNumber name.now (rows_of (found_of matches.now)) n → 2 ^ 64 ≤ n) }
+    ensures none { IfNone result
+        ((n : ℕ) → ReadsNumber name.now (rows_of (found_of matches.now)) n → 2 ^ 64 ≤ n) }
 {
     matches.get_one(name)
 }
 
 fn file_of<'a>(matches: &ArgMatches<'a>) -> Option<&'a str>
-    ensures some { IfSome result (λ name. first_of (codes "file") (rows_of (found_of matches.now)) ≡ Some name.now) }
+    ensures some { IfSome result
+        (λ name. first_of (codes "file") (rows_of (found_of matches.now)) ≡ Some name.now) }
     ensures none { IfNone result (first_of (codes "file") (rows_of (found_of matches.now)) ≡ None) }
 {
     matches.get_str("file")
@@ -100,7 +102,8 @@ fn file_of<'a>(matches: &ArgMatches<'a>) -> Option<&'a str>
 
 fn report_of<'a>(matches: &ArgMatches<'a>) -> Option<Request<'a>>
     ensures some { IfSome result (AsksReport (rows_of (found_of matches.now))) }
-    ensures none { IfNone result ((request : Request) → ¬ AsksReport (rows_of (found_of matches.now)) request) }
+    ensures none { IfNone result
+        ((request : Request) → ¬ AsksReport (rows_of (found_of matches.now)) request) }
 {
     let workers = Workers::new(number_of(matches, "workers")?)?;
     let piece = Piece::new(number_of(matches, "piece")?)?;
@@ -114,7 +117,8 @@ fn report_of<'a>(matches: &ArgMatches<'a>) -> Option<Request<'a>>
 
 fn first_fault_of<'a>(matches: &ArgMatches<'a>) -> Option<Request<'a>>
     ensures some { IfSome result (AsksFirstFault (rows_of (found_of matches.now))) }
-    ensures none { IfNone result ((request : Request) → ¬ AsksFirstFault (rows_of (found_of matches.now)) request) }
+    ensures none { IfNone result
+        ((request : Request) → ¬ AsksFirstFault (rows_of (found_of matches.now)) request) }
 {
     let file = file_of(matches)?;
     Some(Request::FirstFault { file })
@@ -122,7 +126,8 @@ fn first_fault_of<'a>(matches: &ArgMatches<'a>) -> Option<Request<'a>>
 
 fn request_of<'a>(matches: &ArgMatches<'a>) -> Option<Request<'a>>
     ensures some { IfSome result (AsksFor (subcommand_rows_of matches.now)) }
-    ensures none { IfNone result ((request : Request) → ¬ AsksFor (subcommand_rows_of matches.now) request) }
+    ensures none { IfNone result
+        ((request : Request) → ¬ AsksFor (subcommand_rows_of matches.now) request) }
 {
     let (name, inner) = matches.subcommand()?;
     if name == "report" {

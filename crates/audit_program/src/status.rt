@@ -69,7 +69,8 @@ fn program_on<T: Files + Threads + Sync, W: Write, E: Write>(
     out: &mut W,
     err: &mut E,
 ) -> u8
-    ensures { Ends (map string_bytes (into_iter_items words)) (W.contents out.old) (W.contents out.new)
+    ensures { Ends (map string_bytes (into_iter_items words)) (W.contents out.old)
+        (W.contents out.new)
         (E.contents err.old) (E.contents err.new) result }
 {
     match words.collect::<Vec<String>>(alloc) {

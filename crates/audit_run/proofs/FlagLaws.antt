@@ -12,7 +12,8 @@ use Rattle.audit_run.specs.Places.{PlacedRecord, placed_records}
 use Rattle.audit_run.proofs.PlaceLaws.{placed_records-snoc, flag_rows-snoc}
 
 -- the rows of one record more
-pub flag_rows_next : (frame : Frame) (reading : Reading) (done : List RecordText) (stands : StandsBehind frame reading done) (found : Record) (new : Reading) → Steps reading (Ok (Some found)) new
+pub flag_rows_next : (frame : Frame) (reading : Reading) (done : List RecordText) (stands : StandsBehind frame reading done) (found : Record) (new : Reading)
+    → Steps reading (Ok (Some found)) new
     → (front old after : List FlagRow) → old ≡ front ++ flag_rows (placed_records frame.place (envelope.text_of frame) done)
     → after ≡ old ++ row_of_bits found.place frame.process (unknown_flags (Ok found.kind) found.payload.now)
     → after ≡ front ++ flag_rows (placed_records frame.place (envelope.text_of frame) (done ++ text_of found ∷ []))

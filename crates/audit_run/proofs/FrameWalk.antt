@@ -18,13 +18,15 @@ use Rattle.audit_run.specs.Totals.{SumsFrames}
 use Rattle.audit_run.proofs.RecordWalk.{records_short}
 
 -- the code words of one frame more
-pub code_words-snoc : (done : List WholeFrame) (whole : WholeFrame) → code_words done ++ map (λ (r : RecordText). r.code) whole.records ≡ code_words (done ++ whole ∷ [])
+pub code_words-snoc : (done : List WholeFrame) (whole : WholeFrame) → code_words done
+    ++ map (λ (r : RecordText). r.code) whole.records ≡ code_words (done ++ whole ∷ [])
 code_words-snoc done whole =
     let words : WholeFrame → List ℕ = λ w. map (λ (r : RecordText). r.code) w.records in
     sym (flat_map-append words done (whole ∷ []) ∙ ap (λ (t : List ℕ). code_words done ++ t) (append-nil (words whole)))
 
 -- the records and the frames are no more than the bytes before the reader
-words_short : (before : Option ℕ) (frames : List WholeFrame) → AllStand whole_format before frames → length (code_words frames) + 32 * length frames ≤ length (spelling_of whole_format frames)
+words_short : (before : Option ℕ) (frames : List WholeFrame) → AllStand whole_format before frames
+    → length (code_words frames) + 32 * length frames ≤ length (spelling_of whole_format frames)
 words_short before [] all = omega arith
 words_short before (w ∷ frames) all =
     let words : WholeFrame → List ℕ = λ x. map (λ (r : RecordText). r.code) x.records in
@@ -35,7 +37,8 @@ words_short before (w ∷ frames) all =
     omega (arith, more, few, split, width, length-map w.records (λ (r : RecordText). r.code), length-frame_bytes w.frame)
 
 -- with the frame that the reader gives they fit 64 bits
-pub room_for_frame : (capture : List ℕ) (reading : Reading) (done : List WholeFrame) (stands : StandsBehind capture reading done) (found : Frame) (new : Reading) → Steps reading (Ok (Some found)) new
+pub room_for_frame : (capture : List ℕ) (reading : Reading) (done : List WholeFrame) (stands : StandsBehind capture reading done) (found : Frame)
+    (new : Reading) → Steps reading (Ok (Some found)) new
     → (length (code_words done) + length found.commands.now < 2 ^ 64) × (length done + 1 < 2 ^ 64)
 room_for_frame capture reading done stands found new steps =
     let s = steps_from capture reading done stands (Ok (Some found)) new steps in
@@ -45,14 +48,16 @@ room_for_frame capture reading done stands found new steps =
     (omega (arith, short, stands.walks.length_is), omega (arith, short, stands.walks.length_is))
 
 -- sequences rise, so none is missing twice
-rises : (first : WholeFrame) (others : List WholeFrame) → AllStand whole_format (Some first.frame.sequence) others → first.frame.sequence + length others ≤ last_sequence first others
+rises : (first : WholeFrame) (others : List WholeFrame) → AllStand whole_format (Some first.frame.sequence) others
+    → first.frame.sequence + length others ≤ last_sequence first others
 rises first [] all = omega arith
 rises first (next ∷ others) all =
     let more = rises next others all.1 in
     let above : first.frame.sequence < next.frame.sequence = all.0.header.above in
     omega (arith, more, above)
 
-pub sequences_rise : (sequences : Sequences) (done : List WholeFrame) → AllStand whole_format None done → SumsFrames sequences done → 0 < sequences.frames → sequences.first + sequences.frames ≤ sequences.last + 1
+pub sequences_rise : (sequences : Sequences) (done : List WholeFrame) → AllStand whole_format None done → SumsFrames sequences done → 0 < sequences.frames
+    → sequences.first + sequences.frames ≤ sequences.last + 1
 sequences_rise sequences [] all sums some = absurd (omega (arith, sums, some))
 sequences_rise sequences (first ∷ others) all sums some =
     let spread = rises first others all.1 in

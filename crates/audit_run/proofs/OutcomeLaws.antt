@@ -46,9 +46,11 @@ counted_start frame old = record {
 }
 
 -- the outcome of one entry more
-pub counted_next : (frame : Frame) (old mid new : ObjectTotals) (distance : ℕ) (done : List EntryText) → Counted frame old mid distance done → (found : Entry) (e : EntryText) → Says (commands_place frame.place) found e
+pub counted_next : (frame : Frame) (old mid new : ObjectTotals) (distance : ℕ) (done : List EntryText) → Counted frame old mid distance done
+    → (found : Entry) (e : EntryText) → Says (commands_place frame.place) found e
     → (objects : List ObjectText) (bad : Option BadObject) → AreObjects found.body.now found.offsets.now objects bad
-    → ((sort : Sort) → count_of new.counts sort ≡ count_of mid.counts sort + times_of sort objects) → new.bad.items ≡ mid.bad.items ++ row_of_bad found.owner frame.process bad
+    → ((sort : Sort) → count_of new.counts sort ≡ count_of mid.counts sort + times_of sort objects) → new.bad.items ≡ mid.bad.items
+        ++ row_of_bad found.owner frame.process bad
     → Counted frame old new (distance + length (entry_bytes e)) (done ++ e ∷ [])
 counted_next frame old mid new distance done counted found e says objects bad are counts rows =
     let text = text_of frame in
@@ -58,7 +60,8 @@ counted_next frame old mid new distance done counted found e says objects bad ar
     subst (λ (t : List ℕ). AreObjects e.body t objects bad) says.offsets (subst (λ (t : List ℕ). AreObjects t found.offsets.now objects bad) says.body are) in
     let made : EntryText → PlacedEntry = λ x. record { owner = frame.place + 32 + x.offset; frame = text; said = x } in
     let good : good_objects (counted.outcomes ++ outcome ∷ []) ≡ good_objects counted.outcomes ++ objects =
-    flat_map-append (λ (o : Outcome). o.objects) counted.outcomes (outcome ∷ []) ∙ ap (λ (t : List ObjectText). good_objects counted.outcomes ++ t) (append-nil objects) in
+    flat_map-append (λ (o : Outcome). o.objects) counted.outcomes (outcome ∷ [])
+        ∙ ap (λ (t : List ObjectText). good_objects counted.outcomes ++ t) (append-nil objects) in
     let row : Outcome → List BadRow = λ o. row_of_bad o.entry.owner o.entry.frame.process o.bad in
     let all_rows : bad_rows (counted.outcomes ++ outcome ∷ []) ≡ bad_rows counted.outcomes ++ row outcome =
     flat_map-append row counted.outcomes (outcome ∷ []) ∙ ap (λ (t : List BadRow). bad_rows counted.outcomes ++ t) (append-nil (row outcome)) in
@@ -68,7 +71,8 @@ counted_next frame old mid new distance done counted found e says objects bad ar
     record {
       outcomes = counted.outcomes ++ outcome ∷ [];
       are = record {
-        each = map-append (λ (o : Outcome). o.entry) counted.outcomes (outcome ∷ []) ∙ ap (λ (t : List PlacedEntry). t ++ entry ∷ []) counted.are.each ∙ sym (map-append made done (e ∷ []));
+        each = map-append (λ (o : Outcome). o.entry) counted.outcomes (outcome ∷ []) ∙ ap (λ (t : List PlacedEntry). t ++ entry ∷ []) counted.are.each
+            ∙ sym (map-append made done (e ∷ []));
         are_objects = All-append IsOutcome counted.outcomes (outcome ∷ []) counted.are.are_objects (All-cons IsOutcome outcome [] there (All-nil IsOutcome));
       };
       counts = λ sort.
@@ -82,12 +86,14 @@ counted_next frame old mid new distance done counted found e says objects bad ar
     }
 
 -- where the content has no fault, a reader that gives no entry more has given them all
-pub entries_over : (frame : Frame) (reading : Reading) (done : List EntryText) (stands : StandsBehind frame reading done) (result : Result (Option Entry) Fault) (answer : Option Entry) (new : Reading)
+pub entries_over : (frame : Frame) (reading : Reading) (done : List EntryText) (stands : StandsBehind frame reading done)
+    (result : Result (Option Entry) Fault) (answer : Option Entry) (new : Reading)
     → HasGoodContent (text_of frame) → Steps reading result new → answer ≡ result_unwrap_or result None → answer ≡ None → HasEntries (text_of frame) done
 entries_over frame reading done stands (Ok None) answer new good steps is none = entries_end frame reading done stands new steps
 entries_over frame reading done stands (Ok (Some found)) answer new good steps is none = let wrong : Some found ≡ None = sym is ∙ none in cc
 entries_over frame reading done stands (Err fault) answer new good steps is none = absurd (entries_never_fail frame reading done stands fault new good steps)
 
-pub entry_given : (result : Result (Option Entry) Fault) (answer : Option Entry) (found : Entry) → answer ≡ result_unwrap_or result None → answer ≡ Some found → result ≡ Ok (Some found)
+pub entry_given : (result : Result (Option Entry) Fault) (answer : Option Entry) (found : Entry) → answer ≡ result_unwrap_or result None → answer ≡ Some found
+    → result ≡ Ok (Some found)
 entry_given (Ok given) answer found is some = ap Ok (sym is ∙ some)
 entry_given (Err fault) answer found is some = let wrong : None ≡ Some found = sym is ∙ some in cc

@@ -22,10 +22,12 @@ placed-snoc {U} spelling place (x ∷ units) unit =
     ∙ ap (λ (n : ℕ). let pair : ℕ × U = (n, unit) in placed spelling (place + length (spelling x)) units ++ pair ∷ []) same)
 
 pub placed_records-snoc : (frame_place : ℕ) (frame : FrameText) (records : List RecordText) (r : RecordText)
-    → placed_records frame_place frame (records ++ r ∷ []) ≡ placed_records frame_place frame records ++ (let made : PlacedRecord = record { place = frame_place + 32 + span_of records; frame = frame; said = r } in made) ∷ []
+    → placed_records frame_place frame (records ++ r ∷ []) ≡ placed_records frame_place frame records
+        ++ (let made : PlacedRecord = record { place = frame_place + 32 + span_of records; frame = frame; said = r } in made) ∷ []
 placed_records-snoc frame_place frame records r =
     let made : ℕ × RecordText → PlacedRecord = λ x. record { place = x.0; frame = frame; said = x.1 } in
-    ap (map made) (placed-snoc record_bytes (frame_place + 32) records r) ∙ map-append made (placed record_bytes (frame_place + 32) records) ((frame_place + 32 + span_of records, r) ∷ [])
+    ap (map made) (placed-snoc record_bytes (frame_place + 32) records r)
+        ∙ map-append made (placed record_bytes (frame_place + 32) records) ((frame_place + 32 + span_of records, r) ∷ [])
 
 pub flag_rows-snoc : (records : List PlacedRecord) (r : PlacedRecord) → flag_rows (records ++ r ∷ []) ≡ flag_rows records ++ flag_row r
 flag_rows-snoc records r = flat_map-append flag_row records (r ∷ []) ∙ ap (λ (t : List _). flag_rows records ++ t) (append-nil (flag_row r))

@@ -24,14 +24,17 @@ use Rattle.transaction_view.proofs.RecordWalk.{StandsBehind, steps_from, records
 use Rattle.audit_run.specs.Findings.{protocol_of_word, kind_of_word, is_opaque_kind, is_opaque}
 
 -- where the records have no fault, a reader that gives none more has given them all
-pub records_over : (frame : Frame) (reading : Reading) (done : List RecordText) (stands : StandsBehind frame reading done) (result : Result (Option Record) Fault) (answer : Option Record) (new : Reading)
-    → HasReadableRecords (envelope.text_of frame) → Steps reading result new → answer ≡ result_unwrap_or result None → answer ≡ None → HasRecords (envelope.text_of frame) done
+pub records_over : (frame : Frame) (reading : Reading) (done : List RecordText) (stands : StandsBehind frame reading done)
+    (result : Result (Option Record) Fault) (answer : Option Record) (new : Reading)
+    → HasReadableRecords (envelope.text_of frame) → Steps reading result new → answer ≡ result_unwrap_or result None → answer ≡ None
+        → HasRecords (envelope.text_of frame) done
 records_over frame reading done stands (Ok None) answer new readable steps is none = records_end frame reading done stands new steps
 records_over frame reading done stands (Ok (Some found)) answer new readable steps is none = let wrong : Some found ≡ None = sym is ∙ none in cc
 records_over frame reading done stands (Err fault) answer new readable steps is none = absurd (fails_never frame reading done stands fault new readable steps)
 
 -- records are at least as long as their codes
-records_long : (format : Format (Unit {0}) RecordText FaultKind) → ((r : RecordText) → format.spelling r ≡ record_bytes r) → (records : List RecordText) → 4 * length records ≤ length (spelling_of format records)
+records_long : (format : Format (Unit {0}) RecordText FaultKind) → ((r : RecordText) → format.spelling r ≡ record_bytes r) → (records : List RecordText)
+    → 4 * length records ≤ length (spelling_of format records)
 records_long format spelled [] = omega arith
 records_long format spelled (r ∷ records) =
     let one = ap length (flat_map-cons format.spelling r records) ∙ length-append (format.spelling r) (spelling_of format records) in
@@ -45,14 +48,17 @@ records_short frame records has =
     omega (arith, whole, records_long (record_format (protocol_of frame.direction)) (λ r. refl) records)
 
 -- with the record that the reader gives they are no more either
-pub room_for_one : (frame : Frame) (reading : Reading) (done : List RecordText) (stands : StandsBehind frame reading done) (found : Record) (new : Reading) → Steps reading (Ok (Some found)) new
+pub room_for_one : (frame : Frame) (reading : Reading) (done : List RecordText) (stands : StandsBehind frame reading done) (found : Record) (new : Reading)
+    → Steps reading (Ok (Some found)) new
     → length done + 1 ≤ length frame.commands.now
 room_for_one frame reading done stands found new steps =
     let s = steps_from frame reading done stands (Ok (Some found)) new steps in
     let commands = frame.commands.now in
     let n = length (record_bytes (text_of found)) in
-    let parts : length (drop stands.offset commands) ≡ n + length (drop n (drop stands.offset commands)) = ap length s.0.joined ∙ length-append (record_bytes (text_of found)) (drop n (drop stands.offset commands)) in
-    omega (arith, parts, length-drop stands.offset commands, length-record_bytes (text_of found), stands.walks.length_is, records_long (record_format (protocol_of frame.direction)) (λ r. refl) done)
+    let parts : length (drop stands.offset commands) ≡ n + length (drop n (drop stands.offset commands)) = ap length s.0.joined
+        ∙ length-append (record_bytes (text_of found)) (drop n (drop stands.offset commands)) in
+    omega (arith, parts, length-drop stands.offset commands, length-record_bytes (text_of found), stands.walks.length_is, records_long
+        (record_format (protocol_of frame.direction)) (λ r. refl) done)
 
 -- a record is opaque where its code word is
 passed : {A E : Type 0} (test : Bool) (listed : Result A E) (fault : E) (x : A) → cond test listed (Err fault) ≡ Ok x → test ≡ true
@@ -78,10 +84,13 @@ opaque_word protocol word kind e =
     ap is_opaque_kind (sym known)
 
 -- the code words of one record more
-pub codes-snoc : (words : List ℕ) (done : List RecordText) (r : RecordText) → words ++ map (λ (x : RecordText). x.code) done ++ r.code ∷ [] ≡ words ++ map (λ (x : RecordText). x.code) (done ++ r ∷ [])
-codes-snoc words done r = append_assoc words (map (λ (x : RecordText). x.code) done) (r.code ∷ []) ∙ ap (λ (t : List ℕ). words ++ t) (sym (map-append (λ (x : RecordText). x.code) done (r ∷ [])))
+pub codes-snoc : (words : List ℕ) (done : List RecordText) (r : RecordText) → words ++ map (λ (x : RecordText). x.code) done ++ r.code ∷ [] ≡ words
+    ++ map (λ (x : RecordText). x.code) (done ++ r ∷ [])
+codes-snoc words done r = append_assoc words (map (λ (x : RecordText). x.code) done) (r.code ∷ [])
+    ∙ ap (λ (t : List ℕ). words ++ t) (sym (map-append (λ (x : RecordText). x.code) done (r ∷ [])))
 
 -- the kind of the record that the reader gives is its code's
-pub kind_is : (frame : Frame) (reading : Reading) (done : List RecordText) (stands : StandsBehind frame reading done) (found : Record) (new : Reading) → Steps reading (Ok (Some found)) new
+pub kind_is : (frame : Frame) (reading : Reading) (done : List RecordText) (stands : StandsBehind frame reading done) (found : Record) (new : Reading)
+    → Steps reading (Ok (Some found)) new
     → kind_of (protocol_of frame.direction) found.code.0 ≡ Ok found.kind
 kind_is frame reading done stands found new steps = let s = steps_from frame reading done stands (Ok (Some found)) new steps in s.0.kind

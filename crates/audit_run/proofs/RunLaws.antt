@@ -13,12 +13,14 @@ known None read P same holds = tt
 known (Some b) read P same holds = subst P same holds
 
 -- an answer about the bytes that were read is one about those that the reader had
-pub answer_known : {A E : Type 0} (result : Result A E) (bytes : Option (List ℕ)) (read : List ℕ) (P : List ℕ → A → Type 0) → IfSome bytes (λ b. read ≡ b) → IfOk result (P read) → IfOk result (λ a. IfSome bytes (λ b. P b a))
+pub answer_known : {A E : Type 0} (result : Result A E) (bytes : Option (List ℕ)) (read : List ℕ) (P : List ℕ → A → Type 0) → IfSome bytes (λ b. read ≡ b)
+    → IfOk result (P read) → IfOk result (λ a. IfSome bytes (λ b. P b a))
 answer_known (Ok a) bytes read P same holds = known bytes read (λ b. P b a) same holds
 answer_known (Err e) bytes read P same holds = holds
 
 -- an answer about the bytes that were read is one about some capture that was read
-pub answer_read : {A E : Type 0} (result : Result A E) (had : Option (List ℕ)) (bytes : List ℕ) (P : List ℕ → A → Type 0) → IsRead had bytes → IfOk result (P bytes)
+pub answer_read : {A E : Type 0} (result : Result A E) (had : Option (List ℕ)) (bytes : List ℕ) (P : List ℕ → A → Type 0) → IsRead had bytes
+    → IfOk result (P bytes)
     → IfOk result (λ a. (capture : List ℕ) × IsRead had capture × P capture a)
 answer_read (Ok a) had bytes P read holds = (bytes, read, holds)
 answer_read (Err e) had bytes P read holds = holds
@@ -32,7 +34,8 @@ begun_read IsOf had bytes old new Read read begun = begun
 begun_read IsOf had bytes old new Open read begun = begun
 begun_read IsOf had bytes old new Write read begun = (begun.0, (bytes, read, begun.1), begun.2)
 
-pub failure_read : {A : Type 0} (result : Result A RunError) (IsOf : List ℕ → List ℕ → Type 0) (had : Option (List ℕ)) (bytes : List ℕ) (old new : Option (List ℕ)) → IsRead had bytes
+pub failure_read : {A : Type 0} (result : Result A RunError) (IsOf : List ℕ → List ℕ → Type 0) (had : Option (List ℕ)) (bytes : List ℕ)
+    (old new : Option (List ℕ)) → IsRead had bytes
     → IfErr result (StaysOrBegins (IsOf bytes) old new) → IfErr result (StaysOrBegins (IsOfRead IsOf had) old new)
 failure_read (Ok a) IsOf had bytes old new read begun = begun
 failure_read (Err error) IsOf had bytes old new read begun = begun_read IsOf had bytes old new error read begun

@@ -38,13 +38,15 @@ not_below x y ys pairs there lt = elim (Contains-cases x y ys there) [
   | inr behind ↦ let high : y < x = All-contains (λ n. y < n) ys x (above_first y ys pairs) behind in absurd (omega arith)
 ]
 
-same_behind : (x : ℕ) (xs ys : List ℕ) → AllPairs (λ a b. a < b) (x ∷ xs) → ((n : ℕ) → Contains (x ∷ xs) n → Contains (x ∷ ys) n) → (n : ℕ) → Contains xs n → Contains ys n
+same_behind : (x : ℕ) (xs ys : List ℕ) → AllPairs (λ a b. a < b) (x ∷ xs) → ((n : ℕ) → Contains (x ∷ xs) n → Contains (x ∷ ys) n) → (n : ℕ) → Contains xs n
+    → Contains ys n
 same_behind x xs ys pairs to n there = elim (Contains-cases n x ys (to n (Contains-behind n x xs there))) [
   | inl is ↦ let high : x < n = All-contains (λ m. x < m) xs n (above_first x xs pairs) there in absurd (omega arith)
   | inr behind ↦ behind
 ]
 
-same_members : (xs ys : List ℕ) → AllPairs (λ a b. a < b) xs → AllPairs (λ a b. a < b) ys → ((n : ℕ) → Contains xs n → Contains ys n) → ((n : ℕ) → Contains ys n → Contains xs n) → xs ≡ ys
+same_members : (xs ys : List ℕ) → AllPairs (λ a b. a < b) xs → AllPairs (λ a b. a < b) ys → ((n : ℕ) → Contains xs n → Contains ys n)
+    → ((n : ℕ) → Contains ys n → Contains xs n) → xs ≡ ys
 same_members [] [] p q to back = refl
 same_members [] (y ∷ ys) p q to back = absurd (Contains-none y (back y (Contains-here y ys)))
 same_members (x ∷ xs) [] p q to back = absurd (Contains-none x (to x (Contains-here x xs)))
@@ -58,13 +60,15 @@ same_members (x ∷ xs) (y ∷ ys) p q to back =
     ] in
     let q_at : AllPairs (λ a b. a < b) (x ∷ ys) = subst (λ (n : ℕ). AllPairs (λ a b. a < b) (n ∷ ys)) (sym first) q in
     let to_at : (n : ℕ) → Contains (x ∷ xs) n → Contains (x ∷ ys) n = subst (λ (m : ℕ). (n : ℕ) → Contains (x ∷ xs) n → Contains (m ∷ ys) n) (sym first) to in
-    let back_at : (n : ℕ) → Contains (x ∷ ys) n → Contains (x ∷ xs) n = subst (λ (m : ℕ). (n : ℕ) → Contains (m ∷ ys) n → Contains (x ∷ xs) n) (sym first) back in
+    let back_at : (n : ℕ) → Contains (x ∷ ys) n → Contains (x ∷ xs) n =
+        subst (λ (m : ℕ). (n : ℕ) → Contains (m ∷ ys) n → Contains (x ∷ xs) n) (sym first) back in
     ap₂ (λ (n : ℕ) (t : List ℕ). n ∷ t) first
     (same_members xs ys (behind_first x xs p) (behind_first x ys q_at) (same_behind x xs ys p to_at) (same_behind x ys xs q_at back_at))
 
 -- ---- rows that count
 
-counted_here : (word w : ℕ) (words : List ℕ) → 0 < count_by (λ v. v == word) (w ∷ words) → (0 < count_by (λ v. v == word) words → Contains words word) → Contains (w ∷ words) word
+counted_here : (word w : ℕ) (words : List ℕ) → 0 < count_by (λ v. v == word) (w ∷ words) → (0 < count_by (λ v. v == word) words → Contains words word)
+    → Contains (w ∷ words) word
 counted_here word w words more later = elim (cases_eq w word) [
   | inl same ↦ subst (λ (n : ℕ). Contains (w ∷ words) n) same (Contains-here w words)
   | inr other ↦ Contains-behind word w words (later (rw (ne_eqb w word other) at more))
@@ -78,7 +82,8 @@ counted_there word (w ∷ words) more = counted_here word w words more (counted_
 row_of : List ℕ → ℕ → CodeRow
 row_of words word = record { word = word; count = count_by (λ w. w == word) words }
 
-rows_by_word : (words : List ℕ) (rows : List CodeRow) → All (λ row. (0 < row.count) × (row.count ≡ count_by (λ word. word == row.word) words)) rows → rows ≡ map (row_of words) (map (λ row. row.word) rows)
+rows_by_word : (words : List ℕ) (rows : List CodeRow) → All (λ row. (0 < row.count) × (row.count ≡ count_by (λ word. word == row.word) words)) rows
+    → rows ≡ map (row_of words) (map (λ row. row.word) rows)
 unfolding row_of
 rows_by_word words [] counted = refl
 rows_by_word words (row ∷ rows) counted =
@@ -86,7 +91,8 @@ rows_by_word words (row ∷ rows) counted =
     let make : ℕ → CodeRow = λ n. record { word = row.word; count = n } in
     ap₂ (λ (r : CodeRow) (t : List CodeRow). r ∷ t) (ap make here.1) (rows_by_word words rows (λ k d within. counted (suc k) d (omega arith)))
 
-word_there : (words : List ℕ) (rows : List CodeRow) → All (λ row. (0 < row.count) × (row.count ≡ count_by (λ word. word == row.word) words)) rows → (word : ℕ) → Contains (map (λ row. row.word) rows) word → Contains words word
+word_there : (words : List ℕ) (rows : List CodeRow) → All (λ row. (0 < row.count) × (row.count ≡ count_by (λ word. word == row.word) words)) rows → (word : ℕ)
+    → Contains (map (λ row. row.word) rows) word → Contains words word
 word_there words [] counted word there = absurd (Contains-none word there)
 word_there words (row ∷ rows) counted word there = elim (Contains-cases word row.word (map (λ (r : CodeRow). r.word) rows) there) [
   | inl is ↦ let here = counted zero row (omega arith) in subst (Contains words) is (counted_there row.word words (omega (arith, here.0, here.1)))

@@ -35,11 +35,13 @@ counted_at_least_once [] word has = absurd (omega (arith, has.1))
 counted_at_least_once (w ∷ words) word has =
     let split = sum_by-append (λ (x : ℕ). cond (eqb x word) 1 0) (w ∷ []) words in
     elim (cases_eq w word) [
-      | inl same ↦ (let one = eq-eqb w word same in let first : sum_by (λ (x : ℕ). cond (eqb x word) 1 0) (w ∷ []) ≡ 1 = rw one refl in omega (arith, split, first))
+      | inl same ↦ (let one = eq-eqb w word same in let first : sum_by (λ (x : ℕ). cond (eqb x word) 1 0) (w ∷ []) ≡ 1 = rw one refl in
+          omega (arith, split, first))
       | inr other ↦ (let more = counted_at_least_once words word (Contains-tail w words word other has) in omega (arith, split, more))
     ]
 
-pub are_code_rows : (counts : BTreeMap ℕ ℕ) (words : List ℕ) → IsOrdered nat_cmp counts → ((word : ℕ) → get nat_cmp counts word ≡ times word words) → AreCodeRows words (map row_of counts.entries)
+pub are_code_rows : (counts : BTreeMap ℕ ℕ) (words : List ℕ) → IsOrdered nat_cmp counts → ((word : ℕ) → get nat_cmp counts word ≡ times word words)
+    → AreCodeRows words (map row_of counts.entries)
 are_code_rows counts words ordered counted = record {
   rising = subst IsStrictlyIncreasing (sym (words_of_rows counts.entries)) (IsStrictlyIncreasing-from_sorted (keys counts) ordered);
   counted = All-map (λ (row : CodeRow). (0 < row.count) × (row.count ≡ count_by (λ word. eqb word row.word) words)) row_of counts.entries
@@ -47,5 +49,6 @@ are_code_rows counts words ordered counted = record {
       (λ e found. positive_some _ e.1 (sym (counted e.0) ∙ found)) counts.entries (All-found nat_cmp_total counts ordered));
   whole = λ word has.
       let found : IsSome (get nat_cmp counts word) = subst IsSome (sym (counted word)) (positive_is_some _ (counted_at_least_once words word has)) in
-      subst (λ (t : List ℕ). Contains t word) (sym (words_of_rows counts.entries)) ((btree_map_contains_key_iff nat_cmp_total exact_unsigned counts word).0 found);
+      subst (λ (t : List ℕ). Contains t word) (sym (words_of_rows counts.entries))
+          ((btree_map_contains_key_iff nat_cmp_total exact_unsigned counts word).0 found);
 }

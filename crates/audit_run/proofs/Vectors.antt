@@ -51,7 +51,8 @@ eighty_four_said = decimal_two 84 (omega arith) (omega arith)
 hundred_said : decimal 100 ≡ codes "100"
 hundred_said = decimal_pair 100 (omega arith) (omega arith) ∙ ap (λ (t : List ℕ). t ++ codes "00") (decimal_digit 1 (omega arith))
 
-empty_report : report_text nothing ≡ codes "BINDER AUDIT 1\nframes 0 records 0 opaque 0 missing 0\ncodes 0\nobjects binder 0 weak_binder 0 handle 0 weak_handle 0 fd 0 fda 0 ptr 0 bad 0\nflags 0\n"
+empty_report : report_text nothing
+    ≡ codes "BINDER AUDIT 1\nframes 0 records 0 opaque 0 missing 0\ncodes 0\nobjects binder 0 weak_binder 0 handle 0 weak_handle 0 fd 0 fda 0 ptr 0 bad 0\nflags 0\n"
 unfolding nothing report_text
 empty_report = rw zero_said refl
 

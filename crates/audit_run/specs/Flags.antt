@@ -22,7 +22,8 @@ row_of_bits place process bits = if bits == 0 then [] else record { place = plac
 -- the row of a record, if it has one
 abbrev pub flag_row : PlacedRecord → List FlagRow
 flag_row r =
-    row_of_bits r.place r.frame.process (unknown_flags (kind_of (protocol_of r.frame.direction) r.said.code) r.said.payload)
+    row_of_bits r.place r.frame.process
+        (unknown_flags (kind_of (protocol_of r.frame.direction) r.said.code) r.said.payload)
 
 -- the rows of these records
 abbrev pub flag_rows : List PlacedRecord → List FlagRow

@@ -21,7 +21,8 @@ pub record PlacedRecord : Type 0 where
 -- the records of a frame that stands at that place
 abbrev pub placed_records : ℕ → FrameText → List RecordText → List PlacedRecord
 placed_records frame_place frame records =
-    map (λ r. record { place = r.0; frame = frame; said = r.1 }) (placed record_bytes (commands_place frame_place) records)
+    map (λ r. record { place = r.0; frame = frame; said = r.1 })
+        (placed record_bytes (commands_place frame_place) records)
 
 -- the records of a capture, in rising place
 abbrev pub all_records : List WholeFrame → List PlacedRecord
@@ -35,7 +36,8 @@ pub record PlacedEntry : Type 0 where
 
 -- the entries of a frame that stands at that place
 abbrev pub placed_entries : ℕ → FrameText → List EntryText → List PlacedEntry
-placed_entries frame_place frame entries = map (λ e. record { owner = commands_place frame_place + e.offset; frame = frame; said = e }) entries
+placed_entries frame_place frame entries =
+    map (λ e. record { owner = commands_place frame_place + e.offset; frame = frame; said = e }) entries
 
 -- the entries of a capture, in the order of the records that they belong to
 abbrev pub all_entries : List WholeFrame → List PlacedEntry

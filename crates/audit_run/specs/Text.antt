@@ -58,7 +58,8 @@ codes_lines found = codes_head found ∷ map codes_row found.codes
 -- the head of the section `objects`: how many good objects of each sort there are, and how many bad ones
 abbrev pub objects_head : Findings → List ℕ
 objects_head found =
-    codes "objects binder " ++ decimal found.objects.binder ++ codes " weak_binder " ++ decimal found.objects.weak_binder
+    codes "objects binder " ++ decimal found.objects.binder ++ codes " weak_binder "
+    ++ decimal found.objects.weak_binder
     ++ codes " handle " ++ decimal found.objects.handle ++ codes " weak_handle " ++ decimal found.objects.weak_handle
     ++ codes " fd " ++ decimal found.objects.fd ++ codes " fda " ++ decimal found.objects.fda
     ++ codes " ptr " ++ decimal found.objects.ptr ++ codes " bad " ++ decimal (length found.bad_objects)
@@ -134,4 +135,5 @@ no_fault_line = ended (codes "no malformed record")
 -- the text is the report on a capture in the grammar
 abbrev pub IsReportOn : List ℕ → List ℕ → Type 0
 IsReportOn capture text =
-    (frames : List WholeFrame) × (found : Findings) × IsInGrammar capture frames × AreFindings frames found × (text ≡ report_text found)
+    (frames : List WholeFrame) × (found : Findings) × IsInGrammar capture frames × AreFindings frames found
+        × (text ≡ report_text found)

@@ -36,4 +36,5 @@ HasRoomFor n totals = (words : List ℕ) × SumsWords totals words × (length wo
 abbrev pub SumsFrames : Sequences → List WholeFrame → Type 0
 SumsFrames sequences [] = sequences.frames ≡ 0
 SumsFrames sequences (first ∷ others) =
-    (sequences.frames ≡ length others + 1) × (sequences.first ≡ first.frame.sequence) × (sequences.last ≡ last_sequence first others)
+    (sequences.frames ≡ length others + 1) × (sequences.first ≡ first.frame.sequence)
+        × (sequences.last ≡ last_sequence first others)

@@ -53,7 +53,9 @@ impl From<Fault> for AuditError {
 
 /// The findings of a capture, or its first fault.
 pub(crate) fn audit(alloc: Global, capture: &[u8]) -> Result<Findings, AuditError>
-    ensures read { IfOk result (λ found. (frames : List WholeFrame) × IsInGrammar capture.now frames × AreFindings frames found) }
+    ensures read { IfOk result
+        (λ found. (frames : List WholeFrame) × IsInGrammar capture.now frames
+        × AreFindings frames found) }
     ensures malformed { IfErr result (IsMalformed capture.now) }
 {
     let mut frames = Frames::new(capture)?;

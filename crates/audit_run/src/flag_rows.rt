@@ -28,7 +28,8 @@ pub(crate) struct FlagRow {
 pub(crate) fn add_flag_rows(rows: &mut Vec<FlagRow>, frame: Frame<'_>) -> Result<(), AllocError>
     requires { HasReadableRecords (text_of frame) }
     ensures { OnOk result ((records : List RecordText) → HasRecords (text_of frame.entry) records →
-        rows.new.items ≡ rows.old.items ++ flag_rows (placed_records frame.entry.place (text_of frame.entry) records)) }
+        rows.new.items ≡ rows.old.items
+            ++ flag_rows (placed_records frame.entry.place (text_of frame.entry) records)) }
 {
     let mut records = Records::of(frame);
     while let Some(record) = records.next_record().unwrap_or(None) {
@@ -40,7 +41,8 @@ pub(crate) fn add_flag_rows(rows: &mut Vec<FlagRow>, frame: Frame<'_>) -> Result
 /// Adds the row of a record, if it has one.
 fn add_flag_row(rows: &mut Vec<FlagRow>, process: u32, found: Record<'_>) -> Result<(), AllocError>
     ensures { OnOk result (rows.new.items ≡
-        rows.old.items ++ row_of_bits found.entry.place process (unknown_flags (Ok found.entry.kind) found.entry.payload.now)) }
+        rows.old.items ++ row_of_bits found.entry.place process
+            (unknown_flags (Ok found.entry.kind) found.entry.payload.now)) }
 {
     let bits = match Transaction::of(found) {
         Some(transaction) => unknown_bits(transaction.flags()),

@@ -4,8 +4,8 @@ ghost use Rattle.std.specs.Prelude.{◌≡◌};
 ghost use Rattle.audit_run.specs.Laws.{BadObjectsRise, FlagsRise, HasOneText, HasOneLine, HasNoTwoAnswers};
 ghost use Rattle.audit_run.specs.declared.limits.TheConstants.{CAPTURE_LIMIT};
 
-/// The rows of the sections `objects` and `flags` rise strictly in place, so no two of a section have
-/// one place.
+/// The rows of the sections `objects` and `flags` rise strictly in place, so no two of a section
+/// have one place.
 pub fn rows_rise()
     ensures objects { BadObjectsRise }
     ensures flags { FlagsRise }

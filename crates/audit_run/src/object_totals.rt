@@ -38,9 +38,11 @@ impl ObjectTotals {
 /// Counts the objects of a frame's entries, which have no fault.
 pub(crate) fn count_objects(totals: &mut ObjectTotals, frame: Frame<'_>) -> Result<(), AllocError>
     requires good { HasGoodContent (text_of frame) }
-    requires room { (sort : Sort) → count_of totals.old.counts sort + length frame.attachments.now < 2 ^ 64 }
+    requires room { (sort : Sort)
+        → count_of totals.old.counts sort + length frame.attachments.now < 2 ^ 64 }
     ensures { OnOk result ((entries : List EntryText) → HasEntries (text_of frame.entry) entries →
-        AddsOutcomes (placed_entries frame.entry.place (text_of frame.entry) entries) (length frame.entry.attachments.now) totals.old totals.new) }
+        AddsOutcomes (placed_entries frame.entry.place (text_of frame.entry) entries)
+            (length frame.entry.attachments.now) totals.old totals.new) }
 {
     let mut attachments = Attachments::of(frame);
     while let Some(entry) = attachments.next_entry().unwrap_or(None) {
@@ -53,8 +55,10 @@ pub(crate) fn count_objects(totals: &mut ObjectTotals, frame: Frame<'_>) -> Resu
 /// Counts the objects of an entry, up to the first bad one, which is given.
 fn count_entry(counts: &mut SortCounts, entry: Entry<'_>) -> Option<BadObject>
     requires { (sort : Sort) → count_of counts.old sort + length entry.offsets.now < 2 ^ 64 }
-    ensures { (objects : List ObjectText) × AreObjects entry.entry.body.now entry.entry.offsets.now objects result
-        × ((sort : Sort) → count_of counts.new sort ≡ count_of counts.old sort + times_of sort objects) }
+    ensures { (objects : List ObjectText)
+        × AreObjects entry.entry.body.now entry.entry.offsets.now objects result
+        × ((sort : Sort) → count_of counts.new sort ≡ count_of counts.old sort
+            + times_of sort objects) }
 {
     let mut objects = Objects::of(entry);
     while let Some(next) = objects.next_object() {

@@ -11,14 +11,15 @@ use std::io::Read;
 // How many bytes are asked for at a time.
 const ASKED: usize = 65_536;
 
-/// Reads until the reader gives no more, and at most `limit + 1` times. A read that passes the limit
-/// is `TooLarge`, and each error of the reader is `Read`, also one that a retry could mend.
+/// Reads until the reader gives no more, and at most `limit + 1` times. A read that passes the
+/// limit is `TooLarge`, and each error of the reader is `Read`, also one that a retry could mend.
 pub fn read_capture<R: Read>(
     alloc: Global,
     reader: &mut R,
     limit: usize,
 ) -> Result<Vec<u8>, RunError>
-    ensures bytes { IfOk result (λ capture. IfSome (R.remaining reader.old) (λ known. capture.items ≡ known)) }
+    ensures bytes { IfOk result
+        (λ capture. IfSome (R.remaining reader.old) (λ known. capture.items ≡ known)) }
     ensures end { OnOk result (IsAtEnd (R.remaining reader.new)) }
     ensures within { IfOk result (λ capture. vec_len capture ≤ limit) }
     ensures too_large { IsErrOf result RunError.TooLarge →
@@ -38,7 +39,8 @@ fn read_through<R: Read>(
     limit: usize,
 ) -> Result<Vec<u8>, RunError>
     requires { 0 < length buffer.old }
-    ensures bytes { IfOk result (λ capture. IfSome (R.remaining reader.old) (λ known. capture.items ≡ known)) }
+    ensures bytes { IfOk result
+        (λ capture. IfSome (R.remaining reader.old) (λ known. capture.items ≡ known)) }
     ensures end { OnOk result (IsAtEnd (R.remaining reader.new)) }
     ensures within { IfOk result (λ capture. vec_len capture ≤ limit) }
     ensures too_large { IsErrOf result RunError.TooLarge →
@@ -63,7 +65,8 @@ fn append_within(capture: &mut Vec<u8>, piece: &[u8], limit: usize) -> Result<()
     ensures ok { OnOk result (capture.new.items ≡ capture.old.items ++ piece.now) }
     ensures err { OnErr result (capture.new.items ≡ capture.old.items) }
     ensures within { vec_len capture.new ≤ limit }
-    ensures too_large { IsErrOf result RunError.TooLarge ↔ (limit < vec_len capture.old + length piece.now) }
+    ensures too_large { IsErrOf result RunError.TooLarge
+        ↔ (limit < vec_len capture.old + length piece.now) }
     ensures faults { IfErr result IsReadingFault }
 {
     if limit - capture.len() < piece.len() {

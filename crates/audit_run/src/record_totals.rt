@@ -34,7 +34,8 @@ impl RecordTotals {
     pub fn add(&mut self, word: u32, opaque: bool) -> Result<(), AllocError>
         requires opaque { opaque ≡ is_opaque word }
         requires room { HasRoomFor 1 self.old }
-        ensures { OnOk result ((words : List ℕ) → SumsWords self.old words → SumsWords self.new (words ++ word ∷ [])) }
+        ensures { OnOk result ((words : List ℕ) → SumsWords self.old words
+            → SumsWords self.new (words ++ word ∷ [])) }
     {
         let count = self.counts.get(&word).copied().unwrap_or(0);
         self.counts.insert(word, count + 1)?;
@@ -47,7 +48,8 @@ impl RecordTotals {
 
     /// The rows of the section `codes`.
     pub fn rows(&self, alloc: Global) -> Result<Rows<CodeRow>, AllocError>
-        ensures { IfOk result (λ rows. (words : List ℕ) → SumsWords self.now words → AreCodeRows words rows) }
+        ensures { IfOk result (λ rows. (words : List ℕ) → SumsWords self.now words
+            → AreCodeRows words rows) }
     {
         let rows = rows_of(alloc, &self.counts)?;
         Ok(Rows::of(rows))

@@ -45,7 +45,8 @@ pub fn run<T: Threads + Sync, R: Read, W: Write>(
         length capture ≤ CAPTURE_LIMIT)) }
 
     // Of a reader whose bytes nobody knows beforehand, the same of some capture.
-    ensures read { IfOk result (λ written. (capture : List ℕ) × IsRead (R.remaining reader.old) capture
+    ensures read { IfOk result
+        (λ written. (capture : List ℕ) × IsRead (R.remaining reader.old) capture
         × Reports capture (W.contents writer.old) (W.contents writer.new) written) }
 
     // After a failed write a prefix of the text stands written, and after another fault nothing.
@@ -53,8 +54,8 @@ pub fn run<T: Threads + Sync, R: Read, W: Write>(
         StaysOrBegins (IsTextOf capture) (W.contents writer.old) (W.contents writer.new) error)) }
     ensures begun { IfErr result (StaysOrBegins (IsOfRead IsTextOf (R.remaining reader.old))
         (W.contents writer.old) (W.contents writer.new)) }
-    ensures too_large { IsErrOf result RunError.TooLarge → IfSome (R.remaining reader.old) (λ capture.
-        CAPTURE_LIMIT < length capture) }
+    ensures too_large { IsErrOf result RunError.TooLarge
+        → IfSome (R.remaining reader.old) (λ capture. CAPTURE_LIMIT < length capture) }
     ensures fault { IfErr result IsRunFault }
 {
     let capture = read_capture(alloc, reader, CAPTURE_LIMIT)?;
@@ -100,14 +101,15 @@ pub fn run_first_fault<R: Read, W: Write>(
         NamesFirstFault capture (W.contents writer.old) (W.contents writer.new) fault)) }
     ensures within { OnOk result (IfSome (R.remaining reader.old) (λ capture.
         length capture ≤ CAPTURE_LIMIT)) }
-    ensures read { IfOk result (λ fault. (capture : List ℕ) × IsRead (R.remaining reader.old) capture
+    ensures read { IfOk result
+        (λ fault. (capture : List ℕ) × IsRead (R.remaining reader.old) capture
         × NamesFirstFault capture (W.contents writer.old) (W.contents writer.new) fault) }
     ensures failed { IfErr result (λ error. IfSome (R.remaining reader.old) (λ capture.
         StaysOrBegins (IsLineOn capture) (W.contents writer.old) (W.contents writer.new) error)) }
     ensures begun { IfErr result (StaysOrBegins (IsOfRead IsLineOn (R.remaining reader.old))
         (W.contents writer.old) (W.contents writer.new)) }
-    ensures too_large { IsErrOf result RunError.TooLarge → IfSome (R.remaining reader.old) (λ capture.
-        CAPTURE_LIMIT < length capture) }
+    ensures too_large { IsErrOf result RunError.TooLarge
+        → IfSome (R.remaining reader.old) (λ capture. CAPTURE_LIMIT < length capture) }
     ensures fault { IfErr result IsRunFault }
 {
     let capture = read_capture(alloc, reader, CAPTURE_LIMIT)?;

@@ -21,7 +21,8 @@ impl Sequences {
     pub fn add(&mut self, sequence: u64)
         requires { self.old.frames + 1 < 2 ^ 64 }
         ensures frames { self.new.frames ≡ self.old.frames + 1 }
-        ensures first { self.new.first ≡ (if self.old.frames == 0 then sequence else self.old.first) }
+        ensures first { self.new.first
+            ≡ (if self.old.frames == 0 then sequence else self.old.first) }
         ensures last { self.new.last ≡ sequence }
     {
         if self.frames == 0 {
@@ -34,7 +35,8 @@ impl Sequences {
     /// How many sequences from the first to the last have no frame.
     pub fn missing(&self) -> u64
         requires { 0 < self.now.frames → self.now.first + self.now.frames ≤ self.now.last + 1 }
-        ensures { result ≡ (if self.now.frames == 0 then 0 else (self.now.last - self.now.first) - (self.now.frames - 1)) }
+        ensures { result ≡ (if self.now.frames == 0 then 0
+            else (self.now.last - self.now.first) - (self.now.frames - 1)) }
     {
         if self.frames == 0 {
             0

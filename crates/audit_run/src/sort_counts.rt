@@ -32,7 +32,9 @@ impl SortCounts {
     /// Adds an object of the sort.
     pub fn add(&mut self, sort: Sort)
         requires { count_of self.old sort + 1 < 2 ^ 64 }
-        ensures { (other : Sort) → count_of self.new other ≡ count_of self.old other + (if same_sort sort other then 1 else 0) }
+        ensures { (other : Sort)
+            → count_of self.new other ≡ count_of self.old other
+                + (if same_sort sort other then 1 else 0) }
     {
         match sort {
             Sort::Binder => self.binder += 1,

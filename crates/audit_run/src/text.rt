@@ -31,7 +31,8 @@ pub(crate) fn report(alloc: Global, found: &Findings) -> Result<String, AllocErr
 
 /// Pushes the section `codes`.
 fn push_codes(text: &mut String, found: &Findings) -> Result<(), AllocError>
-    ensures { OnOk result (string_bytes text.new ≡ string_bytes text.old ++ flat_map ended (codes_lines found.now)) }
+    ensures { OnOk result (string_bytes text.new ≡ string_bytes text.old
+        ++ flat_map ended (codes_lines found.now)) }
 {
     push_line(text, &codes_head_line(found))?;
     for row in found.codes.as_slice() {
@@ -42,7 +43,8 @@ fn push_codes(text: &mut String, found: &Findings) -> Result<(), AllocError>
 
 /// Pushes the section `objects`.
 fn push_objects(text: &mut String, found: &Findings) -> Result<(), AllocError>
-    ensures { OnOk result (string_bytes text.new ≡ string_bytes text.old ++ flat_map ended (objects_lines found.now)) }
+    ensures { OnOk result (string_bytes text.new ≡ string_bytes text.old
+        ++ flat_map ended (objects_lines found.now)) }
 {
     push_line(text, &objects_head_line(found))?;
     for row in found.bad_objects.as_slice() {
@@ -53,7 +55,8 @@ fn push_objects(text: &mut String, found: &Findings) -> Result<(), AllocError>
 
 /// Pushes the section `flags`.
 fn push_flags(text: &mut String, found: &Findings) -> Result<(), AllocError>
-    ensures { OnOk result (string_bytes text.new ≡ string_bytes text.old ++ flat_map ended (flags_lines found.now)) }
+    ensures { OnOk result (string_bytes text.new ≡ string_bytes text.old
+        ++ flat_map ended (flags_lines found.now)) }
 {
     push_line(text, &flags_head_line(found))?;
     for row in found.flags.as_slice() {

@@ -18,7 +18,8 @@ returns-in_err-frame-clause-malformed c =
 pub returns-in-Some-check_frame-clause-malformed : goal.returns-in-Some-check_frame-clause-malformed
 returns-in-Some-check_frame-clause-malformed c =
     let done = c.loop-flags.invariant in
-    content_fails c.args.capture.now c.loop-flags.frames done.0 done.1 c.in-Some.frame c.next_frame.new.self c.in-Some-check_frame.fault (rw c.in-Some.is at c.in_ok-frame.ensures) c.in-Some-check_frame.ensures.first
+    content_fails c.args.capture.now c.loop-flags.frames done.0 done.1 c.in-Some.frame c.next_frame.new.self c.in-Some-check_frame.fault
+        (rw c.in-Some.is at c.in_ok-frame.ensures) c.in-Some-check_frame.ensures.first
 
 pub count_records-requires-clause-readable : goal.count_records-requires-clause-readable
 count_records-requires-clause-readable c = c.in_default-check_frame.ensures.first.0
@@ -26,13 +27,15 @@ count_records-requires-clause-readable c = c.in_default-check_frame.ensures.firs
 pub count_records-requires-clause-room : goal.count_records-requires-clause-room
 count_records-requires-clause-room c =
     let done = c.loop-flags.invariant in
-    let room = room_for_frame c.args.capture.now c.loop-flags.frames done.0 done.1 c.in-Some.frame c.next_frame.new.self (rw c.in-Some.is at c.in_ok-frame.ensures) in
+    let room = room_for_frame c.args.capture.now c.loop-flags.frames done.0 done.1 c.in-Some.frame c.next_frame.new.self
+        (rw c.in-Some.is at c.in_ok-frame.ensures) in
     (code_words done.0, done.2, room.0)
 
 pub add-requires : goal.add-requires
 add-requires c =
     let done = c.loop-flags.invariant in
-    let room = room_for_frame c.args.capture.now c.loop-flags.frames done.0 done.1 c.in-Some.frame c.next_frame.new.self (rw c.in-Some.is at c.in_ok-frame.ensures) in
+    let room = room_for_frame c.args.capture.now c.loop-flags.frames done.0 done.1 c.in-Some.frame c.next_frame.new.self
+        (rw c.in-Some.is at c.in_ok-frame.ensures) in
     omega (arith, room.1, frames_counted c.loop-flags.sequences done.0 done.3)
 
 pub loop-flags-smaller : goal.loop-flags-smaller
@@ -43,7 +46,8 @@ loop-flags-smaller c =
 pub count_objects-requires-clause-room : goal.count_objects-requires-clause-room
 count_objects-requires-clause-room c =
     let done = c.loop-flags.invariant in
-    room_for_objects c.args.capture.now c.loop-flags.frames done.0 done.1 c.in-Some.frame c.next_frame.new.self (rw c.in-Some.is at c.in_ok-frame.ensures) c.loop-flags.objects done.4
+    room_for_objects c.args.capture.now c.loop-flags.frames done.0 done.1 c.in-Some.frame c.next_frame.new.self
+        (rw c.in-Some.is at c.in_ok-frame.ensures) c.loop-flags.objects done.4
 
 pub loop-flags-preserved : goal.loop-flags-preserved
 loop-flags-preserved c =
@@ -53,12 +57,15 @@ loop-flags-preserved c =
     let entries = c.in_default-check_frame.ensures.first.1 in
     let whole = whole_of found has.0 entries.0 in (
       done.0 ++ whole ∷ [],
-      stands_behind_next c.args.capture.now c.loop-flags.frames done.0 done.1 found has.0 entries.0 c.next_frame.new.self (rw c.in-Some.is at c.in_ok-frame.ensures) has.1 entries.1,
+      stands_behind_next c.args.capture.now c.loop-flags.frames done.0 done.1 found has.0 entries.0 c.next_frame.new.self
+          (rw c.in-Some.is at c.in_ok-frame.ensures) has.1 entries.1,
       subst (λ (t : List ℕ). SumsWords c.count_records.new.totals t) (code_words-snoc done.0 whole) (has.2 (code_words done.0) done.2),
       sums_next c.loop-flags.sequences c.add.new.self done.0 whole done.3 c.add.ensures.frames c.add.ensures.first c.add.ensures.last,
-      objects_next c.args.capture.now c.loop-flags.frames done.0 done.1 found has.0 entries.0 c.next_frame.new.self (rw c.in-Some.is at c.in_ok-frame.ensures) c.loop-flags.objects c.count_objects.new.totals done.4
+      objects_next c.args.capture.now c.loop-flags.frames done.0 done.1 found has.0 entries.0 c.next_frame.new.self
+          (rw c.in-Some.is at c.in_ok-frame.ensures) c.loop-flags.objects c.count_objects.new.totals done.4
           (c.in_ok-count_objects.ensures entries.0 entries.1),
-      flags_next c.args.capture.now c.loop-flags.frames done.0 done.1 found has.0 entries.0 c.next_frame.new.self (rw c.in-Some.is at c.in_ok-frame.ensures) _ _ done.5 (c.in_ok-add_flag_rows.ensures has.0 has.1),
+      flags_next c.args.capture.now c.loop-flags.frames done.0 done.1 found has.0 entries.0 c.next_frame.new.self
+          (rw c.in-Some.is at c.in_ok-frame.ensures) _ _ done.5 (c.in_ok-add_flag_rows.ensures has.0 has.1),
     )
 
 pub missing-requires : goal.missing-requires

@@ -12,16 +12,19 @@ pub add-requires-clause-opaque : goal.add-requires-clause-opaque
 add-requires-clause-opaque c =
     let given = record_given c.next_record.result c.unwrap_or.result c.in-Some.record c.unwrap_or.ensures c.in-Some.is in
     c.is_opaque.ensures ∙ opaque_word _ c.in-Some.record.code.0 c.in-Some.record.kind
-    (kind_is c.args.frame c.loop-record.records c.loop-record.invariant.0 c.loop-record.invariant.1 c.in-Some.record c.next_record.new.self (rw given at c.next_record.ensures))
+    (kind_is c.args.frame c.loop-record.records c.loop-record.invariant.0 c.loop-record.invariant.1 c.in-Some.record c.next_record.new.self
+        (rw given at c.next_record.ensures))
 
 pub add-requires-clause-room : goal.add-requires-clause-room
 add-requires-clause-room c =
     let given = record_given c.next_record.result c.unwrap_or.result c.in-Some.record c.unwrap_or.ensures c.in-Some.is in
     let done = c.loop-record.invariant.0 in
-    let one = room_for_one c.args.frame c.loop-record.records done c.loop-record.invariant.1 c.in-Some.record c.next_record.new.self (rw given at c.next_record.ensures) in
+    let one = room_for_one c.args.frame c.loop-record.records done c.loop-record.invariant.1 c.in-Some.record c.next_record.new.self
+        (rw given at c.next_record.ensures) in
     let words = c.requires.room.0 in
     let codes = map (λ (r : RecordText). r.code) done in
-    (words ++ codes, c.loop-record.invariant.2 words c.requires.room.1, omega (arith, one, c.requires.room.2, length-append words codes, length-map done (λ (r : RecordText). r.code)))
+    (words ++ codes, c.loop-record.invariant.2 words c.requires.room.1, omega
+        (arith, one, c.requires.room.2, length-append words codes, length-map done (λ (r : RecordText). r.code)))
 
 pub loop-record-smaller : goal.loop-record-smaller
 loop-record-smaller c =

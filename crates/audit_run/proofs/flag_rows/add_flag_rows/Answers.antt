@@ -23,11 +23,14 @@ loop-record-preserved c =
     let found = c.in-Some.record in (
       done ++ records.text_of found ∷ [],
       stands_behind_next c.args.frame c.loop-record.records done c.loop-record.invariant.1 found c.next_record.new.self (rw given at c.next_record.ensures),
-      flag_rows_next c.args.frame c.loop-record.records done c.loop-record.invariant.1 found c.next_record.new.self (rw given at c.next_record.ensures) _ _ _ c.loop-record.invariant.2 c.in_ok-add_flag_row.ensures,
+      flag_rows_next c.args.frame c.loop-record.records done c.loop-record.invariant.1 found c.next_record.new.self
+          (rw given at c.next_record.ensures) _ _ _ c.loop-record.invariant.2 c.in_ok-add_flag_row.ensures,
     )
 
 pub returns : goal.returns
 returns c others has =
     let done = c.loop-record.invariant.0 in
     let over = records_over c.args.frame c.loop-record.records done c.loop-record.invariant.1 c.next_record.result c.unwrap_or.result c.next_record.new.self c.requires c.next_record.ensures c.unwrap_or.ensures c.in_default.is in
-    c.loop-record.invariant.2 ∙ ap (λ (t : List RecordText). c.args.rows.now.items ++ flag_rows (placed_records c.args.frame.place (text_of c.args.frame) t)) (one_reading (text_of c.args.frame) done others over has)
+    c.loop-record.invariant.2
+        ∙ ap (λ (t : List RecordText). c.args.rows.now.items ++ flag_rows (placed_records c.args.frame.place (text_of c.args.frame) t))
+        (one_reading (text_of c.args.frame) done others over has)

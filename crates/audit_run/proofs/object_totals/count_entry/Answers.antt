@@ -23,7 +23,8 @@ loop-next-preserved c =
     let done = c.loop-next.invariant.0 in
     let o = given list done c.in-Ok.object in (
       done ++ o ∷ [],
-      stands_behind_next body list c.loop-next.objects done c.loop-next.invariant.1 c.in-Ok.object c.next_object.new.self (rw (c.in-Some.is, c.in-Ok.is) at c.next_object.ensures),
+      stands_behind_next body list c.loop-next.objects done c.loop-next.invariant.1 c.in-Ok.object c.next_object.new.self
+          (rw (c.in-Some.is, c.in-Ok.is) at c.next_object.ensures),
       λ sort.
           let counted = c.loop-next.invariant.2 sort in
           let added = c.add.ensures sort in
@@ -42,6 +43,7 @@ returns-in-Err c = (
 pub returns : goal.returns
 returns c = (
   c.loop-next.invariant.0,
-  objects_end c.args.entry.body.now c.args.entry.offsets.now c.loop-next.objects c.loop-next.invariant.0 c.loop-next.invariant.1 c.next_object.new.self (rw c.in_default.is at c.next_object.ensures),
+  objects_end c.args.entry.body.now c.args.entry.offsets.now c.loop-next.objects c.loop-next.invariant.0 c.loop-next.invariant.1 c.next_object.new.self
+      (rw c.in_default.is at c.next_object.ensures),
   c.loop-next.invariant.2,
 )

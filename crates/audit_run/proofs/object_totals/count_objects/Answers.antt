@@ -25,8 +25,10 @@ count_entry-bad-requires c sort =
     let is = entry_given c.next_entry.result c.unwrap_or.result c.in-Some.entry c.unwrap_or.ensures c.in-Some.is in
     let stands = c.loop-entry.invariant.1 in
     let counted = c.loop-entry.invariant.2 in
-    let within = given_within c.args.frame c.loop-entry.attachments c.loop-entry.invariant.0 stands c.in-Some.entry c.next_entry.new.self (rw is at c.next_entry.ensures) in
-    let says = given_says c.args.frame c.loop-entry.attachments c.loop-entry.invariant.0 stands c.in-Some.entry c.next_entry.new.self (rw is at c.next_entry.ensures) in
+    let within = given_within c.args.frame c.loop-entry.attachments c.loop-entry.invariant.0 stands c.in-Some.entry c.next_entry.new.self
+        (rw is at c.next_entry.ensures) in
+    let says = given_says c.args.frame c.loop-entry.attachments c.loop-entry.invariant.0 stands c.in-Some.entry c.next_entry.new.self
+        (rw is at c.next_entry.ensures) in
     let e = given c.args.frame c.loop-entry.attachments c.loop-entry.invariant.0 stands c.in-Some.entry c.next_entry.new.self (rw is at c.next_entry.ensures) in
     let offsets : length c.in-Some.entry.offsets.now ≡ length e.offset_bytes = ap length says.offsets in
     let counts = counted.counts sort in
@@ -68,5 +70,6 @@ returns c others has =
     let whole = ap length walked.splits.joined ∙ length-append _ (drop c.loop-entry.invariant.1.distance c.args.frame.attachments.now) in
     let at = walked.length_is in
     let short = counted.short in
-    subst (λ (t : List EntryText). AddsOutcomes (placed_entries c.args.frame.place text t) (length c.args.frame.attachments.now) c.args.totals.now c.loop-entry.totals) same
+    subst (λ (t : List EntryText). AddsOutcomes (placed_entries c.args.frame.place text t)
+        (length c.args.frame.attachments.now) c.args.totals.now c.loop-entry.totals) same
     (counted.outcomes, counted.are, counted.counts, counted.bad, omega (arith, whole, at, short))
