@@ -1,0 +1,462 @@
+#!/usr/bin/env python3
+"""The captures of crates/audit_cases/data, each made of its frames, records and attachments.
+
+    checks/captures.py FOLDER           writes them into the folder
+    checks/captures.py --check FOLDER   compares the folder with them: silent where all is well,
+                                        else names each file that differs, with status 1
+
+The format is in docs/ENVELOPE.md, the code words, fields and objects in docs/COMMANDS.md. The
+captures of samples/ lie in the folder too, and have to be the same bytes as there. What the program
+says of each capture is in crates/audit_cases/stdout.
+"""
+
+import pathlib
+import sys
+
+# ---- numbers, frames, records, attachments, objects
+
+
+def u32(number):
+    return number.to_bytes(4, "little")
+
+
+def u64(number):
+    return number.to_bytes(8, "little")
+
+
+def frame_header(direction, sequence, process, thread, commands, attachments):
+    """The header of a frame that tells of so many command bytes and attachment bytes."""
+    return (u64(sequence) + u32(process) + u32(thread) + bytes([direction, 0, 0, 0])
+            + u32(commands) + u32(attachments) + u32(0))
+
+
+def frame(direction, sequence, process, thread, records=(), entries=()):
+    commands, attachments = b"".join(records), b"".join(entries)
+    lengths = len(commands), len(attachments)
+    return frame_header(direction, sequence, process, thread, *lengths) + commands + attachments
+
+
+def write(sequence, process, thread, *records):
+    return frame(1, sequence, process, thread, records)
+
+
+def read(sequence, process, thread, *records, entries=()):
+    return frame(2, sequence, process, thread, records, entries)
+
+
+def record(code, *numbers):
+    """A record whose payload is these numbers, each in bytes, and zeros up to the code's size."""
+    return u32(code) + b"".join(numbers).ljust(code >> 16 & 0x3FFF, b"\0")
+
+
+def transaction(kind, target=0, code=0, flags=0, sender=0, sizes=(0, 0), buffer=0):
+    """A transaction or reply record. The sizes are data_size and offsets_size."""
+    return record(kind, u64(target), u64(0), u32(code), u32(flags), u32(sender), u32(0),
+                  u64(sizes[0]), u64(sizes[1]), u64(buffer))
+
+
+def entry(offset, body, listed):
+    """An attachment entry for the record at this offset of the command bytes."""
+    return u32(offset) + u32(len(body)) + u32(len(listed)) + body + listed
+
+
+def offsets(*numbers):
+    """The list of these offsets of objects."""
+    return b"".join(map(u64, numbers))
+
+
+def places_of(parts):
+    """Where each of the parts begins when they are joined."""
+    return [sum(map(len, parts[:index])) for index in range(len(parts))]
+
+
+def changed(capture, *changes):
+    """The capture with other bytes at some places."""
+    for place, other in changes:
+        capture = capture[:place] + other + capture[place + len(other):]
+    return capture
+
+
+HEADER = b"BNDRCAP1" + u32(8) + u32(0)
+
+COMMANDS = (
+    BC_TRANSACTION, BC_REPLY, BC_ACQUIRE_RESULT, BC_FREE_BUFFER, BC_INCREFS,
+    BC_ACQUIRE, BC_RELEASE, BC_DECREFS, BC_INCREFS_DONE, BC_ACQUIRE_DONE,
+    BC_ATTEMPT_ACQUIRE, BC_REGISTER_LOOPER, BC_ENTER_LOOPER, BC_EXIT_LOOPER,
+    BC_REQUEST_DEATH_NOTIFICATION, BC_CLEAR_DEATH_NOTIFICATION, BC_DEAD_BINDER_DONE,
+    BC_TRANSACTION_SG, BC_REPLY_SG,
+) = (
+    0x40406300, 0x40406301, 0x40046302, 0x40086303, 0x40046304,
+    0x40046305, 0x40046306, 0x40046307, 0x40106308, 0x40106309,
+    0x4008630A, 0x0000630B, 0x0000630C, 0x0000630D,
+    0x400C630E, 0x400C630F, 0x40086310,
+    0x40486311, 0x40486312,
+)
+
+RETURNS = (
+    BR_ERROR, BR_OK, BR_TRANSACTION, BR_TRANSACTION_SEC_CTX, BR_REPLY,
+    BR_ACQUIRE_RESULT, BR_DEAD_REPLY, BR_TRANSACTION_COMPLETE, BR_INCREFS, BR_ACQUIRE,
+    BR_RELEASE, BR_DECREFS, BR_ATTEMPT_ACQUIRE, BR_NOOP, BR_SPAWN_LOOPER, BR_FINISHED,
+    BR_DEAD_BINDER, BR_CLEAR_DEATH_NOTIFICATION_DONE, BR_FAILED_REPLY, BR_FROZEN_REPLY,
+    BR_ONEWAY_SPAM_SUSPECT, BR_TRANSACTION_PENDING_FROZEN,
+) = (
+    0x80047200, 0x00007201, 0x80407202, 0x80487202, 0x80407203,
+    0x80047204, 0x00007205, 0x00007206, 0x80107207, 0x80107208,
+    0x80107209, 0x8010720A, 0x8018720B, 0x0000720C, 0x0000720D, 0x0000720E,
+    0x8008720F, 0x80087210, 0x00007211, 0x00007212,
+    0x00007213, 0x00007214,
+)
+
+SORTS = BINDER, WEAK_BINDER, HANDLE, WEAK_HANDLE, FD, FDA, PTR = (
+    u32(0x73622A85) + bytes(20), u32(0x77622A85) + bytes(20),
+    u32(0x73682A85) + bytes(20), u32(0x77682A85) + bytes(20),
+    u32(0x66642A85) + bytes(20), u32(0x66646185) + bytes(28), u32(0x70742A85) + bytes(36),
+)
+
+# ---- captures that others are made of
+
+ENTER = record(BC_ENTER_LOOPER)
+
+# Two references to handle 5, at 48 and 56.
+ACQUIRES = HEADER + write(1, 100, 101, record(BC_ACQUIRE, u32(5)), record(BC_ACQUIRE, u32(5)))
+
+# A call at 48, and its reply at 156.
+CALL_AND_REPLY = HEADER + write(1, 100, 101, transaction(BC_TRANSACTION, target=1, code=2)) + read(
+    2, 100, 101, record(BR_NOOP), record(BR_TRANSACTION_COMPLETE),
+    transaction(BR_REPLY, buffer=0x7000))
+
+
+def oneway(*sizes):
+    """A oneway transaction that arrives with these sizes."""
+    return transaction(BR_TRANSACTION, flags=1, sizes=sizes, buffer=0x9000)
+
+
+def attached(sequence, process, *attachments):
+    """A read of oneway transactions, each with an entry of its own of this body and list."""
+    return read(sequence, process, 101,
+                *(oneway(len(body), len(listed)) for body, listed in attachments),
+                entries=[entry(68 * at, *both) for at, both in enumerate(attachments)])
+
+
+ONE_HANDLE = HANDLE, offsets(0)
+
+# A transaction at 48 with a HANDLE, whose entry is at 116.
+DELIVERY = HEADER + attached(1, 100, ONE_HANDLE)
+
+# Three of them: records at 48, 192 and 336, entries at 116, 260 and 404.
+DELIVERIES = DELIVERY + attached(2, 100, ONE_HANDLE) + attached(3, 100, ONE_HANDLE)
+
+
+def one_record(code, payload=b""):
+    """A write of this code and payload, whether or not the code tells of its length."""
+    return HEADER + write(1, 1, 1, u32(code) + payload)
+
+
+def loopers(frames, wrong=()):
+    """Writes of one BC_ENTER_LOOPER each, but for those whose code is BR_NOOP."""
+    return HEADER + b"".join(
+        write(k, 1, 1, record(BR_NOOP) if k in wrong else ENTER) for k in range(1, frames + 1))
+
+
+def each_sort():
+    """One BINDER, two of the next sort, and so on up to seven of the last."""
+    objects = [sort for number, sort in enumerate(SORTS, 1) for _ in range(number)]
+    return HEADER + attached(1, 100, (b"".join(objects), offsets(*places_of(objects))))
+
+
+def of_all_kinds(**fields):
+    """What a write, and what a read may have of transactions and replies, one of each kind."""
+    return [[transaction(kind, **fields) for kind in kinds] for kinds in (
+        (BC_TRANSACTION, BC_REPLY, BC_TRANSACTION_SG, BC_REPLY_SG),
+        (BR_TRANSACTION, BR_TRANSACTION_SEC_CTX, BR_REPLY))]
+
+
+def attachments_of_all_kinds():
+    sent, returned = of_all_kinds(sizes=(24, 8))
+    entries = [[entry(place, *ONE_HANDLE) for place in places_of(it)] for it in (sent, returned)]
+    return (HEADER + frame(1, 1, 100, 101, sent, entries[0])
+            + frame(2, 2, 100, 101, returned, entries[1]))
+
+
+def flags_of_all_kinds():
+    sent, returned = of_all_kinds(flags=0xFFFFFFFF)
+    return HEADER + write(1, 200, 201, *sent) + read(2, 100, 101, *returned)
+
+
+# ---- the captures
+
+CAPTURES = {
+    # -- what threads do
+    # a reply's buffer is freed, by another thread of its process
+    "freed-reply.cap": CALL_AND_REPLY + write(3, 100, 102, record(BC_FREE_BUFFER, u64(0x7000))),
+    # a handle is released before it is acquired
+    "released-before-acquired.cap": HEADER + write(1, 100, 101, record(BC_RELEASE, u32(3)))
+    + write(2, 100, 101, record(BC_ACQUIRE, u32(3))),
+    # within a served call a oneway send is refused; the call around both stays open
+    "refused-oneway.cap": HEADER + write(1, 100, 101, transaction(BC_TRANSACTION, target=1))
+    + read(2, 100, 101, record(BR_TRANSACTION_COMPLETE),
+           transaction(BR_TRANSACTION, sender=200, buffer=0x8000))
+    + write(3, 100, 101, transaction(BC_TRANSACTION, target=2, flags=1))
+    + read(4, 100, 101, record(BR_FAILED_REPLY)),
+    # a call to a process that has died
+    "dead-reply.cap": HEADER + write(1, 100, 101, transaction(BC_TRANSACTION, target=1))
+    + read(2, 100, 101, record(BR_DEAD_REPLY)),
+    # a buffer is freed before two transactions arrive in it
+    "freed-before-delivered.cap": HEADER + write(1, 100, 101, record(BC_FREE_BUFFER, u64(0x10)))
+    + read(2, 100, 101, *2 * [transaction(BR_TRANSACTION, flags=1, buffer=0x10)]),
+    # a reply is sent while a later call of the same thread has no answer
+    "crossed-call.cap": HEADER
+    + read(1, 100, 101, transaction(BR_TRANSACTION, sender=200, buffer=0x8000))
+    + write(2, 100, 101, transaction(BC_TRANSACTION, target=1), transaction(BC_REPLY)),
+    # oneway sends whose sizes add up to more than 64 bits hold
+    "greatest-data-sizes.cap": HEADER + write(1, 100, 101, *2 * [
+        transaction(BC_TRANSACTION, target=2, flags=1, sizes=(2**64 - 1, 0))]),
+    # a death that nobody acknowledges
+    "death-not-acknowledged.cap": HEADER
+    + write(1, 100, 101, record(BC_REQUEST_DEATH_NOTIFICATION, u32(7), u64(1)))
+    + read(2, 100, 101, record(BR_DEAD_BINDER, u64(1))),
+    # handles of two processes, the greater process first
+    "handles-of-two-processes.cap": HEADER + write(1, 9, 1, record(BC_ACQUIRE, u32(2)))
+    + write(2, 4, 1, record(BC_ACQUIRE, u32(8)), record(BC_INCREFS, u32(1))),
+    # of two references to a node one is confirmed
+    "node-half-confirmed.cap": HEADER
+    + read(1, 100, 101, record(BR_INCREFS, u64(0x20), u64(0x30)),
+           record(BR_ACQUIRE, u64(0x20), u64(0x30)))
+    + write(2, 100, 101, record(BC_INCREFS_DONE, u64(0x20), u64(0x30))),
+    # a served call, freed and then replied
+    "freed-then-replied.cap": HEADER
+    + read(1, 100, 101, transaction(BR_TRANSACTION_SEC_CTX, sender=200, buffer=0x8000))
+    + write(2, 100, 101, record(BC_FREE_BUFFER, u64(0x8000)), transaction(BC_REPLY_SG)),
+    # an error reply to no call
+    "error-to-no-call.cap": HEADER + read(1, 100, 101, record(BR_FAILED_REPLY)),
+    # a cleared death notification, confirmed twice
+    "clear-confirmed-twice.cap": HEADER
+    + write(1, 100, 101, record(BC_CLEAR_DEATH_NOTIFICATION, u32(7), u64(1)))
+    + read(2, 100, 101, *2 * [record(BR_CLEAR_DEATH_NOTIFICATION_DONE, u64(1))]),
+    # one frame more than a piece has
+    "many-frames.cap": loopers(257),
+    # each command and each return of the tables, once
+    "every-command.cap": HEADER + write(1, 100, 101, *map(record, COMMANDS))
+    + read(2, 100, 101, *map(record, RETURNS)),
+    # numbers behind the tables, the second with the greatest number and size
+    "opaque-edges.cap": HEADER + write(1, 100, 101, record(0x00006313), record(0x7FFF63FF))
+    + read(2, 100, 101, record(0x00007215)),
+    # a number behind the table in place of BC_ACQUIRE
+    "opaque-acquire.cap": changed(ACQUIRES, (48, b"\x13")),
+    # a name that looks like an option
+    "-name.cap": ACQUIRES,
+
+    # -- faults of the file header
+    # an empty file
+    "no-bytes.cap": b"",
+    # the first byte of the magic; the protocol is wrong too, which is judged later
+    "magic-and-protocol.cap": changed(ACQUIRES, (0, b"b"), (8, b"\x07")),
+    # the last byte of the magic
+    "magic-of-version-2.cap": changed(ACQUIRES, (7, b"2")),
+    # the first byte of the protocol
+    "protocol-7.cap": changed(ACQUIRES, (8, b"\x07")),
+    # the last byte of the protocol, and the reserved field, which is judged later
+    "protocol-and-reserved.cap": changed(ACQUIRES, (11, b"\x01"), (12, b"\x01")),
+    # the first byte of the reserved field
+    "file-reserved.cap": changed(ACQUIRES, (12, b"\x01")),
+    # its last byte; the frame is wrong too, which is judged later
+    "file-reserved-and-direction.cap": changed(ACQUIRES, (15, b"\x80"), (32, b"\x00")),
+
+    # -- faults of a frame header
+    # one byte of a frame header
+    "frame-of-1-byte.cap": ACQUIRES[:17],
+    # all of it but one byte
+    "frame-of-31-bytes.cap": ACQUIRES[:47],
+    # the header alone, which tells of 16 command bytes
+    "no-command-bytes.cap": ACQUIRES[:48],
+    # all command bytes but one
+    "command-bytes-cut.cap": ACQUIRES[:63],
+    # the same sequence twice
+    "frame-twice.cap": ACQUIRES + ACQUIRES[16:],
+    # the sequence falls from the greatest to 0; the direction is wrong too, which is judged later
+    "sequence-and-direction.cap": HEADER + write(2**64 - 1, 1, 1) + frame(0, 0, 1, 1),
+    # the least direction above a read
+    "direction-3.cap": changed(ACQUIRES, (32, b"\x03")),
+    # no direction; the byte before the lengths is wrong too, which is judged later
+    "direction-and-reserved.cap": changed(ACQUIRES, (32, b"\x00"), (35, b"\x01")),
+    # the byte behind the direction
+    "reserved-behind-direction.cap": changed(ACQUIRES, (33, b"\x01")),
+    # the byte before the lengths
+    "reserved-before-lengths.cap": changed(ACQUIRES, (35, b"\x80")),
+    # the byte behind the lengths
+    "reserved-behind-lengths.cap": changed(ACQUIRES, (44, b"\x01")),
+    # the last byte of the header; a length is wrong too, which is judged later
+    "reserved-and-length.cap": changed(ACQUIRES, (36, b"\x11"), (47, b"\x80")),
+    # one command byte more than there is
+    "command-length-17.cap": changed(ACQUIRES, (36, b"\x11")),
+    # lengths whose sum, in 32 bits, would be what follows
+    "lengths-past-32-bits.cap": changed(ACQUIRES, (36, u32(2**32 - 1)), (40, u32(17))),
+    # the frame ends before its second record, and 8 bytes follow it
+    "frame-of-8-bytes.cap": changed(ACQUIRES, (36, b"\x08")),
+    # a frame behind a good one tells of 100 bytes that are not there
+    "later-frame-past-the-end.cap": HEADER + write(1, 1, 1, ENTER)
+    + frame_header(1, 2, 1, 1, 100, 0),
+
+    # -- faults of records
+    # one byte where a code word is due
+    "code-of-1-byte.cap": changed(ACQUIRES, (36, b"\x09")),
+    # two bytes
+    "code-of-2-bytes.cap": changed(ACQUIRES, (36, b"\x0a")),
+    # three bytes
+    "code-of-3-bytes.cap": changed(ACQUIRES, (36, b"\x0b")),
+    # a payload less one byte
+    "payload-cut.cap": changed(ACQUIRES, (36, b"\x0f")),
+    # two bytes of a code word, and behind them a frame that is wrong too
+    "code-cut-before-a-bad-frame.cap": HEADER + write(1, 1, 1, ENTER, b"\x05\x63")
+    + frame_header(1, 2, 1, 1, 100, 0),
+    # of 900 frames the second and the last have a return in a write
+    "two-wrong-directions.cap": loopers(900, wrong=(2, 900)),
+    # the last one alone
+    "last-wrong-direction.cap": loopers(900, wrong=(900,)),
+    # a command in a read
+    "acquire-in-a-read.cap": changed(ACQUIRES, (32, b"\x02")),
+    # the letter of returns
+    "letter-of-returns.cap": changed(ACQUIRES, (49, b"\x72")),
+    # both direction bits
+    "both-direction-bits.cap": one_record(0xC0046305, u32(5)),
+    # a payload, and no direction bit
+    "payload-without-direction.cap": one_record(0x00046305, u32(5)),
+    # a direction bit, and no payload
+    "direction-without-payload.cap": one_record(0x4000630C),
+    # a return in a write, whose payload is not there: the code word is judged first
+    "direction-before-length.cap": one_record(BR_ERROR),
+    # BC_TRANSACTION of 4 bytes
+    "call-of-4-bytes.cap": changed(ACQUIRES, (48, b"\x00")),
+    # BC_TRANSACTION of 40 bytes
+    "call-of-40-bytes.cap": one_record(0x40286300, bytes(40)),
+    # the same without its payload: the code word is judged first
+    "size-before-length.cap": one_record(0x40286300),
+    # BC_ACQUIRE without a payload
+    "acquire-of-no-bytes.cap": one_record(0x00006305),
+    # BC_ENTER_LOOPER with one
+    "looper-of-4-bytes.cap": one_record(0x4004630C, u32(0)),
+    # a size between those of BR_TRANSACTION and BR_TRANSACTION_SEC_CTX
+    "transaction-of-68-bytes.cap": HEADER + read(1, 100, 101, record(0x80447202)),
+
+    # -- faults of attachments
+    # all of the frame but its last byte
+    "attachment-cut.cap": DELIVERY[:159],
+    # one command byte more than there is
+    "command-length-69.cap": changed(DELIVERY, (36, b"\x45")),
+    # one attachment byte more
+    "attachment-length-45.cap": changed(DELIVERY, (40, b"\x2d")),
+    # one command byte less: the record is judged before the attachment
+    "command-length-67.cap": changed(DELIVERY, (36, b"\x43")),
+    # one byte of an entry
+    "entry-of-1-byte.cap": changed(DELIVERY, (40, b"\x01")),
+    # all of its numbers but one byte
+    "entry-of-11-bytes.cap": changed(DELIVERY, (40, b"\x0b")),
+    # its numbers alone
+    "entry-of-12-bytes.cap": changed(DELIVERY, (40, b"\x0c")),
+    # all of it but one byte
+    "entry-of-43-bytes.cap": changed(DELIVERY, (40, b"\x2b")),
+    # one body byte more than there is
+    "body-of-25-bytes.cap": changed(DELIVERY, (120, b"\x19")),
+    # body and list of 2^32 bytes, a sum that is 0 in 32 bits
+    "entry-past-32-bits.cap": changed(DELIVERY, (120, u32(2**32 - 8))),
+    # too long, and for no record: the length is judged first
+    "length-before-record.cap": changed(DELIVERY, (116, b"\x04"), (124, b"\x09")),
+    # an entry for what is no record's first byte
+    "entry-inside-a-record.cap": changed(DELIVERY, (116, b"\x04")),
+    # for the end of the command bytes
+    "entry-behind-the-records.cap": changed(DELIVERY, (116, b"\x44")),
+    # for an opaque record
+    "entry-of-an-opaque-record.cap": changed(DELIVERY, (48, b"\x15")),
+    # for the same record twice
+    "entry-twice.cap": changed(DELIVERY, (40, b"\x58")) + DELIVERY[116:],
+    # for the second record and then for the first; the sizes are wrong too, which is judged later
+    "entries-that-fall.cap": HEADER + read(1, 100, 101, *2 * [oneway(24, 8)], entries=[
+        entry(68, HANDLE, offsets(0)), entry(0, HANDLE, b"")]),
+    # a body shorter than the record says
+    "body-of-23-bytes.cap": changed(DELIVERY, (120, b"\x17")),
+    # a list of offsets shorter than the record says
+    "list-of-no-bytes.cap": changed(DELIVERY, (124, b"\x00")),
+    # another size in the record
+    "data-size-28.cap": changed(DELIVERY, (84, b"\x1c")),
+    # a size whose low four bytes are those of the entry
+    "data-size-past-32-bits.cap": changed(DELIVERY, (88, b"\x01")),
+    # the second of three frames has a wrong size, the third an entry for no record
+    "attachment-before-next-frame.cap": changed(DELIVERIES, (264, b"\x17"), (404, b"\x04")),
+    # an attachment that its frame does not tell of is no frame
+    "attachment-behind-a-frame.cap": changed(DELIVERY, (40, b"\x00")),
+
+    # -- good attachments and their objects
+    # none, though the record has sizes
+    "attachment-absent.cap": changed(DELIVERY, (40, b"\x00"))[:116],
+    # of BR_REPLY
+    "attachment-of-a-reply.cap": changed(DELIVERY, (48, b"\x03")),
+    # of each kind of record that may have one
+    "attachments-of-all-kinds.cap": attachments_of_all_kinds(),
+    # of no bytes, behind a record that has none
+    "attachment-of-no-bytes.cap": HEADER + read(1, 100, 101, oneway(24, 8), oneway(0, 0), entries=[
+        entry(68, b"", b"")]),
+    # a body that begins with no sort
+    "unknown-sort.cap": changed(DELIVERY, (128, b"\x00")),
+    # a different number of each sort
+    "each-sort.cap": each_sort(),
+    # the second object begins within the first; the third is good and is not read
+    "overlapping-objects.cap": HEADER + attached(1, 100, (2 * HANDLE, offsets(0, 20, 24))),
+    # each cause in an attachment of its own, in two processes. The second is both misaligned and
+    # within the object before it, and behind it stands a good object, which is not read. The last
+    # attachment is good
+    "every-cause.cap": HEADER + attached(
+        1, 200,
+        (HANDLE, bytes(7)),
+        (2 * HANDLE, offsets(0, 6, 24)),
+        (2 * HANDLE, offsets(24, 0)),
+        (HANDLE + b"\x85\x2a\x62", offsets(0, 24)),
+    ) + attached(
+        2, 100,
+        (HANDLE, offsets(2**64 - 4)),
+        (HANDLE + PTR[:36], offsets(0, 24)),
+        (FD + bytes(4), offsets(0, 24)),
+        (BINDER, offsets(0)),
+    ),
+
+    # -- flags of transactions
+    # each bit, in each kind of record that has flags, the greater process first
+    "flags-of-all-kinds.cap": flags_of_all_kinds(),
+    # the six flags that are known; and records that have no flags, one of them opaque
+    "known-flags.cap": HEADER + write(
+        1, 100, 101, transaction(BC_TRANSACTION, target=1, flags=0x7D),
+        record(BC_ACQUIRE, u32(2**32 - 1)), record(0x40406313, b"\xff" * 64)),
+}
+
+
+# ---- the command line
+
+def expected():
+    """Every file of the folder, by its name."""
+    samples = pathlib.Path(__file__).resolve().parent.parent / "samples"
+    return CAPTURES | {path.name: path.read_bytes() for path in samples.glob("*.cap")}
+
+
+def differences(folder):
+    """The names of the files that differ, are not there or should not be."""
+    files = {path.name: path.read_bytes() for path in folder.iterdir() if path.is_file()}
+    wanted = expected()
+    return sorted(name for name in files | wanted if files.get(name) != wanted.get(name))
+
+
+def main(words):
+    match words:
+        case ["--check", folder]:
+            names = differences(pathlib.Path(folder))
+            for name in names:
+                print(f"{folder}/{name}: not the capture that {sys.argv[0]} makes")
+            return 1 if names else 0
+        case [folder] if not folder.startswith("-"):
+            for name, capture in expected().items():
+                (pathlib.Path(folder) / name).write_bytes(capture)
+            return 0
+    print(__doc__, file=sys.stderr)
+    return 64
+
+
+if __name__ == "__main__":
+    sys.exit(main(sys.argv[1:]))
