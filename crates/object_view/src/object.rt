@@ -2,7 +2,7 @@
 
 ghost use Rattle.std.specs.Prelude.{◌≡◌, ◌≤◌, ◌+◌, length};
 ghost use Rattle.transaction_view.specs.Envelope.{number_at};
-ghost use Rattle.object_view.specs.Fields.{sort_length};
+ghost use Rattle.object_view.specs.Fields.{sort_number, sort_length};
 
 use crate::sort::Sort;
 use byteorder::{ByteOrder, LittleEndian};
@@ -14,6 +14,8 @@ pub struct Object<'c> {
     pub sort: Sort,
     /// All of its bytes, the sort's four first.
     pub bytes: &'c [u8],
+    // The sort is the one that the first four bytes name.
+    ghost by_bytes: { number_at 4 0 bytes.now ≡ sort_number sort },
     ghost whole: { length bytes.now ≡ sort_length sort },
 }
 

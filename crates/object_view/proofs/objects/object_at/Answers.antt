@@ -1,8 +1,14 @@
 use Rattle.std.proofs.Common.{◌≡◌, ℕ, inr, List, length, take, drop, sym, ap, subst, ◌∙◌, arith}
 use Rattle.std.proofs.lemmas.List.{take_rest, length-drop}
+use Rattle.transaction_view.specs.Envelope.{number_at}
 use Rattle.object_view.specs.Objects.{IsUnknown, sort_at}
-use Rattle.transaction_view.proofs.FieldLaws.{field_number}
+use Rattle.transaction_view.proofs.FieldLaws.{field_front, field_number}
+use Rattle.object_view.proofs.SortLaws.{number_in_front}
 use Rattle.object_view.proofs.objects.object_at.Goals as goal
+
+pub invariant_of-result-clause-by_bytes : goal.invariant_of-result-clause-by_bytes
+invariant_of-result-clause-by_bytes c =
+    ap (number_at 4 0) c.split_at.ensures.front ∙ number_in_front c.in-Some.sort c.length-2.result _ c.length-2.ensures ∙ sym (c.read_u32.ensures ∙ field_front 4 _) ∙ c.in-Some.ensures.known
 
 pub returns-in_default-clause-fails : goal.returns-in_default-clause-fails
 returns-in_default-clause-fails c =

@@ -1,9 +1,13 @@
 use Rattle.std.proofs.Common.{◌≡◌, ℕ, List, length, take, drop, refl, sym, ap, ◌∙◌, arith}
 use Rattle.std.proofs.lemmas.List.{take_rest, length-drop}
 use Rattle.binder_code.specs.Code.{size}
+use Rattle.binder_code.proofs.WordLaws.{kind_of-by_word}
 use Rattle.record_view.specs.Records.{code_at}
 use Rattle.record_view.proofs.ReadLaws.{begins_with}
 use Rattle.record_view.proofs.records.record_at.Goals as goal
+
+pub invariant_of-result-clause-by_code : goal.invariant_of-result-clause-by_code
+invariant_of-result-clause-by_code c = kind_of-by_word c.args.protocol c.read_u32.result c.in-Ok.kind (sym c.kind.ensures.exact ∙ c.in-Ok.is)
 
 pub returns-clause-found : goal.returns-clause-found
 returns-clause-found c =
