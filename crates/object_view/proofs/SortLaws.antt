@@ -1,5 +1,5 @@
 -- The number of a sort is no other's.
-use Rattle.std.proofs.Common.{◌≡◌, ◌≢◌, ℕ, ◌≤◌, inl, inr, List, take, refl, sym, ap, ◌∙◌, arith}
+use Rattle.std.proofs.Common.{◌≡◌, ◌≢◌, ℕ, ◌≤◌, inl, inr, List, take, drop, refl, sym, ap, ◌∙◌, arith}
 use Rattle.std.specs.Prelude.{◌==◌, if◌then◌else◌}
 use Rattle.std.proofs.lemmas.Bool.{cases_eq}
 use Rattle.byteorder.specs.Numbers.{little_from-take}
@@ -83,3 +83,7 @@ sort_length-long _ = omega arith
 pub number_in_front : (sort : Sort) (n : ℕ) (bytes : List ℕ) → n ≡ sort_length sort → number_at 4 0 (take n bytes) ≡ number_at 4 0 bytes
 unfolding number_at
 number_in_front sort n bytes is = let long = sort_length-long sort in little_from-take 0 4 n bytes (omega (arith, is, long))
+
+pub number_at-drop : (n offset : ℕ) (bytes : List ℕ) → number_at n 0 (drop offset bytes) ≡ number_at n offset bytes
+unfolding number_at
+number_at-drop n offset bytes = refl
