@@ -6,7 +6,7 @@ use Rattle.capture_frame.proofs.UnitLaws.{Walks, state_after-snoc, walk_start, w
 use Rattle.object_view.specs.declared.bad_object.BadObject.{BadObject}
 use Rattle.object_view.specs.declared.object.Object.{Object}
 use Rattle.object_view.specs.Objects.{ObjectText, object_format, IsWholeList, offset_of, AreObjects, all_good, until_bad, no_list}
-use Rattle.object_view.specs.Reading.{Reading, at, ended, text_of, IsBadAt, no_object, Steps}
+use Rattle.object_view.specs.Reading.{Reading, at, ended, object_text, IsBadAt, no_object, Steps}
 use Rattle.object_view.specs.Reading as reading
 use Rattle.object_view.specs.declared.sort.Sort.{Sort}
 use Rattle.std.proofs.lemmas.List.Sums.{sum_by-append, count_by-le-length}
@@ -32,7 +32,7 @@ steps_from body list reader done stands result new steps = subst (λ (r : Readin
 
 -- the object that a reader gives
 abbrev pub given : List ℕ → List ObjectText → Object → ObjectText
-given list done found = text_of (offset_of list (length done)) found
+given list done found = object_text (offset_of list (length done)) found
 
 -- there was room for its offset
 pub room_for_one : (body list : List ℕ) (reader : Reading) (done : List ObjectText) (stands : StandsBehind body list reader done) (found : Object) (new : Reading) → Steps reader (Some (Ok found)) new → 8 * length done + 8 ≤ length list

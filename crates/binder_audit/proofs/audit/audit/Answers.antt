@@ -64,7 +64,7 @@ loop-flags-preserved c =
 pub missing-requires : goal.missing-requires
 missing-requires c =
     let done = c.loop-flags.invariant in
-    sequences_rise c.loop-flags.sequences done.0 done.1.walks.splits.stand done.3
+    sequences_rise c.loop-flags.sequences done.0 done.1.frames.walks.splits.stand done.3
 
 pub returns-clause-read : goal.returns-clause-read
 returns-clause-read c =

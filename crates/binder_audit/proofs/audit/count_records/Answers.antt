@@ -1,7 +1,7 @@
 use Rattle.std.proofs.Common.{ℕ, List, [], ◌∷◌, ◌++◌, map, subst, ◌∙◌, length-append, arith}
 use Rattle.std.proofs.lemmas.List.{length-map}
 use Rattle.record_view.specs.Records.{RecordText}
-use Rattle.record_view.specs.Reading.{text_of}
+use Rattle.record_view.specs.Reading.{record_text}
 use Rattle.transaction_view.proofs.RecordWalk.{stands_behind_next, step_falls}
 use Rattle.transaction_view.proofs.SearchLaws.{record_given}
 use Rattle.binder_audit.specs.Totals.{SumsWords}
@@ -33,9 +33,9 @@ loop-record-preserved c =
     let given = record_given c.next_record.result c.unwrap_or.result c.in-Some.record c.unwrap_or.ensures c.in-Some.is in
     let done = c.loop-record.invariant.0 in
     let found = c.in-Some.record in (
-      done ++ text_of found ∷ [],
+      done ++ record_text found ∷ [],
       stands_behind_next c.args.frame c.loop-record.records done c.loop-record.invariant.1 found c.next_record.new.self (rw given at c.next_record.ensures),
-      λ words sums. subst (λ (t : List ℕ). SumsWords c.add.new.self t) (codes-snoc words done (text_of found))
+      λ words sums. subst (λ (t : List ℕ). SumsWords c.add.new.self t) (codes-snoc words done (record_text found))
           (c.in_ok-add.ensures (words ++ map (λ (r : RecordText). r.code) done) (c.loop-record.invariant.2 words sums)),
     )
 
