@@ -5,8 +5,8 @@ use Rattle.std.proofs.lemmas.Grind.{flat_map-append}
 use Rattle.std.proofs.lemmas.List.{append-nil, map-append}
 use Rattle.std.proofs.lemmas.List.Elements.{All-append}
 use Rattle.capture_frame.specs.declared.frame.Frame.{Frame}
-use Rattle.capture_frame.specs.Units.{spelling_of}
-use Rattle.capture_frame.specs.Envelope.{frame_bytes, text_of}
+use Rattle.capture_frame.specs.Units.{spelling_of, Placed, placed_at}
+use Rattle.capture_frame.specs.Envelope.{frame_bytes, frame_text}
 use Rattle.capture_frame.specs.Reading.{Reading, Steps}
 use Rattle.capture_frame.proofs.FrameLaws.{length-frame_bytes}
 use Rattle.object_view.specs.declared.sort.Sort.{Sort}
@@ -31,15 +31,15 @@ place_is : (capture : List ℕ) (reading : Reading) (done : List WholeFrame) (st
     → found.place ≡ 16 + length (spelling_of whole_format done)
 place_is capture reading done stands found new steps =
     let s = steps_from capture reading done stands (Ok (Some found)) new steps in
-    let begins = s.0.stands in
-    let walked = stands.walks.length_is in
+    let begins = s.0.view.place_is in
+    let walked = stands.frames.walks.length_is in
     omega (arith, begins, walked)
 
 spelled : WholeFrame → List ℕ
 spelled whole = frame_bytes whole.frame
 
 frames-snoc : (done : List WholeFrame) (whole : WholeFrame) → placed_frames (done ++ whole ∷ []) ≡ placed_frames done
-    ++ (16 + length (spelling_of whole_format done), whole) ∷ []
+    ++ placed_at (16 + length (spelling_of whole_format done)) whole ∷ []
 unfolding spelled
 frames-snoc done whole = placed-snoc spelled 16 done whole
 
@@ -47,46 +47,46 @@ frames-snoc done whole = placed-snoc spelled 16 done whole
 all_records-snoc : (place : ℕ) (done : List WholeFrame) (whole : WholeFrame) → place ≡ 16 + length (spelling_of whole_format done)
     → all_records (done ++ whole ∷ []) ≡ all_records done ++ placed_records place whole.frame whole.records
 all_records-snoc place done whole is =
-    let of : ℕ × WholeFrame → List PlacedRecord = λ x. placed_records x.0 x.1.frame x.1.records in
-    ap (flat_map of) (frames-snoc done whole) ∙ flat_map-append of (placed_frames done) ((16 + length (spelling_of whole_format done), whole) ∷ [])
+    let of : Placed WholeFrame → List PlacedRecord = λ x. placed_records x.place x.unit.frame x.unit.records in
+    ap (flat_map of) (frames-snoc done whole) ∙ flat_map-append of (placed_frames done) (placed_at (16 + length (spelling_of whole_format done)) whole ∷ [])
     ∙ ap (λ (t : List PlacedRecord). all_records done ++ t) (append-nil _ ∙ ap (λ (n : ℕ). placed_records n whole.frame whole.records) (sym is))
 
 all_entries-snoc : (place : ℕ) (done : List WholeFrame) (whole : WholeFrame) → place ≡ 16 + length (spelling_of whole_format done)
     → all_entries (done ++ whole ∷ []) ≡ all_entries done ++ placed_entries place whole.frame whole.entries
 all_entries-snoc place done whole is =
-    let of : ℕ × WholeFrame → List PlacedEntry = λ x. placed_entries x.0 x.1.frame x.1.entries in
-    ap (flat_map of) (frames-snoc done whole) ∙ flat_map-append of (placed_frames done) ((16 + length (spelling_of whole_format done), whole) ∷ [])
+    let of : Placed WholeFrame → List PlacedEntry = λ x. placed_entries x.place x.unit.frame x.unit.entries in
+    ap (flat_map of) (frames-snoc done whole) ∙ flat_map-append of (placed_frames done) (placed_at (16 + length (spelling_of whole_format done)) whole ∷ [])
     ∙ ap (λ (t : List PlacedEntry). all_entries done ++ t) (append-nil _ ∙ ap (λ (n : ℕ). placed_entries n whole.frame whole.entries) (sym is))
 
 pub flags_next : (capture : List ℕ) (reading : Reading) (done : List WholeFrame) (stands : StandsBehind capture reading done) (found : Frame)
     (records : List RecordText) (entries : List EntryText) (new : Reading) → Steps reading (Ok (Some found)) new
-    → (old after : List FlagRow) → old ≡ flag_rows (all_records done) → after ≡ old ++ flag_rows (placed_records found.place (text_of found) records)
+    → (old after : List FlagRow) → old ≡ flag_rows (all_records done) → after ≡ old ++ flag_rows (placed_records found.place (frame_text found) records)
     → after ≡ flag_rows (all_records (done ++ whole_of found records entries ∷ []))
 flags_next capture reading done stands found records entries new steps old after before adds =
     let whole = whole_of found records entries in
     let more = ap flag_rows (all_records-snoc found.place done whole (place_is capture reading done stands found new steps))
-        ∙ flat_map-append flag_row (all_records done) (placed_records found.place (text_of found) records) in
-    adds ∙ ap (λ (t : List FlagRow). t ++ flag_rows (placed_records found.place (text_of found) records)) before ∙ sym more
+    ∙ flat_map-append flag_row (all_records done) (placed_records found.place (frame_text found) records) in
+    adds ∙ ap (λ (t : List FlagRow). t ++ flag_rows (placed_records found.place (frame_text found) records)) before ∙ sym more
 
 spelled_more : (done : List WholeFrame) (whole : WholeFrame)
     → length (spelling_of whole_format (done ++ whole ∷ [])) ≡ length (spelling_of whole_format done) + length (frame_bytes whole.frame)
 unfolding spelled
 spelled_more done whole =
     ap length (flat_map-append spelled done (whole ∷ []) ∙ ap (λ (t : List ℕ). flat_map spelled done ++ t) (append-nil (spelled whole)))
-        ∙ length-append (flat_map spelled done) (spelled whole)
+    ∙ length-append (flat_map spelled done) (spelled whole)
 
 pub objects_next : (capture : List ℕ) (reading : Reading) (done : List WholeFrame) (stands : StandsBehind capture reading done) (found : Frame)
     (records : List RecordText) (entries : List EntryText) (new : Reading) → Steps reading (Ok (Some found)) new
     → (old after : ObjectTotals) → SumsObjects (all_entries done) (length (spelling_of whole_format done)) old
-    → AddsOutcomes (placed_entries found.place (text_of found) entries) (length found.attachments.now) old after
+    → AddsOutcomes (placed_entries found.place (frame_text found) entries) (length found.attachments.now) old after
     → SumsObjects (all_entries (done ++ whole_of found records entries ∷ []))
-        (length (spelling_of whole_format (done ++ whole_of found records entries ∷ []))) after
+    (length (spelling_of whole_format (done ++ whole_of found records entries ∷ []))) after
 objects_next capture reading done stands found records entries new steps old after sums adds =
     let whole = whole_of found records entries in
     let more = all_entries-snoc found.place done whole (place_is capture reading done stands found new steps) in
     let outcomes = sums.are.outcomes ++ adds.0 in
     let good : good_objects outcomes ≡ good_objects sums.are.outcomes ++ good_objects adds.0 =
-        flat_map-append (λ (o : Outcome). o.objects) sums.are.outcomes adds.0 in
+    flat_map-append (λ (o : Outcome). o.objects) sums.are.outcomes adds.0 in
     let row : Outcome → List BadRow = λ o. row_of_bad o.entry.owner o.entry.frame.process o.bad in
     let longer = ap length good ∙ length-append (good_objects sums.are.outcomes) (good_objects adds.0) in
     let before = sums.short in
@@ -106,13 +106,13 @@ objects_next capture reading done stands found records entries new steps old aft
           omega (arith, a, b, c);
       bad = adds.3 ∙ ap (λ (t : List BadRow). t ++ bad_rows adds.0) sums.are.bad ∙ sym (flat_map-append row sums.are.outcomes adds.0);
     } in
-    record { are = findings; short = omega (arith, longer, before, added, spelled_more done whole, length-frame_bytes (text_of found)) }
+    record { are = findings; short = omega (arith, longer, before, added, spelled_more done whole, length-frame_bytes (frame_text found)) }
 
 -- with the objects of the frame that the reader gives they fit 64 bits
 pub room_for_objects : (capture : List ℕ) (reading : Reading) (done : List WholeFrame) (stands : StandsBehind capture reading done) (found : Frame)
     (new : Reading) → Steps reading (Ok (Some found)) new
     → (totals : ObjectTotals) → SumsObjects (all_entries done) (length (spelling_of whole_format done)) totals → (sort : Sort)
-        → count_of totals.counts sort + length found.attachments.now < 2 ^ 64
+    → count_of totals.counts sort + length found.attachments.now < 2 ^ 64
 room_for_objects capture reading done stands found new steps totals sums sort =
     let counted = sums.are.counted sort in
     let few = times_of-short sort (good_objects sums.are.outcomes) in

@@ -42,10 +42,10 @@ pub room_for_frame : (capture : List ℕ) (reading : Reading) (done : List Whole
     → (length (code_words done) + length found.commands.now < 2 ^ 64) × (length done + 1 < 2 ^ 64)
 room_for_frame capture reading done stands found new steps =
     let s = steps_from capture reading done stands (Ok (Some found)) new steps in
-    let short = words_short None done stands.walks.splits.stand in
+    let short = words_short None done stands.frames.walks.splits.stand in
     let fits = found.fits in
-    let begins = s.0.stands in
-    (omega (arith, short, stands.walks.length_is), omega (arith, short, stands.walks.length_is))
+    let begins = s.0.view.place_is in
+    (omega (arith, short, stands.frames.walks.length_is), omega (arith, short, stands.frames.walks.length_is))
 
 -- sequences rise, so none is missing twice
 rises : (first : WholeFrame) (others : List WholeFrame) → AllStand whole_format (Some first.frame.sequence) others

@@ -6,7 +6,7 @@ use Rattle.capture_frame.proofs.UnitLaws.{Walks, state_after-snoc, walk_start, w
 use Rattle.object_view.specs.declared.bad_object.BadObject.{BadObject}
 use Rattle.object_view.specs.declared.object.Object.{Object}
 use Rattle.object_view.specs.Objects.{ObjectText, object_format, IsWholeList, offset_of, AreObjects, all_good, until_bad, no_list}
-use Rattle.object_view.specs.Reading.{Reading, at, ended, text_of, IsBadAt, no_object, Steps}
+use Rattle.object_view.specs.Reading.{Reading, at, ended, object_text, IsBadAt, no_object, Steps}
 use Rattle.object_view.specs.Reading as reading
 use Rattle.object_view.specs.declared.sort.Sort.{Sort}
 use Rattle.std.proofs.lemmas.List.Sums.{sum_by-append, count_by-le-length}
@@ -33,7 +33,7 @@ steps_from body list reader done stands result new steps = subst (λ (r : Readin
 
 -- the object that a reader gives
 abbrev pub given : List ℕ → List ObjectText → Object → ObjectText
-given list done found = text_of (offset_of list (length done)) found
+given list done found = object_text (offset_of list (length done)) found
 
 -- there was room for its offset
 pub room_for_one : (body list : List ℕ) (reader : Reading) (done : List ObjectText) (stands : StandsBehind body list reader done) (found : Object)
@@ -42,7 +42,7 @@ room_for_one body list reader done stands found new steps =
     let s = steps_from body list reader done stands (Some (Ok found)) new steps in
     let place = 8 * length done in
     let parts : length (drop place list) ≡ 8 + length (drop (place + 8) list) = ap length s.1
-        ∙ length-append ((object_format body).spelling (given list done found)) (drop (place + 8) list) in
+    ∙ length-append ((object_format body).spelling (given list done found)) (drop (place + 8) list) in
     omega (arith, parts, length-drop place list)
 
 -- behind one object more
@@ -56,7 +56,7 @@ stands_behind_next body list reader done stands found new steps =
     let o = given list done found in
     let longer : length (done ++ o ∷ []) ≡ length done + 1 = omega (arith, length_push done o) in
     let parts : drop place list ≡ format.spelling o ++ drop 8 (drop place list) = s.1
-        ∙ ap (λ (t : List ℕ). format.spelling o ++ t) (sym (drop-drop 8 place list)) in
+    ∙ ap (λ (t : List ℕ). format.spelling o ++ t) (sym (drop-drop 8 place list)) in
     let walked = walk_step format 0 list done place o stands.walks s.2 parts in
     let width : place + 8 ≡ 8 * length (done ++ o ∷ []) = omega (arith, longer) in
     record {
@@ -73,7 +73,7 @@ left_falls body list reader done stands found new steps =
     let room = room_for_one body list reader done stands found new steps in
     let fell : length list - 8 * (length done + 1) < length list - 8 * length done = omega (arith, room) in
     subst (λ (r : Reading). left_of r < left_of reader) (sym s.3)
-        (subst (λ (r : Reading). length list - 8 * (length done + 1) < left_of r) (sym stands.reading_is) fell)
+    (subst (λ (r : Reading). length list - 8 * (length done + 1) < left_of r) (sym stands.reading_is) fell)
 
 -- at the end the objects are these, and none is bad
 pub objects_end : (body list : List ℕ) (reader : Reading) (done : List ObjectText) (stands : StandsBehind body list reader done) (new : Reading)

@@ -32,7 +32,7 @@ unfolding IsOutcome
 one_outcome a b same is is_too =
     let make : PlacedEntry → List ObjectText → Option BadObject → Outcome = λ e o x. record { entry = e; objects = o; bad = x } in
     let here : AreObjects b.entry.said.body b.entry.said.offset_bytes a.objects a.bad =
-        subst (λ (e : PlacedEntry). AreObjects e.said.body e.said.offset_bytes a.objects a.bad) same is in
+    subst (λ (e : PlacedEntry). AreObjects e.said.body e.said.offset_bytes a.objects a.bad) same is in
     let one = one_list b.entry.said.body b.entry.said.offset_bytes a.objects b.objects a.bad b.bad here is_too in
     ap (λ (e : PlacedEntry). make e a.objects a.bad) same ∙ ap (λ (o : List ObjectText). make b.entry o a.bad) one.0 ∙ ap (make b.entry b.objects) one.1
 
@@ -57,7 +57,7 @@ same_counts a b each =
     let binder = each Binder in let weak_binder = each WeakBinder in let handle = each Handle in let weak_handle = each WeakHandle in
     let fd = each Fd in let fda = each Fda in let ptr = each Ptr in
     let make : ℕ → ℕ → ℕ → ℕ → ℕ → ℕ → ℕ → SortCounts =
-        λ p q r s t u v. record { binder = p; weak_binder = q; handle = r; weak_handle = s; fd = t; fda = u; ptr = v } in
+    λ p q r s t u v. record { binder = p; weak_binder = q; handle = r; weak_handle = s; fd = t; fda = u; ptr = v } in
     ap₂ (λ (p q : ℕ). make p q a.handle a.weak_handle a.fd a.fda a.ptr) binder weak_binder
     ∙ ap₂ (λ (r s : ℕ). make b.binder b.weak_binder r s a.fd a.fda a.ptr) handle weak_handle
     ∙ ap₂ (λ (t u : ℕ). make b.binder b.weak_binder b.handle b.weak_handle t u a.ptr) fd fda
@@ -67,9 +67,11 @@ one_of_objects : (entries : List PlacedEntry) (counts others : SortCounts) (rows
     → AreObjectFindings entries others other_rows
     → (counts ≡ others) × (rows ≡ other_rows)
 one_of_objects entries counts others rows other_rows a b =
-    let same = one_list_of_outcomes entries a.outcomes b.outcomes a.are b.are in
-    (same_counts counts others (λ sort. a.counted sort ∙ ap (λ (o : List Outcome). times_of sort (good_objects o)) same ∙ sym (b.counted sort)), a.bad
-        ∙ ap bad_rows same ∙ sym b.bad)
+    let same = one_list_of_outcomes entries a.outcomes b.outcomes a.are b.are in (
+      same_counts counts others (λ sort. a.counted sort ∙ ap (λ (o : List Outcome). times_of sort (good_objects o)) same ∙ sym (b.counted sort)),
+      a.bad
+          ∙ ap bad_rows same ∙ sym b.bad,
+    )
 
 one_findings : (frames : List WholeFrame) (found other : Findings) → AreFindings frames found → AreFindings frames other → report_text found ≡ report_text other
 one_findings frames found other a b =

@@ -6,14 +6,14 @@ use Rattle.std.proofs.lemmas.List.{append-nil, map-append}
 use Rattle.std.proofs.lemmas.List.Elements.{All-append, All-cons, All-nil}
 use Rattle.capture_frame.specs.declared.fault.Fault.{Fault}
 use Rattle.capture_frame.specs.declared.frame.Frame.{Frame}
-use Rattle.capture_frame.specs.Envelope.{text_of}
+use Rattle.capture_frame.specs.Envelope.{frame_text}
 use Rattle.object_view.specs.declared.bad_object.BadObject.{BadObject}
 use Rattle.object_view.specs.declared.sort.Sort.{Sort}
 use Rattle.object_view.specs.Objects.{ObjectText, AreObjects}
 use Rattle.transaction_view.specs.declared.entry.Entry.{Entry}
 use Rattle.transaction_view.specs.Attachments.{EntryText, entry_bytes, HasEntries}
 use Rattle.transaction_view.specs.FirstFault.{HasGoodContent}
-use Rattle.record_view.specs.Reading.{commands_place}
+use Rattle.capture_frame.specs.Envelope.{commands_place}
 use Rattle.transaction_view.specs.Reading.{Reading, Says, Steps}
 use Rattle.transaction_view.proofs.EntryLaws.{length-entry_bytes}
 use Rattle.transaction_view.proofs.EntryWalk.{StandsBehind, entries_end, entries_never_fail}
@@ -31,7 +31,7 @@ IsOutcome o = AreObjects o.entry.said.body o.entry.said.offset_bytes o.objects o
 -- the totals have the outcomes of these entries besides, and no more objects than bytes
 pub record Counted (frame : Frame) (old new : ObjectTotals) (distance : ℕ) (done : List EntryText) : Type 0 where
   pub outcomes : List Outcome
-  pub are : AreOutcomes (placed_entries frame.place (text_of frame) done) outcomes
+  pub are : AreOutcomes (placed_entries frame.place (frame_text frame) done) outcomes
   pub counts : (sort : Sort) → count_of new.counts sort ≡ count_of old.counts sort + times_of sort (good_objects outcomes)
   pub bad : new.bad.items ≡ old.bad.items ++ bad_rows outcomes
   pub short : length (good_objects outcomes) ≤ distance
@@ -50,10 +50,10 @@ pub counted_next : (frame : Frame) (old mid new : ObjectTotals) (distance : ℕ)
     → (found : Entry) (e : EntryText) → Says (commands_place frame.place) found e
     → (objects : List ObjectText) (bad : Option BadObject) → AreObjects found.body.now found.offsets.now objects bad
     → ((sort : Sort) → count_of new.counts sort ≡ count_of mid.counts sort + times_of sort objects) → new.bad.items ≡ mid.bad.items
-        ++ row_of_bad found.owner frame.process bad
+    ++ row_of_bad found.owner frame.process bad
     → Counted frame old new (distance + length (entry_bytes e)) (done ++ e ∷ [])
 counted_next frame old mid new distance done counted found e says objects bad are counts rows =
-    let text = text_of frame in
+    let text = frame_text frame in
     let entry : PlacedEntry = record { owner = commands_place frame.place + e.offset; frame = text; said = e } in
     let outcome : Outcome = record { entry = entry; objects = objects; bad = bad } in
     let there : AreObjects e.body e.offset_bytes objects bad =
@@ -61,7 +61,7 @@ counted_next frame old mid new distance done counted found e says objects bad ar
     let made : EntryText → PlacedEntry = λ x. record { owner = frame.place + 32 + x.offset; frame = text; said = x } in
     let good : good_objects (counted.outcomes ++ outcome ∷ []) ≡ good_objects counted.outcomes ++ objects =
     flat_map-append (λ (o : Outcome). o.objects) counted.outcomes (outcome ∷ [])
-        ∙ ap (λ (t : List ObjectText). good_objects counted.outcomes ++ t) (append-nil objects) in
+    ∙ ap (λ (t : List ObjectText). good_objects counted.outcomes ++ t) (append-nil objects) in
     let row : Outcome → List BadRow = λ o. row_of_bad o.entry.owner o.entry.frame.process o.bad in
     let all_rows : bad_rows (counted.outcomes ++ outcome ∷ []) ≡ bad_rows counted.outcomes ++ row outcome =
     flat_map-append row counted.outcomes (outcome ∷ []) ∙ ap (λ (t : List BadRow). bad_rows counted.outcomes ++ t) (append-nil (row outcome)) in
@@ -88,7 +88,7 @@ counted_next frame old mid new distance done counted found e says objects bad ar
 -- where the content has no fault, a reader that gives no entry more has given them all
 pub entries_over : (frame : Frame) (reading : Reading) (done : List EntryText) (stands : StandsBehind frame reading done)
     (result : Result (Option Entry) Fault) (answer : Option Entry) (new : Reading)
-    → HasGoodContent (text_of frame) → Steps reading result new → answer ≡ result_unwrap_or result None → answer ≡ None → HasEntries (text_of frame) done
+    → HasGoodContent (frame_text frame) → Steps reading result new → answer ≡ result_unwrap_or result None → answer ≡ None → HasEntries (frame_text frame) done
 entries_over frame reading done stands (Ok None) answer new good steps is none = entries_end frame reading done stands new steps
 entries_over frame reading done stands (Ok (Some found)) answer new good steps is none = let wrong : Some found ≡ None = sym is ∙ none in cc
 entries_over frame reading done stands (Err fault) answer new good steps is none = absurd (entries_never_fail frame reading done stands fault new good steps)

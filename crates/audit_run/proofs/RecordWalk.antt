@@ -18,7 +18,7 @@ use Rattle.capture_frame.specs.Envelope.{FrameText}
 use Rattle.capture_frame.specs.Envelope as envelope
 use Rattle.record_view.specs.declared.record.Record.{Record}
 use Rattle.record_view.specs.Records.{RecordText, record_bytes, HasRecords, HasReadableRecords, protocol_of, record_format}
-use Rattle.record_view.specs.Reading.{Reading, text_of, Steps}
+use Rattle.record_view.specs.Reading.{Reading, record_text, Steps}
 use Rattle.record_view.proofs.RecordLaws.{length-record_bytes}
 use Rattle.transaction_view.proofs.RecordWalk.{StandsBehind, steps_from, records_end, fails_never}
 use Rattle.audit_run.specs.Findings.{protocol_of_word, kind_of_word, is_opaque_kind, is_opaque}
@@ -26,8 +26,8 @@ use Rattle.audit_run.specs.Findings.{protocol_of_word, kind_of_word, is_opaque_k
 -- where the records have no fault, a reader that gives none more has given them all
 pub records_over : (frame : Frame) (reading : Reading) (done : List RecordText) (stands : StandsBehind frame reading done)
     (result : Result (Option Record) Fault) (answer : Option Record) (new : Reading)
-    → HasReadableRecords (envelope.text_of frame) → Steps reading result new → answer ≡ result_unwrap_or result None → answer ≡ None
-        → HasRecords (envelope.text_of frame) done
+    → HasReadableRecords (envelope.frame_text frame) → Steps reading result new → answer ≡ result_unwrap_or result None → answer ≡ None
+    → HasRecords (envelope.frame_text frame) done
 records_over frame reading done stands (Ok None) answer new readable steps is none = records_end frame reading done stands new steps
 records_over frame reading done stands (Ok (Some found)) answer new readable steps is none = let wrong : Some found ≡ None = sym is ∙ none in cc
 records_over frame reading done stands (Err fault) answer new readable steps is none = absurd (fails_never frame reading done stands fault new readable steps)
@@ -54,11 +54,18 @@ pub room_for_one : (frame : Frame) (reading : Reading) (done : List RecordText) 
 room_for_one frame reading done stands found new steps =
     let s = steps_from frame reading done stands (Ok (Some found)) new steps in
     let commands = frame.commands.now in
-    let n = length (record_bytes (text_of found)) in
+    let n = length (record_bytes (record_text found)) in
     let parts : length (drop stands.offset commands) ≡ n + length (drop n (drop stands.offset commands)) = ap length s.0.joined
-        ∙ length-append (record_bytes (text_of found)) (drop n (drop stands.offset commands)) in
-    omega (arith, parts, length-drop stands.offset commands, length-record_bytes (text_of found), stands.walks.length_is, records_long
-        (record_format (protocol_of frame.direction)) (λ r. refl) done)
+    ∙ length-append (record_bytes (record_text found)) (drop n (drop stands.offset commands)) in
+    omega (
+      arith,
+      parts,
+      length-drop stands.offset commands,
+      length-record_bytes (record_text found),
+      stands.walks.length_is,
+      records_long
+          (record_format (protocol_of frame.direction)) (λ r. refl) done,
+    )
 
 -- a record is opaque where its code word is
 passed : {A E : Type 0} (test : Bool) (listed : Result A E) (fault : E) (x : A) → cond test listed (Err fault) ≡ Ok x → test ≡ true
@@ -93,4 +100,4 @@ codes-snoc words done r = append_assoc words (map (λ (x : RecordText). x.code) 
 pub kind_is : (frame : Frame) (reading : Reading) (done : List RecordText) (stands : StandsBehind frame reading done) (found : Record) (new : Reading)
     → Steps reading (Ok (Some found)) new
     → kind_of (protocol_of frame.direction) found.code.0 ≡ Ok found.kind
-kind_is frame reading done stands found new steps = let s = steps_from frame reading done stands (Ok (Some found)) new steps in s.0.kind
+kind_is frame reading done stands found new steps = let s = steps_from frame reading done stands (Ok (Some found)) new steps in s.0.view.kind

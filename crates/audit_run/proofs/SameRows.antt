@@ -61,7 +61,7 @@ same_members (x ∷ xs) (y ∷ ys) p q to back =
     let q_at : AllPairs (λ a b. a < b) (x ∷ ys) = subst (λ (n : ℕ). AllPairs (λ a b. a < b) (n ∷ ys)) (sym first) q in
     let to_at : (n : ℕ) → Contains (x ∷ xs) n → Contains (x ∷ ys) n = subst (λ (m : ℕ). (n : ℕ) → Contains (x ∷ xs) n → Contains (m ∷ ys) n) (sym first) to in
     let back_at : (n : ℕ) → Contains (x ∷ ys) n → Contains (x ∷ xs) n =
-        subst (λ (m : ℕ). (n : ℕ) → Contains (m ∷ ys) n → Contains (x ∷ xs) n) (sym first) back in
+    subst (λ (m : ℕ). (n : ℕ) → Contains (m ∷ ys) n → Contains (x ∷ xs) n) (sym first) back in
     ap₂ (λ (n : ℕ) (t : List ℕ). n ∷ t) first
     (same_members xs ys (behind_first x xs p) (behind_first x ys q_at) (same_behind x xs ys p to_at) (same_behind x ys xs q_at back_at))
 

@@ -9,11 +9,11 @@ use Rattle.std.proofs.lemmas.List.Concat.{flat_map-cons}
 pub next_line : {X : Type 0} (shown : X → List ℕ) (ended : List ℕ → List ℕ) (front : List ℕ) (before : List (List ℕ)) (rows : List X) (i : ℕ) (d : X)
     (text line new : List ℕ) → i < length rows
     → text ≡ front ++ flat_map ended (before ++ map shown (take i rows)) → line ≡ shown (get_or rows i d) → new ≡ text ++ ended line → new ≡ front
-        ++ flat_map ended (before ++ map shown (take (i + 1) rows))
+    ++ flat_map ended (before ++ map shown (take (i + 1) rows))
 next_line shown ended front before rows i d text line new lt so_far is joined =
     let row = get_or rows i d in
     let shows : map shown (take (i + 1) rows) ≡ map shown (take i rows) ++ shown row ∷ [] = ap (map shown) (take_more rows i d lt)
-        ∙ map-append shown (take i rows) (row ∷ []) in
+    ∙ map-append shown (take i rows) (row ∷ []) in
     let whole : flat_map ended (before ++ map shown (take (i + 1) rows)) ≡ flat_map ended (before ++ map shown (take i rows)) ++ ended (shown row) =
     ap (λ (t : List (List ℕ)). flat_map ended (before ++ t)) shows
     ∙ ap (flat_map ended) (sym (append_assoc before (map shown (take i rows)) (shown row ∷ [])))
@@ -28,11 +28,11 @@ pub sections : (ended : List ℕ → List ℕ) (first second : List ℕ) (a b c 
     → five ≡ four ++ flat_map ended c → five ≡ flat_map ended (first ∷ second ∷ a ++ (b ++ c))
 sections ended first second a b c one two three four five e1 e2 e3 e4 e5 =
     let tail : flat_map ended (a ++ (b ++ c)) ≡ flat_map ended a ++ (flat_map ended b ++ flat_map ended c) = flat_map-append ended a (b ++ c)
-        ∙ ap (λ (t : List ℕ). flat_map ended a ++ t) (flat_map-append ended b c) in
+    ∙ ap (λ (t : List ℕ). flat_map ended a ++ t) (flat_map-append ended b c) in
     let whole : flat_map ended (first ∷ second ∷ a ++ (b ++ c)) ≡ ended first
-        ++ (ended second ++ (flat_map ended a ++ (flat_map ended b ++ flat_map ended c))) =
+    ++ (ended second ++ (flat_map ended a ++ (flat_map ended b ++ flat_map ended c))) =
     flat_map-cons ended first (second ∷ a ++ (b ++ c))
-        ∙ ap (λ (t : List ℕ). ended first ++ t) (flat_map-cons ended second (a ++ (b ++ c)) ∙ ap (λ (t : List ℕ). ended second ++ t) tail) in
+    ∙ ap (λ (t : List ℕ). ended first ++ t) (flat_map-cons ended second (a ++ (b ++ c)) ∙ ap (λ (t : List ℕ). ended second ++ t) tail) in
     e5 ∙ ap (λ (t : List ℕ). t ++ flat_map ended c)
-        (e4 ∙ ap (λ (t : List ℕ). t ++ flat_map ended b) (e3 ∙ ap (λ (t : List ℕ). t ++ flat_map ended a) (e2 ∙ ap (λ (t : List ℕ). t ++ ended second) e1)))
+    (e4 ∙ ap (λ (t : List ℕ). t ++ flat_map ended b) (e3 ∙ ap (λ (t : List ℕ). t ++ flat_map ended a) (e2 ∙ ap (λ (t : List ℕ). t ++ ended second) e1)))
     ∙ search (append_assoc) ∙ sym whole

@@ -50,5 +50,5 @@ are_code_rows counts words ordered counted = record {
   whole = λ word has.
       let found : IsSome (get nat_cmp counts word) = subst IsSome (sym (counted word)) (positive_is_some _ (counted_at_least_once words word has)) in
       subst (λ (t : List ℕ). Contains t word) (sym (words_of_rows counts.entries))
-          ((btree_map_contains_key_iff nat_cmp_total exact_unsigned counts word).0 found);
+      ((btree_map_contains_key_iff nat_cmp_total exact_unsigned counts word).0 found);
 }

@@ -23,7 +23,7 @@ row_of_bits place process bits = if bits == 0 then [] else record { place = plac
 abbrev pub flag_row : PlacedRecord → List FlagRow
 flag_row r =
     row_of_bits r.place r.frame.process
-        (unknown_flags (kind_of (protocol_of r.frame.direction) r.said.code) r.said.payload)
+    (unknown_flags (kind_of (protocol_of r.frame.direction) r.said.code) r.said.payload)
 
 -- the rows of these records
 abbrev pub flag_rows : List PlacedRecord → List FlagRow

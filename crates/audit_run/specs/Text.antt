@@ -136,4 +136,4 @@ no_fault_line = ended (codes "no malformed record")
 abbrev pub IsReportOn : List ℕ → List ℕ → Type 0
 IsReportOn capture text =
     (frames : List WholeFrame) × (found : Findings) × IsInGrammar capture frames × AreFindings frames found
-        × (text ≡ report_text found)
+    × (text ≡ report_text found)

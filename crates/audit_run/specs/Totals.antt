@@ -37,4 +37,4 @@ abbrev pub SumsFrames : Sequences → List WholeFrame → Type 0
 SumsFrames sequences [] = sequences.frames ≡ 0
 SumsFrames sequences (first ∷ others) =
     (sequences.frames ≡ length others + 1) × (sequences.first ≡ first.frame.sequence)
-        × (sequences.last ≡ last_sequence first others)
+    × (sequences.last ≡ last_sequence first others)

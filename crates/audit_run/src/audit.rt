@@ -1,7 +1,7 @@
 //! From a capture to its findings.
 
 ghost use Rattle.std.specs.Prelude.{◌≡◌, List, length, Some, IfErr, IfOk, OnOk};
-ghost use Rattle.capture_frame.specs.Envelope.{text_of};
+ghost use Rattle.capture_frame.specs.Envelope.{frame_text};
 ghost use Rattle.audit_run.specs.Audit.{IsMalformed, AddsRecords};
 ghost use Rattle.audit_run.specs.Findings.{AreFindings, is_opaque_kind};
 ghost use Rattle.record_view.specs.Records.{HasReadableRecords};
@@ -87,9 +87,9 @@ pub(crate) fn audit(alloc: Global, capture: &[u8]) -> Result<Findings, AuditErro
 
 /// Counts the records of a frame, which have no fault.
 fn count_records(totals: &mut RecordTotals, frame: Frame<'_>) -> Result<(), AllocError>
-    requires readable { HasReadableRecords (text_of frame) }
+    requires readable { HasReadableRecords (frame_text frame) }
     requires room { HasRoomFor (length frame.commands.now) totals.old }
-    ensures { OnOk result (AddsRecords (text_of frame.entry) totals.old totals.new) }
+    ensures { OnOk result (AddsRecords (frame_text frame.entry) totals.old totals.new) }
 {
     let mut records = Records::of(frame);
     while let Some(record) = records.next_record().unwrap_or(None) {

@@ -2,7 +2,7 @@
 
 ghost use Rattle.std.specs.Prelude.{◌≡◌, ◌++◌, ◌==◌, if◌then◌else◌, [], ◌∷◌, List, Ok, OnOk};
 ghost use Rattle.binder_code.specs.Flags.{unknown_of};
-ghost use Rattle.capture_frame.specs.Envelope.{text_of};
+ghost use Rattle.capture_frame.specs.Envelope.{frame_text};
 ghost use Rattle.record_view.specs.Records.{RecordText, HasRecords, HasReadableRecords};
 ghost use Rattle.audit_run.specs.Flags.{unknown_flags, row_of_bits, flag_rows};
 ghost use Rattle.audit_run.specs.Places.{placed_records};
@@ -26,10 +26,11 @@ pub(crate) struct FlagRow {
 
 /// Adds the rows of a frame's records, which have no fault.
 pub(crate) fn add_flag_rows(rows: &mut Vec<FlagRow>, frame: Frame<'_>) -> Result<(), AllocError>
-    requires { HasReadableRecords (text_of frame) }
-    ensures { OnOk result ((records : List RecordText) → HasRecords (text_of frame.entry) records →
+    requires { HasReadableRecords (frame_text frame) }
+    ensures { OnOk result ((records : List RecordText)
+        → HasRecords (frame_text frame.entry) records →
         rows.new.items ≡ rows.old.items
-            ++ flag_rows (placed_records frame.entry.place (text_of frame.entry) records)) }
+        ++ flag_rows (placed_records frame.entry.place (frame_text frame.entry) records)) }
 {
     let mut records = Records::of(frame);
     while let Some(record) = records.next_record().unwrap_or(None) {
@@ -42,7 +43,7 @@ pub(crate) fn add_flag_rows(rows: &mut Vec<FlagRow>, frame: Frame<'_>) -> Result
 fn add_flag_row(rows: &mut Vec<FlagRow>, process: u32, found: Record<'_>) -> Result<(), AllocError>
     ensures { OnOk result (rows.new.items ≡
         rows.old.items ++ row_of_bits found.entry.place process
-            (unknown_flags (Ok found.entry.kind) found.entry.payload.now)) }
+        (unknown_flags (Ok found.entry.kind) found.entry.payload.now)) }
 {
     let bits = match Transaction::of(found) {
         Some(transaction) => unknown_bits(transaction.flags()),

@@ -1,7 +1,7 @@
 //! The objects counted so far.
 
 ghost use Rattle.std.specs.Prelude.{◌≡◌, ◌+◌, ◌<◌, ◌^◌, ◌++◌, [], List, length, OnOk};
-ghost use Rattle.capture_frame.specs.Envelope.{text_of};
+ghost use Rattle.capture_frame.specs.Envelope.{frame_text};
 ghost use Rattle.object_view.specs.declared.sort.Sort.{Sort};
 ghost use Rattle.object_view.specs.Objects.{ObjectText, AreObjects};
 ghost use Rattle.transaction_view.specs.Attachments.{EntryText, HasEntries};
@@ -37,12 +37,13 @@ impl ObjectTotals {
 
 /// Counts the objects of a frame's entries, which have no fault.
 pub(crate) fn count_objects(totals: &mut ObjectTotals, frame: Frame<'_>) -> Result<(), AllocError>
-    requires good { HasGoodContent (text_of frame) }
+    requires good { HasGoodContent (frame_text frame) }
     requires room { (sort : Sort)
         → count_of totals.old.counts sort + length frame.attachments.now < 2 ^ 64 }
-    ensures { OnOk result ((entries : List EntryText) → HasEntries (text_of frame.entry) entries →
-        AddsOutcomes (placed_entries frame.entry.place (text_of frame.entry) entries)
-            (length frame.entry.attachments.now) totals.old totals.new) }
+    ensures { OnOk result ((entries : List EntryText)
+        → HasEntries (frame_text frame.entry) entries →
+        AddsOutcomes (placed_entries frame.entry.place (frame_text frame.entry) entries)
+        (length frame.entry.attachments.now) totals.old totals.new) }
 {
     let mut attachments = Attachments::of(frame);
     while let Some(entry) = attachments.next_entry().unwrap_or(None) {
@@ -58,7 +59,7 @@ fn count_entry(counts: &mut SortCounts, entry: Entry<'_>) -> Option<BadObject>
     ensures { (objects : List ObjectText)
         × AreObjects entry.entry.body.now entry.entry.offsets.now objects result
         × ((sort : Sort) → count_of counts.new sort ≡ count_of counts.old sort
-            + times_of sort objects) }
+        + times_of sort objects) }
 {
     let mut objects = Objects::of(entry);
     while let Some(next) = objects.next_object() {

@@ -34,7 +34,7 @@ impl SortCounts {
         requires { count_of self.old sort + 1 < 2 ^ 64 }
         ensures { (other : Sort)
             → count_of self.new other ≡ count_of self.old other
-                + (if same_sort sort other then 1 else 0) }
+            + (if same_sort sort other then 1 else 0) }
     {
         match sort {
             Sort::Binder => self.binder += 1,

@@ -1,3 +1,4 @@
 pub mod FlagBits
 pub mod KindOf
 pub mod Names
+pub mod WordLaws

@@ -191,3 +191,7 @@ listing_of protocol n bytes = judged (find (has_size protocol n bytes) listed) (
 abbrev pub kind_of : Protocol → ℕ → Result Kind CodeFault
 kind_of protocol code =
     if is_of protocol code then listing_of protocol (number code) (size code) else Err Direction
+
+-- the protocol that a code word's letter names; `Return` where it names none
+abbrev pub protocol_of_word : ℕ → Protocol
+protocol_of_word word = if letter word == letter_of Command then Command else Return

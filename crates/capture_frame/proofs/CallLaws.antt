@@ -1,9 +1,9 @@
 -- What holds of every reader that goes from unit to unit: its calls together give the units, and then its last answer.
-use Rattle.std.proofs.Common.{◌≡◌, ℕ, ◌+◌, List, [], ◌∷◌, ◌++◌, length, drop, All, refl, sym, ap, subst, ◌∙◌, length-append, arith}
+use Rattle.std.proofs.Common.{◌≡◌, ℕ, ◌+◌, List, [], ◌∷◌, ◌++◌, length, map, drop, All, refl, sym, ap, subst, ◌∙◌, length-append, arith}
 use Rattle.std.proofs.lemmas.List.{drop-drop, drop_at}
 use Rattle.std.proofs.lemmas.List.Concat.{flat_map-cons}
 use Rattle.std.proofs.lemmas.List.Elements.{All-cons, All-nil}
-use Rattle.capture_frame.specs.Units.{Format, state_after, spelling_of, placed, Splits, Reads}
+use Rattle.capture_frame.specs.Units.{Format, state_after, spelling_of, Placed, placed_at, placed, Splits, Reads}
 use Rattle.capture_frame.specs.Calls.{Calls, one_more, GiveInOrder}
 use Rattle.capture_frame.proofs.UnitLaws.{IsDecided, Splits-tail, no_unit_at_end}
 
@@ -17,7 +17,7 @@ pub record Reader (S U K R A : Type 0) : Type 1 where
   pub MayReach : ℕ → Type 0
   pub stand : S → ℕ → R
   pub ended : ℕ → K → ℕ → R
-  pub Gives : A → ℕ × U → Type 0
+  pub Gives : A → Placed U → Type 0
   pub at_end : A
   pub failure : ℕ → K → ℕ → A
   pub later : ℕ → K → ℕ → A
@@ -25,7 +25,7 @@ pub record Reader (S U K R A : Type 0) : Type 1 where
 -- one call gives the unit that stands there and goes behind it; gives `at_end` at the end and stays; or gives the failure
 -- of what stands there and ends
 pub data Call {S U K R A : Type 0} (r : Reader S U K R A) (state : S) (x : ℕ) (result : A) (next : R) : Type 0 where
-  gave : (unit : U) (rest : List ℕ) → r.format.MayStand state unit → drop x r.bytes ≡ r.format.spelling unit ++ rest → r.Gives result (r.base + x, unit)
+  gave : (unit : U) (rest : List ℕ) → r.format.MayStand state unit → drop x r.bytes ≡ r.format.spelling unit ++ rest → r.Gives result (placed_at (r.base + x) unit)
       → next ≡ r.stand (r.format.after state unit) (x + length (r.format.spelling unit)) → Call r state x result next
   stayed : drop x r.bytes ≡ [] → result ≡ r.at_end → next ≡ r.stand state x → Call r state x result next
   failed : (kind : K) (within : ℕ) → r.format.Fails state (drop x r.bytes) kind within → result ≡ r.failure x kind within → next ≡ r.ended x kind within → Call r state x result next
@@ -65,10 +65,10 @@ call_at_failure r goes state x kind within result next fails (failed other there
     (last ∙ rw (same.0, same.1) refl, is ∙ rw (same.0, same.1) refl)
 
 call_at_unit : {S U K R A : Type 0} (r : Reader S U K R A) (goes : Goes r) (state : S) (x : ℕ) (unit : U) (rest : List ℕ) (result : A) (next : R) → r.format.MayStand state unit → drop x r.bytes ≡ r.format.spelling unit ++ rest
-    → Call r state x result next → r.Gives result (r.base + x, unit) × (next ≡ r.stand (r.format.after state unit) (x + length (r.format.spelling unit)))
+    → Call r state x result next → r.Gives result (placed_at (r.base + x) unit) × (next ≡ r.stand (r.format.after state unit) (x + length (r.format.spelling unit)))
 call_at_unit {S} {U} r goes state x unit rest result next stands parts (gave found others stands_too parts_too gives is) =
     let same = (goes.decided.one_unit state found unit others rest stands_too stands (sym parts_too ∙ parts)).0 in
-    (subst (λ (u : U). r.Gives result (r.base + x, u)) same gives, is ∙ ap (λ (u : U). r.stand (r.format.after state u) (x + length (r.format.spelling u))) same)
+    (subst (λ (u : U). r.Gives result (placed_at (r.base + x) u)) same gives, is ∙ ap (λ (u : U). r.stand (r.format.after state u) (x + length (r.format.spelling u))) same)
 call_at_unit r goes state x unit rest result next stands parts (stayed none last is) = absurd (no_unit_at_end r.format goes.decided state unit rest stands (sym none ∙ parts))
 call_at_unit r goes state x unit rest result next stands parts (failed kind within fails last is) =
     absurd (goes.decided.never_both state unit rest kind within stands (subst (λ (t : List ℕ). r.format.Fails state t kind within) parts fails))
@@ -146,7 +146,14 @@ stays_at_end r goes state x reach none results calls =
 
 -- the units alone, where their places are not asked for
 pub without_places : {U A : Type 0} (Gives : A → U → Type 0) (once ever : A) (spelling : U → List ℕ) (place : ℕ) (units : List U) (results : List A)
-    → GiveInOrder (λ (a : A) (p : ℕ × U). Gives a p.1) once ever (placed spelling place units) results → GiveInOrder Gives once ever units results
+    → GiveInOrder (λ (a : A) (p : Placed U). Gives a p.unit) once ever (placed spelling place units) results → GiveInOrder Gives once ever units results
 without_places Gives once ever spelling place units [] gives = tt
 without_places Gives once ever spelling place (u ∷ us) (result ∷ results) gives = (gives.0, without_places Gives once ever spelling (place + length (spelling u)) us results gives.1)
 without_places Gives once ever spelling place [] (result ∷ results) gives = (gives.0, without_places Gives ever ever spelling place [] results gives.1)
+
+-- units that are made from others
+pub made_from : {U V A : Type 0} (Gives : A → V → Type 0) (once ever : A) (make : U → V) (units : List U) (results : List A)
+    → GiveInOrder (λ (a : A) (u : U). Gives a (make u)) once ever units results → GiveInOrder Gives once ever (map make units) results
+made_from Gives once ever make units [] gives = tt
+made_from Gives once ever make (u ∷ us) (result ∷ results) gives = (gives.0, made_from Gives once ever make us results gives.1)
+made_from Gives once ever make [] (result ∷ results) gives = (gives.0, made_from Gives ever ever make [] results gives.1)

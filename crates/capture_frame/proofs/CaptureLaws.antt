@@ -7,7 +7,8 @@ use Rattle.capture_frame.specs.declared.fault.FaultKind.{FaultKind}
 use Rattle.capture_frame.specs.Units.{Format, Reads, FirstFailure}
 use Rattle.capture_frame.specs.Envelope.{file_header}
 use Rattle.capture_frame.specs.FirstFault.{HeaderFails, IsCapture, IsFirstFault, in_header, in_frames}
-use Rattle.capture_frame.proofs.NumberLaws.{IsBytes, IsBytes-drop}
+use Rattle.capture_frame.specs.Units.{IsBytes}
+use Rattle.capture_frame.proofs.NumberLaws.{IsBytes-drop}
 use Rattle.capture_frame.proofs.FaultLaws.{same_fault}
 use Rattle.capture_frame.proofs.UnitLaws.{IsDecided, Outcome, read, failed, outcome}
 use Rattle.capture_frame.proofs.UnitLaws as units

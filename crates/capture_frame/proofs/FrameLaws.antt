@@ -11,7 +11,8 @@ use Rattle.capture_frame.specs.declared.fault.FaultKind.{FaultKind}
 use Rattle.capture_frame.specs.declared.fault.FaultKind.TheVariants.{HeaderShort, HeaderMagic, HeaderProtocol, HeaderReserved, FrameShort, FrameSequence, FrameDirection, FrameReserved, FrameLength, RecordShort, RecordDirection, RecordSize, AttachShort, AttachRecord, AttachSize}
 use Rattle.capture_frame.specs.Envelope.{FrameText, FitsHeader, frame_bytes, MayStand, IsAbove, IsDirection, direction_number, number_at, sequence_at, direction_at, reserved_at, command_length, attachment_length}
 use Rattle.capture_frame.specs.FirstFault.{FrameFails, frame_format}
-use Rattle.capture_frame.proofs.NumberLaws.{IsBytes, IsBytes-drop, number_spelled}
+use Rattle.capture_frame.specs.Units.{IsBytes}
+use Rattle.capture_frame.proofs.NumberLaws.{IsBytes-drop, number_spelled}
 use Rattle.capture_frame.proofs.UnitLaws.{IsDecided, Judged, ended, good, bad}
 
 -- ---- what is spelled is read back

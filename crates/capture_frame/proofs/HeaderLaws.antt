@@ -7,7 +7,7 @@ use Rattle.capture_frame.specs.declared.fault.FaultKind.{FaultKind}
 use Rattle.capture_frame.specs.declared.fault.FaultKind.TheVariants.{HeaderShort, HeaderMagic, HeaderProtocol, HeaderReserved, FrameShort, FrameSequence, FrameDirection, FrameReserved, FrameLength, RecordShort, RecordDirection, RecordSize, AttachShort, AttachRecord, AttachSize}
 use Rattle.capture_frame.specs.Envelope.{file_header, number_at}
 use Rattle.capture_frame.specs.FirstFault.{HeaderFails}
-use Rattle.capture_frame.proofs.NumberLaws.{IsBytes}
+use Rattle.capture_frame.specs.Units.{IsBytes}
 use Rattle.capture_frame.proofs.FrameLaws.{field}
 
 -- a good file header is the one that the format has

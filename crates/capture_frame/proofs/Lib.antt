@@ -2,9 +2,9 @@ pub mod NumberLaws
 pub mod FaultLaws
 pub mod UnitLaws
 pub mod CallLaws
+pub mod ReaderLaws
 pub mod FrameLaws
 pub mod ReadLaws
 pub mod HeaderLaws
 pub mod CaptureLaws
-pub mod FrameCalls
 pub mod Vectors

@@ -2,9 +2,9 @@
 use Rattle.std.proofs.Common.{◌≡◌, ℕ, ◌+◌, ◌-◌, ◌≤◌, List, ◌++◌, length, take, drop, Option, Some, Ok, refl, sym, ap, subst, ◌∙◌, length-append, arith}
 use Rattle.std.proofs.lemmas.List.{take_rest, drop_at, length-take, length-drop}
 use Rattle.capture_frame.specs.declared.frame.Frame.{Frame}
-use Rattle.capture_frame.specs.Envelope.{FrameText, FitsHeader, number_at, frame_bytes, text_of, IsAbove, direction_number, sequence_at, direction_at, reserved_at, command_length, attachment_length}
-use Rattle.capture_frame.specs.Reading.{Reading, at, BeginsWith, Steps}
-use Rattle.capture_frame.proofs.NumberLaws.{IsBytes}
+use Rattle.capture_frame.specs.Envelope.{FrameText, FitsHeader, number_at, frame_bytes, frame_text, IsAbove, direction_number, sequence_at, direction_at, reserved_at, command_length, attachment_length}
+use Rattle.capture_frame.specs.Reading.{IsFrameView, BeginsWithFrame}
+use Rattle.capture_frame.specs.Units.{IsBytes}
 use Rattle.capture_frame.proofs.FrameLaws.{text_at, rest_at, length-frame_bytes, header_spelled, text_at-fits}
 
 -- the bytes of a good frame header, and of what it tells of
@@ -21,10 +21,10 @@ pub record IsGoodFront (bytes : List ℕ) (before : Option ℕ) (frame : Frame) 
   pub commands : frame.commands.now ≡ take (command_length bytes) (drop 32 bytes)
   pub attachments : frame.attachments.now ≡ take (attachment_length bytes) (drop (32 + command_length bytes) bytes)
 
-pub begins_with : (bytes : List ℕ) (place : ℕ) (before : Option ℕ) (frame : Frame) → frame.place ≡ place → IsGoodFront bytes before frame → BeginsWith bytes place before frame
+pub begins_with : (bytes : List ℕ) (place : ℕ) (before : Option ℕ) (frame : Frame) → frame.place ≡ place → IsGoodFront bytes before frame → BeginsWithFrame bytes place before frame
 begins_with bytes place before frame e front =
-    let text : text_of frame ≡ text_at frame.direction bytes = rw (front.sequence, front.process, front.thread, front.commands, front.attachments) refl in
-    let parts : bytes ≡ frame_bytes (text_of frame) ++ rest_at bytes =
+    let text : frame_text frame ≡ text_at frame.direction bytes = rw (front.sequence, front.process, front.thread, front.commands, front.attachments) refl in
+    let parts : bytes ≡ frame_bytes (frame_text frame) ++ rest_at bytes =
     header_spelled bytes frame.direction front.bytes_fit front.long front.direction front.reserved front.whole ∙ ap (λ (f : _). frame_bytes f ++ rest_at bytes) (sym text) in
     let commands = front.commands in
     let attachments = front.attachments in
@@ -32,34 +32,15 @@ begins_with bytes place before frame e front =
     let c_long : length frame.commands.now ≡ command_length bytes = ap length commands ∙ omega (arith, length-take (command_length bytes) (drop 32 bytes), length-drop 32 bytes) in
     let m_long : length frame.attachments.now ≡ attachment_length bytes = ap length attachments ∙ omega (arith, length-take (attachment_length bytes) (drop (32 + command_length bytes) bytes), length-drop (32 + command_length bytes) bytes) in
     record {
-      stands = e;
       may_stand = record { fits = subst FitsHeader (sym text) (text_at-fits bytes frame.direction front.bytes_fit); above = subst (λ (f : FrameText). IsAbove before f.sequence) (sym text) front.above };
-      joined = parts ∙ ap (λ (t : List ℕ). frame_bytes (text_of frame) ++ t) (sym (drop_at (frame_bytes (text_of frame)) (rest_at bytes) (length (frame_bytes (text_of frame))) refl) ∙ ap (λ (t : List ℕ). drop (length (frame_bytes (text_of frame))) t) (sym parts));
-      commands =
-          let width : 32 + length frame.commands.now - 32 ≡ command_length bytes = omega arith in
-          commands ∙ ap (λ (n : ℕ). take n (drop 32 bytes)) (sym width);
-      attachments =
-          let width : 32 + length frame.commands.now + length frame.attachments.now - (32 + length frame.commands.now) ≡ attachment_length bytes = omega arith in
-          attachments ∙ ap (λ (n : ℕ). take n (drop (32 + command_length bytes) bytes)) (sym width) ∙ ap (λ (n : ℕ). take (32 + length frame.commands.now + length frame.attachments.now - (32 + length frame.commands.now)) (drop (32 + n) bytes)) (sym c_long);
+      joined = parts ∙ ap (λ (t : List ℕ). frame_bytes (frame_text frame) ++ t) (sym (drop_at (frame_bytes (frame_text frame)) (rest_at bytes) (length (frame_bytes (frame_text frame))) refl) ∙ ap (λ (t : List ℕ). drop (length (frame_bytes (frame_text frame))) t) (sym parts));
+      view = record {
+          place_is = e;
+          commands =
+              let width : 32 + length frame.commands.now - 32 ≡ command_length bytes = omega arith in
+              commands ∙ ap (λ (n : ℕ). take n (drop 32 bytes)) (sym width);
+          attachments =
+              let width : 32 + length frame.commands.now + length frame.attachments.now - (32 + length frame.commands.now) ≡ attachment_length bytes = omega arith in
+              attachments ∙ ap (λ (n : ℕ). take n (drop (32 + command_length bytes) bytes)) (sym width) ∙ ap (λ (n : ℕ). take (32 + length frame.commands.now + length frame.attachments.now - (32 + length frame.commands.now)) (drop (32 + n) bytes)) (sym c_long);
+      };
     }
-
--- the bytes that a reader has left, as the code cuts them
-abbrev pub rest_of : List ℕ → ℕ → List ℕ
-rest_of capture place = take (length capture - place) (drop place capture)
-
--- how far the reader goes behind a frame stays within the capture
-pub begins_within : (capture : List ℕ) (place : ℕ) (before : Option ℕ) (frame : Frame) → place ≤ length capture → BeginsWith (rest_of capture place) place before frame
-    → place + (32 + length frame.commands.now + length frame.attachments.now) ≤ length capture
-begins_within capture place before frame within begins =
-    let bytes = rest_of capture place in
-    let left : length bytes ≡ length capture - place = ap length (take_rest capture place) ∙ length-drop place capture in
-    let whole : length bytes ≡ length (frame_bytes (text_of frame)) + length (drop (length (frame_bytes (text_of frame))) bytes) = ap length begins.joined ∙ length-append (frame_bytes (text_of frame)) (drop (length (frame_bytes (text_of frame))) bytes) in
-    omega (arith, whole, left, length-frame_bytes (text_of frame))
-
--- the step of a reader that gives a frame
-pub steps_over : (reading : Reading) (capture : List ℕ) (place : ℕ) (before : Option ℕ) (frame : Frame) → reading ≡ at capture place before → BeginsWith (rest_of capture place) place before frame
-    → Steps reading (Ok (Some frame)) (at capture (place + (32 + length frame.commands.now + length frame.attachments.now)) (Some frame.sequence))
-steps_over reading capture place before frame is begins =
-    let width : 32 + length frame.commands.now + length frame.attachments.now ≡ length (frame_bytes (text_of frame)) = omega (arith, length-frame_bytes (text_of frame)) in
-    let there = subst (λ (t : List ℕ). BeginsWith t place before frame) (take_rest capture place) begins in
-    rw is (there, ap (λ (n : ℕ). at capture (place + n) (Some frame.sequence)) width)

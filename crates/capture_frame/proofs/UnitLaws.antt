@@ -1,11 +1,10 @@
 -- What holds of every format whose units are judged one by one: a text is read in one way, or has one first
 -- failure, and never both.
-use Rattle.std.proofs.Common.{◌≡◌, ℕ, zero, suc, ◌+◌, ◌<◌, List, [], ◌∷◌, ◌++◌, length, drop, refl, sym, ap, subst, ◌∙◌, append_assoc, length-append, arith}
+use Rattle.std.proofs.Common.{◌≡◌, ℕ, zero, suc, ◌+◌, ◌<◌, inl, inr, List, [], ◌∷◌, ◌++◌, length, drop, refl, sym, ap, subst, ◌∙◌, append_assoc, length-append, arith}
 use Rattle.std.proofs.lemmas.List.{append-nil, drop-drop, get_or-append-add}
 use Rattle.std.proofs.lemmas.Grind.{flat_map-append}
 use Rattle.std.proofs.lemmas.List.Concat.{flat_map-cons}
-use Rattle.capture_frame.proofs.NumberLaws.{IsBytes}
-use Rattle.capture_frame.specs.Units.{Format, AllStand, state_after, spelling_of, Splits, Reads, FirstFailure}
+use Rattle.capture_frame.specs.Units.{Format, AllStand, state_after, spelling_of, Splits, Reads, FirstFailure, IsBytes, ReadsOrFails, ReadsInOneWay, FailsInOneWay, NeverBoth}
 
 -- the bytes at some place are at their end, begin with a unit that may stand there, or fail
 pub data Judged {S U K : Type 0} (format : Format S U K) (state : S) (bytes : List ℕ) : Type 0 where
@@ -45,10 +44,10 @@ Splits-tail format state bytes unit units rest splits = (
 )
 
 -- a unit goes in front of a first failure of what follows it
-pub FirstFailure-cons : {S U K : Type 0} (format : Format S U K) (state : S) (bytes middle : List ℕ) (unit : U) (kind : K) (place : ℕ)
-    → format.MayStand state unit → bytes ≡ format.spelling unit ++ middle → FirstFailure format (format.after state unit) middle kind place
-    → FirstFailure format state bytes kind (length (format.spelling unit) + place)
-FirstFailure-cons format state bytes middle unit kind place stands parts failure = record {
+pub FirstFailure-cons : {S U K : Type 0} (format : Format S U K) (state : S) (bytes middle : List ℕ) (unit : U) (kind : K) (distance : ℕ)
+    → format.MayStand state unit → bytes ≡ format.spelling unit ++ middle → FirstFailure format (format.after state unit) middle kind distance
+    → FirstFailure format state bytes kind (length (format.spelling unit) + distance)
+FirstFailure-cons format state bytes middle unit kind distance stands parts failure = record {
   before = unit ∷ failure.before;
   rest = failure.rest;
   within = failure.within;
@@ -63,12 +62,12 @@ FirstFailure-cons format state bytes middle unit kind place stands parts failure
 -- a text is these units, or has a first failure
 pub data Outcome {S U K : Type 0} (format : Format S U K) (state : S) (bytes : List ℕ) : Type 0 where
   read : (units : List U) → Reads format state bytes units → Outcome format state bytes
-  failed : (kind : K) (place : ℕ) → FirstFailure format state bytes kind place → Outcome format state bytes
+  failed : (kind : K) (distance : ℕ) → FirstFailure format state bytes kind distance → Outcome format state bytes
 
 outcome-cons : {S U K : Type 0} (format : Format S U K) (state : S) (bytes middle : List ℕ) (unit : U) → format.MayStand state unit → bytes ≡ format.spelling unit ++ middle
     → Outcome format (format.after state unit) middle → Outcome format state bytes
 outcome-cons format state bytes middle unit stands parts (read units reads) = read (unit ∷ units) (Splits-cons format state bytes middle unit units [] stands parts reads)
-outcome-cons format state bytes middle unit stands parts (failed kind place failure) = failed kind _ (FirstFailure-cons format state bytes middle unit kind place stands parts failure)
+outcome-cons format state bytes middle unit stands parts (failed kind distance failure) = failed kind _ (FirstFailure-cons format state bytes middle unit kind distance stands parts failure)
 
 IsBytes-rest : (front rest : List ℕ) → IsBytes (front ++ rest) → IsBytes rest
 IsBytes-rest front rest h i = subst (λ (x : ℕ). x < 256) (get_or-append-add front rest i 0) (h (length front + i))
@@ -120,6 +119,22 @@ one_reading {S} {U} {K} format decided state bytes (u ∷ us) (v ∷ vs) a b =
     let others = one_reading format decided (format.after state u) (spelling_of format us ++ []) us vs left.2 next in
     rw (same.0, others) refl
 
+-- the units that a reading begins with, and those behind them
+pub reading_behind : {S U K : Type 0} (format : Format S U K) (decided : IsDecided format) (state : S) (bytes : List ℕ) (us vs : List U) (rest : List ℕ)
+    → Splits format state bytes us rest → Reads format state bytes vs → (ws : List U) × (vs ≡ us ++ ws) × Reads format (state_after format state us) rest ws
+reading_behind format decided state bytes [] vs rest a b = (vs, refl, subst (λ (t : List ℕ). Reads format state t vs) a.joined b)
+reading_behind format decided state bytes (u ∷ us) [] rest a b =
+    let tail = Splits-tail format state bytes u us rest a in
+    absurd (no_unit_at_end format decided state u _ tail.1 (sym b.joined ∙ tail.0))
+reading_behind {S} {U} {K} format decided state bytes (u ∷ us) (v ∷ vs) rest a b =
+    let left = Splits-tail format state bytes u us rest a in
+    let right = Splits-tail format state bytes v vs [] b in
+    let same = decided.one_unit state v u _ _ right.1 left.1 (sym right.0 ∙ left.0) in
+    let next : Reads format (format.after state u) (spelling_of format us ++ rest) vs =
+    subst (λ (t : List ℕ). Reads format (format.after state u) t vs) same.1 (subst (λ (w : _). Reads format (format.after state w) (spelling_of format vs ++ []) vs) same.0 right.2) in
+    let others = reading_behind format decided (format.after state u) (spelling_of format us ++ rest) us vs rest left.2 next in
+    (others.0, ap (λ (x : U). x ∷ vs) same.0 ∙ ap (λ (t : List U). u ∷ t) others.1, others.2)
+
 -- where a text fails first, no reading of it is
 pub never_both : {S U K : Type 0} (format : Format S U K) (decided : IsDecided format) (state : S) (bytes : List ℕ) (us vs : List U) (rest : List ℕ) (kind : K) (within : ℕ)
     → Reads format state bytes us → Splits format state bytes vs rest → format.Fails (state_after format state vs) rest kind within → ⊥
@@ -169,6 +184,24 @@ one_failure format decided state bytes k j x y a b =
     let same = same_failure format decided state bytes a.before b.before a.rest b.rest k j a.within b.within a.splits b.splits a.fails b.fails in
     let within : length (spelling_of format a.before) ≡ length (spelling_of format b.before) = ap (λ (us : _). length (spelling_of format us)) same.0 in
     (same.2, omega (arith, a.stands, b.stands, within, same.3))
+
+-- ---- a text has one reading, or one first failure
+
+reads_or_fails : {S U K : Type 0} (format : Format S U K) (state : S) (bytes : List ℕ) → Outcome format state bytes → ReadsOrFails format state bytes
+reads_or_fails format state bytes (read units reads) = inl (units, reads)
+reads_or_fails format state bytes (failed kind distance failure) = inr (kind, distance, failure)
+
+pub text_one_of : {S U K : Type 0} (format : Format S U K) (decided : IsDecided format) (state : S) (bytes : List ℕ) → IsBytes bytes → ReadsOrFails format state bytes
+text_one_of format decided state bytes h = reads_or_fails format state bytes (outcome format decided state bytes h)
+
+pub text_one_reading : {S U K : Type 0} (format : Format S U K) (decided : IsDecided format) (state : S) (bytes : List ℕ) → ReadsInOneWay format state bytes
+text_one_reading format decided state bytes us vs a b = one_reading format decided state bytes us vs a b
+
+pub text_one_fault : {S U K : Type 0} (format : Format S U K) (decided : IsDecided format) (state : S) (bytes : List ℕ) → FailsInOneWay format state bytes
+text_one_fault format decided state bytes k j x y a b = one_failure format decided state bytes k j x y a b
+
+pub text_never_both : {S U K : Type 0} (format : Format S U K) (decided : IsDecided format) (state : S) (bytes : List ℕ) → NeverBoth format state bytes
+text_never_both format decided state bytes us kind distance reads fails = never_both format decided state bytes us fails.before fails.rest kind fails.within reads fails.splits fails.fails
 
 -- ---- a walk from unit to unit
 

@@ -1,6 +1,7 @@
-ghost use Rattle.std.specs.Prelude.{◌+◌, ◌<◌, ◌^◌, length};
+ghost use Rattle.std.specs.Prelude.{◌≡◌, ◌+◌, ◌<◌, ◌^◌, length};
 
 use crate::direction::Direction;
+use crate::frames::FRAME_HEADER;
 
 /// The consumed part of one write to the driver, or of one read from it. The slices are the
 /// capture's own bytes.
@@ -21,4 +22,22 @@ pub struct Frame<'c> {
     /// The attachment entries: data and offsets of transactions and replies.
     pub attachments: &'c [u8],
     ghost fits: { place + 32 + length commands.now + length attachments.now < 2 ^ 64 },
+}
+
+impl<'c> Frame<'c> {
+    ghost use Rattle.capture_frame.specs.Envelope.{commands_place, attachments_place, frame_text};
+
+    /// Where the command bytes begin in the capture, in bytes.
+    pub fn commands_place(self) -> u64
+        ensures { result ≡ commands_place self.entry.place }
+    {
+        self.place + FRAME_HEADER as u64
+    }
+
+    /// Where the attachment bytes begin in the capture, in bytes.
+    pub fn attachments_place(self) -> u64
+        ensures { result ≡ attachments_place (frame_text self.entry) self.entry.place }
+    {
+        self.commands_place() + self.commands.len() as u64
+    }
 }

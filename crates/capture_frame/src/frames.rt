@@ -1,9 +1,9 @@
 //! The reader of a capture's frames.
 
-ghost use Rattle.std.specs.Prelude.{◌≡◌, ◌<◌, ◌+◌, ◌^◌, ◌↔◌, length, take, None, IsTrue, MatchResult, IfOk, IfErr};
+ghost use Rattle.std.specs.Prelude.{◌≡◌, ◌<◌, ◌+◌, ◌^◌, ◌↔◌, length, take, IsTrue, MatchResult, IfOk, IfErr};
 ghost use Rattle.capture_frame.specs.Envelope.{file_header, IsAbove};
 ghost use Rattle.capture_frame.specs.FirstFault.{HeaderFails, FrameFails};
-ghost use Rattle.capture_frame.specs.Reading.{BeginsWith};
+ghost use Rattle.capture_frame.specs.Reading.{BeginsWithFrame};
 
 use crate::direction::Direction;
 use crate::fault::{Fault, FaultKind};
@@ -13,13 +13,13 @@ use crate::number::{u24_at, u32_at, u64_at};
 use std::marker::Model;
 
 /// The length of a frame header, in bytes.
-const FRAME_HEADER: usize = 32;
+pub(crate) const FRAME_HEADER: usize = 32;
 
-/// Where a reader stands: before a frame, after that with the sequence `before`, or at the fault
-/// that ended it.
+/// Where a reader stands: before a frame, so far behind the file header and after the frame with the
+/// sequence `before`; or at the fault that ended it.
 #[derive(Clone, Copy, Debug)]
 enum State {
-    At { place: usize, before: Option<u64> },
+    At { offset: usize, before: Option<u64> },
     Failed(Fault),
 }
 
@@ -27,7 +27,8 @@ enum State {
 /// later call, and one that has ended gives `None`.
 #[derive(Debug, Drop)]
 pub struct Frames<'c> {
-    capture: &'c [u8],
+    /// The capture behind its file header.
+    bytes: &'c [u8],
     state: State,
 }
 
@@ -39,25 +40,25 @@ impl<'c> Model for Frames<'c> {
 
     ghost use Rattle.capture_frame.specs.State.{reading_of, IsWithin};
 
-    ghost view = { λ r. reading_of r.capture.now r.state };
+    ghost view = { λ r. reading_of r.bytes.now r.state };
 
-    ghost invariant = { λ r. IsWithin r.capture.now r.state };
+    ghost invariant = { λ r. IsWithin r.bytes.now r.state };
 }
 
 impl<'c> Frames<'c> {
-    ghost use Rattle.capture_frame.specs.Reading.{at, failed, Steps, start_of};
+    ghost use Rattle.capture_frame.specs.Reading.{Steps, frames_start};
 
     /// A reader of the capture's frames, where its file header is good.
     pub fn new(capture: &'c [u8]) -> Result<Frames<'c>, Fault>
         ensures { MatchResult result
-            (λ reader. (take 16 capture.now ≡ file_header) × (reader ≡ start_of capture.now))
+            (λ reader. (take 16 capture.now ≡ file_header) × (reader ≡ frames_start capture.now))
             (λ fault. HeaderFails capture.now fault.kind fault.place) }
     {
         header::check_header(capture)?;
         Ok(Frames {
-            capture,
+            bytes: &capture[FILE_HEADER..],
             state: State::At {
-                place: FILE_HEADER,
+                offset: 0,
                 before: None,
             },
         })
@@ -67,28 +68,26 @@ impl<'c> Frames<'c> {
     pub fn next_frame(&mut self) -> Result<Option<Frame<'c>>, Fault>
         ensures { Steps self.old result self.new }
     {
-        let (place, before) = match self.state {
-            State::At { place, before } => (place, before),
+        let (offset, before) = match self.state {
+            State::At { offset, before } => (offset, before),
             State::Failed(fault) => return Err(fault),
         };
-        let rest = &self.capture[place..];
+        let rest = &self.bytes[offset..];
         if rest.is_empty() {
             return Ok(None);
         }
-        match frame_at(rest, place as u64, before) {
+        let place = (FILE_HEADER + offset) as u64;
+        match frame_at(rest, place, before) {
             Ok(frame) => {
                 let length = FRAME_HEADER + frame.commands.len() + frame.attachments.len();
                 self.state = State::At {
-                    place: place + length,
+                    offset: offset + length,
                     before: Some(frame.sequence),
                 };
                 Ok(Some(frame))
             }
             Err(kind) => {
-                let fault = Fault {
-                    kind,
-                    place: place as u64,
-                };
+                let fault = Fault { kind, place };
                 self.state = State::Failed(fault);
                 Err(fault)
             }
@@ -110,7 +109,7 @@ fn is_above(sequence: u64, before: Option<u64>) -> bool
 fn frame_at(bytes: &[u8], place: u64, before: Option<u64>) -> Result<Frame<'_>, FaultKind>
     requires fits { place + length bytes.now < 2 ^ 64 }
     requires some { 0 < length bytes.now }
-    ensures found { IfOk result (λ frame. BeginsWith bytes.now place before frame) }
+    ensures found { IfOk result (λ frame. BeginsWithFrame bytes.now place before frame) }
     ensures fails { IfErr result (λ kind. FrameFails before bytes.now kind) }
 {
     if bytes.len() < FRAME_HEADER {

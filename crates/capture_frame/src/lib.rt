@@ -14,6 +14,7 @@ pub use direction::Direction;
 pub use fault::{Fault, FaultKind};
 pub use frame::Frame;
 pub use frames::Frames;
+pub use number::{u32_at, u64_at};
 
 #[cfg(test)]
 mod tests;

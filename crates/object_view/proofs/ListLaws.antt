@@ -7,7 +7,8 @@ use Rattle.byteorder.specs.Endian.{little_bytes}
 use Rattle.byteorder.specs.Numbers.{little_number-reads_back, little_from-lt}
 use Rattle.transaction_view.specs.Envelope.{number_at}
 use Rattle.transaction_view.specs.Units.{Splits, spelling_of}
-use Rattle.transaction_view.proofs.NumberLaws.{IsBytes, number_spelled}
+use Rattle.transaction_view.specs.Units.{IsBytes}
+use Rattle.transaction_view.proofs.NumberLaws.{number_spelled}
 use Rattle.transaction_view.proofs.UnitLaws.{IsDecided, Judged, ended, good, Outcome, read, failed, outcome}
 use Rattle.transaction_view.proofs.UnitLaws as units
 use Rattle.object_view.specs.declared.sort.Sort.{Sort}

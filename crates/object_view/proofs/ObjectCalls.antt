@@ -10,7 +10,7 @@ use Rattle.object_view.specs.declared.bad_object.Cause.TheVariants.{ListLength}
 use Rattle.object_view.specs.declared.object.Object.{Object}
 use Rattle.object_view.specs.Fields.{sort_length}
 use Rattle.object_view.specs.Objects.{ObjectText, first_offset, object_format, IsWholeList, bad_at, AreObjects, all_good, until_bad, no_list}
-use Rattle.object_view.specs.Reading.{Reading, at, ended, text_of, IsBadAt, no_object, Steps, start_of, GivesObject, GiveObjects}
+use Rattle.object_view.specs.Reading.{Reading, at, ended, object_text, IsBadAt, no_object, Steps, objects_start, GivesObject, GiveObjects}
 use Rattle.object_view.specs.Reading as reading
 use Rattle.object_view.proofs.ListLaws.{object_fails, objects_decided, spelled_long}
 
@@ -24,7 +24,7 @@ object_reader body list = record {
   MayReach = λ x. x % 8 ≡ 0;
   stand = λ end x. at body list (x / 8) end;
   ended = λ x cause within. ended;
-  Gives = λ result there. GivesObject result there.1;
+  Gives = λ result there. GivesObject result there.unit;
   at_end = None;
   failure = λ x cause within. Some (Err (bad_at (x / 8) (first_offset (drop x list)) cause));
   later = λ x cause within. None;
@@ -42,7 +42,7 @@ object_call : (body list : List ℕ) → IsWholeList list → (end x : ℕ) (res
     → Call (object_reader body list) end x result next
 object_call body list whole end x (Some (Ok found)) next place steps =
     let there : drop (8 * (x / 8)) list ≡ drop x list = ap (λ (n : ℕ). drop n list) place in
-    let o = text_of (first_offset (drop (8 * (x / 8)) list)) found in
+    let o = object_text (first_offset (drop (8 * (x / 8)) list)) found in
     let number : x / 8 + 1 ≡ (x + 8) / 8 = omega arith in
     gave o (drop (8 * (x / 8) + 8) list) steps.2 (sym there ∙ steps.1) (found, refl, refl, refl) (steps.3 ∙ ap (λ (n : ℕ). at body list n (o.offset + sort_length o.sort)) number)
 object_call body list whole end x (Some (Err bad)) next place steps = bad_call body list whole end x bad next place steps.0 steps.1
@@ -61,7 +61,7 @@ ended_gives : (results : List (Option (Result Object BadObject))) → Calls Step
 ended_gives [] calls = tt
 ended_gives (_ ∷ results) (one_more _ next result _ steps calls) = (steps.0, ended_gives results (subst (λ (r : Reading). Calls Steps r results) steps.1 calls))
 
-no_list_gives : (body list : List ℕ) → ¬ IsWholeList list → (results : List (Option (Result Object BadObject))) → Calls Steps (start_of body list) results → GiveObjects [] (Some (bad_at 0 0 ListLength)) results
+no_list_gives : (body list : List ℕ) → ¬ IsWholeList list → (results : List (Option (Result Object BadObject))) → Calls Steps (objects_start body list) results → GiveObjects [] (Some (bad_at 0 0 ListLength)) results
 no_list_gives body list never [] calls = tt
 no_list_gives body list never (None ∷ results) (one_more _ next _ _ steps calls) = absurd (never steps.0)
 no_list_gives body list never (Some (Ok found) ∷ results) (one_more _ next _ _ steps calls) = absurd (never steps.0)
@@ -70,13 +70,13 @@ no_list_gives body list never (Some (Err found) ∷ results) (one_more _ next _ 
 no_list_gives body list never (Some (Err found) ∷ results) (one_more _ next _ _ (no_object whole more cause fails is, last) calls) = absurd (never whole)
 
 -- the calls of a reader from its start give the objects, and the bad one
-pub objects_given : (body list : List ℕ) (objects : List ObjectText) (bad : Option BadObject) → AreObjects body list objects bad → (results : List (Option (Result Object BadObject)))
-    → Calls Steps (start_of body list) results → GiveObjects objects bad results
-objects_given body list objects bad (all_good whole reads is) results calls =
+pub whole_gives : (body list : List ℕ) (objects : List ObjectText) (bad : Option BadObject) → AreObjects body list objects bad → (results : List (Option (Result Object BadObject)))
+    → Calls Steps (objects_start body list) results → GiveObjects objects bad results
+whole_gives body list objects bad (all_good whole reads is) results calls =
     let reader = object_reader body list in
     rw is (without_places GivesObject None None (object_format body).spelling 0 objects results
     (from_start reader 0 None None objects (read_gives reader (objects_go body list whole) 0 0 objects refl reads) results calls))
-objects_given body list objects bad (until_bad whole rest cause splits more fails is) results calls =
+whole_gives body list objects bad (until_bad whole rest cause splits more fails is) results calls =
     let reader = object_reader body list in
     let y = length (spelling_of (object_format body) objects) in
     let once : Option (Result Object BadObject) = Some (Err (bad_at (y / 8) (first_offset (drop y list)) cause)) in
@@ -86,7 +86,7 @@ objects_given body list objects bad (until_bad whole rest cause splits more fail
     let there : drop y list ≡ rest = ap (drop y) splits.joined ∙ drop_at (spelling_of (object_format body) objects) rest y refl in
     let same : once ≡ option_map Err bad = rw (is, number, there) refl in
     subst (λ (answer : Option (Result Object BadObject)). GiveInOrder GivesObject answer None objects results) same given
-objects_given body list objects bad (no_list never none is) results calls = rw (none, is) (no_list_gives body list never results calls)
+whole_gives body list objects bad (no_list never none is) results calls = rw (none, is) (no_list_gives body list never results calls)
 
 ended_for_ever : (next : Reading) → next ≡ ended → (results : List (Option (Result Object BadObject))) → Calls Steps next results → All (λ result. result ≡ None) results
 ended_for_ever next is results calls = stays Steps ended None (λ result new steps. steps) results (subst (λ (r : Reading). Calls Steps r results) is calls)

@@ -5,7 +5,7 @@ use Rattle.byteorder.specs.Endian.{little_bytes}
 use Rattle.object_view.specs.declared.bad_object.Cause.{Cause}
 use Rattle.object_view.specs.declared.object.Object.{Object}
 use Rattle.object_view.specs.Objects.{MayStandObject, FailsAt, IsWholeList, first_offset, bad_at}
-use Rattle.object_view.specs.Reading.{Reading, at, ended, text_of, no_object, Steps}
+use Rattle.object_view.specs.Reading.{Reading, at, ended, object_text, no_object, Steps}
 
 -- the bytes that a reader has left, as the code cuts them
 abbrev pub rest_of : List ℕ → ℕ → List ℕ
@@ -18,7 +18,7 @@ one_more list index whole within some =
     omega (arith, whole, within, some, left)
 
 pub steps_good : (reading : Reading) (body list : List ℕ) (index end offset : ℕ) (found : Object) → reading ≡ at body list index end → IsWholeList list
-    → offset ≡ first_offset (rest_of list index) → rest_of list index ≡ little_bytes 8 offset ++ drop 8 (rest_of list index) → MayStandObject body end (text_of offset found)
+    → offset ≡ first_offset (rest_of list index) → rest_of list index ≡ little_bytes 8 offset ++ drop 8 (rest_of list index) → MayStandObject body end (object_text offset found)
     → Steps reading (Some (Ok found)) (at body list (index + 1) (offset + length found.bytes.now))
 steps_good reading body list index end offset found is whole read spelled stands =
     let rest = take_rest list (8 * index) in
@@ -28,7 +28,7 @@ steps_good reading body list index end offset found is whole read spelled stands
     rw is (
       whole,
       subst (λ (n : ℕ). drop (8 * index) list ≡ little_bytes 8 n ++ drop (8 * index + 8) list) there joined,
-      subst (λ (n : ℕ). MayStandObject body end (text_of n found)) there stands,
+      subst (λ (n : ℕ). MayStandObject body end (object_text n found)) there stands,
       ap (λ (n : ℕ). at body list (index + 1) (n + length found.bytes.now)) there ∙ ap (λ (n : ℕ). at body list (index + 1) (first_offset (drop (8 * index) list) + n)) found.whole,
     )
 

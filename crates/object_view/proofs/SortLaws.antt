@@ -1,10 +1,12 @@
 -- The number of a sort is no other's.
-use Rattle.std.proofs.Common.{◌≡◌, ◌≢◌, ℕ, inl, inr, refl, sym, ap, ◌∙◌}
+use Rattle.std.proofs.Common.{◌≡◌, ◌≢◌, ℕ, ◌≤◌, inl, inr, List, take, drop, refl, sym, ap, ◌∙◌, arith}
 use Rattle.std.specs.Prelude.{◌==◌, if◌then◌else◌}
 use Rattle.std.proofs.lemmas.Bool.{cases_eq}
+use Rattle.byteorder.specs.Numbers.{little_from-take}
+use Rattle.transaction_view.specs.Envelope.{number_at}
 use Rattle.object_view.specs.declared.sort.Sort.{Sort}
 use Rattle.object_view.specs.declared.sort.Sort.TheVariants.{Binder, WeakBinder, Handle, WeakHandle, Fd, Fda, Ptr}
-use Rattle.object_view.specs.Fields.{sort_number}
+use Rattle.object_view.specs.Fields.{sort_number, sort_length}
 use Rattle.object_view.specs.Objects.{IsUnknown}
 
 -- the sort that a number names, if it names one
@@ -71,3 +73,17 @@ named number = elim (cases_eq number (sort_number Binder)) [
             ]
       ]
 ]
+
+-- an object has the four bytes that name its sort
+sort_length-long : (sort : Sort) → 4 ≤ sort_length sort
+sort_length-long Fda = omega arith
+sort_length-long Ptr = omega arith
+sort_length-long _ = omega arith
+
+pub number_in_front : (sort : Sort) (n : ℕ) (bytes : List ℕ) → n ≡ sort_length sort → number_at 4 0 (take n bytes) ≡ number_at 4 0 bytes
+unfolding number_at
+number_in_front sort n bytes is = let long = sort_length-long sort in little_from-take 0 4 n bytes (omega (arith, is, long))
+
+pub number_at-drop : (n offset : ℕ) (bytes : List ℕ) → number_at n 0 (drop offset bytes) ≡ number_at n offset bytes
+unfolding number_at
+number_at-drop n offset bytes = refl

@@ -3,7 +3,7 @@ use Rattle.std.proofs.Common.{◌≡◌, ℕ, List, [], ◌∷◌, ◌++◌, Som
 use Rattle.transaction_view.specs.Envelope.{number_at}
 use Rattle.object_view.specs.declared.bad_object.Cause.TheVariants.{ListLength, Misaligned, Overlap}
 use Rattle.object_view.specs.declared.sort.Sort.TheVariants.{Handle, Fda}
-use Rattle.object_view.specs.Fields.{field, binder_place, handle_place, num_fds_place, parent_place}
+use Rattle.object_view.specs.Fields.{field, binder_position, handle_position, num_fds_position, parent_position}
 use Rattle.object_view.specs.Objects.{ObjectText, MayStandObject, bad_at, AreObjects, all_good, until_bad, no_list}
 
 -- a HANDLE for the handle 7, and the object that it is at the offset 0
@@ -41,21 +41,21 @@ nine_bytes : AreObjects two_handles (replicate 9 0) [] (Some (bad_at 0 0 ListLen
 nine_bytes = no_list (omega arith) refl refl
 
 -- the handle is read, and it is no BINDER's address
-handle_read : field 4 (handle_place Handle) handle_bytes ≡ Some 7
+handle_read : field 4 (handle_position Handle) handle_bytes ≡ Some 7
 unfolding handle_bytes number_at
 handle_read = refl
 
-no_binder : field 8 (binder_place Handle) handle_bytes ≡ None
+no_binder : field 8 (binder_position Handle) handle_bytes ≡ None
 no_binder = refl
 
 -- an FDA of 3 descriptors in the buffer 5
 array_bytes : List ℕ
 array_bytes = 0x85 ∷ 0x61 ∷ 0x64 ∷ 0x66 ∷ replicate 4 0 ++ 3 ∷ replicate 7 0 ++ 5 ∷ replicate 15 0
 
-array_count : field 8 (num_fds_place Fda) array_bytes ≡ Some 3
+array_count : field 8 (num_fds_position Fda) array_bytes ≡ Some 3
 unfolding array_bytes number_at
 array_count = refl
 
-array_parent : field 8 (parent_place Fda) array_bytes ≡ Some 5
+array_parent : field 8 (parent_position Fda) array_bytes ≡ Some 5
 unfolding array_bytes number_at
 array_parent = refl

@@ -1,4 +1,4 @@
--- The objects of a transaction's data (`linux/android/binder.h`): their sorts, and the fields of each by their places.
+-- The objects of a transaction's data (`linux/android/binder.h`): their sorts, and the fields of each by their positions.
 use Rattle.std.specs.Prelude.{ℕ, List, Option, Some, None}
 use Rattle.std.specs.Option.{option_map}
 use Rattle.transaction_view.specs.Envelope.{number_at}
@@ -23,58 +23,58 @@ sort_length _ = 24
 
 -- where a field stands in an object of the sort, if it has the field: `flags` of flat_binder_object and of
 -- binder_buffer_object
-abbrev pub flags_place : Sort → Option ℕ
-flags_place Fd = None
-flags_place Fda = None
-flags_place _ = Some 4
+abbrev pub flags_position : Sort → Option ℕ
+flags_position Fd = None
+flags_position Fda = None
+flags_position _ = Some 4
 
 -- `binder` and `handle` of flat_binder_object
-abbrev pub binder_place : Sort → Option ℕ
-binder_place Binder = Some 8
-binder_place WeakBinder = Some 8
-binder_place _ = None
+abbrev pub binder_position : Sort → Option ℕ
+binder_position Binder = Some 8
+binder_position WeakBinder = Some 8
+binder_position _ = None
 
-abbrev pub handle_place : Sort → Option ℕ
-handle_place Handle = Some 8
-handle_place WeakHandle = Some 8
-handle_place _ = None
+abbrev pub handle_position : Sort → Option ℕ
+handle_position Handle = Some 8
+handle_position WeakHandle = Some 8
+handle_position _ = None
 
 -- `cookie` of flat_binder_object and of binder_fd_object
-abbrev pub cookie_place : Sort → Option ℕ
-cookie_place Fda = None
-cookie_place Ptr = None
-cookie_place _ = Some 16
+abbrev pub cookie_position : Sort → Option ℕ
+cookie_position Fda = None
+cookie_position Ptr = None
+cookie_position _ = Some 16
 
 -- `fd` of binder_fd_object
-abbrev pub fd_place : Sort → Option ℕ
-fd_place Fd = Some 8
-fd_place _ = None
+abbrev pub fd_position : Sort → Option ℕ
+fd_position Fd = Some 8
+fd_position _ = None
 
 -- `buffer` and `length` of binder_buffer_object
-abbrev pub buffer_place : Sort → Option ℕ
-buffer_place Ptr = Some 8
-buffer_place _ = None
+abbrev pub buffer_position : Sort → Option ℕ
+buffer_position Ptr = Some 8
+buffer_position _ = None
 
-abbrev pub length_place : Sort → Option ℕ
-length_place Ptr = Some 16
-length_place _ = None
+abbrev pub length_position : Sort → Option ℕ
+length_position Ptr = Some 16
+length_position _ = None
 
 -- `num_fds` of binder_fd_array_object
-abbrev pub num_fds_place : Sort → Option ℕ
-num_fds_place Fda = Some 8
-num_fds_place _ = None
+abbrev pub num_fds_position : Sort → Option ℕ
+num_fds_position Fda = Some 8
+num_fds_position _ = None
 
 -- `parent` and `parent_offset` of binder_buffer_object and of binder_fd_array_object
-abbrev pub parent_place : Sort → Option ℕ
-parent_place Ptr = Some 24
-parent_place Fda = Some 16
-parent_place _ = None
+abbrev pub parent_position : Sort → Option ℕ
+parent_position Ptr = Some 24
+parent_position Fda = Some 16
+parent_position _ = None
 
-abbrev pub parent_offset_place : Sort → Option ℕ
-parent_offset_place Ptr = Some 32
-parent_offset_place Fda = Some 24
-parent_offset_place _ = None
+abbrev pub parent_offset_position : Sort → Option ℕ
+parent_offset_position Ptr = Some 32
+parent_offset_position Fda = Some 24
+parent_offset_position _ = None
 
--- the number in so many bytes of an object, from the place of a field, if it has the field
+-- the number in so many bytes of an object, from the position of a field, if it has the field
 abbrev pub field : ℕ → Option ℕ → List ℕ → Option ℕ
-field size place bytes = option_map (λ p. number_at size p bytes) place
+field size position bytes = option_map (λ p. number_at size p bytes) position

@@ -17,8 +17,8 @@ pub data Reading : Type 0 where
   ended : Reading
 
 -- what an object that begins at this offset says
-abbrev pub text_of : ℕ → Object → ObjectText
-text_of offset found = record { offset = offset; sort = found.sort; bytes = found.bytes.now }
+abbrev pub object_text : ℕ → Object → ObjectText
+object_text offset found = record { offset = offset; sort = found.sort; bytes = found.bytes.now }
 
 -- the reader at the offset of this number meets this bad object: the length of the list is no multiple of 8; or what
 -- stands at the offset is no good object
@@ -33,14 +33,14 @@ abbrev pub Steps : Reading → Option (Result Object BadObject) → Reading → 
 Steps ended result new = (result ≡ None) × (new ≡ ended)
 Steps (at body list index end) (Some (Ok found)) new =
     IsWholeList list × (drop (8 * index) list ≡ little_bytes 8 (offset_of list index) ++ drop (8 * index + 8) list)
-    × MayStandObject body end (text_of (offset_of list index) found)
+    × MayStandObject body end (object_text (offset_of list index) found)
     × (new ≡ at body list (index + 1) (offset_of list index + sort_length found.sort))
 Steps (at body list index end) (Some (Err bad)) new = IsBadAt body list index end bad × (new ≡ ended)
 Steps (at body list index end) None new = IsWholeList list × (drop (8 * index) list ≡ []) × (new ≡ at body list index end)
 
 -- a reader of an attachment with these data and this list
-abbrev pub start_of : List ℕ → List ℕ → Reading
-start_of body list = at body list 0 0
+abbrev pub objects_start : List ℕ → List ℕ → Reading
+objects_start body list = at body list 0 0
 
 -- the call gives the object
 abbrev pub GivesObject : Option (Result Object BadObject) → ObjectText → Type 0

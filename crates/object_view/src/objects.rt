@@ -3,14 +3,13 @@
 ghost use Rattle.std.specs.Prelude.{◌≡◌, ◌≤◌, ◌<◌, ◌+◌, ◌^◌, ◌%◌, ◌++◌, length, drop, IfOk, IfErr};
 ghost use Rattle.byteorder.specs.Endian.{little_bytes};
 ghost use Rattle.object_view.specs.Objects.{MayStandObject, FailsAt, first_offset};
-ghost use Rattle.object_view.specs.Reading.{text_of};
+ghost use Rattle.object_view.specs.Reading.{object_text};
 
 use crate::bad_object::{BadObject, Cause};
 use crate::object::Object;
 use crate::sort::Sort;
-use byteorder::{ByteOrder, LittleEndian};
 use std::marker::Model;
-use transaction_view::Entry;
+use transaction_view::{Entry, u32_at, u64_at};
 
 /// The length of an offset, in bytes.
 const OFFSET: usize = 8;
@@ -49,11 +48,11 @@ impl<'c> Model for Objects<'c> {
 }
 
 impl<'c> Objects<'c> {
-    ghost use Rattle.object_view.specs.Reading.{start_of, Steps};
+    ghost use Rattle.object_view.specs.Reading.{objects_start, Steps};
 
     /// A reader of the attachment's objects.
     pub fn of(entry: Entry<'c>) -> Objects<'c>
-        ensures { result ≡ start_of entry.entry.body.now entry.entry.offsets.now }
+        ensures { result ≡ objects_start entry.entry.body.now entry.entry.offsets.now }
     {
         Objects {
             body: entry.body,
@@ -108,12 +107,12 @@ fn offset_of(list: &[u8]) -> u64
     ensures read { result ≡ first_offset list.now }
     ensures spelled { list.now ≡ little_bytes 8 result ++ drop 8 list.now }
 {
-    LittleEndian::read_u64(list)
+    u64_at(list, 0)
 }
 
 /// The object that begins at an offset of the data, behind one that ends at `end`.
 fn object_at(body: &[u8], offset: u64, end: usize) -> Result<Object<'_>, Cause>
-    ensures found { IfOk result (λ found. MayStandObject body.now end (text_of offset found)) }
+    ensures found { IfOk result (λ found. MayStandObject body.now end (object_text offset found)) }
     ensures fails { IfErr result (FailsAt body.now end offset) }
 {
     if offset % 4 != 0 {
@@ -129,7 +128,7 @@ fn object_at(body: &[u8], offset: u64, end: usize) -> Result<Object<'_>, Cause>
     if rest.len() < SORT {
         return Err(Cause::Short);
     }
-    let Some(sort) = Sort::of(LittleEndian::read_u32(rest)) else {
+    let Some(sort) = Sort::of(u32_at(body, offset as usize)) else {
         return Err(Cause::UnknownSort);
     };
     if rest.len() < sort.length() {

@@ -14,9 +14,11 @@ use Rattle.binder_code.specs.Code.{size}
 use Rattle.binder_code.specs.Commands.{kind_of}
 use Rattle.capture_frame.specs.declared.fault.FaultKind.{FaultKind}
 use Rattle.capture_frame.specs.declared.fault.FaultKind.TheVariants.{HeaderShort, HeaderMagic, HeaderProtocol, HeaderReserved, FrameShort, FrameSequence, FrameDirection, FrameReserved, FrameLength, RecordShort, RecordDirection, RecordSize, AttachShort, AttachRecord, AttachSize}
-use Rattle.capture_frame.proofs.NumberLaws.{IsBytes, number_spelled}
-use Rattle.capture_frame.proofs.UnitLaws.{IsDecided, Judged, ended, good, bad}
-use Rattle.record_view.specs.Records.{RecordText, record_bytes, IsRecord, code_at, RecordFails, record_format}
+use Rattle.capture_frame.specs.Units.{IsBytes}
+use Rattle.capture_frame.proofs.NumberLaws.{number_spelled}
+use Rattle.capture_frame.proofs.UnitLaws.{IsDecided, Judged, ended, good, bad, text_one_reading}
+use Rattle.capture_frame.specs.Envelope.{FrameText, number_at}
+use Rattle.record_view.specs.Records.{RecordText, record_bytes, IsRecord, code_at, RecordFails, record_format, format_of, HasRecords, protocol_of}
 
 -- what stands at the front, read by places
 abbrev pub text_at : List ℕ → RecordText
@@ -26,7 +28,7 @@ abbrev pub rest_at : List ℕ → List ℕ
 rest_at bytes = drop (4 + size (code_at bytes)) bytes
 
 code_said : (r : RecordText) (rest : List ℕ) → r.code < 2 ^ 32 → code_at (record_bytes r ++ rest) ≡ r.code
-unfolding record_bytes
+unfolding record_bytes number_at
 code_said r rest fits = little_number-reads_back 4 r.code [] fits
 
 payload_said : (r : RecordText) (rest : List ℕ) → drop 4 (record_bytes r ++ rest) ≡ r.payload ++ rest
@@ -54,13 +56,14 @@ rest_at-spelled r rest fits sized =
 
 -- what is read is spelled so
 pub record_spelled : (bytes : List ℕ) → IsBytes bytes → 4 + size (code_at bytes) ≤ length bytes → bytes ≡ record_bytes (text_at bytes) ++ rest_at bytes
-unfolding record_bytes
+unfolding record_bytes number_at
 record_spelled bytes h long =
     let n = size (code_at bytes) in
     let body : drop 4 bytes ≡ take n (drop 4 bytes) ++ rest_at bytes = sym (take-append-drop n (drop 4 bytes)) ∙ ap (λ (t : List ℕ). take n (drop 4 bytes) ++ t) (drop-drop n 4 bytes) in
     number_spelled 4 bytes h (omega arith) ∙ ap (λ (t : List ℕ). little_bytes 4 (code_at bytes) ++ t) body
 
 pub text_at-is_record : (protocol : Protocol) (bytes : List ℕ) → IsBytes bytes → IsOk (kind_of protocol (code_at bytes)) → 4 + size (code_at bytes) ≤ length bytes → IsRecord protocol (text_at bytes)
+unfolding number_at
 text_at-is_record protocol bytes h judged long = record {
   fits = little_from-lt 0 4 bytes h;
   judged = judged;
@@ -178,3 +181,9 @@ records_decided protocol = record {
   never_both = λ state r rest kind x is fails. none_kind kind (verdict protocol (record_bytes r ++ rest)) (verdict-fails protocol _ kind fails.0) (verdict-stands protocol r rest is);
   end_is_good = λ state kind x fails. end_is_good protocol kind fails.0;
 }
+
+pub frame_decided : (frame : FrameText) → IsDecided (format_of frame)
+frame_decided frame = records_decided (protocol_of frame.direction)
+
+pub one_reading : (frame : FrameText) (records others : List RecordText) → HasRecords frame records → HasRecords frame others → records ≡ others
+one_reading frame records others a b = text_one_reading (format_of frame) (frame_decided frame) tt frame.commands records others a b

@@ -1,7 +1,7 @@
 -- The records of a frame's command bytes: each a code and its payload (`linux/android/binder.h`, BINDER_WRITE_READ).
 use Rattle.std.specs.Prelude.{◌≡◌, ℕ, ◌+◌, ◌^◌, ◌<◌, ◌≤◌, ◌⊎◌, List, ◌∷◌, ◌++◌, length, Err, IsOk}
 use Rattle.std.specs.List.{flat_map}
-use Rattle.byteorder.specs.Endian.{little_bytes, little_number}
+use Rattle.byteorder.specs.Endian.{little_bytes}
 use Rattle.binder_code.specs.declared.protocol.Protocol.{Protocol}
 use Rattle.binder_code.specs.declared.protocol.Protocol.TheVariants.{Command, Return}
 use Rattle.binder_code.specs.declared.code.CodeFault.TheVariants as CodeFault
@@ -12,7 +12,7 @@ use Rattle.capture_frame.specs.declared.direction.Direction.TheVariants.{Write, 
 use Rattle.capture_frame.specs.declared.fault.FaultKind.{FaultKind}
 use Rattle.capture_frame.specs.declared.fault.FaultKind.TheVariants.{RecordShort, RecordDirection, RecordSize}
 use Rattle.capture_frame.specs.Units.{Format, Reads, FirstFailure}
-use Rattle.capture_frame.specs.Envelope.{FrameText}
+use Rattle.capture_frame.specs.Envelope.{FrameText, number_at}
 
 -- the protocol whose codes a frame of this direction holds
 abbrev pub protocol_of : Direction → Protocol
@@ -36,7 +36,7 @@ pub record IsRecord (protocol : Protocol) (r : RecordText) : Type 0 where
 
 -- the code word in the first four bytes
 abbrev pub code_at : List ℕ → ℕ
-code_at bytes = little_number 4 bytes
+code_at bytes = number_at 4 0 bytes
 
 -- the payload that the code tells of passes the bytes
 abbrev pub IsCutShort : List ℕ → Type 0
@@ -60,9 +60,13 @@ record_format protocol = record {
   Fails = λ _ bytes kind within. RecordFails protocol bytes kind × (within ≡ 0);
 }
 
+-- how the records of this frame are written and judged
+abbrev pub format_of : FrameText → Format (Unit {0}) RecordText FaultKind
+format_of frame = record_format (protocol_of frame.direction)
+
 -- the command bytes of a frame are these records
 abbrev pub HasRecords : FrameText → List RecordText → Type 0
-HasRecords frame records = Reads (record_format (protocol_of frame.direction)) tt frame.commands records
+HasRecords frame records = Reads (format_of frame) tt frame.commands records
 
 -- the command bytes of a frame are records
 abbrev pub HasReadableRecords : FrameText → Type 0
@@ -70,7 +74,7 @@ HasReadableRecords frame = (records : List RecordText) × HasRecords frame recor
 
 -- the command bytes of a frame begin with whole good records, and what stands so far into them fails by this kind
 abbrev pub RecordsFail : FrameText → FaultKind → ℕ → Type 0
-RecordsFail frame kind distance = FirstFailure (record_format (protocol_of frame.direction)) tt frame.commands kind distance
+RecordsFail frame kind distance = FirstFailure (format_of frame) tt frame.commands kind distance
 
 -- how many command bytes these records take
 abbrev pub span_of : List RecordText → ℕ

@@ -1,6 +1,7 @@
-ghost use Rattle.std.specs.Prelude.{◌≡◌, ◌+◌, ◌<◌, ◌^◌, length};
+ghost use Rattle.std.specs.Prelude.{◌≡◌, ◌+◌, ◌<◌, ◌^◌, length, Ok};
 ghost use Rattle.std.specs.Option.{ForSome};
-ghost use Rattle.binder_code.specs.Commands.{row_of};
+ghost use Rattle.binder_code.specs.Code.{size};
+ghost use Rattle.binder_code.specs.Commands.{kind_of, protocol_of_word, row_of};
 
 use binder_code::{Code, Kind};
 
@@ -16,6 +17,9 @@ pub struct Record<'c> {
     /// The bytes after the code, as many as the code's size says.
     pub payload: &'c [u8],
     ghost fits: { place + 4 + length payload.now < 2 ^ 64 },
+    // The kind is what the code means, in the protocol that its letter names.
+    ghost by_code: { kind_of (protocol_of_word code.0) code.0 ≡ Ok kind },
+    ghost whole: { length payload.now ≡ size code.0 },
     // The payload of a listed kind is as long as the header says.
     ghost sized: { ForSome (row_of kind) (λ row. length payload.now ≡ row.size) },
 }

@@ -1,14 +1,13 @@
 //! The reader of a frame's records.
 
 ghost use Rattle.std.specs.Prelude.{◌≡◌, ◌<◌, ◌+◌, ◌^◌, length, IfOk, IfErr};
-ghost use Rattle.record_view.specs.Reading.{BeginsWith};
+ghost use Rattle.record_view.specs.Reading.{BeginsWithRecord};
 ghost use Rattle.record_view.specs.Records.{RecordFails};
 
 use crate::protocol::protocol;
 use crate::record::Record;
 use binder_code::{Code, CodeFault, Protocol};
-use byteorder::{ByteOrder, LittleEndian};
-use capture_frame::{Fault, FaultKind, Frame};
+use capture_frame::{Fault, FaultKind, Frame, u32_at};
 use std::marker::Model;
 
 /// The length of a code, in bytes.
@@ -26,37 +25,32 @@ enum State {
 /// later call, and one that has ended gives `None`.
 #[derive(Debug, Drop)]
 pub struct Records<'c> {
-    commands: &'c [u8],
-    place: u64,
-    protocol: Protocol,
+    frame: Frame<'c>,
     state: State,
 }
 
 impl<'c> Model for Records<'c> {
-    ghost use Rattle.std.specs.Prelude.{◌≡◌, ◌≤◌, ◌<◌, ◌+◌, ◌^◌, length};
     ghost use Rattle.record_view.specs.Reading.{Reading};
 
     ghost Value = { Reading };
 
     ghost use Rattle.record_view.specs.State.{reading_of, IsWithin};
 
-    ghost view = { λ r. reading_of r.protocol r.commands.now r.place r.state };
+    ghost view = { λ r. reading_of r.frame r.state };
 
-    ghost invariant = { λ r. (r.place + length r.commands.now < 2 ^ 64) × IsWithin r.commands.now r.state };
+    ghost invariant = { λ r. IsWithin r.frame r.state };
 }
 
 impl<'c> Records<'c> {
-    ghost use Rattle.capture_frame.specs.Envelope.{text_of};
-    ghost use Rattle.record_view.specs.Reading.{at, failed, Steps, start_of};
+    ghost use Rattle.capture_frame.specs.Envelope.{placed_frame};
+    ghost use Rattle.record_view.specs.Reading.{Steps, records_start};
 
     /// A reader of the frame's records.
     pub fn of(frame: Frame<'c>) -> Records<'c>
-        ensures { result ≡ start_of (text_of frame.entry) frame.entry.place }
+        ensures { result ≡ records_start (placed_frame frame.entry) }
     {
         Records {
-            commands: frame.commands,
-            place: frame.place + 32,
-            protocol: protocol(frame.direction),
+            frame,
             state: State::At { offset: 0 },
         }
     }
@@ -69,12 +63,12 @@ impl<'c> Records<'c> {
             State::At { offset } => offset,
             State::Failed(fault) => return Err(fault),
         };
-        let rest = &self.commands[offset..];
+        let rest = &self.frame.commands[offset..];
         if rest.is_empty() {
             return Ok(None);
         }
-        let place = self.place + offset as u64;
-        match record_at(rest, place, self.protocol) {
+        let place = self.frame.commands_place() + offset as u64;
+        match record_at(rest, place, protocol(self.frame.direction)) {
             Ok(record) => {
                 self.state = State::At {
                     offset: offset + CODE + record.payload.len(),
@@ -94,13 +88,13 @@ impl<'c> Records<'c> {
 fn record_at(bytes: &[u8], place: u64, protocol: Protocol) -> Result<Record<'_>, FaultKind>
     requires fits { place + length bytes.now < 2 ^ 64 }
     requires some { 0 < length bytes.now }
-    ensures found { IfOk result (λ found. BeginsWith protocol bytes.now place found) }
+    ensures found { IfOk result (λ found. BeginsWithRecord protocol bytes.now place found) }
     ensures fails { IfErr result (λ kind. RecordFails protocol bytes.now kind) }
 {
     if bytes.len() < CODE {
         return Err(FaultKind::RecordShort);
     }
-    let code = Code(LittleEndian::read_u32(bytes));
+    let code = Code(u32_at(bytes, 0));
     let kind = match binder_code::kind(protocol, code) {
         Ok(kind) => kind,
         Err(CodeFault::Direction) => return Err(FaultKind::RecordDirection),

@@ -1,6 +1,6 @@
 -- Entries are judged in one way: what is spelled is read back, what is read is spelled so, and what fails does so by
 -- one kind.
-use Rattle.std.proofs.Common.{◌≡◌, ℕ, ◌+◌, ◌^◌, ◌<◌, ◌≤◌, inl, inr, List, [], ◌∷◌, ◌++◌, length, take, drop, Option, refl, sym, ap, subst, ◌∙◌, append_assoc, length-append, arith}
+use Rattle.std.proofs.Common.{◌≡◌, ℕ, ◌+◌, ◌^◌, ◌<◌, ◌≤◌, inl, inr, List, [], ◌∷◌, ◌++◌, length, take, drop, Option, None, refl, sym, ap, subst, ◌∙◌, append_assoc, length-append, arith}
 use Rattle.std.proofs.lemmas.Bool.{cases_lt, cases_eq}
 use Rattle.std.proofs.lemmas.List.{take-append-drop, drop-drop, drop_at, take_at, length-take, length-drop}
 use Rattle.byteorder.specs.Endian.{little_bytes}
@@ -8,12 +8,14 @@ use Rattle.byteorder.specs.Numbers.{little_number-reads_back, little_from-lt}
 use Rattle.capture_frame.specs.declared.fault.FaultKind.{FaultKind}
 use Rattle.capture_frame.specs.declared.fault.FaultKind.TheVariants.{AttachShort, AttachRecord, AttachSize}
 use Rattle.capture_frame.specs.Envelope.{FrameText, number_at}
-use Rattle.capture_frame.proofs.NumberLaws.{IsBytes, IsBytes-drop}
+use Rattle.capture_frame.specs.Units.{IsBytes}
+use Rattle.capture_frame.proofs.NumberLaws.{IsBytes-drop}
 use Rattle.capture_frame.proofs.FrameLaws.{field}
-use Rattle.capture_frame.proofs.UnitLaws.{IsDecided, Judged, ended, good, bad}
-use Rattle.record_view.specs.Records.{RecordText, HasRecords}
+use Rattle.capture_frame.proofs.UnitLaws.{IsDecided, Judged, ended, good, bad, text_one_reading}
+use Rattle.capture_frame.proofs.ReaderLaws.{IsDecidedAtEnd}
+use Rattle.record_view.specs.Records.{RecordText, HasRecords, HasReadableRecords}
 use Rattle.transaction_view.specs.Transaction.{data_size, offsets_size}
-use Rattle.transaction_view.specs.Attachments.{EntryText, FitsEntry, entry_bytes, Names, HasSizes, MayStandEntry, offset_at, body_length, offsets_length, entry_length, EntryFails, entry_format}
+use Rattle.transaction_view.specs.Attachments.{EntryText, FitsEntry, entry_bytes, Names, HasSizes, MayStandEntry, offset_at, body_length, offsets_length, entry_length, EntryFails, entry_format, HasEntries}
 use Rattle.transaction_view.proofs.RecordPlaces.{NameCase, named, nameless, name_case, one_owner}
 
 -- ---- what is spelled is read back
@@ -193,3 +195,13 @@ entries_decided frame records has = record {
   never_both = λ before e rest kind x stands fails. stands_good frame before e rest kind stands (failing frame before _ kind fails.0);
   end_is_good = λ before kind x fails. no_failure_at_end frame before kind fails.0;
 }
+
+-- and at the end of their bytes in every frame
+pub entries_decided_at_end : (frame : FrameText) → IsDecidedAtEnd (entry_format frame)
+entries_decided_at_end frame = record {
+  longer = λ before e stands. omega (arith, length-entry_bytes e);
+  end_is_good = λ before kind x fails. no_failure_at_end frame before kind fails.0;
+}
+
+pub one_reading : (frame : FrameText) (entries others : List EntryText) → HasReadableRecords frame → HasEntries frame entries → HasEntries frame others → entries ≡ others
+one_reading frame entries others readable a b = text_one_reading (entry_format frame) (entries_decided frame readable.0 readable.1) None frame.attachments entries others a b

@@ -1,26 +1,15 @@
--- Numbers by their places, and how long the payload of a transaction is.
+-- Signed numbers, and how long the payload of a transaction is.
 use Rattle.std.proofs.Common.{◌≡◌, ℕ, suc, ◌-◌, ◌^◌, ◌<◌, ◌≤◌, Bool, cond, ltb, ℤ, pos, negsuc, List, length, take, drop, refl, sym, ap, ◌∙◌, arith}
 use Rattle.std.specs.Prelude.{IsTrue}
 use Rattle.std.specs.Option.{ForSome}
 use Rattle.std.specs.Int.{cast_signed, cast_unsigned, w32}
 use Rattle.std.proofs.lemmas.Bool.{lt-ltb}
 use Rattle.std.proofs.lemmas.Int.{of_z-to_z}
-use Rattle.std.proofs.lemmas.List.{take_rest}
-use Rattle.byteorder.specs.Endian.{little_number, twos_complement}
+use Rattle.byteorder.specs.Endian.{twos_complement}
 use Rattle.binder_code.specs.declared.record_kind.Kind.{Kind}
 use Rattle.binder_code.specs.declared.record_kind.Kind.TheVariants.{BcTransaction, BcReply, BcTransactionSg, BcReplySg, BrTransaction, BrTransactionSecCtx, BrReply}
 use Rattle.binder_code.specs.Commands.{row_of}
-use Rattle.capture_frame.specs.Envelope.{number_at}
 use Rattle.transaction_view.specs.Transaction.{has_transaction_data, is_extended}
-
--- a number is read from the bytes that begin at its place, and one at the front from all of them
-pub field_number : (n place : ℕ) (bytes : List ℕ) → little_number n (take (length bytes - place) (drop place bytes)) ≡ number_at n place bytes
-unfolding number_at
-field_number n place bytes = ap (little_number n) (take_rest bytes place)
-
-pub field_front : (n : ℕ) (bytes : List ℕ) → little_number n bytes ≡ number_at n 0 bytes
-unfolding number_at
-field_front n bytes = refl
 
 -- four bytes as a signed number
 pub signed_number : (n : ℕ) → n < 2 ^ 32 → cast_signed w32 n ≡ twos_complement 4 n

@@ -5,7 +5,8 @@ use Rattle.std.proofs.lemmas.List.{drop_at, get_or_append_left, get_or_past}
 use Rattle.capture_frame.specs.declared.fault.FaultKind.{FaultKind}
 use Rattle.capture_frame.specs.Envelope.{FrameText, frame_bytes, MayStand}
 use Rattle.capture_frame.specs.FirstFault.{FrameFails, frame_format}
-use Rattle.capture_frame.proofs.NumberLaws.{IsBytes, IsBytes-drop}
+use Rattle.capture_frame.specs.Units.{IsBytes}
+use Rattle.capture_frame.proofs.NumberLaws.{IsBytes-drop}
 use Rattle.capture_frame.proofs.UnitLaws.{IsDecided, Judged, ended, good, bad, Outcome, read, failed, outcome}
 use Rattle.capture_frame.proofs.UnitLaws as units
 use Rattle.capture_frame.proofs.FrameLaws.{frames_decided, length-frame_bytes}
@@ -15,7 +16,7 @@ use Rattle.transaction_view.specs.Attachments.{EntryText, HasEntries, entry_form
 use Rattle.transaction_view.specs.FirstFault.{ContentFails, WholeFrameFails, in_header, in_content, in_records, in_entries}
 use Rattle.transaction_view.specs.Grammar.{WholeFrame, MayStandWhole, whole_format}
 use Rattle.transaction_view.proofs.EntryLaws.{entries_decided}
-use Rattle.record_view.proofs.OneReading.{one_reading}
+use Rattle.record_view.proofs.RecordLaws.{one_reading}
 
 -- the command bytes and the attachment bytes of a frame are bytes of the capture
 IsBytes-front : (front rest : List ℕ) → IsBytes (front ++ rest) → IsBytes front

@@ -8,8 +8,6 @@ pub mod SearchLaws
 pub mod ReadLaws
 pub mod RecordWalk
 pub mod EntryWalk
-pub mod EntryCalls
-pub mod OneEntryReading
 pub mod GrammarLaws
 pub mod OneAnswer
 pub mod CaptureWalk

@@ -3,17 +3,18 @@
 use Rattle.std.proofs.Common.{◌≡◌, ℕ, ◌+◌, ◌-◌, ◌≤◌, List, ◌∷◌, ◌++◌, length, take, drop, Option, Some, Ok, refl, sym, ap, subst, ◌∙◌, arith}
 use Rattle.std.specs.Prelude.{IsTrue}
 use Rattle.std.proofs.lemmas.List.{append-nil, take_rest, drop_at, length-take, length-drop}
-use Rattle.capture_frame.specs.Envelope.{FrameText, IsAbove}
-use Rattle.capture_frame.proofs.NumberLaws.{IsBytes}
+use Rattle.capture_frame.specs.Envelope.{FrameText, IsAbove, commands_place, attachments_place}
+use Rattle.capture_frame.specs.Units.{IsBytes, Placed, BeginsWith}
+use Rattle.capture_frame.specs.Readers.{at}
+use Rattle.capture_frame.proofs.ReaderLaws.{rest_of, steps_over}
 use Rattle.record_view.specs.declared.record.Record.{Record}
 use Rattle.record_view.specs.Records.{RecordText, span_of, protocol_of}
 use Rattle.record_view.specs.Reading as records
 use Rattle.transaction_view.specs.declared.attachments.Parts.{Parts}
 use Rattle.transaction_view.specs.declared.entry.Entry.{Entry}
 use Rattle.transaction_view.specs.Transaction.{has_transaction_data, IsTransactionWord}
-use Rattle.transaction_view.specs.Attachments.{EntryText, FitsEntry, entry_bytes, Names, HasSizes, MayStandEntry, offset_at, body_length, offsets_length, entry_length}
-use Rattle.record_view.specs.Reading.{commands_place}
-use Rattle.transaction_view.specs.Reading.{Reading, at, attachments_place, BeginsWith, Steps}
+use Rattle.transaction_view.specs.Attachments.{EntryText, FitsEntry, entry_bytes, Names, HasSizes, MayStandEntry, offset_at, body_length, offsets_length, entry_length, entry_format}
+use Rattle.transaction_view.specs.Reading.{Reading, entry_text, entry_source, IsEntryView, Steps}
 use Rattle.transaction_view.specs.State.{IsRecordAt, text_of_parts, ArePartsOf}
 use Rattle.transaction_view.proofs.EntryLaws.{text_at, rest_at, entry_spelled, text_at-fits, length-entry_bytes}
 use Rattle.transaction_view.proofs.RecordPlaces.{one_record_at, stands_within}
@@ -21,7 +22,7 @@ use Rattle.transaction_view.proofs.RecordPlaces.{one_record_at, stands_within}
 -- ---- the record that an entry names
 
 pub names_found : (frame : FrameText) (frame_place : ℕ) (before : Option ℕ) (offset : ℕ) (found : Record) → IsAbove before offset → IsRecordAt frame frame_place offset found → IsTrue (has_transaction_data found.kind)
-    → Names frame before offset (records.text_of found)
+    → Names frame before offset (records.record_text found)
 names_found frame frame_place before offset found above there has = record {
   above = above;
   stands = there.stands;
@@ -31,7 +32,7 @@ names_found frame frame_place before offset found above there has = record {
 pub names_none : (frame : FrameText) (frame_place : ℕ) (before : Option ℕ) (offset : ℕ) (found : Record) → IsRecordAt frame frame_place offset found → (IsTrue (has_transaction_data found.kind) → ⊥)
     → ((owner : RecordText) × Names frame before offset owner) → ⊥
 names_none frame frame_place before offset found there never some =
-    let same = one_record_at frame offset some.0 (records.text_of found) some.1.stands there.stands in
+    let same = one_record_at frame offset some.0 (records.record_text found) some.1.stands there.stands in
     let word : IsTransactionWord (protocol_of frame.direction) found.code.0 = subst (λ (r : RecordText). IsTransactionWord (protocol_of frame.direction) r.code) same some.1.has_data in
     never (rw there.kind at word)
 
@@ -88,28 +89,34 @@ pub record IsMadeOf (frame_place : ℕ) (place : ℕ) (parts : Parts) (found : E
   pub body : found.body.now ≡ parts.body.now
   pub offsets : found.offsets.now ≡ parts.offsets.now
 
-pub begins_with : (frame : FrameText) (frame_place : ℕ) (bytes : List ℕ) (place : ℕ) (before : Option ℕ) (parts : Parts) (found : Entry) → ArePartsOf bytes parts → MayStandEntry frame before (text_of_parts parts)
-    → IsMadeOf frame_place place parts found → BeginsWith frame frame_place bytes place before found (text_of_parts parts)
+made_says : (frame_place place : ℕ) (parts : Parts) (found : Entry) → IsMadeOf frame_place place parts found → entry_text frame_place found ≡ text_of_parts parts
+made_says frame_place place parts found made =
+    let owner = made.owner in
+    let offset : found.owner - commands_place frame_place ≡ parts.offset = omega (arith, owner) in
+    rw (offset, made.body, made.offsets) refl
+
+begins_with : (frame : FrameText) (frame_place : ℕ) (bytes : List ℕ) (place : ℕ) (before : Option ℕ) (parts : Parts) (found : Entry) → ArePartsOf bytes parts → MayStandEntry frame before (text_of_parts parts)
+    → IsMadeOf frame_place place parts found → BeginsWith (entry_format frame) before bytes (entry_text frame_place found) (IsEntryView frame_place bytes place found)
 begins_with frame frame_place bytes place before parts found are stands made =
     let d : length found.body.now ≡ body_length bytes = ap length made.body ∙ length-body bytes parts are in
     let o : length found.offsets.now ≡ offsets_length bytes = ap length made.offsets ∙ length-offsets bytes parts are in
+    let owner = made.owner in
+    let says : text_of_parts parts ≡ entry_text frame_place found = sym (made_says frame_place place parts found made) in
     record {
-      says = record { owner = made.owner; body = made.body; offsets = made.offsets };
-      stands = made.place_is;
-      may_stand = stands;
-      joined = are.joined;
-      body =
-          let width : 12 + length found.body.now - 12 ≡ body_length bytes = omega (arith, d) in
-          made.body ∙ are.body ∙ ap (λ (n : ℕ). take n (drop 12 bytes)) (sym width);
-      offsets =
-          let width : 12 + length found.body.now + length found.offsets.now - (12 + length found.body.now) ≡ offsets_length bytes = omega (arith, o) in
-          made.offsets ∙ are.offsets ∙ ap (λ (n : ℕ). take n (drop (12 + body_length bytes) bytes)) (sym width)
-          ∙ ap (λ (n : ℕ). take (12 + length found.body.now + length found.offsets.now - (12 + length found.body.now)) (drop (12 + n) bytes)) (sym d);
+      may_stand = subst (MayStandEntry frame before) says stands;
+      joined = subst (λ (e : EntryText). bytes ≡ entry_bytes e ++ drop (length (entry_bytes e)) bytes) says are.joined;
+      view = record {
+          place_is = made.place_is;
+          owner = omega (arith, owner);
+          body =
+              let width : 12 + length found.body.now - 12 ≡ body_length bytes = omega (arith, d) in
+              made.body ∙ are.body ∙ ap (λ (n : ℕ). take n (drop 12 bytes)) (sym width);
+          offsets =
+              let width : 12 + length found.body.now + length found.offsets.now - (12 + length found.body.now) ≡ offsets_length bytes = omega (arith, o) in
+              made.offsets ∙ are.offsets ∙ ap (λ (n : ℕ). take n (drop (12 + body_length bytes) bytes)) (sym width)
+              ∙ ap (λ (n : ℕ). take (12 + length found.body.now + length found.offsets.now - (12 + length found.body.now)) (drop (12 + n) bytes)) (sym d);
+      };
     }
-
--- the bytes that a reader has left, as the code cuts them
-abbrev pub rest_of : List ℕ → ℕ → List ℕ
-rest_of attachments distance = take (length attachments - distance) (drop distance attachments)
 
 -- how far the reader goes behind an entry stays within the attachment bytes
 pub parts_within : (attachments : List ℕ) (distance : ℕ) (parts : Parts) → distance ≤ length attachments → ArePartsOf (rest_of attachments distance) parts
@@ -120,12 +127,14 @@ parts_within attachments distance parts within are =
     let whole = are.whole in
     omega (arith, whole, left, within, length-body bytes parts are, length-offsets bytes parts are)
 
--- the step of a reader that gives an entry
-pub steps_over : (reading : Reading) (frame : FrameText) (frame_place distance : ℕ) (before : Option ℕ) (parts : Parts) (found : Entry) → reading ≡ at frame frame_place distance before
-    → BeginsWith frame frame_place (rest_of frame.attachments distance) (attachments_place frame frame_place + distance) before found (text_of_parts parts)
-    → Steps reading (Ok (Some found)) (at frame frame_place (distance + 12 + length parts.body.now + length parts.offsets.now) (Some parts.offset))
-steps_over reading frame frame_place distance before parts found is begins =
+-- the step of a reader that gives an entry made of the parts
+pub entry_steps : (reading : Reading) (frame : Placed FrameText) (distance : ℕ) (before : Option ℕ) (parts : Parts) (found : Entry) → reading ≡ at frame distance before → ArePartsOf (rest_of frame.unit.attachments distance) parts
+    → MayStandEntry frame.unit before (text_of_parts parts) → IsMadeOf frame.place (attachments_place frame.unit frame.place + distance) parts found
+    → Steps reading (Ok (Some found)) (at frame (distance + 12 + length parts.body.now + length parts.offsets.now) (Some parts.offset))
+entry_steps reading frame distance before parts found is are stands made =
+    let begins = begins_with frame.unit frame.place (rest_of frame.unit.attachments distance) (attachments_place frame.unit frame.place + distance) before parts found are stands made in
     let e = text_of_parts parts in
-    let width : distance + 12 + length parts.body.now + length parts.offsets.now ≡ distance + length (entry_bytes e) = omega (arith, length-entry_bytes e) in
-    let there = subst (λ (t : List ℕ). BeginsWith frame frame_place t (attachments_place frame frame_place + distance) before found e) (take_rest frame.attachments distance) begins in
-    rw is (e, there, ap (λ (n : ℕ). at frame frame_place n (Some parts.offset)) width)
+    let width : distance + length (entry_bytes e) ≡ distance + 12 + length parts.body.now + length parts.offsets.now = omega (arith, length-entry_bytes e) in
+    subst (λ (n : ℕ). Steps reading (Ok (Some found)) (at frame n (Some parts.offset))) width
+    (subst (λ (t : EntryText). Steps reading (Ok (Some found)) (at frame (distance + length (entry_bytes t)) (Some t.offset))) (made_says frame.place (attachments_place frame.unit frame.place + distance) parts found made)
+    (steps_over entry_source reading frame distance before found is begins))

@@ -11,8 +11,7 @@ use Rattle.binder_code.specs.declared.record_kind.Kind.{Kind}
 use Rattle.binder_code.specs.Commands.{kind_of}
 use Rattle.capture_frame.specs.Envelope.{FrameText, IsAbove}
 use Rattle.record_view.specs.Records.{RecordText, record_bytes, HasRecords, StandsAt, span_of, protocol_of}
-use Rattle.record_view.proofs.OneReading.{one_reading}
-use Rattle.record_view.proofs.RecordLaws.{length-record_bytes}
+use Rattle.record_view.proofs.RecordLaws.{length-record_bytes, one_reading}
 use Rattle.transaction_view.specs.Transaction.{has_transaction_data, IsTransactionWord}
 use Rattle.transaction_view.specs.Attachments.{Names}
 

@@ -8,13 +8,14 @@ use Rattle.std.proofs.lemmas.List.Concat.{flat_map-cons}
 use Rattle.binder_code.specs.declared.protocol.Protocol.{Protocol}
 use Rattle.binder_code.specs.Commands.{kind_of}
 use Rattle.capture_frame.specs.declared.fault.Fault.{Fault}
-use Rattle.capture_frame.specs.Units.{AllStand}
-use Rattle.capture_frame.specs.Envelope.{FrameText, IsAbove}
+use Rattle.capture_frame.specs.Units.{AllStand, placed_at}
+use Rattle.capture_frame.specs.Readers.{at}
+use Rattle.capture_frame.specs.Envelope.{FrameText, IsAbove, commands_place}
+use Rattle.capture_frame.proofs.ReaderLaws.{answer_given}
 use Rattle.record_view.specs.declared.record.Record.{Record}
 use Rattle.record_view.specs.Records.{RecordText, record_bytes, IsRecord, HasRecords, StandsAt, span_of, protocol_of, record_format}
-use Rattle.record_view.specs.Reading.{Reading, at, text_of, Steps}
+use Rattle.record_view.specs.Reading.{Reading, record_text, Steps}
 use Rattle.record_view.proofs.RecordLaws.{records_decided}
-use Rattle.record_view.specs.Reading.{commands_place}
 use Rattle.transaction_view.specs.State.{HasNotPassed, IsRecordAt}
 use Rattle.transaction_view.proofs.RecordPlaces.{span_of-snoc, stands_behind, stands_within}
 
@@ -23,7 +24,7 @@ pub record Searches (frame : FrameText) (frame_place : ℕ) (offset : ℕ) (read
   pub passed : List RecordText
   pub ahead : List RecordText
   pub has_records : HasRecords frame (passed ++ ahead)
-  pub reading_is : reading ≡ at (protocol_of frame.direction) frame.commands (commands_place frame_place) (span_of passed)
+  pub reading_is : reading ≡ at (placed_at frame_place frame) (span_of passed) tt
   pub none_passed : (found : RecordText) → StandsAt frame offset found → span_of passed ≤ offset
 
 pub search_start : (frame : FrameText) (frame_place : ℕ) (before : Option ℕ) (offset : ℕ) (reading : Reading) → HasNotPassed frame frame_place before reading → IsAbove before offset → Searches frame frame_place offset reading
@@ -49,33 +50,33 @@ first_is_record protocol (p ∷ passed) r ahead all = first_is_record protocol p
 -- the reader gives the first record ahead of it
 pub record Gives (frame : FrameText) (frame_place : ℕ) (passed : List RecordText) (found : Record) (new : Reading) : Type 0 where
   pub behind : List RecordText
-  pub has_records : HasRecords frame (passed ++ text_of found ∷ behind)
+  pub has_records : HasRecords frame (passed ++ record_text found ∷ behind)
   pub place_is : found.place ≡ commands_place frame_place + span_of passed
   pub kind : kind_of (protocol_of frame.direction) found.code.0 ≡ Ok found.kind
-  pub reading_is : new ≡ at (protocol_of frame.direction) frame.commands (commands_place frame_place) (span_of (passed ++ text_of found ∷ []))
+  pub reading_is : new ≡ at (placed_at frame_place frame) (span_of (passed ++ record_text found ∷ [])) tt
 
 gives_first : (frame : FrameText) (frame_place : ℕ) (passed ahead : List RecordText) (found : Record) (new : Reading) → HasRecords frame (passed ++ ahead)
-    → Steps (at (protocol_of frame.direction) frame.commands (commands_place frame_place) (span_of passed)) (Ok (Some found)) new → Gives frame frame_place passed found new
+    → Steps (at (placed_at frame_place frame) (span_of passed) tt) (Ok (Some found)) new → Gives frame frame_place passed found new
 gives_first frame frame_place passed [] found new has steps =
     let none = rest_ahead frame passed [] has in
-    let parts = ap length (sym none ∙ steps.0.joined) ∙ length-append (record_bytes (text_of found)) (drop (length (record_bytes (text_of found))) (drop (span_of passed) frame.commands)) in
-    let long = (records_decided (protocol_of frame.direction)).longer tt (text_of found) steps.0.is_record in
+    let parts = ap length (sym none ∙ steps.0.joined) ∙ length-append (record_bytes (record_text found)) (drop (length (record_bytes (record_text found))) (drop (span_of passed) frame.commands)) in
+    let long = (records_decided (protocol_of frame.direction)).longer tt (record_text found) steps.0.may_stand in
     absurd (omega (arith, parts, long))
 gives_first frame frame_place passed (r ∷ rs) found new has steps =
     let protocol = protocol_of frame.direction in
     let ahead = rest_ahead frame passed (r ∷ rs) has ∙ flat_map-cons record_bytes r rs in
-    let one = (records_decided protocol).one_unit tt r (text_of found) (flat_map record_bytes rs) (drop (length (record_bytes (text_of found))) (drop (span_of passed) frame.commands))
-    (first_is_record protocol passed r rs has.stand) steps.0.is_record (sym ahead ∙ steps.0.joined) in
+    let one = (records_decided protocol).one_unit tt r (record_text found) (flat_map record_bytes rs) (drop (length (record_bytes (record_text found))) (drop (span_of passed) frame.commands))
+    (first_is_record protocol passed r rs has.stand) steps.0.may_stand (sym ahead ∙ steps.0.joined) in
     record {
       behind = rs;
       has_records = subst (λ (x : RecordText). HasRecords frame (passed ++ x ∷ rs)) one.0 has;
-      place_is = steps.0.stands;
-      kind = steps.0.kind;
-      reading_is = steps.1 ∙ ap (λ (n : ℕ). at protocol frame.commands (commands_place frame_place) n) (sym (span_of-snoc passed (text_of found)));
+      place_is = steps.0.view.place_is;
+      kind = steps.0.view.kind;
+      reading_is = steps.1 ∙ ap (λ (n : ℕ). at (placed_at frame_place frame) n tt) (sym (span_of-snoc passed (record_text found)));
     }
 
 steps_from : (frame : FrameText) (frame_place : ℕ) (offset : ℕ) (reading : Reading) (searches : Searches frame frame_place offset reading) (result : Result (Option Record) Fault) (new : Reading) → Steps reading result new
-    → Steps (at (protocol_of frame.direction) frame.commands (commands_place frame_place) (span_of searches.passed)) result new
+    → Steps (at (placed_at frame_place frame) (span_of searches.passed) tt) result new
 steps_from frame frame_place offset reading searches result new steps = subst (λ (r : Reading). Steps r result new) searches.reading_is steps
 
 pub gives : (frame : FrameText) (frame_place : ℕ) (offset : ℕ) (reading : Reading) (searches : Searches frame frame_place offset reading) (found : Record) (new : Reading) → Steps reading (Ok (Some found)) new
@@ -93,11 +94,11 @@ search_next frame frame_place offset reading searches found new steps below =
     let given = gives frame frame_place offset reading searches found new steps in
     let at = given.place_is in
     record {
-      passed = searches.passed ++ text_of found ∷ [];
+      passed = searches.passed ++ record_text found ∷ [];
       ahead = given.behind;
-      has_records = moved frame searches.passed (text_of found) given.behind given.has_records;
+      has_records = moved frame searches.passed (record_text found) given.behind given.has_records;
       reading_is = given.reading_is;
-      none_passed = λ r stands. stands_behind frame searches.passed given.behind (text_of found) offset r given.has_records stands (omega (arith, at, below));
+      none_passed = λ r stands. stands_behind frame searches.passed given.behind (record_text found) offset r given.has_records stands (omega (arith, at, below));
     }
 
 -- the record that begins at the offset is found, and none behind it is passed
@@ -113,11 +114,11 @@ search_found frame frame_place offset reading searches found new steps there =
         kind = given.kind;
       },
       record {
-        passed = searches.passed ++ text_of found ∷ [];
+        passed = searches.passed ++ record_text found ∷ [];
         ahead = given.behind;
-        has_records = moved frame searches.passed (text_of found) given.behind given.has_records;
+        has_records = moved frame searches.passed (record_text found) given.behind given.has_records;
         reading_is = given.reading_is;
-        none_passed = λ later r above stands. stands_behind frame searches.passed given.behind (text_of found) later r given.has_records stands (omega (arith, same, above));
+        none_passed = λ later r above stands. stands_behind frame searches.passed given.behind (record_text found) later r given.has_records stands (omega (arith, same, above));
       },
     )
 
@@ -144,15 +145,15 @@ search_ended frame frame_place offset reading searches new steps r stands =
     ends_first frame searches.passed searches.ahead offset r searches.has_records s.0 stands (searches.none_passed r stands)
 
 fails_never : (frame : FrameText) (frame_place : ℕ) (passed ahead : List RecordText) (fault : Fault) (new : Reading) → HasRecords frame (passed ++ ahead)
-    → Steps (at (protocol_of frame.direction) frame.commands (commands_place frame_place) (span_of passed)) (Err fault) new → ⊥
+    → Steps (at (placed_at frame_place frame) (span_of passed) tt) (Err fault) new → ⊥
 fails_never frame frame_place passed [] fault new has steps =
     let format = record_format (protocol_of frame.direction) in
-    (records_decided (protocol_of frame.direction)).end_is_good tt fault.kind 0 (subst (λ (t : List ℕ). format.Fails tt t fault.kind 0) (rest_ahead frame passed [] has) (steps.0, refl))
+    (records_decided (protocol_of frame.direction)).end_is_good tt fault.kind 0 (subst (λ (t : List ℕ). format.Fails tt t fault.kind 0) (rest_ahead frame passed [] has) steps.0)
 fails_never frame frame_place passed (r ∷ rs) fault new has steps =
     let protocol = protocol_of frame.direction in
     let format = record_format protocol in
     (records_decided protocol).never_both tt r (flat_map record_bytes rs) fault.kind 0 (first_is_record protocol passed r rs has.stand)
-    (subst (λ (t : List ℕ). format.Fails tt t fault.kind 0) (rest_ahead frame passed (r ∷ rs) has ∙ flat_map-cons record_bytes r rs) (steps.0, refl))
+    (subst (λ (t : List ℕ). format.Fails tt t fault.kind 0) (rest_ahead frame passed (r ∷ rs) has ∙ flat_map-cons record_bytes r rs) steps.0)
 
 -- the records of the frame are good, so the reader does not fail
 pub search_never_fails : (frame : FrameText) (frame_place : ℕ) (offset : ℕ) (reading : Reading) (searches : Searches frame frame_place offset reading) (fault : Fault) (new : Reading) → Steps reading (Err fault) new → ⊥
@@ -162,8 +163,7 @@ search_never_fails frame frame_place offset reading searches fault new steps =
 -- ---- what the reader answers, with a fault taken as the end
 
 pub record_given : (result : Result (Option Record) Fault) (answer : Option Record) (found : Record) → answer ≡ result_unwrap_or result None → answer ≡ Some found → result ≡ Ok (Some found)
-record_given (Ok given) answer found is some = ap Ok (sym is ∙ some)
-record_given (Err fault) answer found is some = let wrong : None ≡ Some found = sym is ∙ some in cc
+record_given result answer found is some = answer_given result answer found is some
 
 pub search_over : (frame : FrameText) (frame_place : ℕ) (offset : ℕ) (reading : Reading) (searches : Searches frame frame_place offset reading) (result : Result (Option Record) Fault) (answer : Option Record) (new : Reading)
     → Steps reading result new → answer ≡ result_unwrap_or result None → answer ≡ None → (r : RecordText) → StandsAt frame offset r → ⊥

@@ -3,7 +3,7 @@ use Rattle.std.specs.Prelude.{◌≡◌, ℕ, ◌+◌, List, ◌++◌, length, O
 use Rattle.capture_frame.specs.declared.fault.Fault.{Fault}
 use Rattle.capture_frame.specs.declared.fault.FaultKind.{FaultKind}
 use Rattle.capture_frame.specs.declared.frame.Frame.{Frame}
-use Rattle.capture_frame.specs.Envelope.{FrameText, frame_bytes, text_of, MayStand}
+use Rattle.capture_frame.specs.Envelope.{FrameText, frame_header_length, frame_bytes, frame_text, MayStand}
 use Rattle.capture_frame.specs.FirstFault.{FrameFails}
 use Rattle.record_view.specs.Records.{HasReadableRecords, RecordsFail}
 use Rattle.transaction_view.specs.Attachments.{HasReadableEntries, EntriesFail}
@@ -15,9 +15,9 @@ HasGoodContent frame = HasReadableRecords frame × HasReadableEntries frame
 -- what stands behind a frame's header fails, so many bytes from the frame's start: its records; or they are good, and
 -- its entries fail
 pub data ContentFails (frame : FrameText) (kind : FaultKind) (within : ℕ) : Type 0 where
-  in_records : (distance : ℕ) → RecordsFail frame kind distance → within ≡ 32 + distance → ContentFails frame kind within
+  in_records : (distance : ℕ) → RecordsFail frame kind distance → within ≡ frame_header_length + distance → ContentFails frame kind within
   in_entries : (distance : ℕ) → HasReadableRecords frame → EntriesFail frame kind distance
-      → within ≡ 32 + (length frame.commands + distance) → ContentFails frame kind within
+      → within ≡ frame_header_length + (length frame.commands + distance) → ContentFails frame kind within
 
 -- the bytes begin with no good whole frame: its header fails; or its header is good, and its content fails
 pub data WholeFrameFails (before : Option ℕ) (bytes : List ℕ) (kind : FaultKind) (within : ℕ) : Type 0 where
@@ -27,4 +27,4 @@ pub data WholeFrameFails (before : Option ℕ) (bytes : List ℕ) (kind : FaultK
 
 -- the fault is the first of a frame's records and entries, at its place in the capture
 abbrev pub HasContentFault : Frame → Fault → Type 0
-HasContentFault frame fault = (within : ℕ) × ContentFails (text_of frame) fault.kind within × (fault.place ≡ frame.place + within)
+HasContentFault frame fault = (within : ℕ) × ContentFails (frame_text frame) fault.kind within × (fault.place ≡ frame.place + within)

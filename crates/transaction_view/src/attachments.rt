@@ -1,16 +1,14 @@
 //! The reader of a frame's attachment entries.
 
 ghost use Rattle.std.specs.Prelude.{◌≡◌, ◌≤◌, ◌<◌, ◌+◌, ◌^◌, ◌⊎◌, length, IfSome, IfNone, IfOk, IfErr, Some};
-ghost use Rattle.capture_frame.specs.Envelope.{text_of, IsAbove};
+ghost use Rattle.capture_frame.specs.Envelope.{frame_text, commands_place, IsAbove};
 ghost use Rattle.record_view.specs.Records.{RecordText, StandsAt};
 ghost use Rattle.transaction_view.specs.Attachments.{MayStandEntry, EntryFails, entry_length};
-ghost use Rattle.record_view.specs.Reading.{commands_place};
 ghost use Rattle.transaction_view.specs.State.{HasNotPassed, IsRecordAt, ArePartsOf, text_of_parts};
 
 use crate::entry::Entry;
 use crate::transaction::Transaction;
-use byteorder::{ByteOrder, LittleEndian};
-use capture_frame::{Fault, FaultKind, Frame};
+use capture_frame::{Fault, FaultKind, Frame, u32_at};
 use record_view::{Record, Records};
 use std::marker::Model;
 
@@ -52,14 +50,14 @@ impl<'c> Model for Attachments<'c> {
 }
 
 impl<'c> Attachments<'c> {
-    ghost use Rattle.std.specs.Prelude.{None};
+    ghost use Rattle.capture_frame.specs.Envelope.{placed_frame};
     ghost use Rattle.record_view.specs.Records.{HasReadableRecords};
-    ghost use Rattle.transaction_view.specs.Reading.{at, failed, Steps, start_of};
+    ghost use Rattle.transaction_view.specs.Reading.{Steps, entries_start};
 
     /// A reader of the frame's entries, where its records have no fault.
     pub fn of(frame: Frame<'c>) -> Attachments<'c>
-        requires { HasReadableRecords (text_of frame) }
-        ensures { result ≡ start_of (text_of frame.entry) frame.entry.place }
+        requires { HasReadableRecords (frame_text frame) }
+        ensures { result ≡ entries_start (placed_frame frame.entry) }
     {
         Attachments {
             frame,
@@ -83,7 +81,7 @@ impl<'c> Attachments<'c> {
         if rest.is_empty() {
             return Ok(None);
         }
-        let place = self.frame.place + 32 + self.frame.commands.len() as u64 + distance as u64;
+        let place = self.frame.attachments_place() + distance as u64;
         match judge(self.frame, &mut self.records, before, rest) {
             Ok((parts, owner)) => {
                 self.state = State::At {
@@ -121,18 +119,20 @@ fn judge<'c>(
     before: Option<u32>,
     bytes: &'c [u8],
 ) -> Result<(Parts<'c>, u64), FaultKind>
-    requires ahead { HasNotPassed (text_of frame) frame.place before records.old }
+    requires ahead { HasNotPassed (frame_text frame) frame.place before records.old }
     requires some { 0 < length bytes.now }
     ensures parts { IfOk result (λ found. ArePartsOf bytes.now found.0) }
-    ensures stands { IfOk result (λ found. MayStandEntry (text_of frame.entry) before (text_of_parts found.0)) }
+    ensures stands { IfOk result (λ found.
+        MayStandEntry (frame_text frame.entry) before (text_of_parts found.0)) }
     ensures owner { IfOk result (λ found. found.1 ≡ commands_place frame.entry.place + found.0.offset) }
-    ensures passed { IfOk result (λ found. HasNotPassed (text_of frame.entry) frame.entry.place (Some found.0.offset) records.new) }
-    ensures fails { IfErr result (EntryFails (text_of frame.entry) before bytes.now) }
+    ensures passed { IfOk result (λ found.
+        HasNotPassed (frame_text frame.entry) frame.entry.place (Some found.0.offset) records.new) }
+    ensures fails { IfErr result (EntryFails (frame_text frame.entry) before bytes.now) }
 {
     let Some(parts) = parts_of(bytes) else {
         return Err(FaultKind::AttachShort);
     };
-    let Some(found) = record_at(frame, records, before, parts.offset) else {
+    let Some(found) = find_record(frame, records, before, parts.offset) else {
         return Err(FaultKind::AttachRecord);
     };
     let Some(owner) = Transaction::of(found) else {
@@ -149,13 +149,14 @@ fn judge<'c>(
 /// The parts of the entry that the bytes begin with, where they hold it whole.
 fn parts_of(bytes: &[u8]) -> Option<Parts<'_>>
     ensures parts { IfSome result (ArePartsOf bytes.now) }
-    ensures short { IfNone result ((length bytes.now < 12) ⊎ ((12 ≤ length bytes.now) × (length bytes.now < entry_length bytes.now))) }
+    ensures short { IfNone result ((length bytes.now < 12)
+        ⊎ ((12 ≤ length bytes.now) × (length bytes.now < entry_length bytes.now))) }
 {
     if bytes.len() < ENTRY_HEADER {
         return None;
     }
-    let body_length = LittleEndian::read_u32(&bytes[4..]);
-    let offsets_length = LittleEndian::read_u32(&bytes[8..]);
+    let body_length = u32_at(bytes, 4);
+    let offsets_length = u32_at(bytes, 8);
     let rest = &bytes[ENTRY_HEADER..];
     if (rest.len() as u64) < u64::from(body_length) + u64::from(offsets_length) {
         return None;
@@ -163,31 +164,33 @@ fn parts_of(bytes: &[u8]) -> Option<Parts<'_>>
     let (body, rest) = rest.split_at(body_length as usize);
     let (offsets, _) = rest.split_at(offsets_length as usize);
     Some(Parts {
-        offset: LittleEndian::read_u32(bytes),
+        offset: u32_at(bytes, 0),
         body,
         offsets,
     })
 }
 
 /// The record that begins at an offset of the frame's command bytes, where that is above `before`.
-fn record_at<'c>(
+fn find_record<'c>(
     frame: Frame<'c>,
     records: &mut Records<'c>,
     before: Option<u32>,
     offset: u32,
 ) -> Option<Record<'c>>
-    requires { HasNotPassed (text_of frame) frame.place before records.old }
+    requires { HasNotPassed (frame_text frame) frame.place before records.old }
     ensures above { IfSome result (λ found. IsAbove before offset) }
-    ensures found { IfSome result (IsRecordAt (text_of frame.entry) frame.entry.place offset) }
-    ensures passed { IfSome result (λ found. HasNotPassed (text_of frame.entry) frame.entry.place (Some offset) records.new) }
-    ensures none { IfNone result (IsAbove before offset → (found : RecordText) → StandsAt (text_of frame.entry) offset found → ⊥) }
+    ensures found { IfSome result (IsRecordAt (frame_text frame.entry) frame.entry.place offset) }
+    ensures passed { IfSome result (λ found.
+        HasNotPassed (frame_text frame.entry) frame.entry.place (Some offset) records.new) }
+    ensures none { IfNone result (IsAbove before offset →
+        (found : RecordText) → StandsAt (frame_text frame.entry) offset found → ⊥) }
 {
     if let Some(last) = before {
         if offset <= last {
             return None;
         }
     }
-    let start = frame.place + 32;
+    let start = frame.commands_place();
     // The records are good, so there is no fault to give.
     while let Some(record) = records.next_record().unwrap_or(None) {
         let there = record.place - start;

@@ -2,7 +2,7 @@
 
 ghost use Rattle.std.specs.Prelude.{◌≡◌, Some, IsNone, MatchOption, MatchResult};
 ghost use Rattle.capture_frame.specs.declared.fault.Fault.{Fault};
-ghost use Rattle.capture_frame.specs.Envelope.{text_of};
+ghost use Rattle.capture_frame.specs.Envelope.{frame_text};
 ghost use Rattle.record_view.specs.Records.{HasReadableRecords};
 ghost use Rattle.transaction_view.specs.Attachments.{HasReadableEntries};
 ghost use Rattle.transaction_view.specs.FirstFault.{HasGoodContent, HasContentFault};
@@ -25,10 +25,10 @@ pub fn first_fault(capture: &[u8]) -> Option<Fault>
 
 /// The first malformed record of a frame, or behind good records its first malformed entry, or none.
 pub fn check_frame(frame: Frame<'_>) -> Option<Fault>
-    ensures first { MatchOption result (HasGoodContent (text_of frame.entry)) (HasContentFault frame.entry) }
+    ensures first { MatchOption result (HasGoodContent (frame_text frame.entry)) (HasContentFault frame.entry) }
 
     // There is no other answer.
-    ensures good { HasGoodContent (text_of frame.entry) → IsNone result }
+    ensures good { HasGoodContent (frame_text frame.entry) → IsNone result }
     ensures fault { (fault : Fault) → HasContentFault frame.entry fault → result ≡ Some fault }
 {
     check_content(frame).err()
@@ -45,7 +45,7 @@ fn check(capture: &[u8]) -> Result<(), Fault>
 }
 
 fn check_content(frame: Frame<'_>) -> Result<(), Fault>
-    ensures { MatchResult result (λ _. HasGoodContent (text_of frame.entry)) (HasContentFault frame.entry) }
+    ensures { MatchResult result (λ _. HasGoodContent (frame_text frame.entry)) (HasContentFault frame.entry) }
 {
     check_records(frame)?;
     check_entries(frame)
@@ -53,7 +53,7 @@ fn check_content(frame: Frame<'_>) -> Result<(), Fault>
 
 /// Checks the records of one frame.
 fn check_records(frame: Frame<'_>) -> Result<(), Fault>
-    ensures { MatchResult result (λ _. HasReadableRecords (text_of frame.entry)) (HasContentFault frame.entry) }
+    ensures { MatchResult result (λ _. HasReadableRecords (frame_text frame.entry)) (HasContentFault frame.entry) }
 {
     let mut records = Records::of(frame);
     while let Some(_) = records.next_record()? {}
@@ -62,8 +62,8 @@ fn check_records(frame: Frame<'_>) -> Result<(), Fault>
 
 /// Checks the entries of one frame, whose records have no fault.
 fn check_entries(frame: Frame<'_>) -> Result<(), Fault>
-    requires { HasReadableRecords (text_of frame) }
-    ensures { MatchResult result (λ _. HasReadableEntries (text_of frame.entry)) (HasContentFault frame.entry) }
+    requires { HasReadableRecords (frame_text frame) }
+    ensures { MatchResult result (λ _. HasReadableEntries (frame_text frame.entry)) (HasContentFault frame.entry) }
 {
     let mut attachments = Attachments::of(frame);
     while let Some(_) = attachments.next_entry()? {}

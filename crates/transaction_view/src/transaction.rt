@@ -1,11 +1,10 @@
 //! The fields of a transaction or a reply.
 
-ghost use Rattle.std.specs.Prelude.{◌≡◌, ◌≤◌, ◌↔◌, ◌+◌, length, IsTrue, IsSome, IfSome};
-ghost use Rattle.capture_frame.specs.Envelope.{number_at};
+ghost use Rattle.std.specs.Prelude.{◌≡◌, ◌≤◌, ◌↔◌, length, IsTrue, IsSome, IfSome};
 ghost use Rattle.transaction_view.specs.Transaction.{has_transaction_data, is_extended};
 
 use binder_code::Kind;
-use byteorder::{ByteOrder, LittleEndian};
+use capture_frame::{u32_at, u64_at};
 use record_view::Record;
 
 /// A record that carries a transaction or a reply. Its payload begins with
@@ -64,77 +63,77 @@ impl<'c> Transaction<'c> {
     pub fn target_handle(self) -> u32
         ensures { result ≡ target_handle self.entry.carrier.payload.now }
     {
-        self.u32_at(0)
+        u32_at(self.carrier.payload, 0)
     }
 
     /// The node that a received transaction goes to: all of `target`.
     pub fn target_ptr(self) -> u64
         ensures { result ≡ target_ptr self.entry.carrier.payload.now }
     {
-        self.u64_at(0)
+        u64_at(self.carrier.payload, 0)
     }
 
     /// The target node's cookie.
     pub fn cookie(self) -> u64
         ensures { result ≡ cookie self.entry.carrier.payload.now }
     {
-        self.u64_at(8)
+        u64_at(self.carrier.payload, 8)
     }
 
     /// The method that is called.
     pub fn code(self) -> u32
         ensures { result ≡ code self.entry.carrier.payload.now }
     {
-        self.u32_at(16)
+        u32_at(self.carrier.payload, 16)
     }
 
     /// The flags word as read; `binder_code::TransactionFlags` names its bits.
     pub fn flags(self) -> u32
         ensures { result ≡ flags self.entry.carrier.payload.now }
     {
-        self.u32_at(20)
+        u32_at(self.carrier.payload, 20)
     }
 
     /// The sender's process, where the driver tells it.
     pub fn sender_pid(self) -> i32
         ensures { result ≡ sender_pid self.entry.carrier.payload.now }
     {
-        self.u32_at(24).cast_signed()
+        u32_at(self.carrier.payload, 24).cast_signed()
     }
 
     /// The sender's effective user.
     pub fn sender_euid(self) -> u32
         ensures { result ≡ sender_euid self.entry.carrier.payload.now }
     {
-        self.u32_at(28)
+        u32_at(self.carrier.payload, 28)
     }
 
     /// The length of the data, in bytes.
     pub fn data_size(self) -> u64
         ensures { result ≡ data_size self.entry.carrier.payload.now }
     {
-        self.u64_at(32)
+        u64_at(self.carrier.payload, 32)
     }
 
     /// The length of the list of offsets, in bytes.
     pub fn offsets_size(self) -> u64
         ensures { result ≡ offsets_size self.entry.carrier.payload.now }
     {
-        self.u64_at(40)
+        u64_at(self.carrier.payload, 40)
     }
 
     /// The address of the data in the process.
     pub fn buffer(self) -> u64
         ensures { result ≡ buffer self.entry.carrier.payload.now }
     {
-        self.u64_at(48)
+        u64_at(self.carrier.payload, 48)
     }
 
     /// The address of the list of offsets in the process.
     pub fn offsets(self) -> u64
         ensures { result ≡ offsets self.entry.carrier.payload.now }
     {
-        self.u64_at(56)
+        u64_at(self.carrier.payload, 56)
     }
 
     /// `buffers_size` of the _SG forms, or the address `secctx` of BR_TRANSACTION_SEC_CTX.
@@ -142,23 +141,9 @@ impl<'c> Transaction<'c> {
         ensures { result ≡ extra self.entry.carrier.kind self.entry.carrier.payload.now }
     {
         if is_extended(self.carrier.kind) {
-            Some(self.u64_at(64))
+            Some(u64_at(self.carrier.payload, 64))
         } else {
             None
         }
-    }
-
-    fn u32_at(self, place: usize) -> u32
-        requires { place + 4 ≤ length self.carrier.payload.now }
-        ensures { result ≡ number_at 4 place self.entry.carrier.payload.now }
-    {
-        LittleEndian::read_u32(&self.carrier.payload[place..])
-    }
-
-    fn u64_at(self, place: usize) -> u64
-        requires { place + 8 ≤ length self.carrier.payload.now }
-        ensures { result ≡ number_at 8 place self.entry.carrier.payload.now }
-    {
-        LittleEndian::read_u64(&self.carrier.payload[place..])
     }
 }

@@ -19,7 +19,7 @@ pub returns-in-Some-check_frame-clause-malformed : goal.returns-in-Some-check_fr
 returns-in-Some-check_frame-clause-malformed c =
     let done = c.loop-flags.invariant in
     content_fails c.args.capture.now c.loop-flags.frames done.0 done.1 c.in-Some.frame c.next_frame.new.self c.in-Some-check_frame.fault
-        (rw c.in-Some.is at c.in_ok-frame.ensures) c.in-Some-check_frame.ensures.first
+    (rw c.in-Some.is at c.in_ok-frame.ensures) c.in-Some-check_frame.ensures.first
 
 pub count_records-requires-clause-readable : goal.count_records-requires-clause-readable
 count_records-requires-clause-readable c = c.in_default-check_frame.ensures.first.0
@@ -28,14 +28,14 @@ pub count_records-requires-clause-room : goal.count_records-requires-clause-room
 count_records-requires-clause-room c =
     let done = c.loop-flags.invariant in
     let room = room_for_frame c.args.capture.now c.loop-flags.frames done.0 done.1 c.in-Some.frame c.next_frame.new.self
-        (rw c.in-Some.is at c.in_ok-frame.ensures) in
+    (rw c.in-Some.is at c.in_ok-frame.ensures) in
     (code_words done.0, done.2, room.0)
 
 pub add-requires : goal.add-requires
 add-requires c =
     let done = c.loop-flags.invariant in
     let room = room_for_frame c.args.capture.now c.loop-flags.frames done.0 done.1 c.in-Some.frame c.next_frame.new.self
-        (rw c.in-Some.is at c.in_ok-frame.ensures) in
+    (rw c.in-Some.is at c.in_ok-frame.ensures) in
     omega (arith, room.1, frames_counted c.loop-flags.sequences done.0 done.3)
 
 pub loop-flags-smaller : goal.loop-flags-smaller
@@ -47,7 +47,7 @@ pub count_objects-requires-clause-room : goal.count_objects-requires-clause-room
 count_objects-requires-clause-room c =
     let done = c.loop-flags.invariant in
     room_for_objects c.args.capture.now c.loop-flags.frames done.0 done.1 c.in-Some.frame c.next_frame.new.self
-        (rw c.in-Some.is at c.in_ok-frame.ensures) c.loop-flags.objects done.4
+    (rw c.in-Some.is at c.in_ok-frame.ensures) c.loop-flags.objects done.4
 
 pub loop-flags-preserved : goal.loop-flags-preserved
 loop-flags-preserved c =
@@ -71,7 +71,7 @@ loop-flags-preserved c =
 pub missing-requires : goal.missing-requires
 missing-requires c =
     let done = c.loop-flags.invariant in
-    sequences_rise c.loop-flags.sequences done.0 done.1.walks.splits.stand done.3
+    sequences_rise c.loop-flags.sequences done.0 done.1.frames.walks.splits.stand done.3
 
 pub returns-clause-read : goal.returns-clause-read
 returns-clause-read c =

@@ -11,11 +11,11 @@ returns-clause-written g c =
 pub returns-clause-read : goal.returns-clause-read
 returns-clause-read g c =
     answer_read c.write_first_fault.result _ c.in_ok-capture.capture.items (λ capture. NamesFirstFault capture _ _)
-        (c.in_ok-capture.ensures.bytes, omega (arith, c.in_ok-capture.ensures.within))
+    (c.in_ok-capture.ensures.bytes, omega (arith, c.in_ok-capture.ensures.within))
     (rw c.as_slice.ensures.value at c.write_first_fault.ensures.written)
 
 pub returns-clause-begun : goal.returns-clause-begun
 returns-clause-begun g c =
     failure_read c.write_first_fault.result IsLineOn _ c.in_ok-capture.capture.items _ _
-        (c.in_ok-capture.ensures.bytes, omega (arith, c.in_ok-capture.ensures.within))
+    (c.in_ok-capture.ensures.bytes, omega (arith, c.in_ok-capture.ensures.within))
     (rw c.as_slice.ensures.value at c.write_first_fault.ensures.failed)

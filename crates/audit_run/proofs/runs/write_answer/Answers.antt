@@ -9,7 +9,7 @@ returns-in_err-write_fault-in-Malformed-clause-failed g c =
     let error = err_from_is_err_and c.from_residual-in_err-write_fault-in-Malformed.result c.from_residual-in_err-write_fault-in-Malformed.ensures.1 in
     let unwritten = c.in_err-write_fault-in-Malformed.ensures in
     rw (error.1, error.2) (line_unwritten (IsTextOf c.args.capture.now) c.in-Malformed.fault _ _ _
-        (malformed _ (rw c.in-Malformed.is at c.in-Err.ensures.malformed) refl) unwritten.fault unwritten.err)
+    (malformed _ (rw c.in-Malformed.is at c.in-Err.ensures.malformed) refl) unwritten.fault unwritten.err)
 
 pub returns-in_ok-write_fault-in-Malformed-clause-written : goal.returns-in_ok-write_fault-in-Malformed-clause-written
 returns-in_ok-write_fault-in-Malformed-clause-written g c = (rw c.in-Malformed.is at c.in-Err.ensures.malformed, c.in_ok-write_fault-in-Malformed.ensures.ok)

@@ -9,4 +9,4 @@ returns-in_err-write_fault-in-Some-clause-failed g c =
     let error = err_from_is_err_and c.from_residual.result c.from_residual.ensures.1 in
     let unwritten = c.in_err-write_fault-in-Some.ensures in
     rw (error.1, error.2) (line_unwritten (IsLineOn c.args.capture.now) c.in-Some.fault _ _ _
-        (named _ c.in-Some.ensures.first refl) unwritten.fault unwritten.err)
+    (named _ c.in-Some.ensures.first refl) unwritten.fault unwritten.err)

@@ -1,13 +1,19 @@
 use Rattle.std.proofs.Common.{◌≡◌, ℕ, inr, List, length, take, drop, sym, ap, subst, ◌∙◌, arith}
 use Rattle.std.proofs.lemmas.List.{take_rest, length-drop}
+use Rattle.transaction_view.specs.Envelope.{number_at}
 use Rattle.object_view.specs.Objects.{IsUnknown, sort_at}
-use Rattle.transaction_view.proofs.FieldLaws.{field_number}
+use Rattle.object_view.proofs.SortLaws.{number_in_front, number_at-drop}
 use Rattle.object_view.proofs.objects.object_at.Goals as goal
+
+pub invariant_of-result-clause-by_bytes : goal.invariant_of-result-clause-by_bytes
+invariant_of-result-clause-by_bytes c =
+    ap (number_at 4 0) c.split_at.ensures.front ∙ number_in_front c.in-Some.sort c.length-2.result _ c.length-2.ensures
+    ∙ ap (number_at 4 0) (take_rest c.args.body.now c.args.offset) ∙ number_at-drop 4 c.args.offset c.args.body.now ∙ sym c.u32_at.ensures ∙ c.in-Some.ensures.known
 
 pub returns-in_default-clause-fails : goal.returns-in_default-clause-fails
 returns-in_default-clause-fails c =
     let body = c.args.body.now in
-    let read : c.read_u32.result ≡ sort_at body c.args.offset = c.read_u32.ensures ∙ field_number 4 c.args.offset body in
+    let read : c.u32_at.result ≡ sort_at body c.args.offset = c.u32_at.ensures in
     let left = ap length (take_rest body c.args.offset) ∙ length-drop c.args.offset body in (
       c.if-offset-ne0.false,
       omega (arith, c.if-offset-end.false),
@@ -18,7 +24,7 @@ returns-in_default-clause-fails c =
 pub returns-then-rest-length-clause-fails : goal.returns-then-rest-length-clause-fails
 returns-then-rest-length-clause-fails c =
     let body = c.args.body.now in
-    let read : c.read_u32.result ≡ sort_at body c.args.offset = c.read_u32.ensures ∙ field_number 4 c.args.offset body in
+    let read : c.u32_at.result ≡ sort_at body c.args.offset = c.u32_at.ensures in
     let left = ap length (take_rest body c.args.offset) ∙ length-drop c.args.offset body in (
       c.if-offset-ne0.false,
       omega (arith, c.if-offset-end.false),
@@ -31,7 +37,7 @@ returns-then-rest-length-clause-fails c =
 pub returns-clause-found : goal.returns-clause-found
 returns-clause-found c =
     let body = c.args.body.now in
-    let read : c.read_u32.result ≡ sort_at body c.args.offset = c.read_u32.ensures ∙ field_number 4 c.args.offset body in
+    let read : c.u32_at.result ≡ sort_at body c.args.offset = c.u32_at.ensures in
     let left = ap length (take_rest body c.args.offset) ∙ length-drop c.args.offset body in
     record {
       fits = c.ranges.offset.fits;

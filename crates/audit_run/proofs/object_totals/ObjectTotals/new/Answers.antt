@@ -7,7 +7,7 @@ use Rattle.audit_run.proofs.object_totals.ObjectTotals.new.Goals as goal
 pub returns : goal.returns
 returns c =
     let nothing : AreObjectFindings [] (record { binder = 0; weak_binder = 0; handle = 0; weak_handle = 0; fd = 0; fda = 0; ptr = 0 }) c.new.result.items =
-        record {
+    record {
       outcomes = [];
       are = record { each = refl; are_objects = All-nil IsOutcome };
       counted = search rules;

@@ -2,8 +2,8 @@ use Rattle.std.proofs.Common.{arith}
 use Rattle.capture_frame.specs.Envelope.{IsAbove}
 use Rattle.transaction_view.proofs.RecordWalk.{step_falls}
 use Rattle.transaction_view.proofs.SearchLaws.{search_start, record_given, search_next, search_found, search_past, search_over}
-use Rattle.transaction_view.proofs.attachments.record_at.Goals as goal
-use Rattle.transaction_view.proofs.attachments.record_at.Goals.{in-Some+else-offset-last, in_default}
+use Rattle.transaction_view.proofs.attachments.find_record.Goals as goal
+use Rattle.transaction_view.proofs.attachments.find_record.Goals.{in-Some+else-offset-last, in_default}
 
 pub loop-record-init : goal.loop-record-init
 loop-record-init c = elim c.match-before.branch [
