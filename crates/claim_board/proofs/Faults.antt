@@ -1,13 +1,14 @@
 -- Faulty jobs have faults, and what a look finds.
-use Rattle.std.proofs.Common.{◌≡◌, ℕ, zero, suc, ◌+◌, ◌<◌, ◌≤◌, ◌≢◌, ◌⊎◌, ltb, Bool, true, false, cond, List, [], ◌∷◌, length, set, get_or, sym, refl, ap, ◌∙◌, subst, ⊎_elim, arith, Option, Some, None, Result, Ok, Err, IfErr}
+use Rattle.std.proofs.Common.{◌≡◌, ℕ, zero, suc, ◌+◌, ◌<◌, ◌≤◌, ◌≢◌, ◌⊎◌, ltb, Bool, true, false, cond, List, [], ◌∷◌, length, set, get_or, sym, refl, ap, ◌∙◌, subst, ⊎_elim, arith, Option, Some, None, Result, Ok, Err, IfErr, OnOk, OnErr, length-set}
 use Rattle.std.specs.List.{slice_get, count_by, sum_by}
 use Rattle.std.proofs.lemmas.List.Sums.{sum_by-set}
 use Rattle.std.proofs.lemmas.Option.{slice_get_within, get_or_from_slice_get}
 use Rattle.claim_board.specs.declared.job.Job.{Job}
 use Rattle.claim_board.specs.declared.job.JobState.{JobState}
 use Rattle.claim_board.specs.declared.job.JobState.TheVariants.{Untouched, Held, Faulty, Done, Skipped, Lowered}
-use Rattle.claim_board.specs.Board.{BoardState, HaveFaults, Acts, MayNot, IsRefused, MakesLook, state_after_look, state_by_fault, is_least_below}
+use Rattle.claim_board.specs.Board.{BoardState, HaveFaults, Acts, MayNot, IsRefused, IsSameSize, MakesLook, state_after_look, state_by_fault, is_least_below}
 use Rattle.claim_board.specs.declared.job.Act.{Act}
+use Rattle.claim_board.specs.declared.job.Act.TheVariants.{Claim, Look, Lower}
 use Rattle.claim_board.specs.declared.job.Step.{Step}
 use Rattle.claim_board.specs.declared.job.BoardFault.{BoardFault}
 use Rattle.claim_board.specs.declared.job.BoardFault.TheVariants.{Order}
@@ -54,3 +55,18 @@ step_refused s x a (Err e) is lt h = subst (λ q. IsRefused s x q) (sym h.0) (lt
 pub look_made_at : (s z t : BoardState) → s ≡ z → (i w : ℕ) (job : Job) (r : JobState) → slice_get s.jobs i ≡ Some job → slice_get s.states i ≡ Some (Held w) → r ≡ state_after_look job s.least w
     → t ≡ record s { states = set s.states i r } → MakesLook z w t
 look_made_at s z t same i w job r a b is e = subst (λ x. MakesLook x w t) same (look_made s t i w job r a b is e)
+
+size_if : (s : BoardState) (w : ℕ) (b : Bool)
+    → IsSameSize s (cond b (record s { next = s.next + 1; states = set s.states s.next (Held w) }) (record s { next = s.next + 1; stopped = set s.stopped w true }))
+size_if s w true = record { jobs = length-set s.states s.next (Held w); workers = refl }
+size_if s w false = record { jobs = refl; workers = length-set s.stopped w true }
+
+size_by : (s t : BoardState) (a : Act) (w : ℕ) → Acts a s w t → IsSameSize s t
+size_by s t Claim w a = subst (λ (u : BoardState). IsSameSize s u) (sym a.1) (size_if s w (ltb s.next (length s.jobs)))
+size_by s t Look w a = subst (λ (u : BoardState). IsSameSize s u) (sym a.4) (record { jobs = length-set s.states a.0 (state_after_look a.1 s.least w); workers = refl })
+size_by s t Lower w a = subst (λ (u : BoardState). IsSameSize s u) (sym a.6) (record { jobs = length-set s.states a.0 (Lowered w); workers = refl })
+
+-- a step, or a refusal, leaves as many jobs and workers
+pub same_size : {X : Type 0} (s t : BoardState) (a : Act) (w : ℕ) (r : Result X BoardFault) → OnOk r (Acts a s w t) → OnErr r (t ≡ s) → IsSameSize s t
+same_size s t a w (Ok u) made kept = size_by s t a w made
+same_size s t a w (Err e) made kept = subst (λ (u : BoardState). IsSameSize s u) (sym kept) (record { jobs = refl; workers = refl })

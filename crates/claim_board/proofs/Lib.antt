@@ -11,3 +11,4 @@ pub mod Halving
 pub mod Ends
 pub mod Finish
 pub mod Filling
+pub mod Spacing

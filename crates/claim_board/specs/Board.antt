@@ -92,6 +92,11 @@ abbrev pub IsRefused : BoardState → Step → BoardFault → Type 0
 IsRefused s x Worker = length s.stopped ≤ x.worker
 IsRefused s x Order = (x.worker < length s.stopped) × ((t : BoardState) → IsStep s x t → ⊥)
 
+-- as many jobs and workers
+pub record IsSameSize (old new : BoardState) : Type 0 where
+  pub jobs : length new.states ≡ length old.states
+  pub workers : length new.stopped ≡ length old.stopped
+
 -- each Faulty job has a fault
 abbrev pub HaveFaults : List Job → List JobState → Type 0
 HaveFaults jobs states = (i w : ℕ) → slice_get states i ≡ Some (Faulty w)

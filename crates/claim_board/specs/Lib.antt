@@ -4,3 +4,4 @@ pub mod Running
 pub mod Steps
 pub mod Work
 pub mod Results
+pub mod SpacedJobs

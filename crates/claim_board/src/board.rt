@@ -1,7 +1,7 @@
 //! The board of one thread.
 
 ghost use Rattle.std.specs.Prelude.{◌≡◌, ◌≢◌, ℕ, ◌<◌, ◌+◌, OnOk, OnErr, IfErr, length, slice_get, slice_set, Some, IfOk, IfSome, IfNone, false, true};
-ghost use Rattle.claim_board.specs.Board.{BoardState, opening_of, AreJobs, IsStep, Acts, MayNot, IsRefused, state_after_look};
+ghost use Rattle.claim_board.specs.Board.{BoardState, opening_of, AreJobs, IsStep, Acts, MayNot, IsRefused, IsSameSize, state_after_look};
 ghost use Rattle.claim_board.specs.declared.job.JobState.TheVariants.{Held};
 ghost use Rattle.claim_board.specs.declared.job.Act.TheVariants.{Claim, Look, Lower};
 ghost use Rattle.claim_board.specs.declared.job.BoardFault.TheVariants.{Order};
@@ -85,6 +85,7 @@ impl Board {
         ensures made { OnOk result (IsStep self.old step self.new) }
         ensures refused { IfErr result (IsRefused self.old step) }
         ensures unchanged { OnErr result (self.new ≡ self.old) }
+        ensures same_size { IsSameSize self.old self.new }
     {
         let w = step.worker;
         if w >= self.stopped.len() as u64 {

@@ -9,6 +9,8 @@ mod results;
 mod run;
 mod seat;
 mod share;
+#[cfg(test)]
+mod tests;
 mod view;
 mod work;
 mod worker;
