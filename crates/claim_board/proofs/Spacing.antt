@@ -1,5 +1,5 @@
 -- The jobs of the tests are jobs of a work.
-use Rattle.std.proofs.Common.{◌≡◌, ℕ, zero, suc, ◌+◌, ◌*◌, ◌<◌, ◌≤◌, ◌⊎◌, leb, ltb, Bool, true, false, cond, List, [], ◌∷◌, ◌++◌, length, sym, refl, ap, ◌∙◌, subst, ⊎_elim, arith, Option, Some, None, IfSome}
+use Rattle.std.proofs.Common.{◌≡◌, ℕ, zero, suc, ◌+◌, ◌*◌, ◌<◌, ◌≤◌, ◌⊎◌, leb, ltb, Bool, true, false, cond, List, [], ◌∷◌, ◌++◌, length, sym, refl, ap, ◌∙◌, subst, ⊎_elim, arith, Option, Some, None, IfSome, length-append}
 use Rattle.std.specs.List.{All, slice_get}
 use Rattle.std.proofs.lemmas.List.Elements.{All-nil, All-cons}
 use Rattle.claim_board.specs.declared.job.Job.{Job}
@@ -44,17 +44,30 @@ spaced_snoc jobs job s a f i other e = ⊎_elim
         (subst (λ m. (job.start ≡ spaced_start m) × IfSome job.fault (λ x. x ≡ spaced_start m + 5)) n (a, f)))
     (get_snoc jobs job other i e)
 
+pub spaced_push : (jobs new : List Job) (i : ℕ) (job : Job) → new ≡ jobs ++ job ∷ [] → length jobs ≡ i → AreSpacedFrom 0 jobs → job.start ≡ spaced_start i
+    → IfSome job.fault (λ x. x ≡ job.start + 5) → AreSpacedFrom 0 new × (length new ≡ i + 1)
+spaced_push jobs new i job e n s a f =
+    let start : job.start ≡ spaced_start (length jobs) = a ∙ ap spaced_start (sym n) in (
+      subst (λ l. AreSpacedFrom 0 l) (sym e) (spaced_snoc jobs job s start (subst (λ m. IfSome job.fault (λ x. x ≡ m + 5)) start f)),
+      ap length e ∙ (let l = length-append jobs (job ∷ []) in omega arith),
+    )
+
 module _ (low high : ℕ) where
   pub length-spaced : (k n : ℕ) → length (spaced_from low high k n) ≡ n
   length-spaced k zero = refl
   length-spaced k (suc n) = ap suc (length-spaced (suc k) n)
 
-  pub spaced_at : (k n i : ℕ) → i < n → job_at (spaced_from low high k n) i ≡ spaced_job low high (k + i)
+  spaced_at : (k n i : ℕ) → i < n → job_at (spaced_from low high k n) i ≡ spaced_job low high (k + i)
   spaced_at k zero i lt = absurd (omega arith)
   spaced_at k (suc n) zero lt = let e : k ≡ k + 0 = omega arith in ap (λ m. spaced_job low high m) e
   spaced_at k (suc n) (suc i) lt =
       let e : suc k + i ≡ k + suc i = omega arith in
       spaced_at (suc k) n i (omega arith) ∙ ap (λ m. spaced_job low high m) e
+
+  pub spaced_here : (n i : ℕ) → i < length (spaced_jobs low high n) → job_at (spaced_jobs low high n) i ≡ spaced_job low high i
+  spaced_here n i lt =
+      let e : 0 + i ≡ i = omega arith in
+      spaced_at 0 n i (let l = length-spaced 0 n in omega arith) ∙ ap (λ m. spaced_job low high m) e
 
   fault_is : (b c : Bool) (start : ℕ) → IfSome (cond b (cond c (Some (start + 5)) None) None) (λ x. x ≡ start + 5)
   fault_is true true start = refl

@@ -1,6 +1,6 @@
 //! The work of the tests.
 
-ghost use Rattle.std.specs.Prelude.{◌≡◌, ◌+◌, ◌≤◌, ℕ, length, IfOk};
+ghost use Rattle.std.specs.Prelude.{◌≡◌, ◌+◌, ◌*◌, ◌<◌, ◌≤◌, ℕ, [], ◌∷◌, length, IfOk, IfSome};
 ghost use Rattle.claim_board.specs.Board.{AreJobs};
 ghost use Rattle.claim_board.specs.SpacedJobs.{spaced_fault, AreSpacedFrom};
 
@@ -20,11 +20,12 @@ pub struct Excerpt<'c> {
 #[derive(Drop)]
 pub struct Excerpts<'c> {
     pub text: &'c [u8],
-    pub jobs: u32,
+    pub jobs: u64,
     pub low: u64,
     pub high: u64,
     pub starved: Option<u64>,
     pub second_ran: AtomicBool,
+    ghost few: { jobs ≤ 4294967296 },
 }
 
 impl<'c> Excerpts<'c> {
@@ -37,6 +38,21 @@ impl<'c> Excerpts<'c> {
         } else {
             None
         }
+    }
+
+    fn excerpt(&self, alloc: Global, i: u64) -> Result<Excerpt<'c>, AllocError>
+        requires { i ≤ 4294967296 }
+        ensures text { IfOk result (λ excerpt. excerpt.text.now ≡ self.now.text.now) }
+        ensures numbers { IfOk result (λ excerpt. excerpt.numbers.items ≡ 10 * i ∷ []) }
+    {
+        if self.starved == Some(i) {
+            return Err(AllocError);
+        }
+        let numbers = vec![in alloc; 10 * i]?;
+        Ok(Excerpt {
+            numbers,
+            text: self.text,
+        })
     }
 }
 
@@ -51,7 +67,7 @@ impl<'c> Work for Excerpts<'c> {
     ghost gives = { λ me i out. (out.text.now ≡ me.text.now) × (out.numbers.items ≡ 10 * i ∷ []) };
 
     fn jobs(&self) -> u64 {
-        self.jobs as u64
+        self.jobs
     }
 
     fn start(&self, i: u64) -> u64 {
@@ -62,19 +78,25 @@ impl<'c> Work for Excerpts<'c> {
         if i == 1 {
             self.second_ran.store(true, Ordering::SeqCst);
         }
-        if let Some(place) = self.fault(i) {
-            return Err(JobStop::At(place));
+        match self.fault(i) {
+            Some(place) => Err(JobStop::At(place)),
+            None => match self.excerpt(alloc, i) {
+                Ok(excerpt) => Ok(excerpt),
+                Err(AllocError) => Err(JobStop::Memory),
+            },
         }
-        if self.starved == Some(i) {
-            return Err(JobStop::Memory);
-        }
-        let Ok(numbers) = vec![in alloc; 10 * i] else {
-            return Err(JobStop::Memory);
-        };
-        Ok(Excerpt {
-            numbers,
-            text: self.text,
-        })
+    }
+}
+
+fn fault_by_bit(start: u64, bits: u64, i: u64) -> Option<u64>
+    requires bit { i < 64 }
+    requires start { start < 10000 }
+    ensures { IfSome result (λ x. x ≡ start + 5) }
+{
+    if bits >> i & 1 == 1 {
+        Some(start + 5)
+    } else {
+        None
     }
 }
 
@@ -88,11 +110,7 @@ pub fn jobs_by_bits(alloc: Global, count: u64, bits: u64) -> Result<Vec<Job>, Al
     let mut jobs = Vec::new(alloc);
     for i in 0..count {
         let start = 16 * (i + 1);
-        let fault = if bits >> i & 1 == 1 {
-            Some(start + 5)
-        } else {
-            None
-        };
+        let fault = fault_by_bit(start, bits, i);
         jobs.push(Job { start, fault })?;
     }
     Ok(jobs)

@@ -39,7 +39,7 @@ const TEXT: &[u8] = b"text";
 fn excerpts_by((jobs, low, high, starved, _): Row) -> Excerpts<'static> {
     Excerpts {
         text: TEXT,
-        jobs,
+        jobs: jobs as u64,
         low,
         high,
         starved,
@@ -65,9 +65,16 @@ fn is_answer(outcome: Result<Vec<Excerpt<'static>>, Stop>, row: Row) -> bool {
     }
 }
 
-fn run_row<R: Threads + Sync>(rt: &R, alloc: Global, row: Row, workers: Workers) -> bool {
-    let work = excerpts_by(row);
-    is_answer(run_all(rt, alloc, &work, workers, &NoGate), row)
+// Whether the work of the row has the row's answer.
+fn has_answer<R: Threads + Sync, G: Gate + Sync>(
+    rt: &R,
+    alloc: Global,
+    work: &Excerpts<'static>,
+    workers: Workers,
+    gate: &G,
+    row: Row,
+) -> bool {
+    is_answer(run_all(rt, alloc, work, workers, gate), row)
 }
 
 #[test]
@@ -75,7 +82,8 @@ fn answers_at_1_2_7_and_64_workers(rt: HostRuntime) -> Result<(), Fail> {
     for &n in WORKERS {
         let workers = Workers::new(n).ok_or("workers")?;
         for &row in ROWS {
-            assert!(rt; run_row(&rt, rt.alloc(), row, workers), "{row:?} at {n}");
+            let work = excerpts_by(row);
+            assert!(rt; has_answer(&rt, rt.alloc(), &work, workers, &NoGate, row), "{row:?} at {n}");
         }
     }
     Ok(())
@@ -125,7 +133,7 @@ fn two_jobs_meet(rt: HostRuntime) -> Result<(), Fail> {
     let row = (2, 0, 0, None, Answer::All);
     let work = excerpts_by(row);
     let two = Workers::new(2).ok_or("workers")?;
-    assert!(rt; is_answer(run_all(&rt, rt.alloc(), &work, two, &gate), row));
+    assert!(rt; has_answer(&rt, rt.alloc(), &work, two, &gate, row));
     assert!(rt; !gate.late.load(Ordering::SeqCst));
     assert!(rt; gate.flags[0].load(Ordering::SeqCst) && gate.flags[1].load(Ordering::SeqCst));
     Ok(())
@@ -171,7 +179,7 @@ fn is_rest_shared<R: Threads + Sync>(rt: &R, alloc: Global, last: u64, workers: 
     };
     let row = (4, 0, 0, None, Answer::All);
     let work = excerpts_by(row);
-    is_answer(run_all(rt, alloc, &work, workers, &gate), row) && !gate.late.load(Ordering::SeqCst)
+    has_answer(rt, alloc, &work, workers, &gate, row) && !gate.late.load(Ordering::SeqCst)
 }
 
 #[test]
@@ -207,7 +215,7 @@ fn skips_above(rt: HostRuntime) -> Result<(), Fail> {
     let row = (2, 0, 1, None, Answer::Least(21));
     let work = excerpts_by(row);
     let one = Workers::new(1).ok_or("workers")?;
-    assert!(rt; is_answer(run_all(&rt, rt.alloc(), &work, one, &gate), row));
+    assert!(rt; has_answer(&rt, rt.alloc(), &work, one, &gate, row));
     assert!(rt; !gate.entered.load(Ordering::SeqCst));
     assert!(rt; !work.second_ran.load(Ordering::SeqCst));
     Ok(())
