@@ -1,5 +1,5 @@
 -- The law of the pure board, by what every list of steps from the opening keeps.
-use Rattle.std.proofs.Common.{◌≡◌, ◌≢◌, ℕ, zero, suc, ◌+◌, ◌*◌, ◌<◌, ◌≤◌, ◌⊎◌, ltb, min, Bool, true, false, cond, List, [], ◌∷◌, length, replicate, set, get_or, sym, refl, ap, ◌∙◌, subst, inl, inr, ⊎_elim, arith, Option, Some, None, IfSome, length-set}
+use Rattle.std.proofs.Common.{◌≡◌, ◌≢◌, ℕ, zero, suc, ◌+◌, ◌<◌, ◌≤◌, ◌⊎◌, ltb, min, Bool, true, false, cond, List, [], ◌∷◌, length, replicate, set, get_or, sym, refl, ap, ◌∙◌, subst, inl, inr, ⊎_elim, arith, Option, Some, None, IfSome, length-set}
 use native.Mathlib.Decide.{dec_le}
 use Rattle.std.specs.List.{All, slice_get}
 use Rattle.std.proofs.lemmas.Bool.{ltb-true, ltb-false}
@@ -12,7 +12,7 @@ use Rattle.claim_board.specs.declared.job.JobState.TheVariants.{Untouched, Held,
 use Rattle.claim_board.specs.declared.job.Act.{Act}
 use Rattle.claim_board.specs.declared.job.Act.TheVariants.{Claim, Look, Lower}
 use Rattle.claim_board.specs.declared.job.Step.{Step}
-use Rattle.claim_board.specs.Board.{BoardState, AreJobs, MayClaim, Acts, IsStep, opening_of, after_claim, is_least_below, state_by_fault, state_after_look, lesser_of}
+use Rattle.claim_board.specs.Board.{BoardState, AreJobs, MayClaim, Acts, opening_of, is_least_below, state_by_fault, state_after_look, lesser_of}
 use Rattle.claim_board.specs.Orders.{Runs, EndsOnce, HaveAllStopped, AreFaultless, IsLeastFault, AreDone, IsOrderly, AllOrders}
 use Rattle.claim_board.specs.Running.{bit, total, blank_job}
 use Rattle.claim_board.proofs.Lists.{get_set, get_set_else, get_replicate, got_replicate}
@@ -158,7 +158,7 @@ module _ (jobs : List Job) (workers steps : ℕ) (s : BoardState) (old : IsReach
 
   claim_if : (w : ℕ) → MayClaim s w → (b : Bool) → ltb s.next (length s.jobs) ≡ b
       → IsReached jobs workers (steps + 1)
-          (cond b (record s { next = s.next + 1; states = set s.states s.next (Held w) }) (record s { next = s.next + 1; stopped = set s.stopped w true }))
+      (cond b (record s { next = s.next + 1; states = set s.states s.next (Held w) }) (record s { next = s.next + 1; stopped = set s.stopped w true }))
   claim_if w may true is = hold_reached w may.works (ltb-true s.next (length s.jobs) is)
   claim_if w may false is = stop_reached w may (ltb-false s.next (length s.jobs) is)
 
@@ -182,9 +182,9 @@ module _ (jobs : List Job) (workers steps : ℕ) (s : BoardState) (old : IsReach
       → IsReached jobs workers (steps + 1) (record s { states = set s.states i (state_after_look job s.least w) })
   look_reached w i job at held =
       let l : IsLooked w i (state_after_look job s.least w) =
-          look_if w i job at (old.right i (Held w) held) (is_least_below s.least job.start) refl job.fault refl in
+      look_if w i job at (old.right i (Held w) held) (is_least_below s.least job.start) refl job.fault refl in
       put s.next s.least i (Held w) (state_after_look job s.least w) held l.0 l.1
-          (omega arith) old.next (apart_from i (Held w) held (λ e. cc)) (λ j less ne. less) (λ j p h. h) l.2 old.least
+      (omega arith) old.next (apart_from i (Held w) held (λ e. cc)) (λ j less ne. less) (λ j p h. h) l.2 old.least
 
   lesser_le : (least : Option ℕ) (x y : ℕ) → least ≡ Some y → lesser_of least x ≤ y
   lesser_le None x y e = absurd (no_some y e)
@@ -218,9 +218,9 @@ module _ (jobs : List Job) (workers steps : ℕ) (s : BoardState) (old : IsReach
   lower_reached w i job x at fault stands =
       let works : slice_get s.stopped w ≡ Some false = old.right i (Faulty w) stands in
       put s.next (Some (lesser_of s.least x)) i (Faulty w) (Lowered w) stands refl (λ e. cc)
-          (omega arith) old.next (apart_from i (Faulty w) stands (λ e. cc)) (λ j less ne. less) (right_lower x)
-          (slice_get_within s.stopped w false works, job, at, x, fault, lesser_of s.least x, refl, lesser_least s.least x)
-          (lesser_from x (i, job, at, fault) s.least old.least)
+      (omega arith) old.next (apart_from i (Faulty w) stands (λ e. cc)) (λ j less ne. less) (right_lower x)
+      (slice_get_within s.stopped w false works, job, at, x, fault, lesser_of s.least x, refl, lesser_least s.least x)
+      (lesser_from x (i, job, at, fault) s.least old.least)
 
   act_reached : (act : Act) (w : ℕ) (t : BoardState) → Acts act s w t → IsReached jobs workers (steps + 1) t
   act_reached Claim w t a =
@@ -298,7 +298,7 @@ module _ (jobs : List Job) (workers steps : ℕ) (t : BoardState) (r : IsReached
       let f = r.least y e in
       let is : get_or t.jobs f.0 blank_job ≡ f.1 = get_or_from_slice_get t.jobs f.0 f.1 blank_job f.2 in
       let not : (get_or t.jobs f.0 blank_job).fault ≡ None =
-          All-get_or (λ (job : Job). job.fault ≡ None) t.jobs f.0 blank_job (slice_get_within t.jobs f.0 f.1 f.2) none in
+      All-get_or (λ (job : Job). job.fault ≡ None) t.jobs f.0 blank_job (slice_get_within t.jobs f.0 f.1 f.2) none in
       no_some y (sym not ∙ (ap (λ (job : Job). job.fault) is ∙ f.3))
 
   least_none : AreFaultless t.jobs → (l : Option ℕ) → t.least ≡ l → t.least ≡ None
@@ -358,8 +358,8 @@ module _ (jobs : List Job) (workers steps : ℕ) (t : BoardState) (r : IsReached
 pub all_orders : AllOrders
 all_orders jobs workers list t sound low runs =
     let r : IsReached jobs workers (length list) t =
-        let n : 0 + length list ≡ length list = omega arith in
-        subst (λ k. IsReached jobs workers k t) n (runs_reached jobs workers list 0 (opening_of jobs workers) t (opening_reached jobs workers) runs) in
+    let n : 0 + length list ≡ length list = omega arith in
+    subst (λ k. IsReached jobs workers k t) n (runs_reached jobs workers list 0 (opening_of jobs workers) t (opening_reached jobs workers) runs) in
     let a : AreJobs t.jobs = subst AreJobs (sym r.same) sound in
     let few = total_few progress 3 progress_few t.states in
     let bits = total_few bit 1 bit_le t.stopped in

@@ -1,11 +1,11 @@
 -- Faulty jobs have faults, and what a look finds.
-use Rattle.std.proofs.Common.{◌≡◌, ℕ, zero, suc, ◌+◌, ◌<◌, ◌≤◌, ◌≢◌, ◌⊎◌, ltb, Bool, true, false, cond, List, [], ◌∷◌, length, set, get_or, sym, refl, ap, ◌∙◌, subst, ⊎_elim, arith, Option, Some, None, Result, Ok, Err, IfErr, OnOk, OnErr, length-set}
+use Rattle.std.proofs.Common.{◌≡◌, ℕ, ◌+◌, ◌<◌, ◌≢◌, ltb, Bool, true, false, cond, List, length, set, get_or, sym, refl, ap, ◌∙◌, subst, ⊎_elim, arith, Option, Some, None, Result, Ok, Err, IfErr, OnOk, OnErr, length-set}
 use Rattle.std.specs.List.{slice_get, count_by, sum_by}
 use Rattle.std.proofs.lemmas.List.Sums.{sum_by-set}
 use Rattle.std.proofs.lemmas.Option.{slice_get_within, get_or_from_slice_get}
 use Rattle.claim_board.specs.declared.job.Job.{Job}
 use Rattle.claim_board.specs.declared.job.JobState.{JobState}
-use Rattle.claim_board.specs.declared.job.JobState.TheVariants.{Untouched, Held, Faulty, Done, Skipped, Lowered}
+use Rattle.claim_board.specs.declared.job.JobState.TheVariants.{Held, Faulty, Skipped, Lowered}
 use Rattle.claim_board.specs.Board.{BoardState, HaveFaults, Acts, MayNot, IsRefused, IsSameSize, MakesLook, state_after_look, state_by_fault, is_least_below}
 use Rattle.claim_board.specs.declared.job.Act.{Act}
 use Rattle.claim_board.specs.declared.job.Act.TheVariants.{Claim, Look, Lower}
@@ -29,11 +29,8 @@ faulty_if : (b : Bool) (f : Option ℕ) (w u : ℕ) → cond b (Skipped w) (stat
 faulty_if true f w u e = absurd (cc)
 faulty_if false f w u e = faulty_by f w u e
 
-pub looked_faulty : (job : Job) (least : Option ℕ) (w u : ℕ) → state_after_look job least w ≡ Faulty u → (x : ℕ) × (job.fault ≡ Some x)
-looked_faulty job least w u e = faulty_if (is_least_below least job.start) job.fault w u e
-
-pub held_faulty : (w u : ℕ) → Held w ≡ Faulty u → ⊥
-held_faulty w u e = cc
+pub look_faulty : (job : Job) (least : Option ℕ) (w u : ℕ) → state_after_look job least w ≡ Faulty u → (x : ℕ) × (job.fault ≡ Some x)
+look_faulty job least w u e = faulty_if (is_least_below least job.start) job.fault w u e
 
 pub one_stopped : (l : List Bool) (w : ℕ) → slice_get l w ≡ Some false → count_by (λ x. x) (set l w true) ≡ count_by (λ x. x) l + 1
 one_stopped l w e =
@@ -43,7 +40,8 @@ one_stopped l w e =
     let t : sum_by f (set l w true) + 0 ≡ sum_by f l + 1 = ap (λ n. sum_by f (set l w true) + n) (sym z) ∙ s in
     omega (arith, t)
 
-pub look_made : (s t : BoardState) (i w : ℕ) (job : Job) (r : JobState) → slice_get s.jobs i ≡ Some job → slice_get s.states i ≡ Some (Held w) → r ≡ state_after_look job s.least w
+pub look_made : (s t : BoardState) (i w : ℕ) (job : Job) (r : JobState) → slice_get s.jobs i ≡ Some job → slice_get s.states i ≡ Some (Held w)
+    → r ≡ state_after_look job s.least w
     → t ≡ record s { states = set s.states i r } → MakesLook s w t
 look_made s t i w job r a b is e = (i, job, a, b, e ∙ ap (λ q. record s { states = set s.states i q }) is)
 
@@ -52,18 +50,21 @@ pub step_refused : {X : Type 0} (s : BoardState) (x : Step) (a : Act) (r : Resul
 step_refused s x a (Ok u) is lt h = h
 step_refused s x a (Err e) is lt h = subst (λ q. IsRefused s x q) (sym h.0) (lt, λ t st. h.1 t (subst (λ q. Acts q s x.worker t) is st.1))
 
-pub look_made_at : (s z t : BoardState) → s ≡ z → (i w : ℕ) (job : Job) (r : JobState) → slice_get s.jobs i ≡ Some job → slice_get s.states i ≡ Some (Held w) → r ≡ state_after_look job s.least w
+pub look_made_at : (s z t : BoardState) → s ≡ z → (i w : ℕ) (job : Job) (r : JobState) → slice_get s.jobs i ≡ Some job
+    → slice_get s.states i ≡ Some (Held w) → r ≡ state_after_look job s.least w
     → t ≡ record s { states = set s.states i r } → MakesLook z w t
 look_made_at s z t same i w job r a b is e = subst (λ x. MakesLook x w t) same (look_made s t i w job r a b is e)
 
 size_if : (s : BoardState) (w : ℕ) (b : Bool)
-    → IsSameSize s (cond b (record s { next = s.next + 1; states = set s.states s.next (Held w) }) (record s { next = s.next + 1; stopped = set s.stopped w true }))
+    → IsSameSize s (cond b (record s { next = s.next + 1; states = set s.states s.next (Held w) })
+    (record s { next = s.next + 1; stopped = set s.stopped w true }))
 size_if s w true = record { jobs = length-set s.states s.next (Held w); workers = refl }
 size_if s w false = record { jobs = refl; workers = length-set s.stopped w true }
 
 size_by : (s t : BoardState) (a : Act) (w : ℕ) → Acts a s w t → IsSameSize s t
 size_by s t Claim w a = subst (λ (u : BoardState). IsSameSize s u) (sym a.1) (size_if s w (ltb s.next (length s.jobs)))
-size_by s t Look w a = subst (λ (u : BoardState). IsSameSize s u) (sym a.4) (record { jobs = length-set s.states a.0 (state_after_look a.1 s.least w); workers = refl })
+size_by s t Look w a = subst (λ (u : BoardState). IsSameSize s u) (sym a.4)
+    (record { jobs = length-set s.states a.0 (state_after_look a.1 s.least w); workers = refl })
 size_by s t Lower w a = subst (λ (u : BoardState). IsSameSize s u) (sym a.6) (record { jobs = length-set s.states a.0 (Lowered w); workers = refl })
 
 -- a step, or a refusal, leaves as many jobs and workers

@@ -1,20 +1,22 @@
 -- Results put into places, and taken from them in order.
-use Rattle.std.proofs.Common.{◌≡◌, ℕ, zero, suc, ◌+◌, ◌<◌, ◌≤◌, ◌≢◌, ◌==◌, List, [], ◌∷◌, ◌++◌, map, length, set, get_or, sym, refl, ap, ◌∙◌, subst, ⊎_elim, arith, Option, Some, None, ne_eqb, length-set, length-append}
+use Rattle.std.proofs.Common.{◌≡◌, ℕ, ◌+◌, ◌<◌, ◌≢◌, ◌==◌, List, [], ◌∷◌, ◌++◌, map, length, set, get_or, sym, refl, ap, ◌∙◌, subst, ⊎_elim, arith, Option, Some, None, ne_eqb, length-set, length-append}
 use mathlib.Core.List.{map-append}
-use Rattle.std.specs.List.{All, slice_get}
-use Rattle.std.proofs.lemmas.Option.{slice_get-get_or, slice_get_within}
+use Rattle.std.specs.List.{slice_get}
+use Rattle.std.proofs.lemmas.Option.{slice_get-get_or}
 use Rattle.std.proofs.lemmas.List.Elements.{All-pop}
 use Rattle.claim_board.specs.Running.{bit, one_at}
-use Rattle.claim_board.specs.Results.{times, IsWhole, AreFilling, AreTaken}
+use Rattle.claim_board.specs.Results.{times, AreFilling, AreTaken}
 use Rattle.claim_board.proofs.Totals.{total-append}
 use Rattle.claim_board.proofs.Lists.{get_set, get_set_else, get_snoc}
 
 module _ {X : Type 0} (gives : ℕ → X → Type 0) (n : ℕ) where
-  pub fills : (list new : List (ℕ × X)) (places : List (Option X)) (i : ℕ) (x : X) → list ≡ new ++ (i, x) ∷ [] → AreFilling gives n list places → AreFilling gives n new (set places i (Some x))
+  pub fills : (list new : List (ℕ × X)) (places : List (Option X)) (i : ℕ) (x : X) → list ≡ new ++ (i, x) ∷ [] → AreFilling gives n list places
+      → AreFilling gives n new (set places i (Some x))
   fills list new places i x e f =
       let within = All-pop (λ (p : ℕ × X). p.0 < n) list new (Some (i, x)) e f.within in
       let given = All-pop (λ (p : ℕ × X). gives p.0 p.1) list new (Some (i, x)) e f.given in
-      let jobs : map (λ (p : ℕ × X). p.0) list ≡ map (λ (p : ℕ × X). p.0) new ++ i ∷ [] = ap (map (λ (p : ℕ × X). p.0)) e ∙ map-append (λ (p : ℕ × X). p.0) new ((i, x) ∷ []) in
+      let jobs : map (λ (p : ℕ × X). p.0) list ≡ map (λ (p : ℕ × X). p.0) new ++ i ∷ [] = ap (map (λ (p : ℕ × X). p.0)) e
+      ∙ map-append (λ (p : ℕ × X). p.0) new ((i, x) ∷ []) in
       record {
         long = length-set places i (Some x) ∙ f.long;
         right = λ j y s. ⊎_elim
@@ -36,7 +38,8 @@ module _ {X : Type 0} (gives : ℕ → X → Type 0) (n : ℕ) where
         given = given.0;
       }
 
-  full_at : (places : List (Option X)) → AreFilling gives n [] places → (k : ℕ) (p : Option X) → slice_get places k ≡ Some p → (x : X) × (slice_get places k ≡ Some (Some x)) × gives k x
+  full_at : (places : List (Option X)) → AreFilling gives n [] places → (k : ℕ) (p : Option X) → slice_get places k ≡ Some p
+      → (x : X) × (slice_get places k ≡ Some (Some x)) × gives k x
   full_at places f k None e = let z = f.open_yet k e in absurd (omega arith)
   full_at places f k (Some x) e = (x, e, f.right k x e)
 
@@ -48,11 +51,15 @@ module _ {X : Type 0} (gives : ℕ → X → Type 0) (n : ℕ) where
     given = λ k x e. absurd (cc);
   }
 
-  pub takes : (i : ℕ) (places : List (Option X)) (list : List X) (x : X) → i < n → slice_get places i ≡ Some (Some x) → AreTaken gives n i places list → AreTaken gives n (i + 1) (set places i None) (list ++ x ∷ [])
+  pub takes : (i : ℕ) (places : List (Option X)) (list : List X) (x : X) → i < n → slice_get places i ≡ Some (Some x) → AreTaken gives n i places list
+      → AreTaken gives n (i + 1) (set places i None) (list ++ x ∷ [])
   takes i places list x lt here t = record {
     long = length-set places i None ∙ t.long;
     short = let a = length-append list (x ∷ []) in let s = t.short in omega arith;
-    taken = λ k low high. let old = t.taken k (omega arith) high in let apart : k ≢ i = omega arith in (old.0, get_set_else places i k None apart ∙ old.1, old.2);
+    taken = λ k low high.
+        let old = t.taken k (omega arith) high in
+        let apart : k ≢ i = omega arith in
+        (old.0, get_set_else places i k None apart ∙ old.1, old.2);
     given = λ k y e. ⊎_elim
         (λ (o : slice_get list k ≡ Some y). t.given k y o)
         (λ (o : (k ≡ length list) × (x ≡ y)).
@@ -61,13 +68,4 @@ module _ {X : Type 0} (gives : ℕ → X → Type 0) (n : ℕ) where
         let same : g.0 ≡ y = let s = sym g.1 ∙ here in let q = o.1 in cc in
         subst (λ j. gives j y) (sym at) (subst (λ z. gives i z) same g.2))
         (get_snoc list x y k e);
-  }
-
-  pub starts : (list : List (ℕ × X)) (places : List (Option X)) → length places ≡ n → ((i : ℕ) (p : Option X) → slice_get places i ≡ Some p → p ≡ None) → IsWhole gives n list → AreFilling gives n list places
-  starts list places long empty w = record {
-    long = long;
-    right = λ i x e. absurd (let z = empty i (Some x) e in cc);
-    open_yet = λ i e. w.whole i (let r = slice_get_within places i None e in omega arith);
-    within = w.within;
-    given = w.given;
   }

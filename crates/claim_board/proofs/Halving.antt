@@ -1,19 +1,16 @@
 -- Two halves of a crew, and what they did, put together.
-use Rattle.std.proofs.Common.{◌≡◌, ℕ, zero, suc, ◌+◌, ◌-◌, ◌/◌, ◌<◌, ◌≤◌, Bool, true, false, List, [], ◌∷◌, ◌++◌, map, length, take, drop, sym, refl, ap, ◌∙◌, subst, arith, append_assoc, length-take, length-drop}
+use Rattle.std.proofs.Common.{◌≡◌, ℕ, ◌/◌, ◌<◌, true, List, [], ◌∷◌, ◌++◌, map, length, take, sym, refl, ap, ◌∙◌, subst, arith, append_assoc, length-take}
 use mathlib.Core.List.{map-append}
-use Rattle.std.specs.List.{All}
 use Rattle.std.proofs.lemmas.List.{take-append-drop}
-use Rattle.std.proofs.lemmas.List.Elements.{All-append, All-take, All-drop}
-use Rattle.atomic_table.specs.Seated.{TableId}
+use Rattle.std.proofs.lemmas.List.Elements.{All-append}
 use Rattle.atomic_table.specs.declared.shared.Seat.{Seat}
-use Rattle.claim_board.specs.declared.job.Job.{Job}
 use Rattle.claim_board.specs.declared.job.JobState.{JobState}
 use Rattle.claim_board.specs.declared.job.JobState.TheVariants.{Untouched, Held, Faulty, Done, Skipped, Lowered}
 use Rattle.claim_board.specs.declared.view.ClaimedJob.{ClaimedJob}
 use Rattle.claim_board.specs.declared.view.SeatWorker.{SeatWorker}
 use Rattle.claim_board.specs.declared.view.View.{View}
 use Rattle.claim_board.specs.Steps.{left_view, right_view, joined_view}
-use Rattle.claim_board.specs.Work.{with_done, done_jobs, AreResults, IsSameCrew, StandsForSame, IsFresh, HaveStopped, MayShare}
+use Rattle.claim_board.specs.Work.{with_done, done_jobs, AreResults, IsSameCrew, StandsForSame, HaveStopped}
 
 with_done-append : (i : ℕ) (s : JobState) (a b : List ℕ) → with_done i s (a ++ b) ≡ a ++ with_done i s b
 with_done-append i Untouched a b = refl
@@ -27,14 +24,16 @@ pub done_jobs-append : (a b : List ClaimedJob) → done_jobs (a ++ b) ≡ done_j
 done_jobs-append [] b = sym (mathlib.Core.List.append-nil (done_jobs b))
 done_jobs-append (c ∷ cs) b = ap (λ l. with_done c.job c.state l) (done_jobs-append cs b) ∙ with_done-append c.job c.state (done_jobs b) (done_jobs cs)
 
-pub results_joined : {X : Type 0} (gives : ℕ → X → Type 0) (v w : View) (a b : List (ℕ × X)) → AreResults gives v.claimed a → AreResults gives w.claimed b → AreResults gives (joined_view v w).claimed (a ++ b)
+pub results_joined : {X : Type 0} (gives : ℕ → X → Type 0) (v w : View) (a b : List (ℕ × X)) → AreResults gives v.claimed a → AreResults gives w.claimed b
+    → AreResults gives (joined_view v w).claimed (a ++ b)
 results_joined gives v w a b r q = record {
-  jobs = map-append (λ (p : ℕ × _). p.0) a b ∙ (ap (λ l. l ++ map (λ p. p.0) b) r.jobs ∙ (ap (λ l. done_jobs v.claimed ++ l) q.jobs ∙ sym (done_jobs-append w.claimed v.claimed)));
+  jobs = map-append (λ (p : ℕ × _). p.0) a b
+      ∙ (ap (λ l. l ++ map (λ p. p.0) b) r.jobs ∙ (ap (λ l. done_jobs v.claimed ++ l) q.jobs ∙ sym (done_jobs-append w.claimed v.claimed)));
   given = All-append (λ p. gives p.0 p.1) a b r.given q.given;
 }
 
-pub stopped_joined : (v w : View) → HaveStopped v → HaveStopped w → HaveStopped (joined_view v w)
-stopped_joined v w a b = All-append (λ (m : SeatWorker). m.stopped ≡ true) v.crew w.crew a b
+pub have_stopped_joined : (v w : View) → HaveStopped v → HaveStopped w → HaveStopped (joined_view v w)
+have_stopped_joined v w a b = All-append (λ (m : SeatWorker). m.stopped ≡ true) v.crew w.crew a b
 
 pub crew_joined : (v l r : View) → IsSameCrew (left_view v) l → IsSameCrew (right_view v) r → IsSameCrew v (joined_view l r)
 crew_joined v l r a b = record {
@@ -53,35 +52,21 @@ length_of (m ∷ ms) = let r = length_of ms in omega arith
 pub crew_stays : (v w : View) → IsSameCrew v w → length w.crew ≡ length v.crew
 crew_stays v w s = sym (length_of w.crew) ∙ (ap (λ l. length l) s.crew ∙ length_of v.crew)
 
-module _ (table : TableId) (jobs : List Job) (workers : ℕ) (old new : Seat (Unit {0}) View) (may : MayShare table jobs workers old) (more : 1 < workers) (place : new.table_id ≡ old.table_id) where
-  pub left_may : new.me.0 ≡ left_view old.me.0 → MayShare table jobs (workers / 2) new
-  left_may is = record {
-    place = (may.place.0, place ∙ may.place.1);
-    over = ap (λ v. v.jobs) is ∙ may.over;
-    fresh = subst IsFresh (sym is) (record { claimed = may.fresh.claimed; crew = All-take (λ (m : SeatWorker). m.stopped ≡ false) (length old.me.0.crew / 2) old.me.0.crew may.fresh.crew });
-    crew = ap (λ v. length v.crew) is ∙ (let l = length-take (length old.me.0.crew / 2) old.me.0.crew in let c = may.crew in omega arith);
-    at_least_one = omega arith;
-  }
-
-  pub right_may : new.me.0 ≡ right_view old.me.0 → MayShare table jobs (workers - workers / 2) new
-  right_may is = record {
-    place = (may.place.0, place ∙ may.place.1);
-    over = ap (λ v. v.jobs) is ∙ may.over;
-    fresh = subst IsFresh (sym is) (record { claimed = may.fresh.claimed; crew = All-drop (λ (m : SeatWorker). m.stopped ≡ false) (length old.me.0.crew / 2) old.me.0.crew may.fresh.crew });
-    crew = ap (λ v. length v.crew) is ∙ (let l = length-drop (length old.me.0.crew / 2) old.me.0.crew in let c = may.crew in omega arith);
-    at_least_one = omega arith;
-  }
-
 module _ (v l0 r0 l r u : View) (cut : l0 ≡ left_view v) (other : r0 ≡ right_view v) (a : IsSameCrew l0 l) (b : IsSameCrew r0 r) where
   pub crew_again : u ≡ joined_view l r → IsSameCrew v u
   crew_again is = subst (λ x. IsSameCrew v x) (sym is) (crew_joined v l r (subst (λ x. IsSameCrew x l) cut a) (subst (λ x. IsSameCrew x r) other b))
 
   pub left_some : 1 < length v.crew → 0 < length l.crew
-  left_some more = let s = crew_stays l0 l a in let e : length l0.crew ≡ length (take (length v.crew / 2) v.crew) = ap (λ x. length x.crew) cut in let t = length-take (length v.crew / 2) v.crew in omega arith
+  left_some more =
+      let s = crew_stays l0 l a in
+      let e : length l0.crew ≡ length (take (length v.crew / 2) v.crew) = ap (λ x. length x.crew) cut in
+      let t = length-take (length v.crew / 2) v.crew in
+      omega arith
 
 -- after the split, both halves' steps and the join the seat stands for the same workers
 pub same_again : (old cut other l r new : Seat (Unit {0}) View)
-    → (cut.table_id ≡ old.table_id) × (cut.id ≡ old.id) × (cut.me ≡ (left_view old.me.0, old.me.1)) × (other.table_id ≡ old.table_id) × (other.me ≡ (right_view old.me.0, []))
+    → (cut.table_id ≡ old.table_id) × (cut.id ≡ old.id) × (cut.me ≡ (left_view old.me.0, old.me.1)) × (other.table_id ≡ old.table_id)
+    × (other.me ≡ (right_view old.me.0, []))
     → StandsForSame cut l → StandsForSame other r
     → (new.table_id ≡ l.table_id) × (new.id ≡ l.id) × (new.me ≡ (joined_view l.me.0 r.me.0, l.me.1)) → StandsForSame old new
 same_again old cut other l r new s low high j = (

@@ -1,5 +1,5 @@
 -- Lists that were set at one place, or got one more element, read by `slice_get`.
-use Rattle.std.proofs.Common.{◌≡◌, ℕ, zero, suc, ◌+◌, ◌≢◌, ◌⊎◌, List, [], ◌∷◌, ◌++◌, length, set, refl, ap, inl, inr, ⊎_elim, arith, replicate, ◌<◌, Some}
+use Rattle.std.proofs.Common.{◌≡◌, ℕ, zero, suc, ◌≢◌, ◌⊎◌, List, [], ◌∷◌, ◌++◌, length, set, refl, ap, inl, inr, ⊎_elim, arith, replicate, ◌<◌, Some}
 use Rattle.std.specs.List.{slice_get}
 
 module _ {A : Type 0} where

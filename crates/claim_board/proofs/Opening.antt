@@ -1,11 +1,10 @@
 -- A table at its start keeps the rule.
-use Rattle.std.proofs.Common.{◌≡◌, ℕ, zero, suc, ◌+◌, ◌*◌, ◌<◌, ◌≤◌, ◌==◌, min, Bool, true, false, List, [], ◌∷◌, length, map, refl, sym, ap, subst, inl, inr, arith}
+use Rattle.std.proofs.Common.{◌≡◌, ℕ, zero, suc, ◌+◌, ◌≤◌, min, false, List, [], ◌∷◌, length, map, refl, sym, ap, subst, inl, inr, arith}
 use Rattle.std.specs.List.{All}
 use Rattle.std.proofs.lemmas.List.Elements.{All-nil, All-cons}
 use Rattle.atomic_table.specs.Seated.{TableId}
 use Rattle.atomic_table.specs.declared.shared.Seat.{Seat}
 use Rattle.claim_board.specs.declared.job.Job.{Job}
-use Rattle.claim_board.specs.declared.view.ClaimedJob.{ClaimedJob}
 use Rattle.claim_board.specs.declared.view.SeatWorker.{SeatWorker}
 use Rattle.claim_board.specs.declared.view.View.{View}
 use Rattle.claim_board.specs.Running.{AreWorkJobs, no_place, seat_worker, crew_weight, stopped_count, stopped_count_of, weight_below, IsGood, IsView, IsKept, crew_of, opening_view}
@@ -32,13 +31,24 @@ pub fresh-crew : (n : ℕ) → All (λ m. m.stopped ≡ false) (crew_of n)
 fresh-crew zero = All-nil (λ (m : SeatWorker). m.stopped ≡ false)
 fresh-crew (suc n) = All-cons (λ (m : SeatWorker). m.stopped ≡ false) (seat_worker n false) (crew_of n) refl (fresh-crew n)
 
-pub opening_kept : (jobs : List Job) (workers : ℕ) → AreWorkJobs jobs → 1 ≤ workers → workers ≤ 64 → IsKept jobs workers 0 no_place (opening_view jobs workers ∷ [])
+pub opening_kept : (jobs : List Job) (workers : ℕ) → AreWorkJobs jobs → 1 ≤ workers → workers ≤ 64
+    → IsKept jobs workers 0 no_place (opening_view jobs workers ∷ [])
 opening_kept jobs workers listed low high = record {
   key = record { listed = listed; at_least_one = low; at_most_64 = high };
   each = All-cons (IsView jobs workers no_place) (opening_view jobs workers) []
-      (record { copy = inr (refl, refl); claimed = All-nil (IsGood jobs no_place); one = λ u. let z = stopped_count_of-crew u workers in omega arith; own = λ u gone. refl })
+      (record {
+        copy = inr (refl, refl);
+        claimed = All-nil (IsGood jobs no_place);
+        one = λ u.
+            let z = stopped_count_of-crew u workers in
+            omega arith;
+        own = λ u gone. refl;
+      })
       (All-nil (IsView jobs workers no_place));
-  jobs_once = λ h. let z : min 0 (length jobs) ≡ 0 = omega arith in let b : weight_below h (min 0 (length jobs)) ≡ weight_below h 0 = ap (λ n. weight_below h n) z in omega arith;
+  jobs_once = λ h.
+      let z : min 0 (length jobs) ≡ 0 = omega arith in
+      let b : weight_below h (min 0 (length jobs)) ≡ weight_below h 0 = ap (λ n. weight_below h n) z in
+      omega arith;
   workers_once = λ h. let m = crew_weight-crew h workers in omega arith;
   claim_word = let z = stopped_count-crew workers in omega arith;
   fault_word = inl refl;
@@ -56,7 +66,8 @@ may_share table jobs workers seat place is low = record {
 }
 
 -- a crew of the same workers weighs as much
-pub crew_weight-same : (h : ℕ → ℕ) (a b : List SeatWorker) → map (λ (m : SeatWorker). m.worker) a ≡ map (λ (m : SeatWorker). m.worker) b → crew_weight h a ≡ crew_weight h b
+pub crew_weight-same : (h : ℕ → ℕ) (a b : List SeatWorker) → map (λ (m : SeatWorker). m.worker) a ≡ map (λ (m : SeatWorker). m.worker) b
+    → crew_weight h a ≡ crew_weight h b
 crew_weight-same h [] [] e = refl
 crew_weight-same h [] (m ∷ ms) e = absurd (cc)
 crew_weight-same h (m ∷ ms) [] e = absurd (cc)
@@ -65,5 +76,6 @@ crew_weight-same h (m ∷ ms) (n ∷ ns) e =
     let rest : map (λ (m : SeatWorker). m.worker) ms ≡ map (λ (m : SeatWorker). m.worker) ns = cc in
     let r = crew_weight-same h ms ns rest in let s = ap h here in omega arith
 
-pub crew_weight-opening_view : (h : ℕ → ℕ) (a : List SeatWorker) (n : ℕ) → map (λ (m : SeatWorker). m.worker) a ≡ map (λ (m : SeatWorker). m.worker) (crew_of n) → crew_weight h a ≡ weight_below h n
+pub crew_weight-opening_view : (h : ℕ → ℕ) (a : List SeatWorker) (n : ℕ)
+    → map (λ (m : SeatWorker). m.worker) a ≡ map (λ (m : SeatWorker). m.worker) (crew_of n) → crew_weight h a ≡ weight_below h n
 crew_weight-opening_view h a n e = let r = crew_weight-same h a (crew_of n) e in let m = crew_weight-crew h n in omega arith

@@ -1,13 +1,12 @@
 -- A seat may be cut in two, and two may be joined.
-use Rattle.std.proofs.Common.{◌≡◌, ℕ, zero, suc, ◌+◌, ◌-◌, ◌*◌, ◌/◌, ◌<◌, ◌≤◌, ◌≢◌, ◌⊎◌, ◌==◌, min, List, [], ◌∷◌, ◌++◌, length, take, drop, set, sym, refl, ap, ◌∙◌, subst, inl, inr, ⊎_elim, arith, length-append}
+use Rattle.std.proofs.Common.{◌≡◌, ℕ, ◌+◌, ◌*◌, ◌/◌, ◌<◌, ◌≤◌, ◌≢◌, List, [], ◌∷◌, ◌++◌, length, take, drop, set, sym, refl, ap, ◌∙◌, inl, inr, ⊎_elim, arith, length-append}
 use mathlib.Core.Option.{some}
 use mathlib.Core.Logic.{dite}
 use native.Mathlib.Decide.{ℕ_discrete}
 use lib.ListN.{get_elem?}
-use Rattle.std.specs.List.{All}
 use Rattle.std.proofs.lemmas.List.{take-append-drop}
 use Rattle.std.proofs.lemmas.List.Elements.{All-set, All-append, All-push, All-nil}
-use Rattle.atomic_table.specs.Table.{State, Splits, Joins}
+use Rattle.atomic_table.specs.Table.{Splits, Joins}
 use Rattle.atomic_table.proofs.Lists.{set_else}
 use Rattle.claim_board.specs.declared.job.Job.{Job}
 use Rattle.claim_board.specs.declared.view.ClaimedJob.{ClaimedJob}
@@ -38,12 +37,15 @@ stopped_count-append = total-append (λ (m : SeatWorker). bit m.stopped)
 stopped_count_of-append : (w : ℕ) (a b : List SeatWorker) → stopped_count_of w (a ++ b) ≡ stopped_count_of w a + stopped_count_of w b
 stopped_count_of-append w = total-append (λ (m : SeatWorker). one_at w m.worker * bit m.stopped)
 
-module _ (jobs : List Job) (workers next least : ℕ) (views : List View) (k : IsKept jobs workers next least views) (id : ℕ) (v : View) (at : get_elem? views id ≡ some v) (some_crew : 0 < length v.crew) where
+module _ (jobs : List Job) (workers next least : ℕ) (views : List View) (k : IsKept jobs workers next least views) (id : ℕ) (v : View)
+    (at : get_elem? views id ≡ some v) (some_crew : 0 < length v.crew) where
   had : IsView jobs workers least v
   had = each-at (IsView jobs workers least) views id v at k.each
 
   copied : (v.jobs ≡ jobs) × (v.workers ≡ workers)
-  copied = ⊎_elim (λ (e : v ≡ spent_view). absurd (let z : length v.crew ≡ 0 = ap (λ u. length u.crew) e in omega arith)) (λ (c : (v.jobs ≡ jobs) × (v.workers ≡ workers)). c) had.copy
+  copied = ⊎_elim (λ (e : v ≡ spent_view). absurd (
+      let z : length v.crew ≡ 0 = ap (λ u. length u.crew) e in
+      omega arith)) (λ (c : (v.jobs ≡ jobs) × (v.workers ≡ workers)). c) had.copy
 
   module _ (empty : v.claimed ≡ []) (l r : List SeatWorker) (cut : l ++ r ≡ v.crew) where
     part : (m : List SeatWorker) → ((u : ℕ) → stopped_count_of u m ≤ stopped_count_of u v.crew) → IsView jobs workers least (record v { crew = m })
@@ -66,11 +68,31 @@ module _ (jobs : List Job) (workers next least : ℕ) (views : List View) (k : I
           each = All-push (IsView jobs workers least) (set views id left) right
               (All-set (IsView jobs workers least) views id left (part l (λ u. let b = both_halts u in omega arith)) k.each)
               (part r (λ u. let b = both_halts u in omega arith));
-          jobs_once = λ h. let z : job_weight h v.claimed ≡ 0 = ap (λ cs. job_weight h cs) empty in let s = total-set (λ u. job_weight h u.claimed) views id v left at in let n = total-snoc (λ u. job_weight h u.claimed) (set views id left) right in let c = k.jobs_once h in omega arith;
-          workers_once = λ h. let m : crew_weight h l + crew_weight h r ≡ crew_weight h v.crew = sym (crew_weight-append h l r) ∙ ap (λ x. crew_weight h x) cut in let s = total-set (λ u. crew_weight h u.crew) views id v left at in let n = total-snoc (λ u. crew_weight h u.crew) (set views id left) right in let c = k.workers_once h in omega arith;
-          claim_word = let z : length v.claimed ≡ 0 = ap (λ cs. length cs) empty in let m : stopped_count l + stopped_count r ≡ stopped_count v.crew = sym (stopped_count-append l r) ∙ ap (λ x. stopped_count x) cut in let s = total-set (λ u. length u.claimed + stopped_count u.crew) views id v left at in let n = total-snoc (λ u. length u.claimed + stopped_count u.crew) (set views id left) right in let c = k.claim_word in omega arith;
+          jobs_once = λ h.
+              let z : job_weight h v.claimed ≡ 0 = ap (λ cs. job_weight h cs) empty in
+              let s = total-set (λ u. job_weight h u.claimed) views id v left at in
+              let n = total-snoc (λ u. job_weight h u.claimed) (set views id left) right in
+              let c = k.jobs_once h in
+              omega arith;
+          workers_once = λ h.
+              let m : crew_weight h l + crew_weight h r ≡ crew_weight h v.crew = sym (crew_weight-append h l r) ∙ ap (λ x. crew_weight h x) cut in
+              let s = total-set (λ u. crew_weight h u.crew) views id v left at in
+              let n = total-snoc (λ u. crew_weight h u.crew) (set views id left) right in
+              let c = k.workers_once h in
+              omega arith;
+          claim_word =
+              let z : length v.claimed ≡ 0 = ap (λ cs. length cs) empty in
+              let m : stopped_count l + stopped_count r ≡ stopped_count v.crew = sym (stopped_count-append l r) ∙ ap (λ x. stopped_count x) cut in
+              let s = total-set (λ u. length u.claimed + stopped_count u.crew) views id v left at in
+              let n = total-snoc (λ u. length u.claimed + stopped_count u.crew) (set views id left) right in
+              let c = k.claim_word in
+              omega arith;
           fault_word = ⊎_elim (λ (e : least ≡ no_place). inl e)
-              (λ (p : 0 < total (λ u. lowered_count jobs least u.claimed) views). inr (let z : lowered_count jobs least v.claimed ≡ 0 = ap (λ cs. lowered_count jobs least cs) empty in let s = total-set (λ u. lowered_count jobs least u.claimed) views id v left at in let n = total-snoc (λ u. lowered_count jobs least u.claimed) (set views id left) right in omega arith)) k.fault_word;
+              (λ (p : 0 < total (λ u. lowered_count jobs least u.claimed) views). inr (
+              let z : lowered_count jobs least v.claimed ≡ 0 = ap (λ cs. lowered_count jobs least cs) empty in
+              let s = total-set (λ u. lowered_count jobs least u.claimed) views id v left at in
+              let n = total-snoc (λ u. lowered_count jobs least u.claimed) (set views id left) right in
+              omega arith)) k.fault_word;
         }
 
   module _ (other : ℕ) (w : View) (apart : other ≢ id) (there : get_elem? views other ≡ some w) where
@@ -78,7 +100,11 @@ module _ (jobs : List Job) (workers next least : ℕ) (views : List View) (k : I
     theirs = each-at (IsView jobs workers least) views other w there k.each
 
     few : (u : ℕ) → crew_weight (one_at u) v.crew + crew_weight (one_at u) w.crew ≤ 1
-    few u = let t = total-two (λ x. crew_weight (one_at u) x.crew) views id other v w spent_view refl at apart there in let m = k.workers_once (one_at u) in let b = weight_below-one_at u workers in omega arith
+    few u =
+        let t = total-two (λ x. crew_weight (one_at u) x.crew) views id other v w spent_view refl at apart there in
+        let m = k.workers_once (one_at u) in
+        let b = weight_below-one_at u workers in
+        omega arith
 
     one_of : (u : ℕ) → open_count u (w.claimed ++ v.claimed) + stopped_count_of u (v.crew ++ w.crew) ≤ 1
     one_of u =
@@ -95,7 +121,12 @@ module _ (jobs : List Job) (workers next least : ℕ) (views : List View) (k : I
       copy = inr copied;
       claimed = All-append (IsGood jobs least) w.claimed v.claimed theirs.claimed had.claimed;
       one = one_of;
-      own = λ u gone. let m = crew_weight-append (one_at u) v.crew w.crew in let a = had.own u (omega arith) in let b = theirs.own u (omega arith) in let n = name_count-append u w.claimed v.claimed in omega arith;
+      own = λ u gone.
+          let m = crew_weight-append (one_at u) v.crew w.crew in
+          let a = had.own u (omega arith) in
+          let b = theirs.own u (omega arith) in
+          let n = name_count-append u w.claimed v.claimed in
+          omega arith;
     }
 
     same : (f : View → ℕ) → f (joined_view v w) ≡ f v + f w → f spent_view ≡ 0 → total f (set (set views id (joined_view v w)) other spent_view) ≡ total f views
@@ -112,15 +143,32 @@ module _ (jobs : List Job) (workers next least : ℕ) (views : List View) (k : I
           (All-set (IsView jobs workers least) views id (joined_view v w) joined k.each);
       jobs_once = λ h. same (λ u. job_weight h u.claimed) (let a = job_weight-append h w.claimed v.claimed in omega arith) refl ∙ k.jobs_once h;
       workers_once = λ h. same (λ u. crew_weight h u.crew) (crew_weight-append h v.crew w.crew) refl ∙ k.workers_once h;
-      claim_word = k.claim_word ∙ sym (same (λ u. length u.claimed + stopped_count u.crew) (let a = length-append w.claimed v.claimed in let b = stopped_count-append v.crew w.crew in omega arith) (omega arith));
+      claim_word = k.claim_word ∙ sym (same (λ u. length u.claimed + stopped_count u.crew) (
+          let a = length-append w.claimed v.claimed in
+          let b = stopped_count-append v.crew w.crew in
+          omega arith) (omega arith));
       fault_word = ⊎_elim (λ (e : least ≡ no_place). inl e)
-          (λ (p : 0 < total (λ u. lowered_count jobs least u.claimed) views). inr (let s = same (λ u. lowered_count jobs least u.claimed) (let a = lowered_count-append jobs least w.claimed v.claimed in omega arith) refl in omega arith)) k.fault_word;
+          (λ (p : 0 < total (λ u. lowered_count jobs least u.claimed) views). inr (
+          let s = same (λ u. lowered_count jobs least u.claimed) (let a = lowered_count-append jobs least w.claimed v.claimed in omega arith) refl in
+          omega arith)) k.fault_word;
     }
 
-pub splits_allowed : (jobs : List Job) (workers id : ℕ) (v : View) → 0 < length v.crew → v.claimed ≡ [] → Splits (IsRuled jobs workers) id v (left_view v) (right_view v)
-splits_allowed jobs workers id v some_crew empty s held at =
-    (held.0, held.1, held.2, split_kept jobs workers held.0 held.1 s.views held.3 id v at some_crew empty (take (length v.crew / 2) v.crew) (drop (length v.crew / 2) v.crew) (take-append-drop (length v.crew / 2) v.crew))
+pub splits_allowed : (jobs : List Job) (workers id : ℕ) (v : View) → 0 < length v.crew → v.claimed ≡ []
+    → Splits (IsRuled jobs workers) id v (left_view v) (right_view v)
+splits_allowed jobs workers id v some_crew empty s held at = (
+  held.0,
+  held.1,
+  held.2,
+  split_kept jobs workers held.0 held.1 s.views held.3 id v at some_crew empty (take (length v.crew / 2) v.crew)
+      (drop (length v.crew / 2) v.crew) (take-append-drop (length v.crew / 2) v.crew),
+)
 
-pub joins_allowed : (jobs : List Job) (workers id : ℕ) (v : View) (other : ℕ) (w : View) → 0 < length v.crew → Joins (IsRuled jobs workers) id v other w (joined_view v w) spent_view
-joins_allowed jobs workers id v other w some_crew s held at apart there =
-    (held.0, held.1, held.2, join_kept jobs workers held.0 held.1 s.views held.3 id v at some_crew other w apart (sym (set_else s.views id other (joined_view v w) apart) ∙ there))
+pub joins_allowed : (jobs : List Job) (workers id : ℕ) (v : View) (other : ℕ) (w : View) → 0 < length v.crew
+    → Joins (IsRuled jobs workers) id v other w (joined_view v w) spent_view
+joins_allowed jobs workers id v other w some_crew s held at apart there = (
+  held.0,
+  held.1,
+  held.2,
+  join_kept jobs workers held.0 held.1 s.views held.3 id v at some_crew other w apart
+      (sym (set_else s.views id other (joined_view v w) apart) ∙ there),
+)

@@ -1,18 +1,19 @@
 -- The jobs of the tests are jobs of a work.
-use Rattle.std.proofs.Common.{◌≡◌, ℕ, zero, suc, ◌+◌, ◌*◌, ◌<◌, ◌≤◌, ◌⊎◌, leb, ltb, Bool, true, false, cond, List, [], ◌∷◌, ◌++◌, length, sym, refl, ap, ◌∙◌, subst, ⊎_elim, arith, Option, Some, None, IfSome, length-append}
+use Rattle.std.proofs.Common.{◌≡◌, ℕ, zero, suc, ◌+◌, ◌<◌, ◌≤◌, leb, ltb, Bool, true, false, cond, List, [], ◌∷◌, ◌++◌, length, sym, refl, ap, ◌∙◌, subst, ⊎_elim, arith, Option, Some, None, IfSome, length-append}
 use Rattle.std.specs.List.{All, slice_get}
 use Rattle.std.proofs.lemmas.List.Elements.{All-nil, All-cons}
 use Rattle.claim_board.specs.declared.job.Job.{Job}
 use Rattle.claim_board.specs.Board.{AreJobs, EndsBefore}
-use Rattle.claim_board.specs.Running.{no_place, blank_job, job_at, AreWorkJobs}
-use Rattle.claim_board.specs.SpacedJobs.{spaced_start, AreSpacedFrom, spaced_fault, spaced_job, spaced_from, spaced_jobs}
+use Rattle.claim_board.specs.Running.{no_place, job_at, AreWorkJobs}
+use Rattle.claim_board.specs.SpacedJobs.{spaced_start, AreSpacedFrom, spaced_job, spaced_from, spaced_jobs}
 use Rattle.claim_board.proofs.Lists.{get_snoc}
 
 above_start : (job : Job) (f : Option ℕ) (start : ℕ) → job.start ≡ start → job.fault ≡ f → IfSome f (λ x. x ≡ start + 5) → IfSome job.fault (λ x. job.start ≤ x)
 above_start job None start a e h = subst (λ g. IfSome g (λ x. job.start ≤ x)) (sym e) tt
 above_start job (Some x) start a e h = subst (λ g. IfSome g (λ x. job.start ≤ x)) (sym e) (omega arith)
 
-below_limit : (job : Job) (f : Option ℕ) (start limit : ℕ) → job.fault ≡ f → IfSome f (λ x. x ≡ start + 5) → start + 5 < limit → IfSome job.fault (λ x. x < limit)
+below_limit : (job : Job) (f : Option ℕ) (start limit : ℕ) → job.fault ≡ f → IfSome f (λ x. x ≡ start + 5) → start + 5 < limit
+    → IfSome job.fault (λ x. x < limit)
 below_limit job None start limit e h lt = subst (λ g. IfSome g (λ x. x < limit)) (sym e) tt
 below_limit job (Some x) start limit e h lt = subst (λ g. IfSome g (λ x. x < limit)) (sym e) (omega arith)
 
@@ -34,14 +35,15 @@ spaced_are_jobs k (a ∷ rest) s =
     let h = s zero a refl in
     (above_start a a.fault (spaced_start (k + 0)) h.0 refl h.1, ends_before k a rest s, spaced_are_jobs (suc k) rest (rest_spaced k a rest s))
 
-pub spaced_snoc : (jobs : List Job) (job : Job) → AreSpacedFrom 0 jobs → job.start ≡ spaced_start (length jobs) → IfSome job.fault (λ x. x ≡ spaced_start (length jobs) + 5)
+pub spaced_snoc : (jobs : List Job) (job : Job) → AreSpacedFrom 0 jobs → job.start ≡ spaced_start (length jobs)
+    → IfSome job.fault (λ x. x ≡ spaced_start (length jobs) + 5)
     → AreSpacedFrom 0 (jobs ++ job ∷ [])
 spaced_snoc jobs job s a f i other e = ⊎_elim
     (λ (o : slice_get jobs i ≡ Some other). s i other o)
     (λ (o : (i ≡ length jobs) × (job ≡ other)).
     let n : length jobs ≡ 0 + i = let p = o.0 in omega arith in
     subst (λ q. (q.start ≡ spaced_start (0 + i)) × IfSome q.fault (λ x. x ≡ spaced_start (0 + i) + 5)) o.1
-        (subst (λ m. (job.start ≡ spaced_start m) × IfSome job.fault (λ x. x ≡ spaced_start m + 5)) n (a, f)))
+    (subst (λ m. (job.start ≡ spaced_start m) × IfSome job.fault (λ x. x ≡ spaced_start m + 5)) n (a, f)))
     (get_snoc jobs job other i e)
 
 pub spaced_push : (jobs new : List Job) (i : ℕ) (job : Job) → new ≡ jobs ++ job ∷ [] → length jobs ≡ i → AreSpacedFrom 0 jobs → job.start ≡ spaced_start i

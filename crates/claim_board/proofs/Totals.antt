@@ -1,6 +1,6 @@
 -- Sums over views, claimed and crews.
-use Rattle.std.proofs.Common.{◌≡◌, ℕ, zero, suc, ◌+◌, ◌-◌, ◌*◌, ◌/◌, ◌<◌, ◌≤◌, ◌≢◌, ◌⊎◌, ◌==◌, ltb, min, Bool, true, false, cond, List, [], ◌∷◌, ◌++◌, length, take, drop, set, sym, refl, ap, ◌∙◌, subst, inl, inr, arith, eqb, eq-eqb, ne_eqb, replicate, Some}
-use mathlib.Core.Option.{none, some, some-injective, some-ne-none}
+use Rattle.std.proofs.Common.{◌≡◌, ℕ, zero, suc, ◌+◌, ◌*◌, ◌<◌, ◌≤◌, ◌≢◌, ◌==◌, Bool, true, false, List, [], ◌∷◌, ◌++◌, length, set, sym, refl, ap, ◌∙◌, subst, arith, eq-eqb, ne_eqb, replicate, Some}
+use mathlib.Core.Option.{some, some-injective, some-ne-none}
 use mathlib.Core.Logic.{dite}
 use native.Mathlib.Decide.{ℕ_discrete, dec_le}
 use lib.ListN.{get_elem?}
@@ -8,13 +8,12 @@ use Rattle.std.specs.List.{All, slice_get}
 use Rattle.std.proofs.Math.Nat.{mul-suc}
 use Rattle.std.proofs.lemmas.List.Elements.{All-head, All-tail, All-nil, All-cons}
 use Rattle.atomic_table.proofs.Lists.{set_else}
-use Rattle.claim_board.specs.declared.job.Job.{Job}
 use Rattle.claim_board.specs.declared.job.JobState.{JobState}
 use Rattle.claim_board.specs.declared.job.JobState.TheVariants.{Untouched, Held, Faulty, Done, Skipped, Lowered}
 use Rattle.claim_board.specs.declared.view.ClaimedJob.{ClaimedJob}
 use Rattle.claim_board.specs.declared.view.SeatWorker.{SeatWorker}
 use Rattle.claim_board.specs.declared.view.View.{View}
-use Rattle.claim_board.specs.Running.{bit, open_weight, name_weight, job_weight, open_count, name_count, lowered_count, crew_weight, one_at, stopped_count, stopped_count_of, weight_below, total}
+use Rattle.claim_board.specs.Running.{bit, open_weight, name_weight, job_weight, open_count, name_count, crew_weight, one_at, stopped_count, stopped_count_of, weight_below, total}
 
 pub total-set : {A : Type 0} (f : A → ℕ) (l : List A) (i : ℕ) (v w : A) → get_elem? l i ≡ some v → total f (set l i w) + f v ≡ total f l + f w
 total-set f [] i v w e = absurd (some-ne-none v (sym e))
@@ -107,7 +106,11 @@ weight_below-ones (suc n) = let r = weight_below-ones n in omega arith
 
 pub weight_below-none : (w n : ℕ) → n ≤ w → weight_below (one_at w) n ≡ 0
 weight_below-none w zero le = refl
-weight_below-none w (suc n) le = let r = weight_below-none w n (omega arith) in let ne : n ≢ w = omega arith in let z : bit (n == w) ≡ 0 = ap bit (ne_eqb n w ne) in omega arith
+weight_below-none w (suc n) le =
+    let r = weight_below-none w n (omega arith) in
+    let ne : n ≢ w = omega arith in
+    let z : bit (n == w) ≡ 0 = ap bit (ne_eqb n w ne) in
+    omega arith
 
 pub weight_below-one_at : (w n : ℕ) → weight_below (one_at w) n ≤ 1
 weight_below-one_at w zero = omega arith
@@ -119,11 +122,11 @@ head_below : (n : ℕ) (c : ClaimedJob) (cs : List ClaimedJob) → ((x : ℕ) �
 head_below n c cs z (yes le) = let one = bit-same c.job in let e = z c.job le in absurd (omega arith)
 head_below n c cs z (no more) = omega arith
 
-pub cards_below : (n : ℕ) (cs : List ClaimedJob) → ((x : ℕ) → n ≤ x → job_weight (one_at x) cs ≡ 0) → All (λ c. c.job < n) cs
-cards_below n [] z = All-nil (λ c. c.job < n)
-cards_below n (c ∷ cs) z =
+pub claimed_below : (n : ℕ) (cs : List ClaimedJob) → ((x : ℕ) → n ≤ x → job_weight (one_at x) cs ≡ 0) → All (λ c. c.job < n) cs
+claimed_below n [] z = All-nil (λ c. c.job < n)
+claimed_below n (c ∷ cs) z =
     All-cons (λ (c : ClaimedJob). c.job < n) c cs (head_below n c cs z (dec_le n c.job))
-    (cards_below n cs (λ x le. let e = z x le in omega arith))
+    (claimed_below n cs (λ x le. let e = z x le in omega arith))
 
 get_in : (l : List View) (i : ℕ) (v : View) → get_elem? l i ≡ some v → i < length l
 get_in [] i v e = absurd (some-ne-none v (sym e))
@@ -131,7 +134,8 @@ get_in (x ∷ xs) zero v e = omega arith
 get_in (x ∷ xs) (suc i) v e = let r = get_in xs i v e in omega arith
 
 -- two views job_weight no more than all
-pub total-two : (f : View → ℕ) (l : List View) (i j : ℕ) (v w e : View) → f e ≡ 0 → get_elem? l i ≡ some v → j ≢ i → get_elem? l j ≡ some w → f v + f w ≤ total f l
+pub total-two : (f : View → ℕ) (l : List View) (i j : ℕ) (v w e : View) → f e ≡ 0 → get_elem? l i ≡ some v → j ≢ i → get_elem? l j ≡ some w
+    → f v + f w ≤ total f l
 total-two f l i j v w e z at ne there =
     let s = total-set f l i v e at in
     let t = total-at f (set l i e) j w (set_else l i j e ne ∙ there) in

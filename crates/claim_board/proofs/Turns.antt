@@ -1,7 +1,6 @@
 -- What one worker's steps leave.
-use Rattle.std.proofs.Common.{◌≡◌, ℕ, zero, suc, ◌+◌, ◌-◌, ◌<◌, ◌≤◌, ltb, Bool, true, false, cond, List, [], ◌∷◌, ◌++◌, map, length, sym, refl, ap, ◌∙◌, subst, arith, Option, Some, None, Result, Ok, Err}
+use Rattle.std.proofs.Common.{◌≡◌, ℕ, ltb, true, false, cond, List, [], ◌∷◌, ◌++◌, sym, refl, ap, ◌∙◌, subst, Option, Some, Result, Err}
 use mathlib.Core.List.{map-append}
-use Rattle.std.specs.List.{All}
 use Rattle.std.proofs.lemmas.List.Elements.{All-push}
 use Rattle.claim_board.specs.declared.job.Job.{Job}
 use Rattle.claim_board.specs.declared.job.JobState.{JobState}
@@ -11,16 +10,18 @@ use Rattle.claim_board.specs.declared.work.JobStop.TheVariants.{At}
 use Rattle.claim_board.specs.declared.view.ClaimedJob.{ClaimedJob}
 use Rattle.claim_board.specs.declared.view.View.{View}
 use Rattle.claim_board.specs.Board.{state_by_fault}
-use Rattle.claim_board.specs.Running.{claimed_job, job_at, open_weight}
+use Rattle.claim_board.specs.Running.{claimed_job, job_at}
 use Rattle.claim_board.specs.Steps.{state_after_load, with_latest_state, view_after_look, view_after_lower, worker_of}
 use Rattle.claim_board.specs.Work.{AnswersJob, IsAt, HasEnded, AreResults}
 
 module _ (jobs : List Job) (i : ℕ) (rest : List ClaimedJob) (v : View) where
-  looked_at : (u : View) (found : ℕ) → u ≡ view_after_look v found → IsAt jobs i (Held (worker_of v)) rest v → IsAt jobs i (state_after_load (job_at jobs i) found (worker_of u)) rest u
-  looked_at u found e h = subst (λ u. IsAt jobs i (state_after_load (job_at jobs i) found (worker_of u)) rest u) (sym e) (record {
+  look_at_last : (u : View) (found : ℕ) → u ≡ view_after_look v found → IsAt jobs i (Held (worker_of v)) rest v
+      → IsAt jobs i (state_after_load (job_at jobs i) found (worker_of u)) rest u
+  look_at_last u found e h = subst (λ u. IsAt jobs i (state_after_load (job_at jobs i) found (worker_of u)) rest u) (sym e) (record {
     over = h.over;
     one = h.one;
-    claimed = ap (λ cs. with_latest_state (λ i. state_after_load (job_at v.jobs i) found (worker_of v)) cs) h.claimed ∙ ap (λ js. claimed_job i (state_after_load (job_at js i) found (worker_of v)) ∷ rest) h.over;
+    claimed = ap (λ cs. with_latest_state (λ i. state_after_load (job_at v.jobs i) found (worker_of v)) cs) h.claimed
+        ∙ ap (λ js. claimed_job i (state_after_load (job_at js i) found (worker_of v)) ∷ rest) h.over;
     free = h.free;
   })
 
@@ -28,7 +29,8 @@ module _ (jobs : List Job) (i : ℕ) (rest : List ClaimedJob) (v : View) where
   at_state u s t e h = subst (λ s. IsAt jobs i s rest u) e h
 
   module _ {X : Type 0} (gives : ℕ → X → Type 0) (list : List (ℕ × X)) (r : AreResults gives rest list) where
-    pub skips : (u : View) (found start : ℕ) → u ≡ view_after_look v found → start ≡ (job_at jobs i).start → ltb found start ≡ true → IsAt jobs i (Held (worker_of v)) rest v → HasEnded jobs gives i rest u list
+    pub skips : (u : View) (found start : ℕ) → u ≡ view_after_look v found → start ≡ (job_at jobs i).start → ltb found start ≡ true
+        → IsAt jobs i (Held (worker_of v)) rest v → HasEnded jobs gives i rest u list
     skips u found start e at is h =
         let job : Job = job_at jobs i in
         let w : ℕ = worker_of u in
@@ -36,21 +38,24 @@ module _ (jobs : List Job) (i : ℕ) (rest : List ClaimedJob) (v : View) where
         let same : state_after_load job found w ≡ Skipped w = ap (λ b. cond b (Skipped w) (state_by_fault job.fault w)) lower in
         record {
           state = Skipped w;
-          last = at_state u (state_after_load job found w) (Skipped w) same (looked_at u found e h);
+          last = at_state u (state_after_load job found w) (Skipped w) same (look_at_last u found e h);
           closed = refl;
           results = record { jobs = r.jobs; given = r.given };
         }
 
-    pub finds : (u : View) (found start : ℕ) → u ≡ view_after_look v found → start ≡ (job_at jobs i).start → ltb found start ≡ false → IsAt jobs i (Held (worker_of v)) rest v
+    pub finds : (u : View) (found start : ℕ) → u ≡ view_after_look v found → start ≡ (job_at jobs i).start → ltb found start ≡ false
+        → IsAt jobs i (Held (worker_of v)) rest v
         → (f : Option ℕ) → (job_at jobs i).fault ≡ f → IsAt jobs i (state_by_fault f (worker_of u)) rest u
     finds u found start e at is h f fault =
         let job : Job = job_at jobs i in
         let w : ℕ = worker_of u in
         let not_lower : ltb found job.start ≡ false = ap (λ n. ltb found n) (sym at) ∙ is in
-        let same : state_after_load job found w ≡ state_by_fault f w = ap (λ b. cond b (Skipped w) (state_by_fault job.fault w)) not_lower ∙ ap (λ f. state_by_fault f w) fault in
-        at_state u (state_after_load job found w) (state_by_fault f w) same (looked_at u found e h)
+        let same : state_after_load job found w ≡ state_by_fault f w = ap (λ b. cond b (Skipped w) (state_by_fault job.fault w)) not_lower
+        ∙ ap (λ f. state_by_fault f w) fault in
+        at_state u (state_after_load job found w) (state_by_fault f w) same (look_at_last u found e h)
 
-    pub gains : (u : View) (out : X) (new : List (ℕ × X)) → IsAt jobs i (Done (worker_of u)) rest u → gives i out → new ≡ list ++ (i, out) ∷ [] → HasEnded jobs gives i rest u new
+    pub gains : (u : View) (out : X) (new : List (ℕ × X)) → IsAt jobs i (Done (worker_of u)) rest u → gives i out → new ≡ list ++ (i, out) ∷ []
+        → HasEnded jobs gives i rest u new
     gains u out new h given e = subst (λ l. HasEnded jobs gives i rest u l) (sym e) (record {
       state = Done (worker_of u);
       last = h;

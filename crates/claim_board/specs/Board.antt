@@ -30,7 +30,13 @@ pub record BoardState : Type 0 where
 
 -- nothing is claimed, and no worker has stopped
 abbrev pub opening_of : List Job → ℕ → BoardState
-opening_of jobs workers = record { jobs = jobs; next = 0; least = None; states = replicate (length jobs) Untouched; stopped = replicate workers false }
+opening_of jobs workers = record {
+  jobs = jobs;
+  next = 0;
+  least = None;
+  states = replicate (length jobs) Untouched;
+  stopped = replicate workers false;
+}
 
 -- the worker has not stopped, and no job is Held or Faulty by it
 pub record MayClaim (s : BoardState) (w : ℕ) : Type 0 where

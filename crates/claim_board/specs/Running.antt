@@ -109,8 +109,8 @@ weight_below h (suc n) = h n + weight_below h n
 abbrev pub spent_view : View
 spent_view = record { jobs = []; workers = 0; claimed = []; crew = [] }
 
--- A claimed job is not Untouched. Done: it has no fault. Faulty or Lowered: it has one. Skipped: it starts above the fault
--- word. Lowered: the fault word is at most its fault.
+-- A claimed job is not Untouched. Done: it has no fault. Faulty or Lowered: it has one. Skipped: it starts above the
+-- fault word. Lowered: the fault word is at most its fault.
 abbrev pub IsGoodAt : List Job → ℕ → ℕ → JobState → Type 0
 IsGoodAt jobs least i Untouched = ⊥
 IsGoodAt jobs least i (Held w) = Unit {0}
@@ -130,8 +130,8 @@ pub record IsView (jobs : List Job) (workers least : ℕ) (v : View) : Type 0 wh
   pub one : (w : ℕ) → open_count w v.claimed + stopped_count_of w v.crew ≤ 1
   pub own : (w : ℕ) → crew_weight (one_at w) v.crew ≡ 0 → name_count w v.claimed ≡ 0
 
--- what holds of the jobs of a work: starts and faults are as on a board, every place is below the mark for none, and there
--- are at most 2^32
+-- what holds of the jobs of a work: starts and faults are as on a board, every place is below the mark for none, and
+-- there are at most 2^32
 pub record AreWorkJobs (jobs : List Job) : Type 0 where
   pub in_order : AreJobs jobs
   pub places : All (λ job. (job.start < no_place) × IfSome job.fault (λ x. x < no_place)) jobs
@@ -143,8 +143,9 @@ pub record IsKey (jobs : List Job) (workers : ℕ) : Type 0 where
   pub at_least_one : 1 ≤ workers
   pub at_most_64 : workers ≤ 64
 
--- The jobs of all views are the numbers below the claim word that are jobs, each once, and no other: they weigh the same,
--- however numbers are weighed (each weighing 1: there are as many; x weighing 1 and every other 0: x stands there as often).
+-- The jobs of all views are the numbers below the claim word that are jobs, each once, and no other: they weigh the
+-- same, however numbers are weighed. (Each weighing 1: there are as many. x weighing 1, every other 0: x stands there as
+-- often.)
 -- In the same way the workers of all views are the table's, each once.
 -- The claim word is the number of jobs in all views and of workers that have stopped.
 -- The fault word is the mark for none or the fault of a job that is Lowered.
@@ -158,7 +159,8 @@ pub record IsKept (jobs : List Job) (workers next least : ℕ) (views : List Vie
 
 -- the rule of a table of two words
 abbrev pub IsRuled : List Job → ℕ → State (Unit {0}) View → Type 0
-IsRuled jobs workers s = (next : ℕ) × (least : ℕ) × (s.words ≡ next ∷ least ∷ []) × IsKept jobs workers next least s.views
+IsRuled jobs workers s = (next : ℕ) × (least : ℕ) × (s.words ≡ next ∷ least ∷ [])
+    × IsKept jobs workers next least s.views
 
 -- the workers below n, none of which has stopped, from the greatest down
 abbrev pub crew_of : ℕ → List SeatWorker

@@ -66,11 +66,11 @@ joined_view v w = record v { claimed = w.claimed ++ v.claimed; crew = v.crew ++ 
 abbrev pub Known : Type 0
 Known = Me (Unit {0}) View
 
--- what the table tells of each step: the view after it; of a claim, that the seat's jobs are below the one found; of a look
--- and a lower, that they are jobs of the table; and that the worker is one of the table's
+-- what the table tells of each step: the view after it; of a claim, that the seat's jobs are below the one found; of a
+-- look and a lower, that they are jobs of the table; and that the worker is one of the table's
 abbrev pub TellsClaim : TableStep (Unit {0}) → Known → ℕ → Known → Type 0
-TellsClaim st me found after = (after.0 ≡ view_after_claim me.0 found) × (after.1 ≡ me.1) × All (λ c. c.job < found) me.0.claimed
-    × (worker_of me.0 < me.0.workers)
+TellsClaim st me found after = (after.0 ≡ view_after_claim me.0 found) × (after.1 ≡ me.1)
+    × All (λ c. c.job < found) me.0.claimed × (worker_of me.0 < me.0.workers)
 
 abbrev pub TellsLook : TableStep (Unit {0}) → Known → ℕ → Known → Type 0
 TellsLook st me found after = (after.0 ≡ view_after_look me.0 found) × (after.1 ≡ me.1)
@@ -150,8 +150,8 @@ IsLook old found new = (next : ℕ)
 
 -- a lower to this place by the worker of the view, whatever the next job and the least place were
 abbrev pub IsLower : View → ℕ → View → Type 0
-IsLower old place new = (next : ℕ) (found : ℕ) → IsStep (board_of old next (least_of found)) (step_by (worker_of old) Lower)
-    (board_of new next (least_of (min found place)))
+IsLower old place new = (next found : ℕ) → IsStep (board_of old next (least_of found))
+    (step_by (worker_of old) Lower) (board_of new next (least_of (min found place)))
 
 -- one step on the claim word: what it found, which is above all jobs of the view and is the answer where it is a job
 pub record ClaimsNext (old new : View) (answer : Option ℕ) : Type 0 where

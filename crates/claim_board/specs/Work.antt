@@ -1,5 +1,5 @@
 -- What the jobs of a work answer, and what its workers give together.
-use Rattle.std.specs.Prelude.{◌≡◌, ℕ, ◌+◌, ◌≤◌, List, [], ◌∷◌, ◌++◌, map, length, Option, Some, None, Result, MatchResult, true, false, All}
+use Rattle.std.specs.Prelude.{◌≡◌, ℕ, ◌+◌, ◌≤◌, List, [], ◌∷◌, ◌++◌, map, length, Some, None, Result, MatchResult, true, false, All}
 use mathlib.Core.Option.{some}
 use lib.ListN.{get_elem?}
 use Rattle.atomic_table.specs.Seated.{TableId}
@@ -45,7 +45,8 @@ done_jobs [] = []
 done_jobs (c ∷ cs) = with_done c.job c.state (done_jobs cs)
 
 -- the list has each job that is Done, with a result of it, and no other
-pub record AreResults {X : Type 0} (gives : ℕ → X → Type 0) (claimed : List ClaimedJob) (list : List (ℕ × X)) : Type 0 where
+pub record AreResults {X : Type 0} (gives : ℕ → X → Type 0) (claimed : List ClaimedJob) (list : List (ℕ × X))
+    : Type 0 where
   pub jobs : map (λ p. p.0) list ≡ done_jobs claimed
   pub given : All (λ p. gives p.0 p.1) list
 
@@ -93,7 +94,8 @@ pub record IsAt (jobs : List Job) (i : ℕ) (state : JobState) (rest : List Clai
   pub free : open_count (worker_of v) rest ≡ 0
 
 -- the job i, which the one worker of the view claimed last, has ended, and the list has the results with it
-pub record HasEnded {X : Type 0} (jobs : List Job) (gives : ℕ → X → Type 0) (i : ℕ) (rest : List ClaimedJob) (v : View) (list : List (ℕ × X)) : Type 0 where
+pub record HasEnded {X : Type 0} (jobs : List Job) (gives : ℕ → X → Type 0) (i : ℕ) (rest : List ClaimedJob) (v : View)
+    (list : List (ℕ × X)) : Type 0 where
   pub state : JobState
   pub last : IsAt jobs i state rest v
   pub closed : open_weight (worker_of v) state ≡ 0

@@ -28,11 +28,11 @@ impl Model for Board {
     ghost Value = { BoardState };
 
     ghost view = { λ b. record {
-        jobs = b.jobs.items;
-        next = b.next;
-        least = b.least;
-        states = b.states.items;
-        stopped = b.stopped.items;
+      jobs = b.jobs.items;
+      next = b.next;
+      least = b.least;
+      states = b.states.items;
+      stopped = b.stopped.items;
     } };
 
     // There is room for `next` to go on: it passes the jobs only as workers stop.
@@ -122,8 +122,8 @@ impl Board {
     fn hold(&mut self, w: u64)
         requires { self.old.next < length self.old.jobs }
         ensures { self.new ≡ record self.old {
-            next = self.old.next + 1;
-            states = slice_set self.old.states self.old.next (Held w);
+          next = self.old.next + 1;
+          states = slice_set self.old.states self.old.next (Held w);
         } }
     {
         self.states[self.next as usize] = JobState::Held(w);
@@ -134,8 +134,8 @@ impl Board {
     fn stop(&mut self, w: u64)
         requires { slice_get self.old.stopped w ≡ Some false }
         ensures { self.new ≡ record self.old {
-            next = self.old.next + 1;
-            stopped = slice_set self.old.stopped w true;
+          next = self.old.next + 1;
+          stopped = slice_set self.old.stopped w true;
         } }
     {
         self.stopped[w as usize] = true;

@@ -6,7 +6,6 @@ ghost use Rattle.claim_board.specs.Orders.{AllOrders};
 ghost use Rattle.claim_board.specs.Steps.{IsSeatAt, IsSameSeat, MayClaimNext, HoldsJob, HasFaultyJob, ClaimsNext, LooksAtLeast, LowersLeast};
 
 use crate::seat::{ClaimPlay, LookPlay, LowerPlay};
-
 pub use crate::seat::{BoardTable, WorkerSeat};
 pub use crate::share::share;
 

@@ -18,13 +18,11 @@ fn empty_places<X: Drop>(alloc: Global, count: u64) -> Result<Vec<Option<X>>, Al
 }
 
 // Each result into the place of its job.
-fn put_in_places<W: Work>(
-    work: &W,
-    mut list: Vec<(u64, W::Out)>,
-    places: &mut Vec<Option<W::Out>>,
-) where
+fn put_in_places<W: Work>(work: &W, mut list: Vec<(u64, W::Out)>, places: &mut Vec<Option<W::Out>>)
+where
     W::Out: Drop,
-    requires { AreFilling (W.gives work.now) (length (W.listed work.now)) list.items places.old.items }
+    requires { AreFilling (W.gives work.now) (length (W.listed work.now)) list.items
+        places.old.items }
     ensures { AreFilling (W.gives work.now) (length (W.listed work.now)) [] places.new.items }
 {
     while let Some((i, out)) = list.pop() {

@@ -40,8 +40,14 @@ const TO_THE_END: &[(u64, Act)] = &[
 #[test]
 fn a_fault_below_skips(rt: HostRuntime) -> Result<(), Fail> {
     let jobs = vec![in rt.alloc();
-        Job { start: 16, fault: Some(48) },
-        Job { start: 52, fault: Some(84) },
+        Job {
+            start: 16,
+            fault: Some(48)
+        },
+        Job {
+            start: 52,
+            fault: Some(84)
+        },
     ]?;
     let two = Workers::new(2).ok_or("workers")?;
     let mut board = Board::new(rt.alloc(), jobs, two)?;
@@ -66,8 +72,14 @@ const TO_THE_MIDDLE: &[(u64, Act)] = &[
 #[test]
 fn a_fault_above_skips_nothing(rt: HostRuntime) -> Result<(), Fail> {
     let jobs = vec![in rt.alloc();
-        Job { start: 16, fault: None },
-        Job { start: 52, fault: Some(84) },
+        Job {
+            start: 16,
+            fault: None
+        },
+        Job {
+            start: 52,
+            fault: Some(84)
+        },
     ]?;
     let two = Workers::new(2).ok_or("workers")?;
     let mut board = Board::new(rt.alloc(), jobs, two)?;

@@ -83,7 +83,11 @@ fn answers_at_1_2_7_and_64_workers(rt: HostRuntime) -> Result<(), Fail> {
         let workers = Workers::new(n).ok_or("workers")?;
         for &row in ROWS {
             let work = excerpts_by(row);
-            assert!(rt; has_answer(&rt, rt.alloc(), &work, workers, &NoGate, row), "{row:?} at {n}");
+            let alloc = rt.alloc();
+            assert!(rt;
+                has_answer(&rt, alloc, &work, workers, &NoGate, row),
+                "{row:?} at {n}"
+            );
         }
     }
     Ok(())

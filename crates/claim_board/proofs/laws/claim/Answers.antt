@@ -1,4 +1,4 @@
-use Rattle.std.proofs.Common.{rules, refl, arith}
+use Rattle.std.proofs.Common.{refl, arith}
 use Rattle.claim_board.proofs.Keeps.{claim_allowed}
 use Rattle.claim_board.proofs.ViewSteps.{claim_is}
 use Rattle.claim_board.proofs.laws.claim.Goals as goal

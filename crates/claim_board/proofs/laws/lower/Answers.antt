@@ -1,4 +1,4 @@
-use Rattle.std.proofs.Common.{rules, arith}
+use Rattle.std.proofs.Common.{arith}
 use Rattle.claim_board.proofs.Keeps.{lower_allowed}
 use Rattle.claim_board.proofs.ViewSteps.{lower_is}
 use Rattle.claim_board.proofs.laws.lower.Goals as goal

@@ -1,4 +1,4 @@
-use Rattle.std.proofs.Common.{rules, ◌≡◌, ◌∙◌, ◌<◌, ◌+◌, ◌++◌, ◌∷◌, [], ap, sym, subst, arith, length, set, ℕ, List, Option, slice_get, Some, None}
+use Rattle.std.proofs.Common.{rules, ◌≡◌, ◌∙◌, ◌<◌, ◌+◌, ◌++◌, ◌∷◌, [], ap, sym, subst, arith, length, set, slice_get, Some}
 use Rattle.std.proofs.lemmas.Option.{get_or_from_slice_get}
 use Rattle.claim_board.specs.Results.{AreTaken}
 use Rattle.claim_board.proofs.Filling.{takes}
@@ -25,4 +25,5 @@ loop-i-preserved g c =
     let out : Some c.in-Some.out ≡ Some t.0 = sym c.in-Some.is ∙ (c.take.ensures.value ∙ is) in
     let here : slice_get old i ≡ Some (Some c.in-Some.out) = t.1 ∙ ap (λ q. Some q) (sym out) in
     let done = takes gives n i old c.loop-i.all.items c.in-Some.out lt here c.loop-i.invariant in
-    subst (λ l. AreTaken gives n (i + 1) (set old i c.take.new.self) l) (search rules) (subst (λ q. AreTaken gives n (i + 1) (set old i q) (c.loop-i.all.items ++ c.in-Some.out ∷ [])) (sym c.take.ensures.after) done)
+    subst (λ l. AreTaken gives n (i + 1) (set old i c.take.new.self) l) (search rules)
+    (subst (λ q. AreTaken gives n (i + 1) (set old i q) (c.loop-i.all.items ++ c.in-Some.out ∷ [])) (sym c.take.ensures.after) done)

@@ -1,9 +1,9 @@
-use Rattle.std.proofs.Common.{rules, ◌≡◌, ◌<◌, ◌∙◌, ap, arith, subst, sym, length}
+use Rattle.std.proofs.Common.{rules, ◌<◌, ◌∙◌, ap, arith, subst, sym, length}
 use Rattle.std.proofs.lemmas.Result.{IfOk-at_ok}
 use Rattle.claim_board.specs.Steps.{joined_view}
 use Rattle.claim_board.specs.Work.{HaveStopped, AreResults, AreAllResults, MayShare}
 use Rattle.claim_board.proofs.Seats.{splits_allowed, joins_allowed}
-use Rattle.claim_board.proofs.Halving.{left_some, results_joined, stopped_joined, same_again}
+use Rattle.claim_board.proofs.Halving.{left_some, results_joined, have_stopped_joined, same_again}
 use Rattle.claim_board.proofs.share.+halves.Goals as goal
 
 pub share-work_alone-requires : goal.share-work_alone-requires
@@ -36,25 +36,29 @@ pub share-returns-in_err-all-clause-same : goal.share-returns-in_err-all-clause-
 share-returns-in_err-all-clause-same g t c =
     let s = c.split_seat-other in
     let d = c.share_halves-front in
-    same_again c.args.seat.now s.new.seat s.result d.new.seat d.new.other c.join_seat.new.seat s.ensures d.ensures.low_same d.ensures.high_same c.join_seat.ensures
+    let j = c.join_seat in
+    same_again c.args.seat.now s.new.seat s.result d.new.seat d.new.other j.new.seat s.ensures d.ensures.low_same d.ensures.high_same j.ensures
 
 pub share-returns-in_err-rest-clause-same : goal.share-returns-in_err-rest-clause-same
 share-returns-in_err-rest-clause-same g t c =
     let s = c.split_seat-other in
     let d = c.share_halves-front in
-    same_again c.args.seat.now s.new.seat s.result d.new.seat d.new.other c.join_seat.new.seat s.ensures d.ensures.low_same d.ensures.high_same c.join_seat.ensures
+    let j = c.join_seat in
+    same_again c.args.seat.now s.new.seat s.result d.new.seat d.new.other j.new.seat s.ensures d.ensures.low_same d.ensures.high_same j.ensures
 
 pub share-returns-in_err-append-clause-same : goal.share-returns-in_err-append-clause-same
 share-returns-in_err-append-clause-same g t c =
     let s = c.split_seat-other in
     let d = c.share_halves-front in
-    same_again c.args.seat.now s.new.seat s.result d.new.seat d.new.other c.join_seat.new.seat s.ensures d.ensures.low_same d.ensures.high_same c.join_seat.ensures
+    let j = c.join_seat in
+    same_again c.args.seat.now s.new.seat s.result d.new.seat d.new.other j.new.seat s.ensures d.ensures.low_same d.ensures.high_same j.ensures
 
 pub share-returns-clause-same : goal.share-returns-clause-same
 share-returns-clause-same g t c =
     let s = c.split_seat-other in
     let d = c.share_halves-front in
-    same_again c.args.seat.now s.new.seat s.result d.new.seat d.new.other c.join_seat.new.seat s.ensures d.ensures.low_same d.ensures.high_same c.join_seat.ensures
+    let j = c.join_seat in
+    same_again c.args.seat.now s.new.seat s.result d.new.seat d.new.other j.new.seat s.ensures d.ensures.low_same d.ensures.high_same j.ensures
 
 pub share-returns-clause-done : goal.share-returns-clause-done
 share-returns-clause-done g t c =
@@ -66,6 +70,6 @@ share-returns-clause-done g t c =
     let b = IfOk-at_ok (λ v. AreAllResults gives r v.items) c.in_ok-rest.was d.ensures.high_done in
     let e = ap (λ x. x.0) c.join_seat.ensures.2 in
     let joined = results_joined gives l r _ _ a.1 b.1 in (
-      subst HaveStopped (sym e) (stopped_joined l r a.0 b.0),
+      subst HaveStopped (sym e) (have_stopped_joined l r a.0 b.0),
       subst (λ x. AreResults gives x.claimed c.append.new.self.items) (sym e) (subst (λ x. AreResults gives (joined_view l r).claimed x) (search rules) joined),
     )

@@ -20,7 +20,8 @@ lower-requires-clause-worker g c =
     let u = c.look.new.seat.me.0 in
     let place = c.in-Err-At.place in
     let fault : (job_at jobs i).fault ≡ Some place = fault_of (gives i) (job_at jobs i) c.run-outcome.result place (search rules) c.run-outcome.ensures in
-    let h = finds jobs i g.rest c.args.seat.now.me.0 gives c.args.results.now.items q.1.1 u s.found c.start.result s.view c.start.ensures (search rules) q.0 (Some place) fault in
+    let h = finds jobs i g.rest c.args.seat.now.me.0 gives c.args.results.now.items q.1.1 u s.found c.start.result s.view c.start.ensures (search rules) q.0
+    (Some place) fault in
     (worker_of u, i, g.rest, h.one, h.claimed, ap (λ js. (job_at js i).fault) h.over ∙ fault)
 
 pub returns-in_ok-push-in-Ok-clause-ended : goal.returns-in_ok-push-in-Ok-clause-ended

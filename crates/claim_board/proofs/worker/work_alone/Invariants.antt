@@ -1,4 +1,4 @@
-use Rattle.std.proofs.Common.{ℕ, ◌-◌, length}
+use Rattle.std.proofs.Common.{◌-◌, length}
 use Rattle.claim_board.specs.Work.{IsFree, AreResults, StandsForSame, next_above, earlier_jobs}
 use Rattle.claim_board.proofs.worker.work_alone.Given as goal
 

@@ -1,4 +1,4 @@
-use Rattle.std.proofs.Common.{rules, ◌≡◌, ap, sym, ◌∙◌, subst, arith, slice_get, Some, true, false, length-set}
+use Rattle.std.proofs.Common.{rules, ◌≡◌, arith, slice_get, Some, true, false, length-set}
 use Rattle.claim_board.proofs.Faults.{one_stopped}
 use Rattle.claim_board.proofs.board.Board.stop.Goals as goal
 

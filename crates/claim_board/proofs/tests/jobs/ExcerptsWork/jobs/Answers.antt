@@ -1,4 +1,4 @@
-use Rattle.std.proofs.Common.{◌∙◌, sym, refl}
+use Rattle.std.proofs.Common.{sym}
 use Rattle.claim_board.proofs.Spacing.{length-spaced}
 use Rattle.claim_board.proofs.tests.jobs.ExcerptsWork.jobs.Goals as goal
 
