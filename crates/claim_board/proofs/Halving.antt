@@ -1,0 +1,75 @@
+-- Two halves of a crew, and what they did, put together.
+use Rattle.std.proofs.Common.{◌≡◌, ℕ, ◌/◌, ◌<◌, true, List, [], ◌∷◌, ◌++◌, map, length, take, sym, refl, ap, ◌∙◌, subst, arith, append_assoc, length-take}
+use mathlib.Core.List.{map-append}
+use Rattle.std.proofs.lemmas.List.{take-append-drop}
+use Rattle.std.proofs.lemmas.List.Elements.{All-append}
+use Rattle.atomic_table.specs.declared.shared.Seat.{Seat}
+use Rattle.claim_board.specs.declared.job.JobState.{JobState}
+use Rattle.claim_board.specs.declared.job.JobState.TheVariants.{Untouched, Held, Faulty, Done, Skipped, Lowered}
+use Rattle.claim_board.specs.declared.view.ClaimedJob.{ClaimedJob}
+use Rattle.claim_board.specs.declared.view.SeatWorker.{SeatWorker}
+use Rattle.claim_board.specs.declared.view.View.{View}
+use Rattle.claim_board.specs.Steps.{left_view, right_view, joined_view}
+use Rattle.claim_board.specs.Work.{with_done, done_jobs, AreResults, IsSameCrew, StandsForSame, HaveStopped}
+
+with_done-append : (i : ℕ) (s : JobState) (a b : List ℕ) → with_done i s (a ++ b) ≡ a ++ with_done i s b
+with_done-append i Untouched a b = refl
+with_done-append i (Held w) a b = refl
+with_done-append i (Faulty w) a b = refl
+with_done-append i (Done w) a b = append_assoc a b (i ∷ [])
+with_done-append i (Skipped w) a b = refl
+with_done-append i (Lowered w) a b = refl
+
+pub done_jobs-append : (a b : List ClaimedJob) → done_jobs (a ++ b) ≡ done_jobs b ++ done_jobs a
+done_jobs-append [] b = sym (mathlib.Core.List.append-nil (done_jobs b))
+done_jobs-append (c ∷ cs) b = ap (λ l. with_done c.job c.state l) (done_jobs-append cs b) ∙ with_done-append c.job c.state (done_jobs b) (done_jobs cs)
+
+pub results_joined : {X : Type 0} (gives : ℕ → X → Type 0) (v w : View) (a b : List (ℕ × X)) → AreResults gives v.claimed a → AreResults gives w.claimed b
+    → AreResults gives (joined_view v w).claimed (a ++ b)
+results_joined gives v w a b r q = record {
+  jobs = map-append (λ (p : ℕ × _). p.0) a b
+      ∙ (ap (λ l. l ++ map (λ p. p.0) b) r.jobs ∙ (ap (λ l. done_jobs v.claimed ++ l) q.jobs ∙ sym (done_jobs-append w.claimed v.claimed)));
+  given = All-append (λ p. gives p.0 p.1) a b r.given q.given;
+}
+
+pub have_stopped_joined : (v w : View) → HaveStopped v → HaveStopped w → HaveStopped (joined_view v w)
+have_stopped_joined v w a b = All-append (λ (m : SeatWorker). m.stopped ≡ true) v.crew w.crew a b
+
+pub crew_joined : (v l r : View) → IsSameCrew (left_view v) l → IsSameCrew (right_view v) r → IsSameCrew v (joined_view l r)
+crew_joined v l r a b = record {
+  jobs = a.jobs;
+  workers = a.workers;
+  crew =
+      let f : SeatWorker → ℕ = λ m. m.worker in
+      map-append f l.crew r.crew ∙ (ap (λ x. x ++ map f r.crew) a.crew ∙ (ap (λ x. map f (left_view v).crew ++ x) b.crew
+      ∙ (sym (map-append f (left_view v).crew (right_view v).crew) ∙ ap (map f) (take-append-drop (length v.crew / 2) v.crew))));
+}
+
+length_of : (ms : List SeatWorker) → length (map (λ (m : SeatWorker). m.worker) ms) ≡ length ms
+length_of [] = refl
+length_of (m ∷ ms) = let r = length_of ms in omega arith
+
+pub crew_stays : (v w : View) → IsSameCrew v w → length w.crew ≡ length v.crew
+crew_stays v w s = sym (length_of w.crew) ∙ (ap (λ l. length l) s.crew ∙ length_of v.crew)
+
+module _ (v l0 r0 l r u : View) (cut : l0 ≡ left_view v) (other : r0 ≡ right_view v) (a : IsSameCrew l0 l) (b : IsSameCrew r0 r) where
+  pub crew_again : u ≡ joined_view l r → IsSameCrew v u
+  crew_again is = subst (λ x. IsSameCrew v x) (sym is) (crew_joined v l r (subst (λ x. IsSameCrew x l) cut a) (subst (λ x. IsSameCrew x r) other b))
+
+  pub left_some : 1 < length v.crew → 0 < length l.crew
+  left_some more =
+      let s = crew_stays l0 l a in
+      let e : length l0.crew ≡ length (take (length v.crew / 2) v.crew) = ap (λ x. length x.crew) cut in
+      let t = length-take (length v.crew / 2) v.crew in
+      omega arith
+
+-- after the split, both halves' steps and the join the seat stands for the same workers
+pub same_again : (old cut other l r new : Seat (Unit {0}) View)
+    → (cut.table_id ≡ old.table_id) × (cut.id ≡ old.id) × (cut.me ≡ (left_view old.me.0, old.me.1)) × (other.table_id ≡ old.table_id)
+    × (other.me ≡ (right_view old.me.0, []))
+    → StandsForSame cut l → StandsForSame other r
+    → (new.table_id ≡ l.table_id) × (new.id ≡ l.id) × (new.me ≡ (joined_view l.me.0 r.me.0, l.me.1)) → StandsForSame old new
+same_again old cut other l r new s low high j = (
+  (j.0 ∙ (low.0.0 ∙ s.0), j.1 ∙ (low.0.1 ∙ s.1), ap (λ x. x.1) j.2 ∙ (low.0.2 ∙ ap (λ x. x.1) s.2)),
+  crew_again old.me.0 cut.me.0 other.me.0 l.me.0 r.me.0 new.me.0 (ap (λ x. x.0) s.2) (ap (λ x. x.0) s.4) low.1 high.1 (ap (λ x. x.0) j.2),
+)

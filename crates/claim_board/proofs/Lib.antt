@@ -1,0 +1,14 @@
+pub mod Lists
+pub mod Totals
+pub mod Faults
+pub mod AnyOrder
+pub mod Keeps
+pub mod Seats
+pub mod Opening
+pub mod ViewSteps
+pub mod Turns
+pub mod Halving
+pub mod Ends
+pub mod Finish
+pub mod Filling
+pub mod Spacing

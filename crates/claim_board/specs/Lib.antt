@@ -1,0 +1,7 @@
+pub mod Board
+pub mod Orders
+pub mod Running
+pub mod Steps
+pub mod Work
+pub mod Results
+pub mod SpacedJobs
