@@ -1,0 +1,35 @@
+-- The sum of a list of changes by one, and the least sum of its prefixes.
+use Rattle.std.specs.Prelude.{◌≡◌, ℕ, ◌≤◌, ℤ, pos, ◌-ℤ◌, ◌≤ℤ◌, Bool, true, false, List, length, take, map, count_by}
+use Rattle.summary_law.specs.declared.count.Count.{Count}
+
+-- what an item does to a count: it raises it by one, lowers it by one, or leaves it as it is
+pub data Change : Type 0 where
+  raises : Change
+  lowers : Change
+  keeps : Change
+
+-- whether a change raises
+abbrev pub is_raise : Change → Bool
+is_raise raises = true
+is_raise lowers = false
+is_raise keeps = false
+
+-- whether a change lowers
+abbrev pub is_lower : Change → Bool
+is_lower raises = false
+is_lower lowers = true
+is_lower keeps = false
+
+-- how many changes raise, less how many lower
+abbrev pub total : List Change → ℤ
+total changes = pos (count_by is_raise changes) -ℤ pos (count_by is_lower changes)
+
+-- the sum of the changes, and the least sum of a prefix of them, the empty one included
+pub record IsCount (count : Count) (changes : List Change) : Type 0 where
+  pub sum : count.sum ≡ total changes
+  pub reached : (n : ℕ) × (n ≤ length changes) × (count.low ≡ total (take n changes))
+  pub least : (n : ℕ) → n ≤ length changes → count.low ≤ℤ total (take n changes)
+
+-- the count of what these items do
+abbrev pub IsCountOf : {I : Type 0} → (I → Change) → Count → List I → Type 0
+IsCountOf change count items = IsCount count (map change items)
