@@ -1,7 +1,7 @@
 -- Lists that can be summarised: few items, and places that rise.
 use Rattle.std.specs.Prelude.{◌≡◌, ℕ, ◌+◌, ◌≤◌, ◌<◌, ◌^◌, List, ◌∷◌, [], ◌++◌, length, All, AllPairs}
-use Rattle.std.proofs.Common.{sym, subst, arith, length-append, get_or}
-use Rattle.std.proofs.lemmas.List.{get_or_append_left, get_or-append-add}
+use Rattle.std.proofs.Common.{subst, ◌∙◌, arith, length-append, get_or}
+use Rattle.std.proofs.lemmas.List.{get_or_append_left, get_or-append-add, get_or_default}
 
 -- at most 2^32 items
 abbrev pub IsShort : {I : Type 0} → List I → Type 0
@@ -34,6 +34,14 @@ rising_parts {I} place first second rise =
           (subst (λ (x : I). place x < place (get_or (first ++ second) (length first + j) d)) (get_or-append-add first second i d)
           (rise (length first + i) (length first + j) d (omega arith) (omega arith))),
     )
+
+-- where the places of a list rise, those of its first part are below those of its second
+pub rising_apart : {I : Type 0} (place : I → ℕ) (first second : List I) → PlacesRise place (first ++ second) → All (λ a. All (λ b. place a < place b) second) first
+rising_apart {I} place first second rise i d inside j e within =
+    let long = length-append first second in
+    subst (λ (x : I). place (get_or first i d) < place x) (get_or-append-add first second j e)
+    (subst (λ (x : I). place x < place (get_or (first ++ second) (length first + j) e))
+    (get_or_append_left first second e i inside ∙ get_or_default first i e d inside) (rise i (length first + j) e (omega arith) (omega arith)))
 
 -- both parts of a list that is placed are
 pub placed_parts : {I : Type 0} (place : I → ℕ) (first second : List I) → IsPlaced place (first ++ second) → IsPlaced place first × IsPlaced place second

@@ -1,2 +1,3 @@
+pub mod Summary
 pub mod Count
 pub mod Fits

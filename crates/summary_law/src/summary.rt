@@ -1,11 +1,12 @@
 //! A value that summarises a list of items.
 
-ghost use Rattle.std.specs.Prelude.{List, [], ◌∷◌, ◌++◌, IfOk, OnOk};
+ghost use Rattle.std.specs.Prelude.{List, [], IfOk, OnOk};
+ghost use Rattle.summary_law.specs.Summary.{CanAdd, Adds, CanJoin, Joins, FitsInParts};
 
 use std::alloc::{AllocError, Global};
 
 /// A value that summarises a list of items. Items are added at the end, and the summaries of two lists
-/// are joined into that of the one followed by the other. A value says nothing of which list it
+/// are joined into that of the one followed by the other. A value does not tell which list it
 /// summarises: what it gives is true of every list that it sums.
 pub trait Summary: Drop {
     /// What is summarised.
@@ -24,14 +25,14 @@ pub trait Summary: Drop {
 
     /// Adds an item behind those that are summarised. After an error the value is only to be dropped.
     fn add(&mut self, item: Self::Item) -> Result<(), AllocError>
-        requires { (items : List Self.Item) × sums self.old items × fits (items ++ item ∷ []) }
-        ensures { OnOk result ((items : List Self.Item) → sums self.old items → sums self.new (items ++ item ∷ [])) };
+        requires { CanAdd sums fits self.old item }
+        ensures { OnOk result (Adds sums fits self.old item self.new) };
 
     /// Joins the summary of the items behind those that are summarised. An error gives up both.
     fn join(self, later: Self) -> Result<Self, AllocError>
-        requires { (first : List Self.Item) × (second : List Self.Item) × sums self first × sums later second × fits (first ++ second) }
-        ensures { IfOk result (λ joined. (first second : List Self.Item) → sums self first → sums later second → sums joined (first ++ second)) };
+        requires { CanJoin sums fits self later }
+        ensures { IfOk result (Joins sums fits self later) };
 
     /// Both parts of a list that can be summarised can be.
-    ghost fits_parts: { (first second : List Self.Item) → fits (first ++ second) → fits first × fits second };
+    ghost fits_parts: { FitsInParts fits };
 }
