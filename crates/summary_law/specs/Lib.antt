@@ -1,3 +1,4 @@
 pub mod Summary
 pub mod Count
 pub mod Fits
+pub mod ByKey

@@ -2,9 +2,11 @@
 //! are made of.
 #![tactic(auto)]
 
+mod by_key;
 mod count;
 mod summary;
 
+pub use by_key::ByKey;
 pub use count::Count;
 pub use summary::Summary;
 
