@@ -21,6 +21,14 @@ short_parts first second short =
     let long = length-append first second in
     (omega arith, omega arith)
 
+-- where something holds of each item of a list, it does of those of both parts
+pub all_parts : {I : Type 0} (P : I → Type 0) (first second : List I) → All P (first ++ second) → All P first × All P second
+all_parts {I} P first second all =
+    let long = length-append first second in (
+      λ i d within. subst P (get_or_append_left first second d i within) (all i d (omega arith)),
+      λ i d within. subst P (get_or-append-add first second i d) (all (length first + i) d (omega arith)),
+    )
+
 -- in both parts of a list whose places rise they rise
 pub rising_parts : {I : Type 0} (place : I → ℕ) (first second : List I) → PlacesRise place (first ++ second) → PlacesRise place first × PlacesRise place second
 rising_parts {I} place first second rise =

@@ -2,3 +2,5 @@ pub mod Summary
 pub mod Count
 pub mod Fits
 pub mod ByKey
+pub mod Tally
+pub mod Parts
