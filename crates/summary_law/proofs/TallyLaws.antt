@@ -1,5 +1,6 @@
 -- The rows of a map of amounts, and sums of weights.
-use Rattle.std.proofs.Common.{◌≡◌, ℕ, ◌+◌, ◌*◌, ◌-◌, ◌<◌, ◌≤◌, ◌^◌, Bool, true, List, [], ◌∷◌, ◌++◌, length, map, sum, Option, Some, None, is_some, refl, sym, ap, subst, ◌∙◌, arith, length-append}
+use Rattle.std.proofs.Common.{◌≡◌, ℕ, ◌+◌, ◌*◌, ◌-◌, ◌<◌, ◌≤◌, ◌^◌, Bool, true, List, [], ◌∷◌, ◌++◌, length, map, sum, Option, Some, None, is_some, refl, sym, ap, subst, ◌∙◌, arith, get_or}
+use Rattle.std.proofs.lemmas.List.{length-map}
 use Rattle.std.proofs.lemmas.List.Elements.{All-map, All-weaker}
 use Rattle.std.proofs.lemmas.List.Sums.{sum_by-append, sum_by-le}
 use Rattle.std.proofs.lemmas.Map.Made.{is_some-lookup}
@@ -10,8 +11,9 @@ use Rattle.std.specs.List.{All, list_any}
 use Rattle.std.specs.Map.{keys_of}
 use Rattle.std.specs.Ordering.{eq_by_cmp}
 use Rattle.std.specs.declared.cmp.Ordering.{Ordering}
-use Rattle.summary_law.proofs.KeyLaws.{each_short, each_all}
+use Rattle.summary_law.proofs.ReadLaws.{each_short, each_all}
 use Rattle.summary_law.specs.ByKey.{items_of, IsPart, EachFits, SumsByKey}
+use Rattle.summary_law.specs.Fits.{IsShort}
 use Rattle.summary_law.specs.Tally.{count_of, sum_of, AreKeys, IsTallyRow, AreTallyRows, IsAmount, AreWeights, AreWeighted}
 use Rattle.summary_law.specs.declared.tally.Amount.{Amount}
 
@@ -25,6 +27,12 @@ sum_fits weights few =
 -- the weights of each key are few where all are
 pub each_weights : {K : Type 0} (eq : K → K → Bool) (items : List (K × ℕ)) → AreWeighted items → EachFits eq AreWeights items
 each_weights eq items few key = (each_short eq items few.0 key, each_all eq (λ weight. weight < 2 ^ 64) items few.1 key)
+
+-- few items, each read as a key and a weight of 64 bits
+pub weighted_map : {I K : Type 0} (read : I → K × ℕ) → ((i : I) → (read i).1 < 2 ^ 64) → (items : List I) → IsShort items → AreWeighted (map read items)
+weighted_map {I} {K} read small items short =
+    let long = length-map items read in
+    (omega arith, All-map (λ (e : K × ℕ). e.1 < 2 ^ 64) read items (λ i d within. small (get_or items i d)))
 
 abbrev pub row_of : {K : Type 0} → K × Amount → K × ℕ × ℕ
 row_of e = (e.0, e.1.count, e.1.sum)

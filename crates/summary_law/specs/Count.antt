@@ -1,5 +1,6 @@
 -- The sum of a list of changes by one, and the least sum of its prefixes.
-use Rattle.std.specs.Prelude.{◌≡◌, ℕ, ◌≤◌, ℤ, pos, ◌-ℤ◌, ◌≤ℤ◌, Bool, true, false, List, length, take, map, count_by}
+use Rattle.std.specs.Prelude.{◌≡◌, ℕ, ◌≤◌, ℤ, pos, ◌+ℤ◌, ◌-ℤ◌, ◌≤ℤ◌, Bool, true, false, List, length, take, map, count_by, Option}
+use Rattle.std.specs.Option.{option_map_or}
 use Rattle.summary_law.specs.declared.count.Count.{Count}
 
 -- what an item does to a count: it raises it by one, lowers it by one, or leaves it as it is
@@ -33,3 +34,14 @@ pub record IsCount (count : Count) (changes : List Change) : Type 0 where
 -- the count of what these items do
 abbrev pub IsCountOf : {I : Type 0} → (I → Change) → Count → List I → Type 0
 IsCountOf change count items = IsCount count (map change items)
+
+-- what a thing does to a count of items: as much as the item that is read from it, and nothing where there is none
+abbrev pub change_read : {E I : Type 0} → (E → Option I) → (I → Change) → E → Change
+change_read read change e = option_map_or change (read e) keeps
+
+-- the sum and the low are no further from 0 than this, and the low is not above 0
+pub record IsWithin (count : Count) (most : ℕ) : Type 0 where
+  pub sum_low : pos 0 ≤ℤ (count.sum +ℤ pos most)
+  pub sum_high : count.sum ≤ℤ pos most
+  pub low_low : pos 0 ≤ℤ (count.low +ℤ pos most)
+  pub low_high : count.low ≤ℤ pos 0

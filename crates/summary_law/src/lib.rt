@@ -5,12 +5,15 @@
 mod by_key;
 mod count;
 mod halves;
+pub mod laws;
+mod list;
 mod summary;
 mod tally;
 
 pub use by_key::ByKey;
 pub use count::Count;
 pub use halves::join_all;
+pub use list::summary_of;
 pub use summary::Summary;
 pub use tally::{Amount, Tally};
 

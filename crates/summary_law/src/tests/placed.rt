@@ -5,6 +5,7 @@ ghost use Rattle.summary_law.specs.Fits.{IsPlaced, placed_parts};
 
 use crate::summary::Summary;
 use std::alloc::{AllocError, Global};
+use std::test::Fail;
 
 /// The greatest place, which is the last item's since places rise.
 #[derive(Drop)]
@@ -37,4 +38,12 @@ impl Summary for Greatest {
     }
 
     ghost fits_parts = { placed_parts (λ place. place) };
+}
+
+#[test]
+fn rests_on_places(rt: HostRuntime) -> Result<(), Fail> {
+    let mut greatest = Greatest::empty(rt.alloc());
+    greatest.add(5)?;
+    assert!(rt; greatest.place == Some(5));
+    Ok(())
 }
