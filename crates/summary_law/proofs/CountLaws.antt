@@ -1,5 +1,5 @@
 -- The count of one more change, and of one list of changes followed by another.
-use Rattle.std.proofs.Common.{◌≡◌, ℕ, zero, suc, ◌+◌, ◌-◌, ◌<◌, ◌≤◌, ◌⊎◌, ℤ, pos, negsuc, cond, List, Option, Some, None, [], ◌∷◌, ◌++◌, length, map, take, refl, sym, ap, subst, ◌∙◌, inl, inr, ⊎_elim, length-append, arith}
+use Rattle.std.proofs.Common.{◌≡◌, ℕ, zero, suc, ◌+◌, ◌-◌, ◌<◌, ◌≤◌, ◌⊎◌, pos, negsuc, cond, List, Option, Some, None, [], ◌∷◌, ◌++◌, length, map, take, refl, sym, ap, subst, ◌∙◌, inl, inr, ⊎_elim, length-append, arith}
 use Rattle.std.specs.Prelude.{◌+ℤ◌, ◌≤ℤ◌}
 use Rattle.std.proofs.Math.Seq.{take-append-add, take-length}
 use Rattle.std.proofs.lemmas.Bool.{cases_lt}
@@ -118,7 +118,6 @@ unfolding down
 lowered_counts old new sum low below under changes counts =
     joined_counts old down new changes (lowers ∷ [])
     (record { sum = sum; low = ⊎_elim inl (λ (e : new.low ≡ new.sum). inr (e ∙ sum)) low; below_first = below; below_second = omega (arith, ints) }) counts down_counts
-
 
 -- no change
 level : Count

@@ -1,20 +1,19 @@
 -- The rows of a map of amounts, and sums of weights.
-use Rattle.std.proofs.Common.{◌≡◌, ℕ, ◌+◌, ◌*◌, ◌-◌, ◌<◌, ◌≤◌, ◌^◌, Bool, true, List, [], ◌∷◌, ◌++◌, length, map, sum, Option, Some, None, is_some, refl, sym, ap, subst, ◌∙◌, arith, get_or}
+use Rattle.std.proofs.Common.{◌≡◌, ℕ, ◌*◌, ◌-◌, ◌<◌, ◌≤◌, ◌^◌, Bool, true, List, [], ◌∷◌, length, map, sum, Option, Some, None, is_some, refl, sym, ap, subst, ◌∙◌, arith, get_or}
 use Rattle.std.proofs.lemmas.List.{length-map}
 use Rattle.std.proofs.lemmas.List.Elements.{All-map, All-weaker}
-use Rattle.std.proofs.lemmas.List.Sums.{sum_by-append, sum_by-le}
+use Rattle.std.proofs.lemmas.List.Sums.{sum_by-le}
 use Rattle.std.proofs.lemmas.Map.Made.{is_some-lookup}
 use Rattle.std.proofs.lemmas.Map.Views.{All-found}
 use Rattle.std.specs.BTreeMap.{BTreeMap, IsOrdered, get}
 use Rattle.std.specs.Cmp.{IsTotalOrder}
-use Rattle.std.specs.List.{All, list_any}
 use Rattle.std.specs.Map.{keys_of}
 use Rattle.std.specs.Ordering.{eq_by_cmp}
 use Rattle.std.specs.declared.cmp.Ordering.{Ordering}
 use Rattle.summary_law.proofs.ReadLaws.{each_short, each_all}
 use Rattle.summary_law.specs.ByKey.{items_of, IsPart, EachFits, SumsByKey}
 use Rattle.summary_law.specs.Fits.{IsShort}
-use Rattle.summary_law.specs.Tally.{count_of, sum_of, AreKeys, IsTallyRow, AreTallyRows, IsAmount, AreWeights, AreWeighted}
+use Rattle.summary_law.specs.Tally.{count_of, AreKeys, IsTallyRow, AreTallyRows, IsAmount, AreWeights, AreWeighted}
 use Rattle.summary_law.specs.declared.tally.Amount.{Amount}
 
 -- few weights have a sum far below 2^128

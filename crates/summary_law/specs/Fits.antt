@@ -1,5 +1,5 @@
 -- Lists that can be summarised: few items, and places that rise.
-use Rattle.std.specs.Prelude.{◌≡◌, ℕ, ◌+◌, ◌≤◌, ◌<◌, ◌^◌, List, ◌∷◌, [], ◌++◌, length, All, AllPairs}
+use Rattle.std.specs.Prelude.{ℕ, ◌+◌, ◌≤◌, ◌<◌, ◌^◌, List, ◌++◌, length, All, AllPairs}
 use Rattle.std.proofs.Common.{subst, ◌∙◌, arith, length-append, get_or}
 use Rattle.std.proofs.lemmas.List.{get_or_append_left, get_or-append-add, get_or_default}
 

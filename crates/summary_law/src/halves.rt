@@ -6,9 +6,8 @@ ghost use Rattle.summary_law.specs.Parts.{CanJoinAll, JoinsAll};
 
 use crate::summary::Summary;
 use std::alloc::{AllocError, Global};
-use std::mem;
-use std::thread;
 use std::thread::Threads;
+use std::{mem, thread};
 
 /// Joins the summaries in their order: first those of each half, in two threads as long as there is
 /// more than one worker, and then the two that result. The workers are divided between the halves.
@@ -43,7 +42,10 @@ fn join_halves<R: Threads + Sync, S: Summary + Send>(
     }
     let (front, back) = parts.split_at_mut(parts.len() / 2);
     let (first, second) = if workers < 2 {
-        (join_halves(rt, alloc, front, 1), join_halves(rt, alloc, back, 1))
+        (
+            join_halves(rt, alloc, front, 1),
+            join_halves(rt, alloc, back, 1),
+        )
     } else {
         let some = workers / 2;
         let others = workers - some;

@@ -110,13 +110,34 @@ where
 
 /// Frames in the order of their numbers.
 const FRAMES: &[Frame<'static>] = &[
-    Frame { number: 0, bytes: b"a" },
-    Frame { number: 1, bytes: b"bc" },
-    Frame { number: 2, bytes: b"" },
-    Frame { number: 3, bytes: b"d" },
-    Frame { number: 4, bytes: b"e" },
-    Frame { number: 5, bytes: b"f" },
-    Frame { number: 6, bytes: b"g" },
+    Frame {
+        number: 0,
+        bytes: b"a",
+    },
+    Frame {
+        number: 1,
+        bytes: b"bc",
+    },
+    Frame {
+        number: 2,
+        bytes: b"",
+    },
+    Frame {
+        number: 3,
+        bytes: b"d",
+    },
+    Frame {
+        number: 4,
+        bytes: b"e",
+    },
+    Frame {
+        number: 5,
+        bytes: b"f",
+    },
+    Frame {
+        number: 6,
+        bytes: b"g",
+    },
 ];
 
 /// As many of the frames, joined, stand in order.

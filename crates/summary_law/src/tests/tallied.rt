@@ -69,7 +69,13 @@ fn expect_rows(rt: &impl Abort, tally: &Tally<u32>) -> Result<(), AllocError> {
     let rows = tally.rows()?;
     assert!(rt; rows.as_slice() == ROWS);
     assert!(rt; tally.key_count() == 4);
-    assert!(rt; tally.amount(7) == Amount { count: 3, sum: 10101 });
+    assert!(rt;
+        tally.amount(7)
+            == Amount {
+                count: 3,
+                sum: 10101
+            }
+    );
     assert!(rt; tally.amount(8) == Amount { count: 0, sum: 0 });
     Ok(())
 }
@@ -78,7 +84,10 @@ fn expect_rows(rt: &impl Abort, tally: &Tally<u32>) -> Result<(), AllocError> {
 fn sums_do_not_wrap(rt: HostRuntime) -> Result<(), Fail> {
     let tally: Tally<u32> = summary_of(rt.alloc(), GREATEST)?;
     let rows = tally.rows()?;
-    assert!(rt; rows.as_slice() == [(2, 2, 36893488147419103230)].as_slice(), "2^65 - 2");
+    assert!(rt;
+        rows.as_slice() == [(2, 2, 36893488147419103230)].as_slice(),
+        "2^65 - 2"
+    );
     Ok(())
 }
 
@@ -102,5 +111,8 @@ fn lows_add_up(rt: HostRuntime) {
     let mut once = Count::new();
     once.lower();
     let twice = once.then(once);
-    assert!(rt; twice == Count { sum: -2, low: -2 }, "the second goes on from the first");
+    assert!(rt;
+        twice == Count { sum: -2, low: -2 },
+        "the second goes on from the first"
+    );
 }

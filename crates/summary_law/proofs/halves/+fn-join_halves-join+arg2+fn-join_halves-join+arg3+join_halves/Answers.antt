@@ -1,4 +1,4 @@
-use Rattle.std.proofs.Common.{◌≡◌, IfOk, ◌/◌, List, length, take, drop, sym, subst, rules}
+use Rattle.std.proofs.Common.{IfOk, ◌/◌, List, length, take, drop, sym, subst, rules}
 use Rattle.std.proofs.lemmas.Result.{IfOk-weaker, IfOk-at_ok}
 use Rattle.summary_law.specs.Parts.{CanJoinAll, JoinsAll}
 use Rattle.summary_law.proofs.PartLaws.{front_can, back_can, halves_can, halves_joined}

@@ -1,4 +1,4 @@
-use Rattle.std.proofs.Common.{◌≡◌, ℕ, zero, suc, List, [], ◌∷◌, length, refl, ap, ◌∙◌}
+use Rattle.std.proofs.Common.{◌≡◌, suc, List, [], ◌∷◌, length, refl, ap, ◌∙◌}
 use Rattle.std.specs.Map.{keys_of}
 use Rattle.summary_law.proofs.TallyLaws.{map_keys}
 use Rattle.summary_law.proofs.tally.Tally.key_count.Goals as goal
