@@ -27,7 +27,8 @@ rewritten b w e f = e ∙ ap (λ t. cond b w t) f
 
 -- at each key whose entry is among the rest the earlier summary still stands, and at the others the joined one
 abbrev pub Merging : {K S I : Type 0} → (K → K → Bool) → (S → List I → Type 0) → (List I → Type 0) → (earlier later now : K → Option S) → List (K × S) → Type 0
-Merging {K} {S} {I} eq Sums Fits earlier later now rest = (q : K) (front back : List I) → IsPart Sums (earlier q) front → IsPart Sums (later q) back → Fits (front ++ back)
+Merging {K} {S} {I} eq Sums Fits earlier later now rest = (q : K) (front back : List I)
+    → IsPart Sums (earlier q) front → IsPart Sums (later q) back → Fits (front ++ back)
     → MatchOption (lookup (eq q) rest) (IsPart Sums (now q) (front ++ back)) (λ s. IsPart Sums (now q) front × IsPart Sums (Some s) back)
 
 module _ {K S I : Type 0} (eq : K → K → Bool) (laws : IsEquivalence eq) (Sums : S → List I → Type 0) (Fits : List I → Type 0) where
@@ -44,7 +45,8 @@ module _ {K S I : Type 0} (eq : K → K → Bool) (laws : IsEquivalence eq) (Sum
 
   -- one more item, where the summary of its key takes it
   pub added_part : (old now : K → Option S) → ((x y : K) → eq x y ≡ true → old x ≡ old y) → (k : K) (i : I) (new : S)
-      → ((q : K) → now q ≡ cond (eq k q) (Some new) (old q)) → ((front : List I) → IsPart Sums (old k) front → Fits (front ++ i ∷ []) → Sums new (front ++ i ∷ []))
+      → ((q : K) → now q ≡ cond (eq k q) (Some new) (old q))
+      → ((front : List I) → IsPart Sums (old k) front → Fits (front ++ i ∷ []) → Sums new (front ++ i ∷ []))
       → (items : List (K × I)) → ((q : K) → IsPart Sums (old q) (items_of eq q items)) → EachFits eq Fits (items ++ (k, i) ∷ [])
       → (q : K) → IsPart Sums (now q) (items_of eq q (items ++ (k, i) ∷ []))
   added_part old now same k i new writes step items sums fits q =
@@ -87,21 +89,26 @@ module _ {K S I : Type 0} (eq : K → K → Bool) (laws : IsEquivalence eq) (Sum
       let here : next q ≡ Some merged = writes q ∙ ap (λ b. cond b (Some merged) (now q)) (laws.symm k q ∙ e) in
       let found : lookup (eq q) ((k, s) ∷ rest) ≡ Some s = ap (λ b. cond b (Some s) (lookup (eq q) rest)) e in
       let both : IsPart Sums (now q) front × IsPart Sums (Some s) back
-      = subst (λ (o : Option S). MatchOption o (IsPart Sums (now q) (front ++ back)) (λ s. IsPart Sums (now q) front × IsPart Sums (Some s) back)) found (merging q front back mine theirs fits) in
+      = subst (λ (o : Option S). MatchOption o (IsPart Sums (now q) (front ++ back)) (λ s. IsPart Sums (now q) front × IsPart Sums (Some s) back)) found
+      (merging q front back mine theirs fits) in
       let front_here : IsPart Sums (now k) front = subst (λ (o : Option S). IsPart Sums o front) (same q k e) both.0 in
       rw (none_behind q k rest e (IsDistinct-head eq k (keys_of rest) distinct))
       (subst (λ (o : Option S). IsPart Sums o (front ++ back)) (sym here) (joins front back front_here both.1 fits)))
       (λ (e : eq q k ≡ false).
       let there : next q ≡ now q = writes q ∙ ap (λ b. cond b (Some merged) (now q)) (laws.symm k q ∙ e) in
       let found : lookup (eq q) ((k, s) ∷ rest) ≡ lookup (eq q) rest = ap (λ b. cond b (Some s) (lookup (eq q) rest)) e in
-      let before = subst (λ (o : Option S). MatchOption o (IsPart Sums (now q) (front ++ back)) (λ s. IsPart Sums (now q) front × IsPart Sums (Some s) back)) found (merging q front back mine theirs fits) in
-      subst (λ (o : Option S). MatchOption (lookup (eq q) rest) (IsPart Sums o (front ++ back)) (λ s. IsPart Sums o front × IsPart Sums (Some s) back)) (sym there) before)
+      let before =
+      subst (λ (o : Option S). MatchOption o (IsPart Sums (now q) (front ++ back)) (λ s. IsPart Sums (now q) front × IsPart Sums (Some s) back)) found
+      (merging q front back mine theirs fits) in
+      subst (λ (o : Option S). MatchOption (lookup (eq q) rest) (IsPart Sums o (front ++ back)) (λ s. IsPart Sums o front × IsPart Sums (Some s) back))
+      (sym there) before)
       (cases_Bool (eq q k))
 
   -- what joining the summaries of one key asks
   pub join_asks : (earlier later now : K → Option S) (k : K) (s : S) (rest : List (K × S)) → Merging eq Sums Fits earlier later now ((k, s) ∷ rest)
       → (firsts seconds : List (K × I)) → ((q : K) → IsPart Sums (earlier q) (items_of eq q firsts)) → ((q : K) → IsPart Sums (later q) (items_of eq q seconds))
-      → EachFits eq Fits (firsts ++ seconds) → (mine : S) → now k ≡ Some mine → (front : List I) × (back : List I) × Sums mine front × Sums s back × Fits (front ++ back)
+      → EachFits eq Fits (firsts ++ seconds) → (mine : S) → now k ≡ Some mine
+      → (front : List I) × (back : List I) × Sums mine front × Sums s back × Fits (front ++ back)
   join_asks earlier later now k s rest merging firsts seconds sums_first sums_second fits mine found =
       let front = items_of eq k firsts in
       let back = items_of eq k seconds in
@@ -113,13 +120,15 @@ module _ {K S I : Type 0} (eq : K → K → Bool) (laws : IsEquivalence eq) (Sum
       (front, back, mine_sums.1, both.1.1, fits_here)
 
   -- the summary of a key of the later map alone
-  pub alone : (now : Option S) (s : S) → now ≡ None → (front back : List I) → IsPart Sums now front → IsPart Sums (Some s) back → Fits (front ++ back) → IsPart Sums (Some s) (front ++ back)
+  pub alone : (now : Option S) (s : S) → now ≡ None → (front back : List I)
+      → IsPart Sums now front → IsPart Sums (Some s) back → Fits (front ++ back) → IsPart Sums (Some s) (front ++ back)
   alone now s none front back mine theirs fits =
       let nil : front ≡ [] = subst (λ (o : Option S). IsPart Sums o front) none mine in
       rw nil theirs
 
   -- the joined summary of a key of both
-  pub together : (now : Option S) (mine s merged : S) → now ≡ Some mine → ((front back : List I) → Sums mine front → Sums s back → Fits (front ++ back) → Sums merged (front ++ back))
+  pub together : (now : Option S) (mine s merged : S) → now ≡ Some mine
+      → ((front back : List I) → Sums mine front → Sums s back → Fits (front ++ back) → Sums merged (front ++ back))
       → (front back : List I) → IsPart Sums now front → IsPart Sums (Some s) back → Fits (front ++ back) → IsPart Sums (Some merged) (front ++ back)
   together now mine s merged found joins front back first second fits =
       let there : IsPart Sums (Some mine) front = subst (λ (o : Option S). IsPart Sums o front) found first in
@@ -127,8 +136,8 @@ module _ {K S I : Type 0} (eq : K → K → Bool) (laws : IsEquivalence eq) (Sum
 
   -- after the last entry each key has its joined summary
   pub merged_all : (earlier later now : K → Option S) → Merging eq Sums Fits earlier later now [] → (firsts seconds : List (K × I))
-      → ((q : K) → IsPart Sums (earlier q) (items_of eq q firsts)) → ((q : K) → IsPart Sums (later q) (items_of eq q seconds)) → EachFits eq Fits (firsts ++ seconds)
-      → (q : K) → IsPart Sums (now q) (items_of eq q (firsts ++ seconds))
+      → ((q : K) → IsPart Sums (earlier q) (items_of eq q firsts)) → ((q : K) → IsPart Sums (later q) (items_of eq q seconds))
+      → EachFits eq Fits (firsts ++ seconds) → (q : K) → IsPart Sums (now q) (items_of eq q (firsts ++ seconds))
   merged_all earlier later now merging firsts seconds sums_first sums_second fits q =
       rw (items_of-append eq q firsts seconds)
       (merging q (items_of eq q firsts) (items_of eq q seconds) (sums_first q) (sums_second q) (subst Fits (items_of-append eq q firsts seconds) (fits q)))

@@ -1,15 +1,16 @@
 -- The count of one more change, and of one list of changes followed by another.
-use Rattle.std.proofs.Common.{◌≡◌, ℕ, zero, suc, ◌+◌, ◌-◌, ◌<◌, ◌≤◌, ◌⊎◌, pos, negsuc, cond, List, Option, Some, None, [], ◌∷◌, ◌++◌, length, map, take, refl, sym, ap, subst, ◌∙◌, inl, inr, ⊎_elim, length-append, arith}
+use Rattle.std.proofs.Common.{◌≡◌, ℕ, zero, suc, ◌+◌, ◌-◌, ◌<◌, ◌≤◌, ◌⊎◌, pos, negsuc, cond, Option, Some, None, refl, sym, ap, subst, ◌∙◌, inl, inr, ⊎_elim}
+use Rattle.std.proofs.Common.{List, [], ◌∷◌, ◌++◌, length, map, take, length-append, arith}
 use Rattle.std.specs.Prelude.{◌+ℤ◌, ◌≤ℤ◌}
 use Rattle.std.proofs.Math.Seq.{take-append-add, take-length}
 use Rattle.std.proofs.lemmas.Bool.{cases_lt}
 use Rattle.std.proofs.lemmas.Int.{ints}
-use Rattle.std.proofs.lemmas.List.{take-append-le, length-take-le}
+use Rattle.std.proofs.lemmas.List.{take-append-le, length-map, length-take-le}
 use Rattle.std.proofs.lemmas.List.Sums.{sum_by-append}
 use Rattle.std.specs.List.{cons_option, filter_map}
 use Rattle.std.specs.Option.{option_map_or}
 use Rattle.summary_law.specs.declared.count.Count.{Count}
-use Rattle.summary_law.specs.Count.{Change, raises, lowers, keeps, is_raise, is_lower, total, IsCount, IsCountOf, IsWithin, change_read}
+use Rattle.summary_law.specs.Count.{Change, raises, lowers, keeps, is_raise, is_lower, total, IsCount, IsCountOf, IsWithin, CountsOneMore, change_read}
 
 pub total-append : (changes more : List Change) → total (changes ++ more) ≡ total changes +ℤ total more
 total-append changes more =
@@ -45,7 +46,8 @@ joined_least first second joined changes more j a b n h =
     let under = j.below_second in
     let whole : length changes + (n - length changes) ≡ n = omega arith in
     let prefix = total-into changes more (n - length changes) in
-    let there : total (take n (changes ++ more)) ≡ total changes +ℤ total (take (n - length changes) more) = subst (λ (m : ℕ). total (take m (changes ++ more)) ≡ total changes +ℤ total (take (n - length changes) more)) whole prefix in
+    let there : total (take n (changes ++ more)) ≡ total changes +ℤ total (take (n - length changes) more)
+    = subst (λ (m : ℕ). total (take m (changes ++ more)) ≡ total changes +ℤ total (take (n - length changes) more)) whole prefix in
     omega (arith, ints))
     (cases_lt n (length changes))
 
@@ -65,7 +67,8 @@ joined_reached first second joined changes more j a b =
     (length changes + b.reached.0, omega arith, omega (arith, ints, e, low, prefix, sum)))
     j.low
 
-pub joined_counts : (first second joined : Count) (changes more : List Change) → Joins first second joined → IsCount first changes → IsCount second more → IsCount joined (changes ++ more)
+pub joined_counts : (first second joined : Count) (changes more : List Change)
+    → Joins first second joined → IsCount first changes → IsCount second more → IsCount joined (changes ++ more)
 joined_counts first second joined changes more j a b =
     let in_first = a.sum in
     let in_second = b.sum in
@@ -104,16 +107,17 @@ unfolding down
 down_counts = record { sum = refl; reached = (1, omega arith, refl); least = λ n h. down_least n }
 
 -- a count that one more change raises
-pub raised_counts : (old new : Count) → new.sum ≡ old.sum +ℤ pos 1 → new.low ≡ old.low → (changes : List Change) → IsCount old changes → IsCount new (changes ++ raises ∷ [])
+pub raised_counts : (old new : Count) → new.sum ≡ old.sum +ℤ pos 1 → new.low ≡ old.low → CountsOneMore raises old new
 unfolding up
 raised_counts old new sum low changes counts =
     let least = counts.least (length changes) (omega arith) in
     let whole : total (take (length changes) changes) ≡ old.sum = ap total (take-length changes) ∙ sym counts.sum in
-    joined_counts old up new changes (raises ∷ []) (record { sum = sum; low = inl low; below_first = omega (arith, ints); below_second = omega (arith, ints) }) counts up_counts
+    joined_counts old up new changes (raises ∷ [])
+    (record { sum = sum; low = inl low; below_first = omega (arith, ints); below_second = omega (arith, ints) }) counts up_counts
 
 -- a count that one more change lowers
 pub lowered_counts : (old new : Count) → new.sum ≡ old.sum +ℤ negsuc 0 → (new.low ≡ old.low) ⊎ (new.low ≡ new.sum) → new.low ≤ℤ old.low → new.low ≤ℤ new.sum
-    → (changes : List Change) → IsCount old changes → IsCount new (changes ++ lowers ∷ [])
+    → CountsOneMore lowers old new
 unfolding down
 lowered_counts old new sum low below under changes counts =
     joined_counts old down new changes (lowers ∷ [])
@@ -133,7 +137,7 @@ unfolding level
 level_counts = record { sum = refl; reached = (0, omega arith, refl); least = λ n h. level_least n }
 
 -- a list may have what leaves its count as it is
-pub kept_counts : (count : Count) (changes : List Change) → IsCount count changes → IsCount count (changes ++ keeps ∷ [])
+pub kept_counts : (count : Count) → CountsOneMore keeps count count
 unfolding level
 kept_counts count changes counts =
     let least = counts.least (length changes) (omega arith) in
@@ -229,3 +233,7 @@ module _ {E I : Type 0} (read : E → Option I) (change : I → Change) where
             let own_prefix = prefix_of_own n es in
             subst (λ z. count.low ≤ℤ z) (sym own_prefix.2) (counts.least own_prefix.0 own_prefix.1);
       }
+
+-- a count of what items do is no further from 0 than there are items
+pub items_within : {I : Type 0} (change : I → Change) (count : Count) (items : List I) → IsCountOf change count items → IsWithin count (length items)
+items_within change count items counts = subst (IsWithin count) (length-map items change) (count_within count (map change items) counts)

@@ -46,8 +46,8 @@ module _ {S I : Type 0} (Sums : S → List I → Type 0) where
           subst Fits (halves n can.0) can.2,
         )
 
-    pub halves_joined : (n : ℕ) (parts : List S) (first second whole : S)
-        → JoinsAll Sums Fits (take n parts) first → JoinsAll Sums Fits (drop n parts) second → Joins Sums Fits first second whole → JoinsAll Sums Fits parts whole
+    pub halves_joined : (n : ℕ) (parts : List S) (first second whole : S) → JoinsAll Sums Fits (take n parts) first
+        → JoinsAll Sums Fits (drop n parts) second → Joins Sums Fits first second whole → JoinsAll Sums Fits parts whole
     halves_joined n parts first second whole in_front behind joins = λ lists sums fits.
         let both = fits_both n lists fits in
         subst (Sums whole) (sym (halves n lists))

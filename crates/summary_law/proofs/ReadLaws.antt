@@ -31,7 +31,8 @@ module _ {E I : Type 0} (read : E → Option I) where
       → PlacesRise place_of es → PlacesRise place (filter_map read es)
   rising_read place place_of same [] rise = λ i j d below within. absurd (omega arith)
   rising_read place place_of same (e ∷ es) rise =
-      let rest : PlacesRise place (filter_map read es) = rising_read place place_of same es (λ i j d below within. rise (suc i) (suc j) d (omega arith) (omega arith)) in
+      let rest : PlacesRise place (filter_map read es)
+      = rising_read place place_of same es (λ i j d below within. rise (suc i) (suc j) d (omega arith) (omega arith)) in
       let above : All (λ x. place_of e < place_of x) es = λ j d within. rise 0 (suc j) d (omega arith) (omega arith) in
       let later : All (λ i. place_of e < place i) (filter_map read es)
       = all_read (λ i. place_of e < place i) es (All-weaker (λ x. place_of e < place_of x) (λ x. (i : I) → read x ≡ Some i → place_of e < place i)

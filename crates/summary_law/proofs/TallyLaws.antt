@@ -1,5 +1,6 @@
 -- The rows of a map of amounts, and sums of weights.
-use Rattle.std.proofs.Common.{◌≡◌, ℕ, ◌*◌, ◌-◌, ◌<◌, ◌≤◌, ◌^◌, Bool, true, List, [], ◌∷◌, length, map, sum, Option, Some, None, is_some, refl, sym, ap, subst, ◌∙◌, arith, get_or}
+use Rattle.std.proofs.Common.{◌≡◌, ℕ, ◌*◌, ◌-◌, ◌<◌, ◌≤◌, ◌^◌, Bool, true, List, [], ◌∷◌}
+use Rattle.std.proofs.Common.{length, map, sum, Option, Some, None, is_some, refl, sym, ap, subst, ◌∙◌, arith, get_or}
 use Rattle.std.proofs.lemmas.List.{length-map}
 use Rattle.std.proofs.lemmas.List.Elements.{All-map, All-weaker}
 use Rattle.std.proofs.lemmas.List.Sums.{sum_by-le}
@@ -20,7 +21,8 @@ use Rattle.summary_law.specs.declared.tally.Amount.{Amount}
 pub sum_fits : (weights : List ℕ) → AreWeights weights → sum weights < 2 ^ 127
 sum_fits weights few =
     let short = few.0 in
-    let most : sum weights ≤ length weights * (2 ^ 64 - 1) = sum_by-le (λ w. w) (2 ^ 64 - 1) weights (All-weaker (λ w. w < 2 ^ 64) (λ w. w ≤ 2 ^ 64 - 1) (λ w h. omega arith) weights few.1) in
+    let most : sum weights ≤ length weights * (2 ^ 64 - 1)
+    = sum_by-le (λ w. w) (2 ^ 64 - 1) weights (All-weaker (λ w. w < 2 ^ 64) (λ w. w ≤ 2 ^ 64 - 1) (λ w h. omega arith) weights few.1) in
     omega arith
 
 -- the weights of each key are few where all are
@@ -48,7 +50,8 @@ came : {I : Type 0} (items : List I) → (items ≡ [] → ⊥) → 0 < length i
 came [] some = absurd (some refl)
 came (i ∷ is) some = omega arith
 
-module _ {K : Type 0} (cmp : K → K → Ordering) (laws : IsTotalOrder cmp) (m : BTreeMap K Amount) (ordered : IsOrdered cmp m) (items : List (K × ℕ)) (sums : SumsByKey cmp IsAmount m items) where
+module _ {K : Type 0} (cmp : K → K → Ordering) (laws : IsTotalOrder cmp) (m : BTreeMap K Amount) (ordered : IsOrdered cmp m)
+    (items : List (K × ℕ)) (sums : SumsByKey cmp IsAmount m items) where
   entry_part : (e : K × Amount) → get cmp m e.0 ≡ Some e.1 → IsPart IsAmount (Some e.1) (items_of (eq_by_cmp cmp) e.0 items)
   entry_part e found = subst (λ (o : Option Amount). IsPart IsAmount o (items_of (eq_by_cmp cmp) e.0 items)) found (sums e.0)
 

@@ -22,8 +22,10 @@ IsPart Sums None items = items ≡ []
 IsPart Sums (Some part) items = (items ≢ []) × Sums part items
 
 -- the map has, under each key that items stand under and no other, a summary of those items
-abbrev pub SumsByKey : {K S I : Type 0} → (K → K → Ordering) → (S → List I → Type 0) → BTreeMap K S → List (K × I) → Type 0
-SumsByKey {K} cmp Sums entries items = (key : K) → IsPart Sums (get cmp entries key) (items_of (eq_by_cmp cmp) key items)
+abbrev pub SumsByKey : {K S I : Type 0}
+    → (K → K → Ordering) → (S → List I → Type 0) → BTreeMap K S → List (K × I) → Type 0
+SumsByKey {K} cmp Sums entries items =
+    (key : K) → IsPart Sums (get cmp entries key) (items_of (eq_by_cmp cmp) key items)
 
 -- the items of each key can be summarised
 abbrev pub EachFits : {K I : Type 0} → (K → K → Bool) → (List I → Type 0) → List (K × I) → Type 0
@@ -34,7 +36,8 @@ pub items_of-append : {K I : Type 0} (eq : K → K → Bool) (key : K) (first se
 items_of-append eq key first second = filter_map-append (under eq key) first second
 
 -- where lists fit in parts, so do those of which the items of each key fit
-pub each_fits_parts : {K I : Type 0} (eq : K → K → Bool) (Fits : List I → Type 0) → FitsInParts Fits → FitsInParts {I = K × I} (EachFits eq Fits)
+pub each_fits_parts : {K I : Type 0} (eq : K → K → Bool) (Fits : List I → Type 0)
+    → FitsInParts Fits → FitsInParts {I = K × I} (EachFits eq Fits)
 each_fits_parts {K} eq Fits parts first second fits =
     let both = λ (key : K). parts _ _ (subst Fits (items_of-append eq key first second) (fits key)) in
     (λ key. (both key).0, λ key. (both key).1)

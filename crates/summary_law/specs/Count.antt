@@ -1,5 +1,6 @@
 -- The sum of a list of changes by one, and the least sum of its prefixes.
-use Rattle.std.specs.Prelude.{◌≡◌, ℕ, ◌≤◌, ℤ, pos, ◌+ℤ◌, ◌-ℤ◌, ◌≤ℤ◌, Bool, true, false, List, length, take, map, count_by, Option}
+use Rattle.std.specs.Prelude.{◌≡◌, ℕ, ◌≤◌, ℤ, pos, ◌+ℤ◌, ◌-ℤ◌, ◌≤ℤ◌, Bool, true, false, List, [], ◌∷◌, ◌++◌}
+use Rattle.std.specs.Prelude.{length, take, map, count_by, Option}
 use Rattle.std.specs.Option.{option_map_or}
 use Rattle.summary_law.specs.declared.count.Count.{Count}
 
@@ -30,6 +31,15 @@ pub record IsCount (count : Count) (changes : List Change) : Type 0 where
   pub sum : count.sum ≡ total changes
   pub reached : (n : ℕ) × (n ≤ length changes) × (count.low ≡ total (take n changes))
   pub least : (n : ℕ) → n ≤ length changes → count.low ≤ℤ total (take n changes)
+
+-- whatever changes the old count is of, the new one is of those and this one behind them
+abbrev pub CountsOneMore : Change → Count → Count → Type 0
+CountsOneMore change old new = (changes : List Change) → IsCount old changes → IsCount new (changes ++ change ∷ [])
+
+-- whatever changes the two counts are of, the whole one is of the earlier followed by the later ones
+abbrev pub CountsBoth : Count → Count → Count → Type 0
+CountsBoth earlier later whole =
+    (changes more : List Change) → IsCount earlier changes → IsCount later more → IsCount whole (changes ++ more)
 
 -- the count of what these items do
 abbrev pub IsCountOf : {I : Type 0} → (I → Change) → Count → List I → Type 0

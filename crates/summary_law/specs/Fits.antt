@@ -22,7 +22,8 @@ short_parts first second short =
     (omega arith, omega arith)
 
 -- where something holds of each item of a list, it does of those of both parts
-pub all_parts : {I : Type 0} (P : I → Type 0) (first second : List I) → All P (first ++ second) → All P first × All P second
+pub all_parts : {I : Type 0} (P : I → Type 0) (first second : List I)
+    → All P (first ++ second) → All P first × All P second
 all_parts {I} P first second all =
     let long = length-append first second in (
       λ i d within. subst P (get_or_append_left first second d i within) (all i d (omega arith)),
@@ -30,29 +31,35 @@ all_parts {I} P first second all =
     )
 
 -- in both parts of a list whose places rise they rise
-pub rising_parts : {I : Type 0} (place : I → ℕ) (first second : List I) → PlacesRise place (first ++ second) → PlacesRise place first × PlacesRise place second
+pub rising_parts : {I : Type 0} (place : I → ℕ) (first second : List I)
+    → PlacesRise place (first ++ second) → PlacesRise place first × PlacesRise place second
 rising_parts {I} place first second rise =
     let long = length-append first second in (
       λ i j d below within.
           let inside : i < length first = omega arith in
           subst (λ (x : I). place (get_or first i d) < place x) (get_or_append_left first second d j within)
-          (subst (λ (x : I). place x < place (get_or (first ++ second) j d)) (get_or_append_left first second d i inside) (rise i j d below (omega arith))),
+          (subst (λ (x : I). place x < place (get_or (first ++ second) j d))
+          (get_or_append_left first second d i inside) (rise i j d below (omega arith))),
       λ i j d below within.
           subst (λ (x : I). place (get_or second i d) < place x) (get_or-append-add first second j d)
-          (subst (λ (x : I). place x < place (get_or (first ++ second) (length first + j) d)) (get_or-append-add first second i d)
+          (subst (λ (x : I). place x < place (get_or (first ++ second) (length first + j) d))
+          (get_or-append-add first second i d)
           (rise (length first + i) (length first + j) d (omega arith) (omega arith))),
     )
 
 -- where the places of a list rise, those of its first part are below those of its second
-pub rising_apart : {I : Type 0} (place : I → ℕ) (first second : List I) → PlacesRise place (first ++ second) → All (λ a. All (λ b. place a < place b) second) first
+pub rising_apart : {I : Type 0} (place : I → ℕ) (first second : List I)
+    → PlacesRise place (first ++ second) → All (λ a. All (λ b. place a < place b) second) first
 rising_apart {I} place first second rise i d inside j e within =
     let long = length-append first second in
     subst (λ (x : I). place (get_or first i d) < place x) (get_or-append-add first second j e)
     (subst (λ (x : I). place x < place (get_or (first ++ second) (length first + j) e))
-    (get_or_append_left first second e i inside ∙ get_or_default first i e d inside) (rise i (length first + j) e (omega arith) (omega arith)))
+    (get_or_append_left first second e i inside ∙ get_or_default first i e d inside)
+    (rise i (length first + j) e (omega arith) (omega arith)))
 
 -- both parts of a list that is placed are
-pub placed_parts : {I : Type 0} (place : I → ℕ) (first second : List I) → IsPlaced place (first ++ second) → IsPlaced place first × IsPlaced place second
+pub placed_parts : {I : Type 0} (place : I → ℕ) (first second : List I)
+    → IsPlaced place (first ++ second) → IsPlaced place first × IsPlaced place second
 placed_parts place first second placed =
     let short = short_parts first second placed.0 in
     let rise = rising_parts place first second placed.1 in

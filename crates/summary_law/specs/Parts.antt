@@ -12,4 +12,5 @@ CanJoinAll {S} {I} Sums Fits parts = (lists : List (List I)) × AllZip Sums part
 
 -- whatever lists the parts sum, each part one, the whole sums them one followed by the next, if that can be summarised
 abbrev pub JoinsAll : {S I : Type 0} → (S → List I → Type 0) → (List I → Type 0) → List S → S → Type 0
-JoinsAll {S} {I} Sums Fits parts whole = (lists : List (List I)) → AllZip Sums parts lists → Fits (all_items lists) → Sums whole (all_items lists)
+JoinsAll {S} {I} Sums Fits parts whole =
+    (lists : List (List I)) → AllZip Sums parts lists → Fits (all_items lists) → Sums whole (all_items lists)

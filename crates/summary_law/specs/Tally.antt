@@ -30,7 +30,8 @@ pub record IsTallyRow {K : Type 0} (cmp : K → K → Ordering) (items : List (K
   pub sum : row.2 ≡ sum_of cmp row.0 items
 
 -- a row for each key that items stand under, in rising order
-pub record AreTallyRows {K : Type 0} (cmp : K → K → Ordering) (items : List (K × ℕ)) (rows : List (K × ℕ × ℕ)) : Type 0 where
+pub record AreTallyRows {K : Type 0} (cmp : K → K → Ordering) (items : List (K × ℕ)) (rows : List (K × ℕ × ℕ)) :
+    Type 0 where
   pub keys : AreKeys cmp items (map (λ row. row.0) rows)
   pub right : All (IsTallyRow cmp items) rows
 
@@ -46,6 +47,19 @@ pub record IsAmount (amount : Amount) (weights : List ℕ) : Type 0 where
 -- the tally has the amount of each key that items stand under
 abbrev pub TallySums : {K : Type 0} → (K → K → Ordering) → Tally K → List (K × ℕ) → Type 0
 TallySums cmp tally items = SumsByKey cmp IsAmount tally.amounts.entries items
+
+-- the rows of whatever items the tally sums
+abbrev pub GivesRows : {K : Type 0} → (K → K → Ordering) → Tally K → List (K × ℕ × ℕ) → Type 0
+GivesRows {K} cmp tally rows = (items : List (K × ℕ)) → TallySums cmp tally items → AreTallyRows cmp items rows
+
+-- the number of keys of whatever items the tally sums
+abbrev pub GivesKeyCount : {K : Type 0} → (K → K → Ordering) → Tally K → ℕ → Type 0
+GivesKeyCount {K} cmp tally n = (items : List (K × ℕ)) → TallySums cmp tally items → IsKeyCount cmp items n
+
+-- the count and the sum of the key, over whatever items the tally sums
+abbrev pub GivesAmount : {K : Type 0} → (K → K → Ordering) → Tally K → K → Amount → Type 0
+GivesAmount {K} cmp tally key amount =
+    (items : List (K × ℕ)) → TallySums cmp tally items → IsTallyRow cmp items (key, amount.count, amount.sum)
 
 -- at most 2^32 weights of 64 bits
 abbrev pub AreWeights : List ℕ → Type 0

@@ -1,7 +1,7 @@
 //! The sum and the low of a list of changes.
 
-ghost use Rattle.std.specs.Prelude.{◌-◌, List, [], ◌∷◌, ◌++◌, pos, negsuc, ◌+ℤ◌, ◌≤ℤ◌, ◌<ℤ◌, ◌^◌};
-ghost use Rattle.summary_law.specs.Count.{Change, raises, lowers, IsCount};
+ghost use Rattle.std.specs.Prelude.{◌-◌, [], pos, negsuc, ◌+ℤ◌, ◌≤ℤ◌, ◌<ℤ◌, ◌^◌};
+ghost use Rattle.summary_law.specs.Count.{raises, lowers, IsCount, CountsOneMore, CountsBoth};
 
 /// The sum of a list of changes by one, and its low: the least sum of a prefix, the empty one
 /// included.
@@ -22,7 +22,7 @@ impl Count {
     /// One more.
     pub fn raise(&mut self)
         requires { self.old.sum <ℤ pos (2 ^ 63 - 1) }
-        ensures { (changes : List Change) → IsCount self.old changes → IsCount self.new (changes ++ raises ∷ []) }
+        ensures { CountsOneMore raises self.old self.new }
     {
         self.sum += 1;
     }
@@ -30,7 +30,7 @@ impl Count {
     /// One less.
     pub fn lower(&mut self)
         requires { negsuc (2 ^ 63 - 1) <ℤ self.old.sum }
-        ensures { (changes : List Change) → IsCount self.old changes → IsCount self.new (changes ++ lowers ∷ []) }
+        ensures { CountsOneMore lowers self.old self.new }
     {
         self.sum -= 1;
         if self.sum < self.low {
@@ -44,7 +44,7 @@ impl Count {
         requires sum_high { (self.sum +ℤ later.sum) ≤ℤ pos (2 ^ 63 - 1) }
         requires low_low { negsuc (2 ^ 63 - 1) ≤ℤ (self.sum +ℤ later.low) }
         requires low_high { (self.sum +ℤ later.low) ≤ℤ pos (2 ^ 63 - 1) }
-        ensures { (changes more : List Change) → IsCount self changes → IsCount later more → IsCount result (changes ++ more) }
+        ensures { CountsBoth self later result }
     {
         let low = self.sum + later.low;
         Count {

@@ -5,8 +5,8 @@ ghost use Rattle.summary_law.specs.Summary.{CanAdd, Adds, CanJoin, Joins, FitsIn
 
 use std::alloc::{AllocError, Global};
 
-/// A value that summarises a list of items. Items are added at the end, and the summaries of two lists
-/// are joined into that of the one followed by the other. A value does not tell which list it
+/// A value that summarises a list of items. Items are added at the end, and the summaries of two
+/// lists are joined into that of the one followed by the other. A value does not tell which list it
 /// summarises: what it gives is true of every list that it sums.
 pub trait Summary: Drop {
     /// What is summarised.
@@ -23,7 +23,8 @@ pub trait Summary: Drop {
     fn empty(alloc: Global) -> Self
         ensures { sums result [] };
 
-    /// Adds an item behind those that are summarised. After an error the value is only to be dropped.
+    /// Adds an item behind those that are summarised. After an error the value is only to be
+    /// dropped.
     fn add(&mut self, item: Self::Item) -> Result<(), AllocError>
         requires { CanAdd sums fits self.old item }
         ensures { OnOk result (Adds sums fits self.old item self.new) };

@@ -1,8 +1,9 @@
 //! The count and the sum of what stands under each key.
 
-ghost use Rattle.std.specs.Prelude.{◌≡◌, ℕ, List, IfOk};
-ghost use Rattle.summary_law.specs.Tally.{AreTallyRows, AreWeighted, AreWeights, IsAmount, IsKeyCount};
-ghost use Rattle.summary_law.specs.Tally.{TallySums, count_of, sum_of, weighted_parts, weights_parts};
+ghost use Rattle.std.specs.Prelude.{IfOk};
+ghost use Rattle.summary_law.specs.Tally.{AreWeighted, AreWeights, weighted_parts, weights_parts};
+ghost use Rattle.summary_law.specs.Tally.{IsAmount, TallySums};
+ghost use Rattle.summary_law.specs.Tally.{GivesRows, GivesKeyCount, GivesAmount};
 
 use crate::by_key::ByKey;
 use crate::summary::Summary;
@@ -51,7 +52,7 @@ pub struct Tally<K: Ord + Copy> {
 impl<K: Ord + Copy> Tally<K> {
     /// Each key with its count and its sum, the keys rising.
     pub fn rows(&self) -> Result<Vec<(K, u64, u128)>, AllocError>
-        ensures { IfOk result (λ rows. (items : List (K × ℕ)) → TallySums K.cmp self.now items → AreTallyRows K.cmp items rows.items) }
+        ensures { IfOk result (λ rows. GivesRows K.cmp self.now rows.items) }
     {
         let mut rows = Vec::new(self.amounts.allocator());
         for (key, amount) in &self.amounts.entries {
@@ -62,14 +63,14 @@ impl<K: Ord + Copy> Tally<K> {
 
     /// How many different keys there are.
     pub fn key_count(&self) -> usize
-        ensures { (items : List (K × ℕ)) → TallySums K.cmp self.now items → IsKeyCount K.cmp items result }
+        ensures { GivesKeyCount K.cmp self.now result }
     {
         self.amounts.entries.len()
     }
 
     /// The count and the sum of a key, which are 0 where nothing stands under it.
     pub fn amount(&self, key: K) -> Amount
-        ensures { (items : List (K × ℕ)) → TallySums K.cmp self.now items → (result.count ≡ count_of K.cmp key items) × (result.sum ≡ sum_of K.cmp key items) }
+        ensures { GivesAmount K.cmp self.now key result }
     {
         match self.amounts.entries.get(&key) {
             Some(amount) => *amount,

@@ -65,7 +65,8 @@ impl<'c> Summary for NumberedFrames<'c> {
 
     ghost fits = { IsShort };
 
-    ghost sums = { λ v frames. TallySums nat_cmp v.numbers (map (λ frame. (frame.number, 0)) frames) × ⟦<Frames<'c> as Summary>⟧.sums v.frames frames };
+    ghost sums = { λ v frames. TallySums nat_cmp v.numbers (map (λ frame. (frame.number, 0)) frames)
+        × ⟦<Frames<'c> as Summary>⟧.sums v.frames frames };
 
     fn empty(alloc: Global) -> NumberedFrames<'c> {
         NumberedFrames {

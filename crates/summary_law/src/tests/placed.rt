@@ -18,7 +18,8 @@ impl Summary for Greatest {
 
     ghost fits = { IsPlaced (λ place. place) };
 
-    ghost sums = { λ v places. MatchOption v.place (places ≡ []) (λ last. All (λ place. place ≤ last) places × Contains places last) };
+    ghost sums = { λ v places. MatchOption v.place (places ≡ []) (λ last.
+        All (λ place. place ≤ last) places × Contains places last) };
 
     fn empty(_alloc: Global) -> Greatest {
         Greatest { place: None }

@@ -42,9 +42,11 @@ join-requires-2 g t c =
       | else-workers-lt2 w ↦ rw w.first-is (w.join.ensures.first, w.join.ensures.second)
     ] in
     let front : JoinsAll sums fits (take n parts) c.in_ok-first.first
-    = subst (λ (ps : List _). JoinsAll sums fits ps c.in_ok-first.first) halves.ensures.front (IfOk-at_ok (JoinsAll sums fits halves.result.0.now) c.in_ok-first.was both.0) in
+    = subst (λ (ps : List _). JoinsAll sums fits ps c.in_ok-first.first) halves.ensures.front
+    (IfOk-at_ok (JoinsAll sums fits halves.result.0.now) c.in_ok-first.was both.0) in
     let back : JoinsAll sums fits (drop n parts) c.in_ok-second.second
-    = subst (λ (ps : List _). JoinsAll sums fits ps c.in_ok-second.second) halves.ensures.back (IfOk-at_ok (JoinsAll sums fits halves.result.1.now) c.in_ok-second.was both.1) in
+    = subst (λ (ps : List _). JoinsAll sums fits ps c.in_ok-second.second) halves.ensures.back
+    (IfOk-at_ok (JoinsAll sums fits halves.result.1.now) c.in_ok-second.was both.1) in
     halves_can sums fits laws.fits_parts n parts c.in_ok-first.first c.in_ok-second.second c.requires front back
 
 pub returns : goal.returns
@@ -61,9 +63,11 @@ returns g t c =
       | else-workers-lt2 w ↦ rw w.first-is (w.join.ensures.first, w.join.ensures.second)
     ] in
     let front : JoinsAll sums fits (take n parts) c.in_ok-first.first
-    = subst (λ (ps : List _). JoinsAll sums fits ps c.in_ok-first.first) halves.ensures.front (IfOk-at_ok (JoinsAll sums fits halves.result.0.now) c.in_ok-first.was both.0) in
+    = subst (λ (ps : List _). JoinsAll sums fits ps c.in_ok-first.first) halves.ensures.front
+    (IfOk-at_ok (JoinsAll sums fits halves.result.0.now) c.in_ok-first.was both.0) in
     let back : JoinsAll sums fits (drop n parts) c.in_ok-second.second
-    = subst (λ (ps : List _). JoinsAll sums fits ps c.in_ok-second.second) halves.ensures.back (IfOk-at_ok (JoinsAll sums fits halves.result.1.now) c.in_ok-second.was both.1) in
+    = subst (λ (ps : List _). JoinsAll sums fits ps c.in_ok-second.second) halves.ensures.back
+    (IfOk-at_ok (JoinsAll sums fits halves.result.1.now) c.in_ok-second.was both.1) in
     IfOk-weaker c.join-2.result _ (JoinsAll sums fits parts)
     (λ whole joins. halves_joined sums fits laws.fits_parts n parts c.in_ok-first.first c.in_ok-second.second whole front back joins)
     c.join-2.ensures

@@ -17,7 +17,8 @@ add-requires g c =
     let key = c.args.item.0 in
     let items = c.requires.0 in
     let found : get g.K.Ord.cmp c.args.self.now.entries key ≡ Some c.in-Some.part.now = search rules in
-    let part : IsPart sums (Some c.in-Some.part.now) (items_of eq key items) = subst (λ (o : Option _). IsPart sums o (items_of eq key items)) found (c.requires.1 key) in
+    let part : IsPart sums (Some c.in-Some.part.now) (items_of eq key items)
+    = subst (λ (o : Option _). IsPart sums o (items_of eq key items)) found (c.requires.1 key) in
     (items_of eq key items, part.1, fits_at eq laws sums g.S.Summary.fits items key key c.args.item.1 (laws.refl key) c.requires.2)
 
 pub add-requires-in-None : goal.add-requires-in-None
@@ -31,7 +32,8 @@ add-requires-in-None g c =
     let nil : items_of eq key items ≡ [] = subst (λ (o : Option _). IsPart sums o (items_of eq key items)) found (c.requires.1 key) in (
       [],
       c.empty-part.ensures,
-      subst (λ (t : List _). g.S.Summary.fits (t ++ c.args.item.1 ∷ [])) nil (fits_at eq laws sums g.S.Summary.fits items key key c.args.item.1 (laws.refl key) c.requires.2),
+      subst (λ (t : List _). g.S.Summary.fits (t ++ c.args.item.1 ∷ [])) nil
+          (fits_at eq laws sums g.S.Summary.fits items key key c.args.item.1 (laws.refl key) c.requires.2),
     )
 
 pub returns-in-Some : goal.returns-in-Some

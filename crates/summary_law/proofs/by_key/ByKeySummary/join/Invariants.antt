@@ -10,5 +10,6 @@ invariant-loop-key g l = record {
   can_next : (goal.iterator-loop-key g).can_next l.key-iterator;
   is_finite : (goal.iterator-loop-key g).is_finite l.key-iterator;
   distinct : IsDistinct (eq_by_cmp g.K.Ord.cmp) (keys_of l.key-iterator);
-  merging : Merging (eq_by_cmp g.K.Ord.cmp) g.S.Summary.sums g.S.Summary.fits (get g.K.Ord.cmp l.fn.self.entries) (get g.K.Ord.cmp l.fn.later.entries) (get g.K.Ord.cmp l.joined.entries) l.key-iterator;
+  merging : Merging (eq_by_cmp g.K.Ord.cmp) g.S.Summary.sums g.S.Summary.fits
+      (get g.K.Ord.cmp l.fn.self.entries) (get g.K.Ord.cmp l.fn.later.entries) (get g.K.Ord.cmp l.joined.entries) l.key-iterator;
 }

@@ -10,4 +10,5 @@ length-keys_of (e ∷ es) = ap suc (length-keys_of es)
 pub returns : goal.returns
 returns g c = λ items sums.
     let entries = c.args.self.now.amounts.entries in
-    (keys_of entries.entries, map_keys g.K.Ord.cmp g.met.K.Ord.total entries c.len.ensures.ordered items sums, c.len.ensures.len ∙ length-keys_of entries.entries)
+    let keys = map_keys g.K.Ord.cmp g.met.K.Ord.total entries c.len.ensures.ordered items sums in
+    (keys_of entries.entries, keys, c.len.ensures.len ∙ length-keys_of entries.entries)

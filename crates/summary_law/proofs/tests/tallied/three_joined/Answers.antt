@@ -27,7 +27,8 @@ join_all-requires-after_bounds g c κs within =
     let second = c.args.second.now in
     let third = c.args.third.now in
     let parts : c.push-3.new.self.items ≡ c.in_ok-summary_of.field-0 ∷ c.in_ok-summary_of-2.field-0 ∷ c.in_ok-summary_of-3.field-0 ∷ [] = search rules in
-    let whole : all_items (first ∷ second ∷ third ∷ []) ≡ first ++ second ++ third = ap (λ t. first ++ (second ++ t)) (append-nil third) ∙ sym (append_assoc first second third) in (
+    let whole : all_items (first ∷ second ∷ third ∷ []) ≡ first ++ second ++ third
+    = ap (λ t. first ++ (second ++ t)) (append-nil third) ∙ sym (append_assoc first second third) in (
       first ∷ second ∷ third ∷ [],
       subst (λ (ps : List _). AllZip (TallySums nat_cmp) ps (first ∷ second ∷ third ∷ [])) (sym parts)
           (c.in_ok-summary_of.ensures, (c.in_ok-summary_of-2.ensures, (c.in_ok-summary_of-3.ensures, tt))),
