@@ -14,8 +14,9 @@ use Rattle.std.specs.declared.cmp.Ordering.{Ordering}
 use Rattle.summary_law.proofs.ReadLaws.{each_short, each_all}
 use Rattle.summary_law.specs.ByKey.{items_of, IsPart, EachFits, SumsByKey}
 use Rattle.summary_law.specs.Fits.{IsShort}
-use Rattle.summary_law.specs.Tally.{count_of, AreKeys, IsTallyRow, AreTallyRows, IsAmount, AreWeights, AreWeighted}
-use Rattle.summary_law.specs.declared.tally.Amount.{Amount}
+use Rattle.summary_law.specs.Amount.{IsAmount, AreWeights}
+use Rattle.summary_law.specs.Tally.{count_of, AreKeys, IsTallyRow, AreTallyRows, AreWeighted}
+use Rattle.summary_law.specs.declared.amount.Amount.{Amount}
 
 -- few weights have a sum far below 2^128
 pub sum_fits : (weights : List ℕ) → AreWeights weights → sum weights < 2 ^ 127

@@ -2,5 +2,6 @@ pub mod Summary
 pub mod Count
 pub mod Fits
 pub mod ByKey
+pub mod Amount
 pub mod Tally
 pub mod Parts

@@ -4,8 +4,9 @@ use Rattle.std.specs.List.{list_any}
 use Rattle.std.specs.List.Sorted.{IsStrictlySortedBy}
 use Rattle.std.specs.Ordering.{eq_by_cmp}
 use Rattle.std.specs.declared.cmp.Ordering.{Ordering}
-use Rattle.summary_law.specs.declared.tally.Amount.{Amount}
+use Rattle.summary_law.specs.declared.amount.Amount.{Amount}
 use Rattle.summary_law.specs.declared.tally.Tally.{Tally}
+use Rattle.summary_law.specs.Amount.{IsAmount}
 use Rattle.summary_law.specs.ByKey.{items_of, SumsByKey}
 use Rattle.summary_law.specs.Fits.{IsShort, short_parts, all_parts}
 use Rattle.summary_law.specs.Summary.{FitsInParts}
@@ -39,11 +40,6 @@ pub record AreTallyRows {K : Type 0} (cmp : K → K → Ordering) (items : List 
 abbrev pub IsKeyCount : {K : Type 0} → (K → K → Ordering) → List (K × ℕ) → ℕ → Type 0
 IsKeyCount {K} cmp items n = (keys : List K) × AreKeys cmp items keys × (n ≡ length keys)
 
--- the number and the sum of the weights
-pub record IsAmount (amount : Amount) (weights : List ℕ) : Type 0 where
-  pub count : amount.count ≡ length weights
-  pub sum : amount.sum ≡ sum weights
-
 -- the tally has the amount of each key that items stand under
 abbrev pub TallySums : {K : Type 0} → (K → K → Ordering) → Tally K → List (K × ℕ) → Type 0
 TallySums cmp tally items = SumsByKey cmp IsAmount tally.amounts.entries items
@@ -60,16 +56,6 @@ GivesKeyCount {K} cmp tally n = (items : List (K × ℕ)) → TallySums cmp tall
 abbrev pub GivesAmount : {K : Type 0} → (K → K → Ordering) → Tally K → K → Amount → Type 0
 GivesAmount {K} cmp tally key amount =
     (items : List (K × ℕ)) → TallySums cmp tally items → IsTallyRow cmp items (key, amount.count, amount.sum)
-
--- at most 2^32 weights of 64 bits
-abbrev pub AreWeights : List ℕ → Type 0
-AreWeights weights = IsShort weights × All (λ weight. weight < 2 ^ 64) weights
-
-pub weights_parts : FitsInParts AreWeights
-weights_parts first second weights =
-    let short = short_parts first second weights.0 in
-    let small = all_parts (λ weight. weight < 2 ^ 64) first second weights.1 in
-    ((short.0, small.0), (short.1, small.1))
 
 -- at most 2^32 items, each with a weight of 64 bits
 abbrev pub AreWeighted : {K : Type 0} → List (K × ℕ) → Type 0

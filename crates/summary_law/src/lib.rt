@@ -2,6 +2,7 @@
 //! are made of.
 #![tactic(auto)]
 
+mod amount;
 mod by_key;
 mod count;
 mod halves;
@@ -10,12 +11,13 @@ mod list;
 mod summary;
 mod tally;
 
+pub use amount::Amount;
 pub use by_key::ByKey;
 pub use count::Count;
 pub use halves::join_all;
 pub use list::summary_of;
 pub use summary::Summary;
-pub use tally::{Amount, Tally};
+pub use tally::Tally;
 
 #[cfg(test)]
 mod tests;

@@ -1,7 +1,7 @@
 use Rattle.std.proofs.Common.{◌∷◌, ◌++◌, [], arith}
 use Rattle.std.proofs.lemmas.List.Sums.{sum_by-append}
 use Rattle.summary_law.proofs.TallyLaws.{sum_fits}
-use Rattle.summary_law.proofs.tally.AmountSummary.add.Goals as goal
+use Rattle.summary_law.proofs.amount.AmountSummary.add.Goals as goal
 
 pub overflow_add-self-2 : goal.overflow_add-self-2
 overflow_add-self-2 c =

@@ -1,7 +1,7 @@
 use Rattle.std.proofs.Common.{◌++◌, arith}
 use Rattle.std.proofs.lemmas.List.Sums.{sum_by-append}
 use Rattle.summary_law.proofs.TallyLaws.{sum_fits}
-use Rattle.summary_law.proofs.tally.AmountSummary.join.Goals as goal
+use Rattle.summary_law.proofs.amount.AmountSummary.join.Goals as goal
 
 pub overflow_add-result-2 : goal.overflow_add-result-2
 overflow_add-result-2 c =
