@@ -1,0 +1,80 @@
+-- The rows of a map of amounts, and sums of weights.
+use Rattle.std.proofs.Common.{◌≡◌, ℕ, ◌*◌, ◌-◌, ◌<◌, ◌≤◌, ◌^◌, Bool, true, List, [], ◌∷◌}
+use Rattle.std.proofs.Common.{length, map, sum, Option, Some, None, is_some, refl, sym, ap, subst, ◌∙◌, arith, get_or}
+use Rattle.std.proofs.lemmas.List.{length-map}
+use Rattle.std.proofs.lemmas.List.Elements.{All-map, All-weaker}
+use Rattle.std.proofs.lemmas.List.Sums.{sum_by-le}
+use Rattle.std.proofs.lemmas.Map.Made.{is_some-lookup}
+use Rattle.std.proofs.lemmas.Map.Views.{All-found}
+use Rattle.std.specs.BTreeMap.{BTreeMap, IsOrdered, get}
+use Rattle.std.specs.Cmp.{IsTotalOrder}
+use Rattle.std.specs.Map.{keys_of}
+use Rattle.std.specs.Ordering.{eq_by_cmp}
+use Rattle.std.specs.declared.cmp.Ordering.{Ordering}
+use Rattle.summary_law.proofs.ReadLaws.{each_short, each_all}
+use Rattle.summary_law.specs.ByKey.{items_of, IsPart, EachFits, SumsByKey}
+use Rattle.summary_law.specs.Fits.{IsShort}
+use Rattle.summary_law.specs.Amount.{IsAmount, AreWeights}
+use Rattle.summary_law.specs.Tally.{count_of, AreKeys, IsTallyRow, AreTallyRows, AreWeighted}
+use Rattle.summary_law.specs.declared.amount.Amount.{Amount}
+
+-- few weights have a sum far below 2^128
+pub sum_fits : (weights : List ℕ) → AreWeights weights → sum weights < 2 ^ 127
+sum_fits weights few =
+    let short = few.0 in
+    let most : sum weights ≤ length weights * (2 ^ 64 - 1)
+    = sum_by-le (λ w. w) (2 ^ 64 - 1) weights (All-weaker (λ w. w < 2 ^ 64) (λ w. w ≤ 2 ^ 64 - 1) (λ w h. omega arith) weights few.1) in
+    omega arith
+
+-- the weights of each key are few where all are
+pub each_weights : {K : Type 0} (eq : K → K → Bool) (items : List (K × ℕ)) → AreWeighted items → EachFits eq AreWeights items
+each_weights eq items few key = (each_short eq items few.0 key, each_all eq (λ weight. weight < 2 ^ 64) items few.1 key)
+
+-- few items, each read as a key and a weight of 64 bits
+pub weighted_map : {I K : Type 0} (read : I → K × ℕ) → ((i : I) → (read i).1 < 2 ^ 64) → (items : List I) → IsShort items → AreWeighted (map read items)
+weighted_map {I} {K} read small items short =
+    let long = length-map items read in
+    (omega arith, All-map (λ (e : K × ℕ). e.1 < 2 ^ 64) read items (λ i d within. small (get_or items i d)))
+
+abbrev pub row_of : {K : Type 0} → K × Amount → K × ℕ × ℕ
+row_of e = (e.0, e.1.count, e.1.sum)
+
+keys_of_rows : {K : Type 0} (es : List (K × Amount)) → map (λ (r : K × ℕ × ℕ). r.0) (map row_of es) ≡ keys_of es
+keys_of_rows [] = refl
+keys_of_rows (e ∷ es) = ap (λ t. e.0 ∷ t) (keys_of_rows es)
+
+some_came : (weights : List ℕ) (found : Option Amount) → IsPart IsAmount found weights → 0 < length weights → is_some found ≡ true
+some_came weights None part h = absurd (let none = ap length part in omega arith)
+some_came weights (Some amount) part h = refl
+
+came : {I : Type 0} (items : List I) → (items ≡ [] → ⊥) → 0 < length items
+came [] some = absurd (some refl)
+came (i ∷ is) some = omega arith
+
+module _ {K : Type 0} (cmp : K → K → Ordering) (laws : IsTotalOrder cmp) (m : BTreeMap K Amount) (ordered : IsOrdered cmp m)
+    (items : List (K × ℕ)) (sums : SumsByKey cmp IsAmount m items) where
+  entry_part : (e : K × Amount) → get cmp m e.0 ≡ Some e.1 → IsPart IsAmount (Some e.1) (items_of (eq_by_cmp cmp) e.0 items)
+  entry_part e found = subst (λ (o : Option Amount). IsPart IsAmount o (items_of (eq_by_cmp cmp) e.0 items)) found (sums e.0)
+
+  -- the map's keys are those that items stand under
+  pub map_keys : AreKeys cmp items (keys_of m.entries)
+  map_keys = record {
+    rising = ordered;
+    came = All-map (λ key. 0 < count_of cmp key items) (λ (e : K × Amount). e.0) m.entries
+        (All-weaker (λ (e : K × Amount). get cmp m e.0 ≡ Some e.1) (λ e. 0 < count_of cmp e.0 items)
+        (λ e found. came (items_of (eq_by_cmp cmp) e.0 items) (entry_part e found).0) m.entries (All-found laws m ordered));
+    whole = λ key h.
+        sym (is_some-lookup (eq_by_cmp cmp key) m.entries) ∙ some_came (items_of (eq_by_cmp cmp) key items) (get cmp m key) (sums key) h;
+  }
+
+  -- the map's entries as rows are those of the items
+  pub map_rows : (rows : List (K × ℕ × ℕ)) → rows ≡ map row_of m.entries → AreTallyRows cmp items rows
+  map_rows rows are = rw are (record {
+    keys = subst (AreKeys cmp items) (sym (keys_of_rows m.entries)) map_keys;
+    right = All-map (IsTallyRow cmp items) row_of m.entries
+        (All-weaker (λ (e : K × Amount). get cmp m e.0 ≡ Some e.1) (λ e. IsTallyRow cmp items (row_of e))
+        (λ e found.
+        let part = entry_part e found in
+        record { count = part.1.count; sum = part.1.sum })
+        m.entries (All-found laws m ordered));
+  })

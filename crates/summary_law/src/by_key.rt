@@ -1,0 +1,67 @@
+//! A summary for each key of a list of pairs.
+
+ghost use Rattle.std.specs.Ordering.{eq_by_cmp};
+ghost use Rattle.summary_law.specs.ByKey.{SumsByKey, EachFits, each_fits_parts};
+
+use crate::summary::Summary;
+use std::alloc::{AllocError, Global};
+use std::collections::BTreeMap;
+
+/// A summary for each key, of the items that stand under it.
+#[derive(Drop)]
+pub struct ByKey<K: Ord + Copy, S: Summary> {
+    /// The summaries by key, for each key with an item.
+    pub entries: BTreeMap<K, S>,
+    alloc: Global,
+}
+
+impl<K: Ord + Copy, S: Summary> ByKey<K, S> {
+    /// Where its memory comes from.
+    pub fn allocator(&self) -> Global {
+        self.alloc
+    }
+}
+
+/// An `add` takes at most two look-ups, and a `join` two for each key of the later value.
+impl<K: Ord + Copy, S: Summary> Summary for ByKey<K, S> {
+    type Item = (K, S::Item);
+
+    ghost fits = { EachFits (eq_by_cmp K.cmp) S.fits };
+
+    ghost sums = { λ v items. SumsByKey K.cmp S.sums v.entries items };
+
+    fn empty(alloc: Global) -> ByKey<K, S> {
+        ByKey {
+            entries: BTreeMap::new(alloc),
+            alloc,
+        }
+    }
+
+    fn add(&mut self, item: (K, S::Item)) -> Result<(), AllocError> {
+        let (key, inner) = item;
+        match self.entries.get_mut(&key) {
+            Some(part) => part.add(inner),
+            None => {
+                let mut part = S::empty(self.alloc);
+                part.add(inner)?;
+                self.entries.insert(key, part)?;
+                Ok(())
+            }
+        }
+    }
+
+    fn join(self, later: ByKey<K, S>) -> Result<ByKey<K, S>, AllocError> {
+        let mut joined = self;
+        let ByKey { entries, alloc: _ } = later;
+        for (key, part) in entries {
+            let merged = match joined.entries.remove(&key) {
+                Some(mine) => mine.join(part)?,
+                None => part,
+            };
+            joined.entries.insert(key, merged)?;
+        }
+        Ok(joined)
+    }
+
+    ghost fits_parts = { each_fits_parts (eq_by_cmp K.cmp) S.fits S.fits_parts };
+}

@@ -1,0 +1,23 @@
+//! Summaries of lists: what adding an item and joining two of them mean, and the parts that ledgers
+//! are made of.
+#![tactic(auto)]
+
+mod amount;
+mod by_key;
+mod count;
+mod halves;
+pub mod laws;
+mod list;
+mod summary;
+mod tally;
+
+pub use amount::Amount;
+pub use by_key::ByKey;
+pub use count::Count;
+pub use halves::join_all;
+pub use list::summary_of;
+pub use summary::Summary;
+pub use tally::Tally;
+
+#[cfg(test)]
+mod tests;

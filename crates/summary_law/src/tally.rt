@@ -1,0 +1,71 @@
+//! The count and the sum of what stands under each key.
+
+ghost use Rattle.std.specs.Prelude.{IfOk};
+ghost use Rattle.summary_law.specs.Tally.{AreWeighted, TallySums, weighted_parts};
+ghost use Rattle.summary_law.specs.Tally.{GivesRows, GivesKeyCount, GivesAmount};
+
+use crate::amount::Amount;
+use crate::by_key::ByKey;
+use crate::summary::Summary;
+use std::alloc::{AllocError, Global};
+
+/// The count and the sum of the weights of each key, over items that are a key and a weight.
+#[derive(Drop)]
+pub struct Tally<K: Ord + Copy> {
+    amounts: ByKey<K, Amount>,
+}
+
+impl<K: Ord + Copy> Tally<K> {
+    /// Each key with its count and its sum, the keys rising.
+    pub fn rows(&self) -> Result<Vec<(K, u64, u128)>, AllocError>
+        ensures { IfOk result (λ rows. GivesRows K.cmp self.now rows.items) }
+    {
+        let mut rows = Vec::new(self.amounts.allocator());
+        for (key, amount) in &self.amounts.entries {
+            rows.push((*key, amount.count, amount.sum))?;
+        }
+        Ok(rows)
+    }
+
+    /// How many different keys there are.
+    pub fn key_count(&self) -> usize
+        ensures { GivesKeyCount K.cmp self.now result }
+    {
+        self.amounts.entries.len()
+    }
+
+    /// The count and the sum of a key, which are 0 where nothing stands under it.
+    pub fn amount(&self, key: K) -> Amount
+        ensures { GivesAmount K.cmp self.now key result }
+    {
+        match self.amounts.entries.get(&key) {
+            Some(amount) => *amount,
+            None => Amount { count: 0, sum: 0 },
+        }
+    }
+}
+
+impl<K: Ord + Copy> Summary for Tally<K> {
+    type Item = (K, u64);
+
+    ghost fits = { AreWeighted };
+
+    ghost sums = { TallySums K.cmp };
+
+    fn empty(alloc: Global) -> Tally<K> {
+        Tally {
+            amounts: ByKey::empty(alloc),
+        }
+    }
+
+    fn add(&mut self, item: (K, u64)) -> Result<(), AllocError> {
+        self.amounts.add(item)
+    }
+
+    fn join(self, later: Tally<K>) -> Result<Tally<K>, AllocError> {
+        let amounts = self.amounts.join(later.amounts)?;
+        Ok(Tally { amounts })
+    }
+
+    ghost fits_parts = { weighted_parts };
+}
