@@ -55,7 +55,7 @@ file_missing (Some s) o is = tt
 module _ (rows : List Row) where
   pub no_workers : ((n : ℕ) → ReadsNumber (codes "workers") rows n → 2 ^ 64 ≤ n) → (request : Request) → ¬ AsksReport rows request
   no_workers large (Report workers piece file) asks =
-      let big = large workers.count asks.0 in let small = workers.at_most_64 in omega arith
+      let big = large workers.number asks.0 in let small = workers.at_most_64 in omega arith
   no_workers large (FirstFault file) asks = asks
 
   pub no_piece : ((n : ℕ) → ReadsNumber (codes "piece") rows n → 2 ^ 64 ≤ n) → (request : Request) → ¬ AsksReport rows request

@@ -40,8 +40,8 @@ ReadsNumber name rows n =
 -- what the rows of the subcommand `report` ask for
 abbrev pub AsksReport : List Row → Request → Type 0
 AsksReport rows (Report workers piece file) =
-    ReadsNumber (codes "workers") rows workers.count × ReadsNumber (codes "piece") rows piece.frames ×
-    (first_of (codes "file") rows ≡ Some file.now)
+    ReadsNumber (codes "workers") rows workers.number × ReadsNumber (codes "piece") rows piece.frames
+    × (first_of (codes "file") rows ≡ Some file.now)
 AsksReport rows (FirstFault file) = ⊥
 
 -- what the rows of the subcommand `first-fault` ask for

@@ -27,8 +27,9 @@ mod tests;
 mod text;
 mod writing;
 
-pub use crate::limits::{CAPTURE_LIMIT, Piece, Workers};
+pub use crate::limits::{CAPTURE_LIMIT, Piece};
 pub use crate::reading::read_capture;
 pub use crate::run_error::RunError;
 pub use crate::runs::{Written, run, run_first_fault, write_first_fault};
 pub use crate::writing::write_text;
+pub use claim_board::Workers;

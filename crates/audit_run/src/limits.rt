@@ -4,35 +4,6 @@ ghost use Rattle.std.specs.Prelude.{◌≡◌, ◌≤◌, ◌↔◌, IsSome, IfS
 /// The most bytes that a capture may have.
 pub const CAPTURE_LIMIT: usize = 1_073_741_824;
 
-/// How many workers do the work: 1 to 64.
-#[derive(Clone, Copy, Debug, PartialEq, Eq)]
-pub struct Workers {
-    count: u64,
-    pub ghost at_least_one: { 1 ≤ count },
-    pub ghost at_most_64: { count ≤ 64 },
-}
-
-impl Workers {
-    pub fn new(n: u64) -> Option<Self>
-        ensures valid { IsSome result ↔ ((1 ≤ n) × (n ≤ 64)) }
-        ensures value { IfSome result (λ workers. workers.count ≡ n) }
-    {
-        if 1 <= n && n <= 64 {
-            Some(Workers { count: n })
-        } else {
-            None
-        }
-    }
-
-    pub fn get(self) -> u64
-        ensures value { result ≡ self.count }
-        ensures least { 1 ≤ result }
-        ensures most { result ≤ 64 }
-    {
-        self.count
-    }
-}
-
 /// How many frames a worker takes at a time: 1 to 65,536.
 #[derive(Clone, Copy, Debug, PartialEq, Eq)]
 pub struct Piece {

@@ -5,10 +5,11 @@
 //! the growths of what they call. Other tests compare the exact answers.
 
 use crate::devices::Drip;
-use crate::limits::{Piece, Workers};
+use crate::limits::Piece;
 use crate::reading::read_capture;
 use crate::run_error::RunError;
 use crate::runs::{Written, run, run_first_fault, write_first_fault};
+use claim_board::Workers;
 use std::test::Fail;
 
 /// A capture of one read with a bad object and an unknown flag.

@@ -8,12 +8,13 @@ ghost use Rattle.audit_run.specs.Run.{Reports, NamesFirstFault, IsTextOf, IsLine
 ghost use Rattle.audit_run.specs.declared.limits.TheConstants.{CAPTURE_LIMIT};
 
 use crate::audit::{AuditError, audit};
-use crate::limits::{CAPTURE_LIMIT, Piece, Workers};
+use crate::limits::{CAPTURE_LIMIT, Piece};
 use crate::reading::read_capture;
 use crate::run_error::RunError;
 use crate::text::{fault_text, report};
 use crate::writing::write_text;
 use capture_frame::Fault;
+use claim_board::Workers;
 use std::alloc::Global;
 use std::io::{Read, Write};
 use std::thread::Threads;

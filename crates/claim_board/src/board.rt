@@ -46,7 +46,7 @@ impl Board {
     /// The board on which nothing is claimed yet.
     pub fn new(alloc: Global, jobs: Vec<Job>, workers: Workers) -> Result<Board, AllocError>
         requires { AreJobs jobs.items }
-        ensures { IfOk result (λ board. board ≡ opening_of jobs.items workers) }
+        ensures { IfOk result (λ board. board ≡ opening_of jobs.items workers.number) }
     {
         let states = vec![in alloc; JobState::Untouched; jobs.len()]?;
         let stopped = vec![in alloc; false; workers.get() as usize]?;

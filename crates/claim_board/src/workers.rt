@@ -1,29 +1,19 @@
 //! How many workers share the jobs.
 
-ghost use Rattle.std.specs.Prelude.{◌≡◌, ◌≤◌, ◌↔◌, ℕ, IsSome, IfSome};
-
-use std::marker::Model;
+ghost use Rattle.std.specs.Prelude.{◌≡◌, ◌≤◌, ◌↔◌, IsSome, IfSome};
 
 /// How many workers do the work: 1 to 64.
 #[derive(Clone, Copy, Debug, PartialEq, Eq)]
 pub struct Workers {
     number: u64,
-}
-
-impl Model for Workers {
-    ghost Value = { ℕ };
-
-    ghost view = { λ w. w.number };
-
-    ghost invariant = { λ w. (1 ≤ w.number) × (w.number ≤ 64) };
-
-    ghost inverse = { λ n. record { number = n } };
+    pub ghost at_least_one: { 1 ≤ number },
+    pub ghost at_most_64: { number ≤ 64 },
 }
 
 impl Workers {
     pub fn new(n: u64) -> Option<Workers>
         ensures valid { IsSome result ↔ ((1 ≤ n) × (n ≤ 64)) }
-        ensures value { IfSome result (λ workers. workers ≡ n) }
+        ensures value { IfSome result (λ workers. workers.number ≡ n) }
     {
         if 1 <= n && n <= 64 {
             Some(Workers { number: n })
@@ -33,7 +23,7 @@ impl Workers {
     }
 
     pub fn get(self) -> u64
-        ensures value { result ≡ self }
+        ensures value { result ≡ self.number }
         ensures least { 1 ≤ result }
         ensures most { result ≤ 64 }
     {
