@@ -128,9 +128,11 @@ pub fn kind(protocol: Protocol, code: Code) -> Result<Kind, CodeFault>
     ensures direction { (result ≡ Err CodeFault.Direction) ↔ ¬ IsOf protocol code.0 }
     ensures listed { (listed : Kind) → IsSome (row_of listed) →
         ((result ≡ Ok listed) ↔ (IsOf protocol code.0 × HasCode listed protocol code.0)) }
-    ensures opaque { (result ≡ Ok Kind.Opaque) ↔ (IsOf protocol code.0 × ¬ ListsNumber protocol (number code.0)) }
+    ensures opaque { (result ≡ Ok Kind.Opaque) ↔
+        (IsOf protocol code.0 × ¬ ListsNumber protocol (number code.0)) }
     ensures size { (result ≡ Err CodeFault.Size) ↔
-        (IsOf protocol code.0 × ListsNumber protocol (number code.0) × ¬ ListsCode protocol code.0) }
+        (IsOf protocol code.0 × ListsNumber protocol (number code.0)
+        × ¬ ListsCode protocol code.0) }
 {
     if is_of(protocol, code) {
         listing(protocol, code.number(), code.size())

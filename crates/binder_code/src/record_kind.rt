@@ -52,7 +52,8 @@ pub enum Kind {
 impl Kind {
     ghost use Rattle.binder_code.specs.Commands.{name_of};
 
-    /// The header's name, such as `BC_TRANSACTION`; `OPAQUE` for a record that the table does not list.
+    /// The header's name, such as `BC_TRANSACTION`; `OPAQUE` for a record that the table does not
+    /// list.
     pub fn name(self) -> &'static str
         ensures exact { result.now ≡ name_of self }
         ensures short { length result.now ≤ 32 }

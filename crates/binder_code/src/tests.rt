@@ -1,241 +1,58 @@
+//! Code words that the header's macros make, and their neighbours.
+
 use crate::{Code, CodeFault, Kind, Protocol, TransactionFlags, kind, laws, unknown_bits};
 use bitflags::Flags;
+use std::process::Abort;
 
-const TABLE: [(Protocol, u32, Kind, &str); 41] = [
-    (
-        Protocol::Command,
-        0x4040_6300,
-        Kind::BcTransaction,
-        "BC_TRANSACTION",
-    ),
-    (Protocol::Command, 0x4040_6301, Kind::BcReply, "BC_REPLY"),
-    (
-        Protocol::Command,
-        0x4004_6302,
-        Kind::BcAcquireResult,
-        "BC_ACQUIRE_RESULT",
-    ),
-    (
-        Protocol::Command,
-        0x4008_6303,
-        Kind::BcFreeBuffer,
-        "BC_FREE_BUFFER",
-    ),
-    (
-        Protocol::Command,
-        0x4004_6304,
-        Kind::BcIncrefs,
-        "BC_INCREFS",
-    ),
-    (
-        Protocol::Command,
-        0x4004_6305,
-        Kind::BcAcquire,
-        "BC_ACQUIRE",
-    ),
-    (
-        Protocol::Command,
-        0x4004_6306,
-        Kind::BcRelease,
-        "BC_RELEASE",
-    ),
-    (
-        Protocol::Command,
-        0x4004_6307,
-        Kind::BcDecrefs,
-        "BC_DECREFS",
-    ),
-    (
-        Protocol::Command,
-        0x4010_6308,
-        Kind::BcIncrefsDone,
-        "BC_INCREFS_DONE",
-    ),
-    (
-        Protocol::Command,
-        0x4010_6309,
-        Kind::BcAcquireDone,
-        "BC_ACQUIRE_DONE",
-    ),
-    (
-        Protocol::Command,
-        0x4008_630a,
-        Kind::BcAttemptAcquire,
-        "BC_ATTEMPT_ACQUIRE",
-    ),
-    (
-        Protocol::Command,
-        0x0000_630b,
-        Kind::BcRegisterLooper,
-        "BC_REGISTER_LOOPER",
-    ),
-    (
-        Protocol::Command,
-        0x0000_630c,
-        Kind::BcEnterLooper,
-        "BC_ENTER_LOOPER",
-    ),
-    (
-        Protocol::Command,
-        0x0000_630d,
-        Kind::BcExitLooper,
-        "BC_EXIT_LOOPER",
-    ),
-    (
-        Protocol::Command,
-        0x400c_630e,
-        Kind::BcRequestDeathNotification,
-        "BC_REQUEST_DEATH_NOTIFICATION",
-    ),
-    (
-        Protocol::Command,
-        0x400c_630f,
-        Kind::BcClearDeathNotification,
-        "BC_CLEAR_DEATH_NOTIFICATION",
-    ),
-    (
-        Protocol::Command,
-        0x4008_6310,
-        Kind::BcDeadBinderDone,
-        "BC_DEAD_BINDER_DONE",
-    ),
-    (
-        Protocol::Command,
-        0x4048_6311,
-        Kind::BcTransactionSg,
-        "BC_TRANSACTION_SG",
-    ),
-    (
-        Protocol::Command,
-        0x4048_6312,
-        Kind::BcReplySg,
-        "BC_REPLY_SG",
-    ),
-    (Protocol::Return, 0x8004_7200, Kind::BrError, "BR_ERROR"),
-    (Protocol::Return, 0x0000_7201, Kind::BrOk, "BR_OK"),
-    (
-        Protocol::Return,
-        0x8040_7202,
-        Kind::BrTransaction,
-        "BR_TRANSACTION",
-    ),
-    (
-        Protocol::Return,
-        0x8048_7202,
-        Kind::BrTransactionSecCtx,
-        "BR_TRANSACTION_SEC_CTX",
-    ),
-    (Protocol::Return, 0x8040_7203, Kind::BrReply, "BR_REPLY"),
-    (
-        Protocol::Return,
-        0x8004_7204,
-        Kind::BrAcquireResult,
-        "BR_ACQUIRE_RESULT",
-    ),
-    (
-        Protocol::Return,
-        0x0000_7205,
-        Kind::BrDeadReply,
-        "BR_DEAD_REPLY",
-    ),
-    (
-        Protocol::Return,
-        0x0000_7206,
-        Kind::BrTransactionComplete,
-        "BR_TRANSACTION_COMPLETE",
-    ),
-    (Protocol::Return, 0x8010_7207, Kind::BrIncrefs, "BR_INCREFS"),
-    (Protocol::Return, 0x8010_7208, Kind::BrAcquire, "BR_ACQUIRE"),
-    (Protocol::Return, 0x8010_7209, Kind::BrRelease, "BR_RELEASE"),
-    (Protocol::Return, 0x8010_720a, Kind::BrDecrefs, "BR_DECREFS"),
-    (
-        Protocol::Return,
-        0x8018_720b,
-        Kind::BrAttemptAcquire,
-        "BR_ATTEMPT_ACQUIRE",
-    ),
-    (Protocol::Return, 0x0000_720c, Kind::BrNoop, "BR_NOOP"),
-    (
-        Protocol::Return,
-        0x0000_720d,
-        Kind::BrSpawnLooper,
-        "BR_SPAWN_LOOPER",
-    ),
-    (
-        Protocol::Return,
-        0x0000_720e,
-        Kind::BrFinished,
-        "BR_FINISHED",
-    ),
-    (
-        Protocol::Return,
-        0x8008_720f,
-        Kind::BrDeadBinder,
-        "BR_DEAD_BINDER",
-    ),
-    (
-        Protocol::Return,
-        0x8008_7210,
-        Kind::BrClearDeathNotificationDone,
-        "BR_CLEAR_DEATH_NOTIFICATION_DONE",
-    ),
-    (
-        Protocol::Return,
-        0x0000_7211,
-        Kind::BrFailedReply,
-        "BR_FAILED_REPLY",
-    ),
-    (
-        Protocol::Return,
-        0x0000_7212,
-        Kind::BrFrozenReply,
-        "BR_FROZEN_REPLY",
-    ),
-    (
-        Protocol::Return,
-        0x0000_7213,
-        Kind::BrOnewaySpamSuspect,
-        "BR_ONEWAY_SPAM_SUSPECT",
-    ),
+/// A word of each shape that is listed, and words beside them.
+const ROWS: &[(Protocol, u32, Result<Kind, CodeFault>)] = &[
+    (Protocol::Command, 0x4040_6300, Ok(Kind::BcTransaction)),
+    (Protocol::Command, 0x4004_6305, Ok(Kind::BcAcquire)),
+    (Protocol::Command, 0x0000_630b, Ok(Kind::BcRegisterLooper)),
+    (Protocol::Command, 0x4048_6312, Ok(Kind::BcReplySg)),
+    (Protocol::Return, 0x8040_7202, Ok(Kind::BrTransaction)),
+    (Protocol::Return, 0x8048_7202, Ok(Kind::BrTransactionSecCtx)),
     (
         Protocol::Return,
         0x0000_7214,
-        Kind::BrTransactionPendingFrozen,
-        "BR_TRANSACTION_PENDING_FROZEN",
+        Ok(Kind::BrTransactionPendingFrozen),
     ),
+    (Protocol::Return, 0x4040_6300, Err(CodeFault::Direction)),
+    (Protocol::Command, 0x8040_7202, Err(CodeFault::Direction)),
+    (Protocol::Command, 0x8040_6300, Err(CodeFault::Direction)),
+    (Protocol::Command, 0x4000_630b, Err(CodeFault::Direction)),
+    (Protocol::Command, 0x0040_6300, Err(CodeFault::Direction)),
+    (Protocol::Command, 0x4028_6300, Err(CodeFault::Size)),
+    (Protocol::Return, 0x8028_7202, Err(CodeFault::Size)),
+    (Protocol::Command, 0x4004_630b, Err(CodeFault::Size)),
+    (Protocol::Command, 0x4010_6313, Ok(Kind::Opaque)),
+    (Protocol::Return, 0x0000_72ff, Ok(Kind::Opaque)),
 ];
 
+fn expect_kind(rt: &impl Abort, protocol: Protocol, word: u32, judged: Result<Kind, CodeFault>) {
+    assert_eq!(rt; kind(protocol, Code(word)), judged, "at {word:#x}");
+}
+
 #[test]
-fn judges_and_names_each_listed_code(rt: HostRuntime) {
-    for (protocol, word, listed, name) in TABLE {
-        assert_eq!(rt; kind(protocol, Code(word)), Ok(listed), "at {word:#x}");
-        assert_eq!(rt; listed.name(), name);
+fn judges_code_words(rt: HostRuntime) {
+    for (protocol, word, judged) in ROWS {
+        expect_kind(&rt, *protocol, *word, *judged);
     }
-    assert_eq!(rt; Kind::Opaque.name(), "OPAQUE");
     laws::code_words();
 }
 
 #[test]
-fn refuses_or_passes_other_codes(rt: HostRuntime) {
-    let cases = [
-        (Protocol::Return, 0x4040_6300, Err(CodeFault::Direction)),
-        (Protocol::Command, 0x8040_7202, Err(CodeFault::Direction)),
-        (Protocol::Command, 0x8040_6300, Err(CodeFault::Direction)),
-        (Protocol::Command, 0x4000_630b, Err(CodeFault::Direction)),
-        (Protocol::Command, 0x0040_6300, Err(CodeFault::Direction)),
-        (Protocol::Command, 0x4028_6300, Err(CodeFault::Size)),
-        (Protocol::Return, 0x8028_7202, Err(CodeFault::Size)),
-        (Protocol::Command, 0x4004_630b, Err(CodeFault::Size)),
-        (Protocol::Command, 0x4010_6313, Ok(Kind::Opaque)),
-        (Protocol::Return, 0x0000_72ff, Ok(Kind::Opaque)),
-    ];
-    for (protocol, word, judged) in cases {
-        assert_eq!(rt; kind(protocol, Code(word)), judged, "at {word:#x}");
-    }
+fn names_kinds(rt: HostRuntime) {
+    assert_eq!(rt; Kind::BcTransaction.name(), "BC_TRANSACTION");
+    assert_eq!(rt;
+        Kind::BrClearDeathNotificationDone.name(),
+        "BR_CLEAR_DEATH_NOTIFICATION_DONE"
+    );
+    assert_eq!(rt; Kind::Opaque.name(), "OPAQUE");
 }
 
 #[test]
-fn reads_the_fields(rt: HostRuntime) {
+fn reads_the_fields_of_a_code(rt: HostRuntime) {
     let code = Code(0x80ab_72cd);
     assert_eq!(rt; code.number(), 0xcd);
     assert_eq!(rt; code.letter(), b'r');

@@ -30,7 +30,8 @@ capture_outcome format decided capture h = elim (header_judged capture h) [
 ]
 
 -- one first fault
-pub capture_one_fault : {U : Type 0} (format : Format (Option ℕ) U FaultKind) (decided : IsDecided format) (capture : List ℕ) (a b : Fault) → IsFirstFault format capture a → IsFirstFault format capture b → a ≡ b
+pub capture_one_fault : {U : Type 0} (format : Format (Option ℕ) U FaultKind) (decided : IsDecided format) (capture : List ℕ) (a b : Fault)
+    → IsFirstFault format capture a → IsFirstFault format capture b → a ≡ b
 capture_one_fault format decided capture a b (in_header x) (in_header y) =
     let same = header_one_failure capture a.kind b.kind a.place b.place x y in same_fault a b same.0 same.1
 capture_one_fault format decided capture a b (in_header x) (in_frames bytes place parts failure at) =
@@ -39,11 +40,13 @@ capture_one_fault format decided capture a b (in_frames bytes place parts failur
     absurd (header_never_both bytes b.kind b.place (subst (λ (t : List ℕ). HeaderFails t b.kind b.place) parts y))
 capture_one_fault format decided capture a b (in_frames bytes place parts failure at) (in_frames others there parts_too failure_too at_too) =
     let rest : others ≡ bytes = append_cancel_left file_header others bytes (sym parts_too ∙ parts) in
-    let same = units.one_failure format decided None bytes a.kind b.kind place there failure (subst (λ (t : List ℕ). FirstFailure format None t b.kind there) rest failure_too) in
+    let same = units.one_failure format decided None bytes a.kind b.kind place there failure
+    (subst (λ (t : List ℕ). FirstFailure format None t b.kind there) rest failure_too) in
     same_fault a b same.0 (at ∙ ap (λ (n : ℕ). 16 + n) same.1 ∙ sym at_too)
 
 -- never both
-pub capture_never_both : {U : Type 0} (format : Format (Option ℕ) U FaultKind) (decided : IsDecided format) (capture : List ℕ) (frames : List U) (fault : Fault) → IsCapture format capture frames → IsFirstFault format capture fault → ⊥
+pub capture_never_both : {U : Type 0} (format : Format (Option ℕ) U FaultKind) (decided : IsDecided format) (capture : List ℕ) (frames : List U)
+    (fault : Fault) → IsCapture format capture frames → IsFirstFault format capture fault → ⊥
 capture_never_both format decided capture frames fault reads (in_header x) =
     header_never_both reads.0 fault.kind fault.place (subst (λ (t : List ℕ). HeaderFails t fault.kind fault.place) reads.1 x)
 capture_never_both format decided capture frames fault reads (in_frames bytes place parts failure at) =
@@ -52,7 +55,8 @@ capture_never_both format decided capture frames fault reads (in_frames bytes pl
     units.never_both format decided None reads.0 frames there.before there.rest fault.kind there.within reads.2 there.splits there.fails
 
 -- one reading
-pub capture_one_reading : {U : Type 0} (format : Format (Option ℕ) U FaultKind) (decided : IsDecided format) (capture : List ℕ) (us vs : List U) → IsCapture format capture us → IsCapture format capture vs → us ≡ vs
+pub capture_one_reading : {U : Type 0} (format : Format (Option ℕ) U FaultKind) (decided : IsDecided format) (capture : List ℕ) (us vs : List U)
+    → IsCapture format capture us → IsCapture format capture vs → us ≡ vs
 capture_one_reading format decided capture us vs a b =
     let rest : b.0 ≡ a.0 = append_cancel_left file_header b.0 a.0 (sym b.1 ∙ a.1) in
     units.one_reading format decided None a.0 us vs a.2 (subst (λ (t : List ℕ). Reads format None t vs) rest b.2)

@@ -20,7 +20,8 @@ low b r h = omega arith
 high : (b r : ℕ) → b < 256 → (b + 256 * r) / 256 ≡ r
 high b r h = omega arith
 
-bytes_low_first-read : (n j x : ℕ) (bytes : List ℕ) → IsBytes bytes → n ≤ length bytes → x / 256 ^ j ≡ little_from 0 n bytes → bytes_low_first j n x ≡ take n bytes
+bytes_low_first-read : (n j x : ℕ) (bytes : List ℕ) → IsBytes bytes → n ≤ length bytes → x / 256 ^ j ≡ little_from 0 n bytes
+    → bytes_low_first j n x ≡ take n bytes
 bytes_low_first-read zero j x bytes h le e = refl
 bytes_low_first-read (suc n) j x [] h le e = absurd (omega arith)
 bytes_low_first-read (suc n) j x (b ∷ bytes) h le e =
@@ -36,5 +37,6 @@ bytes_low_first-read (suc n) j x (b ∷ bytes) h le e =
 -- the bytes that a number was read from are the number's
 pub number_spelled : (n : ℕ) (bytes : List ℕ) → IsBytes bytes → n ≤ length bytes → bytes ≡ little_bytes n (little_number n bytes) ++ drop n bytes
 number_spelled n bytes h le =
-    let spelled : little_bytes n (little_number n bytes) ≡ take n bytes = bytes_low_first-read n 0 (little_number n bytes) bytes h le (div-one (little_number n bytes)) in
+    let spelled : little_bytes n (little_number n bytes) ≡ take n bytes = bytes_low_first-read n 0 (little_number n bytes) bytes h le
+    (div-one (little_number n bytes)) in
     rw spelled (sym (take-append-drop n bytes))

@@ -21,26 +21,39 @@ pub record IsGoodFront (bytes : List ℕ) (before : Option ℕ) (frame : Frame) 
   pub commands : frame.commands.now ≡ take (command_length bytes) (drop 32 bytes)
   pub attachments : frame.attachments.now ≡ take (attachment_length bytes) (drop (32 + command_length bytes) bytes)
 
-pub begins_with : (bytes : List ℕ) (place : ℕ) (before : Option ℕ) (frame : Frame) → frame.place ≡ place → IsGoodFront bytes before frame → BeginsWithFrame bytes place before frame
+pub begins_with : (bytes : List ℕ) (place : ℕ) (before : Option ℕ) (frame : Frame) → frame.place ≡ place → IsGoodFront bytes before frame
+    → BeginsWithFrame bytes place before frame
 begins_with bytes place before frame e front =
     let text : frame_text frame ≡ text_at frame.direction bytes = rw (front.sequence, front.process, front.thread, front.commands, front.attachments) refl in
     let parts : bytes ≡ frame_bytes (frame_text frame) ++ rest_at bytes =
-    header_spelled bytes frame.direction front.bytes_fit front.long front.direction front.reserved front.whole ∙ ap (λ (f : _). frame_bytes f ++ rest_at bytes) (sym text) in
+    header_spelled bytes frame.direction front.bytes_fit front.long front.direction front.reserved front.whole
+    ∙ ap (λ (f : _). frame_bytes f ++ rest_at bytes) (sym text) in
     let commands = front.commands in
     let attachments = front.attachments in
     let whole = front.whole in
-    let c_long : length frame.commands.now ≡ command_length bytes = ap length commands ∙ omega (arith, length-take (command_length bytes) (drop 32 bytes), length-drop 32 bytes) in
-    let m_long : length frame.attachments.now ≡ attachment_length bytes = ap length attachments ∙ omega (arith, length-take (attachment_length bytes) (drop (32 + command_length bytes) bytes), length-drop (32 + command_length bytes) bytes) in
+    let c_long : length frame.commands.now ≡ command_length bytes = ap length commands
+    ∙ omega (arith, length-take (command_length bytes) (drop 32 bytes), length-drop 32 bytes) in
+    let m_long : length frame.attachments.now ≡ attachment_length bytes = ap length attachments
+    ∙ omega (arith, length-take (attachment_length bytes) (drop (32 + command_length bytes) bytes), length-drop (32 + command_length bytes) bytes) in
     record {
-      may_stand = record { fits = subst FitsHeader (sym text) (text_at-fits bytes frame.direction front.bytes_fit); above = subst (λ (f : FrameText). IsAbove before f.sequence) (sym text) front.above };
-      joined = parts ∙ ap (λ (t : List ℕ). frame_bytes (frame_text frame) ++ t) (sym (drop_at (frame_bytes (frame_text frame)) (rest_at bytes) (length (frame_bytes (frame_text frame))) refl) ∙ ap (λ (t : List ℕ). drop (length (frame_bytes (frame_text frame))) t) (sym parts));
+      may_stand = record {
+        fits = subst FitsHeader (sym text) (text_at-fits bytes frame.direction front.bytes_fit);
+        above = subst
+            (λ (f : FrameText). IsAbove before f.sequence) (sym text) front.above;
+      };
+      joined = parts ∙ ap (λ (t : List ℕ). frame_bytes (frame_text frame) ++ t)
+          (sym (drop_at (frame_bytes (frame_text frame)) (rest_at bytes) (length (frame_bytes (frame_text frame))) refl)
+          ∙ ap (λ (t : List ℕ). drop (length (frame_bytes (frame_text frame))) t) (sym parts));
       view = record {
-          place_is = e;
-          commands =
-              let width : 32 + length frame.commands.now - 32 ≡ command_length bytes = omega arith in
-              commands ∙ ap (λ (n : ℕ). take n (drop 32 bytes)) (sym width);
-          attachments =
-              let width : 32 + length frame.commands.now + length frame.attachments.now - (32 + length frame.commands.now) ≡ attachment_length bytes = omega arith in
-              attachments ∙ ap (λ (n : ℕ). take n (drop (32 + command_length bytes) bytes)) (sym width) ∙ ap (λ (n : ℕ). take (32 + length frame.commands.now + length frame.attachments.now - (32 + length frame.commands.now)) (drop (32 + n) bytes)) (sym c_long);
+        place_is = e;
+        commands =
+            let width : 32 + length frame.commands.now - 32 ≡ command_length bytes = omega arith in
+            commands ∙ ap (λ (n : ℕ). take n (drop 32 bytes)) (sym width);
+        attachments =
+            let width : 32 + length frame.commands.now + length frame.attachments.now -
+            (32 + length frame.commands.now) ≡ attachment_length bytes = omega arith in
+            attachments ∙ ap (λ (n : ℕ). take n (drop (32 + command_length bytes) bytes)) (sym width)
+            ∙ ap (λ (n : ℕ). take (32 + length frame.commands.now + length frame.attachments.now - (32 + length frame.commands.now)) (drop (32 + n) bytes))
+            (sym c_long);
       };
     }

@@ -13,7 +13,8 @@ HeaderFails bytes HeaderMagic place = (place ≡ 0) × (16 ≤ length bytes) × 
 HeaderFails bytes HeaderProtocol place =
     (place ≡ 8) × (16 ≤ length bytes) × (take 8 bytes ≡ codes "BNDRCAP1") × (number_at 4 8 bytes ≢ 8)
 HeaderFails bytes HeaderReserved place =
-    (place ≡ 12) × (16 ≤ length bytes) × (take 8 bytes ≡ codes "BNDRCAP1") × (number_at 4 8 bytes ≡ 8) × (number_at 4 12 bytes ≢ 0)
+    (place ≡ 12) × (16 ≤ length bytes) × (take 8 bytes ≡ codes "BNDRCAP1") × (number_at 4 8 bytes ≡ 8)
+    × (number_at 4 12 bytes ≢ 0)
 HeaderFails bytes _ place = ⊥
 
 -- the bytes begin with no good frame header, by this kind and by none that is judged before it
@@ -23,9 +24,11 @@ FrameFails before bytes FrameSequence = (32 ≤ length bytes) × ¬ (IsAbove bef
 FrameFails before bytes FrameDirection =
     (32 ≤ length bytes) × IsAbove before (sequence_at bytes) × ¬ (IsDirection (direction_at bytes))
 FrameFails before bytes FrameReserved =
-    (32 ≤ length bytes) × IsAbove before (sequence_at bytes) × IsDirection (direction_at bytes) × (reserved_at bytes ≢ (0, 0))
+    (32 ≤ length bytes) × IsAbove before (sequence_at bytes) × IsDirection (direction_at bytes)
+    × (reserved_at bytes ≢ (0, 0))
 FrameFails before bytes FrameLength =
-    (32 ≤ length bytes) × IsAbove before (sequence_at bytes) × IsDirection (direction_at bytes) × (reserved_at bytes ≡ (0, 0))
+    (32 ≤ length bytes) × IsAbove before (sequence_at bytes) × IsDirection (direction_at bytes)
+    × (reserved_at bytes ≡ (0, 0))
     × (length bytes < 32 + (command_length bytes + attachment_length bytes))
 FrameFails before bytes _ = ⊥
 
@@ -38,7 +41,8 @@ frame_format = record {
   Fails = λ before bytes kind within. FrameFails before bytes kind × (within ≡ 0);
 }
 
--- the bytes begin with whole good frames, as far as their headers tell, and what stands so far into them fails by this kind
+-- the bytes begin with whole good frames, as far as their headers tell, and what stands so far into them fails by this
+-- kind
 abbrev pub FramesFail : List ℕ → FaultKind → ℕ → Type 0
 FramesFail bytes kind distance = FirstFailure frame_format None bytes kind distance
 
@@ -47,7 +51,9 @@ abbrev pub IsCapture : {U : Type 0} → Format (Option ℕ) U FaultKind → List
 IsCapture format capture units = (bytes : List ℕ) × (capture ≡ file_header ++ bytes) × Reads format None bytes units
 
 -- the first fault of a capture: that of its file header, or behind a good one that of its frames
-pub data IsFirstFault {U : Type 0} (format : Format (Option ℕ) U FaultKind) (capture : List ℕ) (fault : Fault) : Type 0 where
+pub data IsFirstFault {U : Type 0} (format : Format (Option ℕ) U FaultKind) (capture : List ℕ)
+    (fault : Fault) : Type 0 where
   in_header : HeaderFails capture fault.kind fault.place → IsFirstFault format capture fault
-  in_frames : (bytes : List ℕ) (distance : ℕ) → capture ≡ file_header ++ bytes → FirstFailure format None bytes fault.kind distance
+  in_frames : (bytes : List ℕ) (distance : ℕ) → capture ≡ file_header ++ bytes
+      → FirstFailure format None bytes fault.kind distance
       → fault.place ≡ 16 + distance → IsFirstFault format capture fault

@@ -11,10 +11,11 @@ use Rattle.capture_frame.specs.FirstFault.{frame_format}
 -- the frame is a view of the bytes that it begins, which stand at that place: its slices are theirs
 pub record IsFrameView (bytes : List ℕ) (place : ℕ) (found : Frame) : Type 0 where
   pub place_is : found.place ≡ place
-  pub commands : found.commands.now ≡ slice_range bytes frame_header_length (frame_header_length + length found.commands.now)
+  pub commands : found.commands.now ≡ slice_range bytes frame_header_length
+      (frame_header_length + length found.commands.now)
   pub attachments : found.attachments.now
       ≡ slice_range bytes (frame_header_length + length found.commands.now)
-        (frame_header_length + length found.commands.now + length found.attachments.now)
+      (frame_header_length + length found.commands.now + length found.attachments.now)
 
 -- the bytes, which stand at that place, begin with a frame that may stand there, and this is the view of it
 abbrev pub BeginsWithFrame : List ℕ → ℕ → Option ℕ → Frame → Type 0
@@ -43,5 +44,6 @@ abbrev pub frames_start : List ℕ → Reading
 frames_start capture = at (drop file_header_length capture) 0 None
 
 -- the results of calls are these frames of the capture, one by one, and then `end` again and again
-abbrev pub GiveFrames : List ℕ → List FrameText → Result (Option Frame) Fault → List (Result (Option Frame) Fault) → Type 0
+abbrev pub GiveFrames : List ℕ → List FrameText → Result (Option Frame) Fault → List (Result (Option Frame) Fault)
+    → Type 0
 GiveFrames capture frames end results = GiveUnits frame_source (drop file_header_length capture) frames end results

@@ -1,4 +1,4 @@
-ghost use Rattle.std.specs.Prelude.{◌≡◌, ◌≢◌, IfSome, IfNone};
+ghost use Rattle.std.specs.Prelude.{◌≡◌, IfSome, IfNone};
 ghost use Rattle.capture_frame.specs.Envelope.{direction_number, IsDirection};
 
 /// Which way the bytes of a frame went between a thread and the driver.

@@ -15,8 +15,8 @@ use std::marker::Model;
 /// The length of a frame header, in bytes.
 pub(crate) const FRAME_HEADER: usize = 32;
 
-/// Where a reader stands: before a frame, so far behind the file header and after the frame with the
-/// sequence `before`; or at the fault that ended it.
+/// Where a reader stands: before a frame, so far behind the file header and after the frame with
+/// the sequence `before`; or at the fault that ended it.
 #[derive(Clone, Copy, Debug)]
 enum State {
     At { offset: usize, before: Option<u64> },
@@ -33,7 +33,6 @@ pub struct Frames<'c> {
 }
 
 impl<'c> Model for Frames<'c> {
-    ghost use Rattle.std.specs.Prelude.{◌≡◌, ◌≤◌, length};
     ghost use Rattle.capture_frame.specs.Reading.{Reading};
 
     ghost Value = { Reading };
@@ -51,7 +50,8 @@ impl<'c> Frames<'c> {
     /// A reader of the capture's frames, where its file header is good.
     pub fn new(capture: &'c [u8]) -> Result<Frames<'c>, Fault>
         ensures { MatchResult result
-            (λ reader. (take 16 capture.now ≡ file_header) × (reader ≡ frames_start capture.now))
+            (λ reader.
+            (take 16 capture.now ≡ file_header) × (reader ≡ frames_start capture.now))
             (λ fault. HeaderFails capture.now fault.kind fault.place) }
     {
         header::check_header(capture)?;

@@ -36,14 +36,16 @@ offset_fits list h = little_from-lt 0 8 list h
 
 -- ---- what stands at an offset fails by one cause
 
-pub object_fails : (body : List ℕ) (end : ℕ) (list : List ℕ) (cause : Cause) → 8 ≤ length list → FailsAt body end (first_offset list) cause → ObjectFails body end list cause
+pub object_fails : (body : List ℕ) (end : ℕ) (list : List ℕ) (cause : Cause) → 8 ≤ length list → FailsAt body end (first_offset list) cause
+    → ObjectFails body end list cause
 object_fails body end list ListLength more fails = absurd fails
 object_fails body end list Misaligned more fails = (more, fails)
 object_fails body end list Overlap more fails = (more, fails)
 object_fails body end list Short more fails = (more, fails)
 object_fails body end list UnknownSort more fails = (more, fails)
 
-cut_not_unknown : (body : List ℕ) (offset : ℕ) → IsCutShort body offset → offset + 4 ≤ length body → ((sort : Sort) → sort_at body offset ≢ sort_number sort) → ⊥
+cut_not_unknown : (body : List ℕ) (offset : ℕ) → IsCutShort body offset → offset + 4 ≤ length body → ((sort : Sort) → sort_at body offset ≢ sort_number sort)
+    → ⊥
 cut_not_unknown body offset (inl cut) long none = absurd (omega arith)
 cut_not_unknown body offset (inr cut) long none = none cut.1.0 cut.1.1
 
@@ -94,16 +96,22 @@ good_at body end o Overlap stands fails = absurd (omega (arith, fails.1, stands.
 good_at body end o Short stands fails = good_not_cut body end o stands fails.2
 good_at body end o UnknownSort stands fails = fails.3 o.sort stands.named
 
-good_object : (body : List ℕ) (end : ℕ) (o : ObjectText) (rest : List ℕ) (k : Cause) → MayStandObject body end o → ObjectFails body end (little_bytes 8 o.offset ++ rest) k → ⊥
+good_object : (body : List ℕ) (end : ℕ) (o : ObjectText) (rest : List ℕ) (k : Cause) → MayStandObject body end o
+    → ObjectFails body end (little_bytes 8 o.offset ++ rest) k → ⊥
 good_object body end o rest ListLength stands fails = absurd (omega (arith, fails.1, length-append (little_bytes 8 o.offset) rest))
-good_object body end o rest Misaligned stands fails = good_at body end o Misaligned stands (subst (λ (n : ℕ). FailsAt body end n Misaligned) (offset_said o.offset rest stands.fits) fails.1)
-good_object body end o rest Overlap stands fails = good_at body end o Overlap stands (subst (λ (n : ℕ). FailsAt body end n Overlap) (offset_said o.offset rest stands.fits) fails.1)
-good_object body end o rest Short stands fails = good_at body end o Short stands (subst (λ (n : ℕ). FailsAt body end n Short) (offset_said o.offset rest stands.fits) fails.1)
-good_object body end o rest UnknownSort stands fails = good_at body end o UnknownSort stands (subst (λ (n : ℕ). FailsAt body end n UnknownSort) (offset_said o.offset rest stands.fits) fails.1)
+good_object body end o rest Misaligned stands fails = good_at body end o Misaligned stands
+    (subst (λ (n : ℕ). FailsAt body end n Misaligned) (offset_said o.offset rest stands.fits) fails.1)
+good_object body end o rest Overlap stands fails = good_at body end o Overlap stands
+    (subst (λ (n : ℕ). FailsAt body end n Overlap) (offset_said o.offset rest stands.fits) fails.1)
+good_object body end o rest Short stands fails = good_at body end o Short stands
+    (subst (λ (n : ℕ). FailsAt body end n Short) (offset_said o.offset rest stands.fits) fails.1)
+good_object body end o rest UnknownSort stands fails = good_at body end o UnknownSort stands
+    (subst (λ (n : ℕ). FailsAt body end n UnknownSort) (offset_said o.offset rest stands.fits) fails.1)
 
 -- ---- at an offset stands a good object, or it fails
 
-of_sort : (body : List ℕ) (end : ℕ) (list : List ℕ) → IsBytes list → 8 ≤ length list → first_offset list % 4 ≡ 0 → end ≤ first_offset list → first_offset list + 4 ≤ length body
+of_sort : (body : List ℕ) (end : ℕ) (list : List ℕ) → IsBytes list → 8 ≤ length list → first_offset list % 4 ≡ 0 → end ≤ first_offset list
+    → first_offset list + 4 ≤ length body
     → Named (sort_at body (first_offset list)) → Judged (object_format body) end list
 of_sort body end list h long aligned behind four (unknown none) = units.bad UnknownSort 0 ((long, (aligned, behind, four, none)), refl)
 of_sort body end list h long aligned behind four (known sort is) = elim (cases_lt (length body) (first_offset list + sort_length sort)) [
@@ -135,10 +143,12 @@ same_object : (body : List ℕ) (end : ℕ) (u v : ObjectText) → MayStandObjec
 same_object body end u v a b same =
     let made : ℕ → Sort → List ℕ → ObjectText = λ o s t. record { offset = o; sort = s; bytes = t } in
     let sorts : u.sort ≡ v.sort = one_sort u.sort v.sort (sym a.named ∙ ap (sort_at body) same ∙ b.named) in
-    let bytes : u.bytes ≡ v.bytes = a.bytes ∙ ap (λ (s : Sort). take (sort_length s) (drop u.offset body)) sorts ∙ ap (λ (o : ℕ). take (sort_length v.sort) (drop o body)) same ∙ sym b.bytes in
+    let bytes : u.bytes ≡ v.bytes = a.bytes ∙ ap (λ (s : Sort). take (sort_length s) (drop u.offset body)) sorts
+    ∙ ap (λ (o : ℕ). take (sort_length v.sort) (drop o body)) same ∙ sym b.bytes in
     ap (λ (o : ℕ). made o u.sort u.bytes) same ∙ ap (λ (s : Sort). made v.offset s u.bytes) sorts ∙ ap (made v.offset v.sort) bytes
 
-one_object : (body : List ℕ) (end : ℕ) (u v : ObjectText) (rest others : List ℕ) → MayStandObject body end u → MayStandObject body end v → little_bytes 8 u.offset ++ rest ≡ little_bytes 8 v.offset ++ others
+one_object : (body : List ℕ) (end : ℕ) (u v : ObjectText) (rest others : List ℕ) → MayStandObject body end u → MayStandObject body end v
+    → little_bytes 8 u.offset ++ rest ≡ little_bytes 8 v.offset ++ others
     → (u ≡ v) × (rest ≡ others)
 one_object body end u v rest others a b e = (
   same_object body end u v a b (sym (offset_said u.offset rest a.fits) ∙ ap first_offset e ∙ offset_said v.offset others b.fits),
@@ -177,7 +187,8 @@ split_short body list rest objects splits =
     let whole = ap length splits.joined ∙ length-append (spelling_of (object_format body) objects) rest in
     omega (arith, whole, spelled_long body objects)
 
-pub objects_short : (body list : List ℕ) (objects : List ObjectText) (bad : Option BadObject) → AreObjects body list objects bad → 8 * length objects ≤ length list
+pub objects_short : (body list : List ℕ) (objects : List ObjectText) (bad : Option BadObject) → AreObjects body list objects bad
+    → 8 * length objects ≤ length list
 objects_short body list objects bad (all_good whole reads is) = split_short body list [] objects reads
 objects_short body list objects bad (until_bad whole rest cause splits more fails is) = split_short body list rest objects splits
 objects_short body list objects bad (no_list never none is) = let e : length objects ≡ 0 = ap length none in omega (arith, e)
@@ -191,14 +202,16 @@ rest_whole body list rest objects whole splits =
     omega (arith, whole, parts, spelled_long body objects)
 
 -- a whole list does not end within an offset
-of_failure : (body : List ℕ) (end : ℕ) (rest : List ℕ) (cause : Cause) → IsWholeList rest → ObjectFails body end rest cause → (8 ≤ length rest) × FailsAt body end (first_offset rest) cause
+of_failure : (body : List ℕ) (end : ℕ) (rest : List ℕ) (cause : Cause) → IsWholeList rest → ObjectFails body end rest cause
+    → (8 ≤ length rest) × FailsAt body end (first_offset rest) cause
 of_failure body end rest ListLength whole fails = absurd (omega (arith, whole, fails.0, fails.1))
 of_failure body end rest Misaligned whole fails = fails
 of_failure body end rest Overlap whole fails = fails
 of_failure body end rest Short whole fails = fails
 of_failure body end rest UnknownSort whole fails = fails
 
-of_outcome : (body list : List ℕ) → IsWholeList list → Outcome (object_format body) 0 list → (objects : List ObjectText) × (bad : Option BadObject) × AreObjects body list objects bad
+of_outcome : (body list : List ℕ) → IsWholeList list → Outcome (object_format body) 0 list
+    → (objects : List ObjectText) × (bad : Option BadObject) × AreObjects body list objects bad
 of_outcome body list whole (read objects reads) = (objects, None, all_good whole reads refl)
 of_outcome body list whole (failed cause place failure) =
     let fails = of_failure body _ failure.rest cause (rest_whole body list failure.rest failure.before whole failure.splits) failure.fails.0 in
@@ -210,16 +223,21 @@ some_objects body list h = elim (cases_eq (length list % 8) 0) [
   | inr never ↦ ([], _, no_list never refl refl)
 ]
 
-pub one_list : (body list : List ℕ) (objects others : List ObjectText) (bad other_bad : Option BadObject) → AreObjects body list objects bad → AreObjects body list others other_bad
+pub one_list : (body list : List ℕ) (objects others : List ObjectText) (bad other_bad : Option BadObject) → AreObjects body list objects bad
+    → AreObjects body list others other_bad
     → (objects ≡ others) × (bad ≡ other_bad)
 one_list body list objects others bad other_bad (all_good whole reads is) (all_good _ reads_too is_too) =
     (units.one_reading (object_format body) (objects_decided body) 0 list objects others reads reads_too, is ∙ sym is_too)
 one_list body list objects others bad other_bad (all_good whole reads is) (until_bad _ rest cause splits more fails is_too) =
-    absurd (units.never_both (object_format body) (objects_decided body) 0 list objects others rest cause 0 reads splits (object_fails body _ rest cause more fails, refl))
+    absurd (units.never_both (object_format body) (objects_decided body) 0 list objects others rest cause 0 reads splits
+    (object_fails body _ rest cause more fails, refl))
 one_list body list objects others bad other_bad (until_bad whole rest cause splits more fails is) (all_good _ reads is_too) =
-    absurd (units.never_both (object_format body) (objects_decided body) 0 list others objects rest cause 0 reads splits (object_fails body _ rest cause more fails, refl))
-one_list body list objects others bad other_bad (until_bad whole rest cause splits more fails is) (until_bad _ rest_too cause_too splits_too more_too fails_too is_too) =
-    let same = units.same_failure (object_format body) (objects_decided body) 0 list objects others rest rest_too cause cause_too 0 0 splits splits_too (object_fails body _ rest cause more fails, refl) (object_fails body _ rest_too cause_too more_too fails_too, refl) in
+    absurd (units.never_both (object_format body) (objects_decided body) 0 list others objects rest cause 0 reads splits
+    (object_fails body _ rest cause more fails, refl))
+one_list body list objects others bad other_bad (until_bad whole rest cause splits more fails is)
+    (until_bad _ rest_too cause_too splits_too more_too fails_too is_too) =
+    let same = units.same_failure (object_format body) (objects_decided body) 0 list objects others rest rest_too cause cause_too 0 0 splits splits_too
+    (object_fails body _ rest cause more fails, refl) (object_fails body _ rest_too cause_too more_too fails_too, refl) in
     (same.0, is ∙ ap Some (rw (same.0, same.1, same.2) refl) ∙ sym is_too)
 one_list body list objects others bad other_bad (no_list never none is) (no_list _ none_too is_too) = (none ∙ sym none_too, is ∙ sym is_too)
 one_list body list objects others bad other_bad (no_list never none is) (all_good whole reads is_too) = absurd (never whole)

@@ -30,21 +30,25 @@ object_reader body list = record {
   later = λ x cause within. None;
 }
 
-bad_call : (body list : List ℕ) → IsWholeList list → (end x : ℕ) (bad : BadObject) (next : Reading) → 8 * (x / 8) ≡ x → IsBadAt body list (x / 8) end bad → next ≡ ended
+bad_call : (body list : List ℕ) → IsWholeList list → (end x : ℕ) (bad : BadObject) (next : Reading) → 8 * (x / 8) ≡ x → IsBadAt body list (x / 8) end bad
+    → next ≡ ended
     → Call (object_reader body list) end x (Some (Err bad)) next
 bad_call body list whole end x bad next place (reading.no_list never is) last = absurd (never whole)
 bad_call body list whole end x bad next place (no_object _ more cause fails is) last =
     let there : drop (8 * (x / 8)) list ≡ drop x list = ap (λ (n : ℕ). drop n list) place in
-    failed cause 0 (subst (λ (t : List ℕ). (object_format body).Fails end t cause 0) there (object_fails body end (drop (8 * (x / 8)) list) cause more fails, refl))
+    failed cause 0 (subst (λ (t : List ℕ). (object_format body).Fails end t cause 0) there
+    (object_fails body end (drop (8 * (x / 8)) list) cause more fails, refl))
     (ap (λ (b : BadObject). Some (Err b)) (is ∙ ap (λ (t : List ℕ). bad_at (x / 8) (first_offset t) cause) there)) last
 
-object_call : (body list : List ℕ) → IsWholeList list → (end x : ℕ) (result : Option (Result Object BadObject)) (next : Reading) → 8 * (x / 8) ≡ x → Steps (at body list (x / 8) end) result next
+object_call : (body list : List ℕ) → IsWholeList list → (end x : ℕ) (result : Option (Result Object BadObject)) (next : Reading) → 8 * (x / 8) ≡ x
+    → Steps (at body list (x / 8) end) result next
     → Call (object_reader body list) end x result next
 object_call body list whole end x (Some (Ok found)) next place steps =
     let there : drop (8 * (x / 8)) list ≡ drop x list = ap (λ (n : ℕ). drop n list) place in
     let o = object_text (first_offset (drop (8 * (x / 8)) list)) found in
     let number : x / 8 + 1 ≡ (x + 8) / 8 = omega arith in
-    gave o (drop (8 * (x / 8) + 8) list) steps.2 (sym there ∙ steps.1) (found, refl, refl, refl) (steps.3 ∙ ap (λ (n : ℕ). at body list n (o.offset + sort_length o.sort)) number)
+    gave o (drop (8 * (x / 8) + 8) list) steps.2 (sym there ∙ steps.1) (found, refl, refl, refl)
+    (steps.3 ∙ ap (λ (n : ℕ). at body list n (o.offset + sort_length o.sort)) number)
 object_call body list whole end x (Some (Err bad)) next place steps = bad_call body list whole end x bad next place steps.0 steps.1
 object_call body list whole end x None next place steps = stayed (ap (λ (n : ℕ). drop n list) (sym place) ∙ steps.1) refl steps.2
 
@@ -61,7 +65,8 @@ ended_gives : (results : List (Option (Result Object BadObject))) → Calls Step
 ended_gives [] calls = tt
 ended_gives (_ ∷ results) (one_more _ next result _ steps calls) = (steps.0, ended_gives results (subst (λ (r : Reading). Calls Steps r results) steps.1 calls))
 
-no_list_gives : (body list : List ℕ) → ¬ IsWholeList list → (results : List (Option (Result Object BadObject))) → Calls Steps (objects_start body list) results → GiveObjects [] (Some (bad_at 0 0 ListLength)) results
+no_list_gives : (body list : List ℕ) → ¬ IsWholeList list → (results : List (Option (Result Object BadObject)))
+    → Calls Steps (objects_start body list) results → GiveObjects [] (Some (bad_at 0 0 ListLength)) results
 no_list_gives body list never [] calls = tt
 no_list_gives body list never (None ∷ results) (one_more _ next _ _ steps calls) = absurd (never steps.0)
 no_list_gives body list never (Some (Ok found) ∷ results) (one_more _ next _ _ steps calls) = absurd (never steps.0)
@@ -70,7 +75,8 @@ no_list_gives body list never (Some (Err found) ∷ results) (one_more _ next _ 
 no_list_gives body list never (Some (Err found) ∷ results) (one_more _ next _ _ (no_object whole more cause fails is, last) calls) = absurd (never whole)
 
 -- the calls of a reader from its start give the objects, and the bad one
-pub whole_gives : (body list : List ℕ) (objects : List ObjectText) (bad : Option BadObject) → AreObjects body list objects bad → (results : List (Option (Result Object BadObject)))
+pub whole_gives : (body list : List ℕ) (objects : List ObjectText) (bad : Option BadObject) → AreObjects body list objects bad
+    → (results : List (Option (Result Object BadObject)))
     → Calls Steps (objects_start body list) results → GiveObjects objects bad results
 whole_gives body list objects bad (all_good whole reads is) results calls =
     let reader = object_reader body list in
@@ -81,23 +87,28 @@ whole_gives body list objects bad (until_bad whole rest cause splits more fails 
     let y = length (spelling_of (object_format body) objects) in
     let once : Option (Result Object BadObject) = Some (Err (bad_at (y / 8) (first_offset (drop y list)) cause)) in
     let given = without_places GivesObject once None (object_format body).spelling 0 objects results
-    (from_start reader 0 once None objects (failure_gives reader (objects_go body list whole) 0 0 cause objects rest 0 refl splits (object_fails body _ rest cause more fails, refl) y (omega arith)) results calls) in
+    (from_start reader 0 once None objects (failure_gives reader (objects_go body list whole) 0 0 cause objects rest 0 refl splits
+    (object_fails body _ rest cause more fails, refl) y (omega arith)) results calls) in
     let number : y / 8 ≡ length objects = omega (arith, spelled_long body objects) in
     let there : drop y list ≡ rest = ap (drop y) splits.joined ∙ drop_at (spelling_of (object_format body) objects) rest y refl in
     let same : once ≡ option_map Err bad = rw (is, number, there) refl in
     subst (λ (answer : Option (Result Object BadObject)). GiveInOrder GivesObject answer None objects results) same given
 whole_gives body list objects bad (no_list never none is) results calls = rw (none, is) (no_list_gives body list never results calls)
 
-ended_for_ever : (next : Reading) → next ≡ ended → (results : List (Option (Result Object BadObject))) → Calls Steps next results → All (λ result. result ≡ None) results
+ended_for_ever : (next : Reading) → next ≡ ended → (results : List (Option (Result Object BadObject))) → Calls Steps next results
+    → All (λ result. result ≡ None) results
 ended_for_ever next is results calls = stays Steps ended None (λ result new steps. steps) results (subst (λ (r : Reading). Calls Steps r results) is calls)
 
-pub failed_stays : (reader next : Reading) (bad : BadObject) → Steps reader (Some (Err bad)) next → (results : List (Option (Result Object BadObject))) → Calls Steps next results → All (λ result. result ≡ None) results
+pub failed_stays : (reader next : Reading) (bad : BadObject) → Steps reader (Some (Err bad)) next → (results : List (Option (Result Object BadObject)))
+    → Calls Steps next results → All (λ result. result ≡ None) results
 failed_stays ended next bad steps results calls = ended_for_ever next steps.1 results calls
 failed_stays (at body list index end) next bad steps results calls = ended_for_ever next steps.1 results calls
 
-pub ended_stays : (reader next : Reading) → Steps reader None next → (results : List (Option (Result Object BadObject))) → Calls Steps next results → All (λ result. result ≡ None) results
+pub ended_stays : (reader next : Reading) → Steps reader None next → (results : List (Option (Result Object BadObject))) → Calls Steps next results
+    → All (λ result. result ≡ None) results
 ended_stays ended next steps results calls = ended_for_ever next steps.1 results calls
 ended_stays (at body list index end) next steps results calls =
     let number : index ≡ 8 * index / 8 = omega arith in
     let there : next ≡ at body list (8 * index / 8) end = steps.2 ∙ ap (λ (n : ℕ). at body list n end) number in
-    stays_at_end (object_reader body list) (objects_go body list steps.0) end (8 * index) (omega arith) steps.1 results (subst (λ (r : Reading). Calls Steps r results) there calls)
+    stays_at_end (object_reader body list) (objects_go body list steps.0) end (8 * index) (omega arith) steps.1 results
+    (subst (λ (r : Reading). Calls Steps r results) there calls)

@@ -18,23 +18,31 @@ one_more list index whole within some =
     omega (arith, whole, within, some, left)
 
 pub steps_good : (reading : Reading) (body list : List ℕ) (index end offset : ℕ) (found : Object) → reading ≡ at body list index end → IsWholeList list
-    → offset ≡ first_offset (rest_of list index) → rest_of list index ≡ little_bytes 8 offset ++ drop 8 (rest_of list index) → MayStandObject body end (object_text offset found)
+    → offset ≡ first_offset (rest_of list index) → rest_of list index ≡ little_bytes 8 offset ++ drop 8 (rest_of list index)
+    → MayStandObject body end (object_text offset found)
     → Steps reading (Some (Ok found)) (at body list (index + 1) (offset + length found.bytes.now))
 steps_good reading body list index end offset found is whole read spelled stands =
     let rest = take_rest list (8 * index) in
     let there : offset ≡ first_offset (drop (8 * index) list) = read ∙ ap first_offset rest in
     let joined : drop (8 * index) list ≡ little_bytes 8 offset ++ drop (8 * index + 8) list =
-    sym rest ∙ spelled ∙ ap (λ (t : List ℕ). little_bytes 8 offset ++ drop 8 t) rest ∙ ap (λ (t : List ℕ). little_bytes 8 offset ++ t) (drop-drop 8 (8 * index) list) in
+    sym rest ∙ spelled ∙ ap (λ (t : List ℕ). little_bytes 8 offset ++ drop 8 t) rest
+    ∙ ap (λ (t : List ℕ). little_bytes 8 offset ++ t) (drop-drop 8 (8 * index) list) in
     rw is (
       whole,
       subst (λ (n : ℕ). drop (8 * index) list ≡ little_bytes 8 n ++ drop (8 * index + 8) list) there joined,
       subst (λ (n : ℕ). MayStandObject body end (object_text n found)) there stands,
-      ap (λ (n : ℕ). at body list (index + 1) (n + length found.bytes.now)) there ∙ ap (λ (n : ℕ). at body list (index + 1) (first_offset (drop (8 * index) list) + n)) found.whole,
+      ap (λ (n : ℕ). at body list (index + 1) (n + length found.bytes.now)) there
+          ∙ ap (λ (n : ℕ). at body list (index + 1) (first_offset (drop (8 * index) list) + n)) found.whole,
     )
 
-pub steps_bad : (reading : Reading) (body list : List ℕ) (index end offset : ℕ) (cause : Cause) → reading ≡ at body list index end → IsWholeList list → 8 ≤ length (rest_of list index)
+pub steps_bad : (reading : Reading) (body list : List ℕ) (index end offset : ℕ) (cause : Cause) → reading ≡ at body list index end → IsWholeList list
+    → 8 ≤ length (rest_of list index)
     → offset ≡ first_offset (rest_of list index) → FailsAt body end offset cause → Steps reading (Some (Err (bad_at index offset cause))) ended
 steps_bad reading body list index end offset cause is whole more read fails =
     let rest = take_rest list (8 * index) in
     let there : offset ≡ first_offset (drop (8 * index) list) = read ∙ ap first_offset rest in
-    rw is (no_object whole (subst (λ (t : List ℕ). 8 ≤ length t) rest more) cause (subst (λ (n : ℕ). FailsAt body end n cause) there fails) (ap (λ (n : ℕ). bad_at index n cause) there), refl)
+    rw is (
+      no_object whole (subst (λ (t : List ℕ). 8 ≤ length t) rest more) cause (subst (λ (n : ℕ). FailsAt body end n cause) there fails)
+          (ap (λ (n : ℕ). bad_at index n cause) there),
+      refl,
+    )

@@ -24,7 +24,8 @@ handle_stands = record { fits = omega arith; aligned = refl; behind = omega arit
 -- offsets 0 and 20: the second is inside the first object, and none behind it is looked at
 overlapping : AreObjects two_handles (replicate 8 0 ++ 20 ∷ replicate 7 0 ++ 24 ∷ replicate 7 0) (handle ∷ []) (Some (bad_at 1 20 Overlap))
 unfolding handle number_at
-overlapping = until_bad refl (20 ∷ replicate 7 0 ++ 24 ∷ replicate 7 0) Overlap (record { joined = refl; stand = (handle_stands, tt) }) (omega arith) (refl, omega arith) refl
+overlapping = until_bad refl (20 ∷ replicate 7 0 ++ 24 ∷ replicate 7 0) Overlap (record { joined = refl; stand = (handle_stands, tt) }) (omega arith)
+    (refl, omega arith) refl
 
 -- offset 0 alone
 alone : AreObjects two_handles (replicate 8 0) (handle ∷ []) None

@@ -1,4 +1,5 @@
--- The objects of a transaction's data (`linux/android/binder.h`): their sorts, and the fields of each by their positions.
+-- The objects of a transaction's data (`linux/android/binder.h`): their sorts, and the fields of each by their
+-- positions.
 use Rattle.std.specs.Prelude.{ℕ, List, Option, Some, None}
 use Rattle.std.specs.Option.{option_map}
 use Rattle.transaction_view.specs.Envelope.{number_at}

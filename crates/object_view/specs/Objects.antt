@@ -38,7 +38,8 @@ IsUnknown number = (sort : Sort) → number ≢ sort_number sort
 abbrev pub IsCutShort : List ℕ → ℕ → Type 0
 IsCutShort body offset =
     (length body < offset + 4)
-    ⊎ ((offset + 4 ≤ length body) × ((sort : Sort) × (sort_at body offset ≡ sort_number sort) × (length body < offset + sort_length sort)))
+    ⊎ ((offset + 4 ≤ length body) × ((sort : Sort) × (sort_at body offset ≡ sort_number sort)
+    × (length body < offset + sort_length sort)))
 
 -- at this offset, after an object that ends at `end`, stands no good object, by this cause and by none that is judged
 -- before it
@@ -83,7 +84,8 @@ bad_at index offset cause = record { index = index; offset = offset; cause = cau
 -- the objects of data and a list of offsets: those at all its offsets, none of them bad; or those before the first bad
 -- one, and that one; or none, and a bad one that says that the list's length is no multiple of 8
 pub data AreObjects (body list : List ℕ) (objects : List ObjectText) (bad : Option BadObject) : Type 0 where
-  all_good : IsWholeList list → Reads (object_format body) 0 list objects → bad ≡ None → AreObjects body list objects bad
+  all_good : IsWholeList list → Reads (object_format body) 0 list objects → bad ≡ None
+      → AreObjects body list objects bad
   until_bad : IsWholeList list → (rest : List ℕ) (cause : Cause) → Splits (object_format body) 0 list objects rest
       → 8 ≤ length rest → FailsAt body (state_after (object_format body) 0 objects) (first_offset rest) cause
       → bad ≡ Some (bad_at (length objects) (first_offset rest) cause) → AreObjects body list objects bad

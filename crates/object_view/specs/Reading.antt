@@ -24,7 +24,8 @@ object_text offset found = record { offset = offset; sort = found.sort; bytes = 
 -- stands at the offset is no good object
 pub data IsBadAt (body list : List ℕ) (index end : ℕ) (bad : BadObject) : Type 0 where
   no_list : ¬ IsWholeList list → bad ≡ bad_at 0 0 ListLength → IsBadAt body list index end bad
-  no_object : IsWholeList list → 8 ≤ length (drop (8 * index) list) → (cause : Cause) → FailsAt body end (offset_of list index) cause
+  no_object : IsWholeList list → 8 ≤ length (drop (8 * index) list) → (cause : Cause)
+      → FailsAt body end (offset_of list index) cause
       → bad ≡ bad_at index (offset_of list index) cause → IsBadAt body list index end bad
 
 -- one call: an ended reader gives nothing; else it gives the object at the offset of that number and goes behind it,
@@ -36,7 +37,8 @@ Steps (at body list index end) (Some (Ok found)) new =
     × MayStandObject body end (object_text (offset_of list index) found)
     × (new ≡ at body list (index + 1) (offset_of list index + sort_length found.sort))
 Steps (at body list index end) (Some (Err bad)) new = IsBadAt body list index end bad × (new ≡ ended)
-Steps (at body list index end) None new = IsWholeList list × (drop (8 * index) list ≡ []) × (new ≡ at body list index end)
+Steps (at body list index end) None new = IsWholeList list × (drop (8 * index) list ≡ [])
+    × (new ≡ at body list index end)
 
 -- a reader of an attachment with these data and this list
 abbrev pub objects_start : List ℕ → List ℕ → Reading
@@ -44,7 +46,8 @@ objects_start body list = at body list 0 0
 
 -- the call gives the object
 abbrev pub GivesObject : Option (Result Object BadObject) → ObjectText → Type 0
-GivesObject result o = (found : Object) × (result ≡ Some (Ok found)) × (found.sort ≡ o.sort) × (found.bytes.now ≡ o.bytes)
+GivesObject result o = (found : Object) × (result ≡ Some (Ok found)) × (found.sort ≡ o.sort)
+    × (found.bytes.now ≡ o.bytes)
 
 -- the results of calls are these objects, one by one; then the bad one, once, if there is one; then nothing again and
 -- again

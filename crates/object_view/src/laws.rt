@@ -8,25 +8,28 @@ ghost use Rattle.object_view.specs.declared.object.Object.{Object};
 ghost use Rattle.object_view.specs.Objects.{ObjectText, AreObjects};
 ghost use Rattle.object_view.specs.Reading.{Reading, Steps, objects_start, GiveObjects};
 
-/// The data and the list of offsets of any attachment have their objects, and one bad object or none,
-/// and they have no others.
+/// The data and the list of offsets of any attachment have their objects, and one bad object or
+/// none, and they have no others.
 pub fn one_list()
     ensures some { (body list : List ℕ) → IsBytes list →
         (objects : List ObjectText) × (bad : Option BadObject) × AreObjects body list objects bad }
-    ensures one { (body list : List ℕ) (objects others : List ObjectText) (bad other_bad : Option BadObject) →
+    ensures one { (body list : List ℕ)
+        (objects others : List ObjectText) (bad other_bad : Option BadObject) →
         AreObjects body list objects bad → AreObjects body list others other_bad →
         (objects ≡ others) × (bad ≡ other_bad) }
 {}
 
-/// A reader of an attachment, called again and again from its start, gives its objects in order, then
-/// its bad object once if there is one, then nothing at every later call. Any reader that has given a
-/// bad object, or has ended, gives nothing for ever.
+/// A reader of an attachment, called again and again from its start, gives its objects in order,
+/// then its bad object once if there is one, then nothing at every later call. Any reader that has
+/// given a bad object, or has ended, gives nothing for ever.
 pub fn all_calls()
     ensures whole { (body list : List ℕ) (objects : List ObjectText) (bad : Option BadObject) →
         AreObjects body list objects bad →
-        (results : List (Option (Result Object BadObject))) → Calls Steps (objects_start body list) results →
+        (results : List (Option (Result Object BadObject))) →
+        Calls Steps (objects_start body list) results →
         GiveObjects objects bad results }
-    ensures failed { (reader next : Reading) (bad : BadObject) → Steps reader (Some (Err bad)) next →
+    ensures failed { (reader next : Reading) (bad : BadObject) →
+        Steps reader (Some (Err bad)) next →
         (results : List (Option (Result Object BadObject))) → Calls Steps next results →
         All (λ result. result ≡ None) results }
     ensures ended { (reader next : Reading) → Steps reader None next →

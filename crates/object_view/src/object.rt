@@ -1,6 +1,6 @@
 //! The fields of an object.
 
-ghost use Rattle.std.specs.Prelude.{◌≡◌, ◌≤◌, ◌+◌, length};
+ghost use Rattle.std.specs.Prelude.{◌≡◌, length};
 ghost use Rattle.transaction_view.specs.Envelope.{number_at};
 ghost use Rattle.object_view.specs.Fields.{sort_number, sort_length};
 
@@ -104,7 +104,8 @@ impl<'c> Object<'c> {
         }
     }
 
-    /// The number of the object whose buffer holds the pointer to a PTR's buffer, or an FDA's array.
+    /// The number of the object whose buffer holds the pointer to a PTR's buffer, or an FDA's
+    /// array.
     pub fn parent(self) -> Option<u64>
         ensures { result ≡ field 8 (parent_position self.entry.sort) self.entry.bytes.now }
     {

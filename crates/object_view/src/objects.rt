@@ -1,6 +1,6 @@
 //! The reader of an attachment's objects.
 
-ghost use Rattle.std.specs.Prelude.{◌≡◌, ◌≤◌, ◌<◌, ◌+◌, ◌^◌, ◌%◌, ◌++◌, length, drop, IfOk, IfErr};
+ghost use Rattle.std.specs.Prelude.{◌≡◌, ◌≤◌, ◌++◌, length, drop, IfOk, IfErr};
 ghost use Rattle.byteorder.specs.Endian.{little_bytes};
 ghost use Rattle.object_view.specs.Objects.{MayStandObject, FailsAt, first_offset};
 ghost use Rattle.object_view.specs.Reading.{object_text};
@@ -25,8 +25,8 @@ enum State {
     Ended,
 }
 
-/// Reads the objects of an attachment in the order of its offsets, up to the first bad one. One that
-/// has ended gives nothing more.
+/// Reads the objects of an attachment in the order of its offsets, up to the first bad one. One
+/// that has ended gives nothing more.
 #[derive(Debug, Drop)]
 pub struct Objects<'c> {
     body: &'c [u8],
@@ -35,7 +35,6 @@ pub struct Objects<'c> {
 }
 
 impl<'c> Model for Objects<'c> {
-    ghost use Rattle.std.specs.Prelude.{◌≡◌};
     ghost use Rattle.object_view.specs.Reading.{Reading};
 
     ghost Value = { Reading };

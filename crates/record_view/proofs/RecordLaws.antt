@@ -44,14 +44,20 @@ text_at-spelled : (r : RecordText) (rest : List ℕ) → r.code < 2 ^ 32 → len
 text_at-spelled r rest fits sized =
     let code = code_said r rest fits in
     let payload : take (size (code_at (record_bytes r ++ rest))) (drop 4 (record_bytes r ++ rest)) ≡ r.payload =
-    ap (λ (n : ℕ). take (size n) (drop 4 (record_bytes r ++ rest))) code ∙ ap (λ (t : List ℕ). take (size r.code) t) (payload_said r rest) ∙ take_at r.payload rest (size r.code) sized in
-    ap (λ (n : ℕ). let made : RecordText = record { code = n; payload = take (size (code_at (record_bytes r ++ rest))) (drop 4 (record_bytes r ++ rest)) } in made) code
+    ap (λ (n : ℕ). take (size n) (drop 4 (record_bytes r ++ rest))) code ∙ ap (λ (t : List ℕ). take (size r.code) t) (payload_said r rest)
+    ∙ take_at r.payload rest (size r.code) sized in
+    ap (λ (n : ℕ). let made : RecordText = record {
+      code = n;
+      payload = take (size (code_at (record_bytes r ++ rest)))
+          (drop 4 (record_bytes r ++ rest));
+    } in made) code
     ∙ ap (λ (t : List ℕ). let made : RecordText = record { code = r.code; payload = t } in made) payload
 
 -- and so is what follows it
 rest_at-spelled : (r : RecordText) (rest : List ℕ) → r.code < 2 ^ 32 → length r.payload ≡ size r.code → rest_at (record_bytes r ++ rest) ≡ rest
 rest_at-spelled r rest fits sized =
-    let width : 4 + size (code_at (record_bytes r ++ rest)) ≡ length (record_bytes r) = ap (λ (n : ℕ). 4 + size n) (code_said r rest fits) ∙ ap (λ (n : ℕ). 4 + n) (sym sized) ∙ sym (length-record_bytes r) in
+    let width : 4 + size (code_at (record_bytes r ++ rest)) ≡ length (record_bytes r) = ap (λ (n : ℕ). 4 + size n) (code_said r rest fits)
+    ∙ ap (λ (n : ℕ). 4 + n) (sym sized) ∙ sym (length-record_bytes r) in
     ap (λ (n : ℕ). drop n (record_bytes r ++ rest)) width ∙ drop_at (record_bytes r) rest (length (record_bytes r)) refl
 
 -- what is read is spelled so
@@ -59,10 +65,12 @@ pub record_spelled : (bytes : List ℕ) → IsBytes bytes → 4 + size (code_at 
 unfolding record_bytes number_at
 record_spelled bytes h long =
     let n = size (code_at bytes) in
-    let body : drop 4 bytes ≡ take n (drop 4 bytes) ++ rest_at bytes = sym (take-append-drop n (drop 4 bytes)) ∙ ap (λ (t : List ℕ). take n (drop 4 bytes) ++ t) (drop-drop n 4 bytes) in
+    let body : drop 4 bytes ≡ take n (drop 4 bytes) ++ rest_at bytes = sym (take-append-drop n (drop 4 bytes))
+    ∙ ap (λ (t : List ℕ). take n (drop 4 bytes) ++ t) (drop-drop n 4 bytes) in
     number_spelled 4 bytes h (omega arith) ∙ ap (λ (t : List ℕ). little_bytes 4 (code_at bytes) ++ t) body
 
-pub text_at-is_record : (protocol : Protocol) (bytes : List ℕ) → IsBytes bytes → IsOk (kind_of protocol (code_at bytes)) → 4 + size (code_at bytes) ≤ length bytes → IsRecord protocol (text_at bytes)
+pub text_at-is_record : (protocol : Protocol) (bytes : List ℕ) → IsBytes bytes → IsOk (kind_of protocol (code_at bytes))
+    → 4 + size (code_at bytes) ≤ length bytes → IsRecord protocol (text_at bytes)
 unfolding number_at
 text_at-is_record protocol bytes h judged long = record {
   fits = little_from-lt 0 4 bytes h;
@@ -102,7 +110,8 @@ verdict_whole : (judged : Result Kind CodeFault) → IsOk judged → verdict_of 
 verdict_whole (Ok k) h = refl
 verdict_whole (Err e) h = absurd cc
 
-verdict_at : (protocol : Protocol) (bytes : List ℕ) (short cut : Bool) (judged : Result Kind CodeFault) (kind : Option FaultKind) → ltb (length bytes) 4 ≡ short → kind_of protocol (code_at bytes) ≡ judged
+verdict_at : (protocol : Protocol) (bytes : List ℕ) (short cut : Bool) (judged : Result Kind CodeFault) (kind : Option FaultKind)
+    → ltb (length bytes) 4 ≡ short → kind_of protocol (code_at bytes) ≡ judged
     → ltb (length bytes) (4 + size (code_at bytes)) ≡ cut → verdict_of short judged cut ≡ kind → verdict protocol bytes ≡ kind
 unfolding verdict
 verdict_at protocol bytes short cut judged kind a b c e =
@@ -133,9 +142,11 @@ verdict-fails protocol bytes AttachSize h = absurd h
 verdict-stands : (protocol : Protocol) (r : RecordText) (rest : List ℕ) → IsRecord protocol r → verdict protocol (record_bytes r ++ rest) ≡ None
 verdict-stands protocol r rest is =
     let code = code_said r rest is.fits in
-    let whole : length (record_bytes r ++ rest) ≡ 4 + length r.payload + length rest = length-append (record_bytes r) rest ∙ ap (λ (n : ℕ). n + length rest) (length-record_bytes r) in
+    let whole : length (record_bytes r ++ rest) ≡ 4 + length r.payload + length rest = length-append (record_bytes r) rest
+    ∙ ap (λ (n : ℕ). n + length rest) (length-record_bytes r) in
     let width : 4 + size (code_at (record_bytes r ++ rest)) ≡ 4 + length r.payload = ap (λ (n : ℕ). 4 + size n) code ∙ ap (λ (n : ℕ). 4 + n) (sym is.sized) in
-    verdict_at protocol (record_bytes r ++ rest) false false (kind_of protocol r.code) None (le-ltb _ _ (omega (arith, whole))) (ap (kind_of protocol) code) (le-ltb _ _ (omega (arith, whole, width))) (verdict_whole _ is.judged)
+    verdict_at protocol (record_bytes r ++ rest) false false (kind_of protocol r.code) None (le-ltb _ _ (omega (arith, whole))) (ap (kind_of protocol) code)
+    (le-ltb _ _ (omega (arith, whole, width))) (verdict_whole _ is.judged)
 
 some_kind : (k j : FaultKind) (o : Option FaultKind) → o ≡ Some k → o ≡ Some j → k ≡ j
 some_kind k j o a b = cc
@@ -143,7 +154,8 @@ some_kind k j o a b = cc
 none_kind : (k : FaultKind) (o : Option FaultKind) → o ≡ Some k → o ≡ None → ⊥
 none_kind k o a b = cc
 
-coded : (protocol : Protocol) (bytes : List ℕ) → IsBytes bytes → 4 ≤ length bytes → CodeCase (kind_of protocol (code_at bytes)) → Judged (record_format protocol) tt bytes
+coded : (protocol : Protocol) (bytes : List ℕ) → IsBytes bytes → 4 ≤ length bytes → CodeCase (kind_of protocol (code_at bytes))
+    → Judged (record_format protocol) tt bytes
 coded protocol bytes h long (directed_wrong e) = bad RecordDirection 0 ((long, e), refl)
 coded protocol bytes h long (sized_wrong e) = bad RecordSize 0 ((long, e), refl)
 coded protocol bytes h long (means judged) = elim (cases_lt (length bytes) (4 + size (code_at bytes))) [
@@ -158,7 +170,8 @@ record_judged protocol (b ∷ bytes) h = elim (cases_lt (length (b ∷ bytes)) 4
   | inr long ↦ coded protocol (b ∷ bytes) h long (code_case _)
 ]
 
-one_record : (protocol : Protocol) (u v : RecordText) (rest others : List ℕ) → IsRecord protocol u → IsRecord protocol v → record_bytes u ++ rest ≡ record_bytes v ++ others → (u ≡ v) × (rest ≡ others)
+one_record : (protocol : Protocol) (u v : RecordText) (rest others : List ℕ) → IsRecord protocol u → IsRecord protocol v
+    → record_bytes u ++ rest ≡ record_bytes v ++ others → (u ≡ v) × (rest ≡ others)
 one_record protocol u v rest others a b e = (
   sym (text_at-spelled u rest a.fits a.sized) ∙ ap text_at e ∙ text_at-spelled v others b.fits b.sized,
   sym (rest_at-spelled u rest a.fits a.sized) ∙ ap rest_at e ∙ rest_at-spelled v others b.fits b.sized,
@@ -177,8 +190,13 @@ records_decided protocol = record {
   judged = λ state bytes h. record_judged protocol bytes h;
   longer = λ state r is. omega (arith, length-record_bytes r);
   one_unit = λ state u v rest others a b e. one_record protocol u v rest others a b e;
-  one_failure = λ state bytes k j x y a b. (some_kind k j (verdict protocol bytes) (verdict-fails protocol bytes k a.0) (verdict-fails protocol bytes j b.0), a.1 ∙ sym b.1);
-  never_both = λ state r rest kind x is fails. none_kind kind (verdict protocol (record_bytes r ++ rest)) (verdict-fails protocol _ kind fails.0) (verdict-stands protocol r rest is);
+  one_failure = λ state bytes k j x y a b. (
+    some_kind k j (verdict protocol bytes) (verdict-fails protocol bytes k a.0)
+        (verdict-fails protocol bytes j b.0),
+    a.1 ∙ sym b.1,
+  );
+  never_both = λ state r rest kind x is fails. none_kind kind (verdict protocol (record_bytes r ++ rest)) (verdict-fails protocol _ kind fails.0)
+      (verdict-stands protocol r rest is);
   end_is_good = λ state kind x fails. end_is_good protocol kind fails.0;
 }
 

@@ -14,7 +14,8 @@ use Rattle.record_view.specs.Records.{RecordText, record_format, format_of, prot
 abbrev pub record_text : Record → RecordText
 record_text r = record { code = r.code.0; payload = r.payload.now }
 
--- the record is a view of the bytes that it begins, which stand at that place: its kind is its code's, its payload is theirs
+-- the record is a view of the bytes that it begins, which stand at that place: its kind is its code's, its payload is
+-- theirs
 pub record IsRecordView (protocol : Protocol) (bytes : List ℕ) (place : ℕ) (found : Record) : Type 0 where
   pub place_is : found.place ≡ place
   pub kind : kind_of protocol found.code.0 ≡ Ok found.kind
@@ -47,5 +48,6 @@ abbrev pub records_start : Placed FrameText → Reading
 records_start frame = at frame 0 tt
 
 -- the results of calls are these records of the frame, one by one, and then `end` again and again
-abbrev pub GiveRecords : Placed FrameText → List RecordText → Result (Option Record) Fault → List (Result (Option Record) Fault) → Type 0
+abbrev pub GiveRecords : Placed FrameText → List RecordText → Result (Option Record) Fault
+    → List (Result (Option Record) Fault) → Type 0
 GiveRecords frame records end results = GiveUnits record_source frame records end results

@@ -47,7 +47,8 @@ abbrev pub RecordFails : Protocol → List ℕ → FaultKind → Type 0
 RecordFails protocol bytes RecordShort =
     ((0 < length bytes) × (length bytes < 4))
     ⊎ ((4 ≤ length bytes) × IsOk (kind_of protocol (code_at bytes)) × IsCutShort bytes)
-RecordFails protocol bytes RecordDirection = (4 ≤ length bytes) × (kind_of protocol (code_at bytes) ≡ Err CodeFault.Direction)
+RecordFails protocol bytes RecordDirection = (4 ≤ length bytes)
+    × (kind_of protocol (code_at bytes) ≡ Err CodeFault.Direction)
 RecordFails protocol bytes RecordSize = (4 ≤ length bytes) × (kind_of protocol (code_at bytes) ≡ Err CodeFault.Size)
 RecordFails protocol bytes _ = ⊥
 

@@ -19,19 +19,21 @@ pub fn one_reading()
     ensures never_both { (frame : FrameText) → NeverBoth (format_of frame) tt frame.commands }
 {}
 
-/// A reader of a frame, called again and again from its start, gives the frame's records in order, each
-/// with its place, and then nothing at every later call; or those before the first fault, and then that
-/// fault at every later call. Any reader that has failed gives its fault for ever, and any that has
-/// ended gives nothing for ever.
+/// A reader of a frame, called again and again from its start, gives the frame's records in order,
+/// each with its place, and then nothing at every later call; or those before the first fault, and
+/// then that fault at every later call. Any reader that has failed gives its fault for ever, and
+/// any that has ended gives nothing for ever.
 pub fn all_calls()
     ensures whole { (frame : Placed FrameText) (records : List RecordText) →
         HasRecords frame.unit records →
-        (results : List (Result (Option Record) Fault)) → Calls Steps (records_start frame) results →
+        (results : List (Result (Option Record) Fault)) →
+        Calls Steps (records_start frame) results →
         GiveRecords frame records (Ok None) results }
     ensures faulty { (frame : Placed FrameText) (fault : Fault) (distance : ℕ) →
         (fails : RecordsFail frame.unit fault.kind distance) →
         fault.place ≡ commands_place frame.place + distance →
-        (results : List (Result (Option Record) Fault)) → Calls Steps (records_start frame) results →
+        (results : List (Result (Option Record) Fault)) →
+        Calls Steps (records_start frame) results →
         GiveRecords frame fails.before (Err fault) results }
     ensures failed { (reader next : Reading) (fault : Fault) → Steps reader (Err fault) next →
         (results : List (Result (Option Record) Fault)) → Calls Steps next results →

@@ -42,36 +42,44 @@ IsBytes-attachments frame rest h =
 
 pub content_one_failure : (frame : FrameText) (k j : FaultKind) (x y : ℕ) → ContentFails frame k x → ContentFails frame j y → (k ≡ j) × (x ≡ y)
 content_one_failure frame k j x y (in_records a fails p) (in_records b fails_too q) =
-    let one = units.one_failure (record_format (protocol_of frame.direction)) (records_decided (protocol_of frame.direction)) tt frame.commands k j a b fails fails_too in
+    let one = units.one_failure (record_format (protocol_of frame.direction))
+    (records_decided (protocol_of frame.direction)) tt frame.commands k j a b fails fails_too in
     (one.0, p ∙ ap (λ (n : ℕ). 32 + n) one.1 ∙ sym q)
 content_one_failure frame k j x y (in_records a fails p) (in_entries b readable fails_too q) =
-    absurd (units.never_both (record_format (protocol_of frame.direction)) (records_decided (protocol_of frame.direction)) tt frame.commands readable.0 fails.before fails.rest k fails.within readable.1 fails.splits fails.fails)
+    absurd (units.never_both (record_format (protocol_of frame.direction))
+    (records_decided (protocol_of frame.direction)) tt frame.commands readable.0 fails.before fails.rest k fails.within readable.1 fails.splits fails.fails)
 content_one_failure frame k j x y (in_entries a readable fails p) (in_records b fails_too q) =
-    absurd (units.never_both (record_format (protocol_of frame.direction)) (records_decided (protocol_of frame.direction)) tt frame.commands readable.0 fails_too.before fails_too.rest j fails_too.within readable.1 fails_too.splits fails_too.fails)
+    absurd (units.never_both (record_format (protocol_of frame.direction))
+    (records_decided (protocol_of frame.direction)) tt frame.commands readable.0 fails_too.before fails_too.rest j fails_too.within readable.1 fails_too.splits fails_too.fails)
 content_one_failure frame k j x y (in_entries a readable fails p) (in_entries b readable_too fails_too q) =
     let one = units.one_failure (entry_format frame) (entries_decided frame readable.0 readable.1) None frame.attachments k j a b fails fails_too in
     (one.0, p ∙ ap (λ (n : ℕ). 32 + (length frame.commands + n)) one.1 ∙ sym q)
 
-pub content_never_both : (frame : FrameText) (records : List RecordText) (entries : List EntryText) (k : FaultKind) (x : ℕ) → HasRecords frame records → HasEntries frame entries → ContentFails frame k x → ⊥
+pub content_never_both : (frame : FrameText) (records : List RecordText) (entries : List EntryText) (k : FaultKind) (x : ℕ) → HasRecords frame records
+    → HasEntries frame entries → ContentFails frame k x → ⊥
 content_never_both frame records entries k x has_records has_entries (in_records a fails p) =
-    units.never_both (record_format (protocol_of frame.direction)) (records_decided (protocol_of frame.direction)) tt frame.commands records fails.before fails.rest k fails.within has_records fails.splits fails.fails
+    units.never_both (record_format (protocol_of frame.direction))
+    (records_decided (protocol_of frame.direction)) tt frame.commands records fails.before fails.rest k fails.within has_records fails.splits fails.fails
 content_never_both frame records entries k x has_records has_entries (in_entries a readable fails p) =
     units.never_both (entry_format frame) (entries_decided frame records has_records) None frame.attachments entries fails.before fails.rest k fails.within has_entries fails.splits fails.fails
 
 -- ---- whole frames
 
-of_entries : (before : Option ℕ) (bytes : List ℕ) (frame : FrameText) (rest : List ℕ) (records : List RecordText) → MayStand before frame → bytes ≡ frame_bytes frame ++ rest → HasRecords frame records
+of_entries : (before : Option ℕ) (bytes : List ℕ) (frame : FrameText) (rest : List ℕ) (records : List RecordText) → MayStand before frame
+    → bytes ≡ frame_bytes frame ++ rest → HasRecords frame records
     → Outcome (entry_format frame) None frame.attachments → Judged whole_format before bytes
 of_entries before bytes frame rest records stands parts has (read entries reads) =
     good (record { frame = frame; records = records; entries = entries }) rest (record { header = stands; has_records = has; has_entries = reads }) parts
 of_entries before bytes frame rest records stands parts has (failed kind distance failure) =
     bad kind (32 + (length frame.commands + distance)) (in_content frame rest stands parts (in_entries distance (records, has) failure refl))
 
-of_frame : (before : Option ℕ) (bytes : List ℕ) (frame : FrameText) (rest : List ℕ) → MayStand before frame → bytes ≡ frame_bytes frame ++ rest → IsBytes frame.attachments
+of_frame : (before : Option ℕ) (bytes : List ℕ) (frame : FrameText) (rest : List ℕ) → MayStand before frame → bytes ≡ frame_bytes frame ++ rest
+    → IsBytes frame.attachments
     → Outcome (record_format (protocol_of frame.direction)) tt frame.commands → Judged whole_format before bytes
 of_frame before bytes frame rest stands parts h (read records reads) =
     of_entries before bytes frame rest records stands parts reads (outcome (entry_format frame) (entries_decided frame records reads) None frame.attachments h)
-of_frame before bytes frame rest stands parts h (failed kind distance failure) = bad kind (32 + distance) (in_content frame rest stands parts (in_records distance failure refl))
+of_frame before bytes frame rest stands parts h (failed kind distance failure) = bad kind (32 + distance)
+    (in_content frame rest stands parts (in_records distance failure refl))
 
 whole_judged : (before : Option ℕ) (bytes : List ℕ) → IsBytes bytes → Judged frame_format before bytes → Judged whole_format before bytes
 whole_judged before bytes h (ended none) = ended none
@@ -79,21 +87,27 @@ whole_judged before bytes h (bad kind within fails) = bad kind within (in_header
 whole_judged before bytes h (good frame rest stands parts) =
     let there = subst IsBytes parts h in
     of_frame before bytes frame rest stands parts (IsBytes-attachments frame rest there)
-    (outcome (record_format (protocol_of frame.direction)) (records_decided (protocol_of frame.direction)) tt frame.commands (IsBytes-commands frame rest there))
+    (outcome (record_format (protocol_of frame.direction)) (records_decided (protocol_of frame.direction)) tt frame.commands
+    (IsBytes-commands frame rest there))
 
-same_whole : (u v : WholeFrame) → u.frame ≡ v.frame → HasRecords u.frame u.records → HasRecords v.frame v.records → HasEntries u.frame u.entries → HasEntries v.frame v.entries → u ≡ v
+same_whole : (u v : WholeFrame) → u.frame ≡ v.frame → HasRecords u.frame u.records → HasRecords v.frame v.records → HasEntries u.frame u.entries
+    → HasEntries v.frame v.entries → u ≡ v
 same_whole u v same a b c d =
     let made : FrameText → List RecordText → List EntryText → WholeFrame = λ f r e. record { frame = f; records = r; entries = e } in
     let records = one_reading v.frame u.records v.records (subst (λ (f : FrameText). HasRecords f u.records) same a) b in
-    let entries = units.one_reading (entry_format v.frame) (entries_decided v.frame v.records b) None v.frame.attachments u.entries v.entries (subst (λ (f : FrameText). HasEntries f u.entries) same c) d in
-    ap (λ (f : FrameText). made f u.records u.entries) same ∙ ap (λ (r : List RecordText). made v.frame r u.entries) records ∙ ap (made v.frame v.records) entries
+    let entries = units.one_reading (entry_format v.frame) (entries_decided v.frame v.records b) None v.frame.attachments u.entries v.entries
+    (subst (λ (f : FrameText). HasEntries f u.entries) same c) d in
+    ap (λ (f : FrameText). made f u.records u.entries) same ∙ ap (λ (r : List RecordText). made v.frame r u.entries) records
+    ∙ ap (made v.frame v.records) entries
 
-one_whole : (before : Option ℕ) (u v : WholeFrame) (rest others : List ℕ) → MayStandWhole before u → MayStandWhole before v → frame_bytes u.frame ++ rest ≡ frame_bytes v.frame ++ others → (u ≡ v) × (rest ≡ others)
+one_whole : (before : Option ℕ) (u v : WholeFrame) (rest others : List ℕ) → MayStandWhole before u → MayStandWhole before v
+    → frame_bytes u.frame ++ rest ≡ frame_bytes v.frame ++ others → (u ≡ v) × (rest ≡ others)
 one_whole before u v rest others a b e =
     let same = frames_decided.one_unit before u.frame v.frame rest others a.header b.header e in
     (same_whole u v same.0 a.has_records b.has_records a.has_entries b.has_entries, same.1)
 
-whole_one_failure : (before : Option ℕ) (bytes : List ℕ) (k j : FaultKind) (x y : ℕ) → WholeFrameFails before bytes k x → WholeFrameFails before bytes j y → (k ≡ j) × (x ≡ y)
+whole_one_failure : (before : Option ℕ) (bytes : List ℕ) (k j : FaultKind) (x y : ℕ) → WholeFrameFails before bytes k x → WholeFrameFails before bytes j y
+    → (k ≡ j) × (x ≡ y)
 whole_one_failure before bytes k j x y (in_header a p) (in_header b q) = frames_decided.one_failure before bytes k j x y (a, p) (b, q)
 whole_one_failure before bytes k j x y (in_header a p) (in_content frame rest stands parts fails) =
     absurd (frames_decided.never_both before frame rest k x stands (subst (λ (t : List ℕ). FrameFails before t k × (x ≡ 0)) parts (a, p)))
@@ -103,7 +117,8 @@ whole_one_failure before bytes k j x y (in_content frame rest stands parts fails
     let same = frames_decided.one_unit before other frame others rest stands_too stands (sym parts_too ∙ parts) in
     content_one_failure frame k j x y fails (subst (λ (f : FrameText). ContentFails f j y) same.0 fails_too)
 
-whole_never_both : (before : Option ℕ) (u : WholeFrame) (rest : List ℕ) (k : FaultKind) (x : ℕ) → MayStandWhole before u → WholeFrameFails before (frame_bytes u.frame ++ rest) k x → ⊥
+whole_never_both : (before : Option ℕ) (u : WholeFrame) (rest : List ℕ) (k : FaultKind) (x : ℕ) → MayStandWhole before u
+    → WholeFrameFails before (frame_bytes u.frame ++ rest) k x → ⊥
 whole_never_both before u rest k x a (in_header fails p) = frames_decided.never_both before u.frame rest k x a.header (fails, p)
 whole_never_both before u rest k x a (in_content frame others stands parts fails) =
     let same = frames_decided.one_unit before frame u.frame others rest stands a.header (sym parts) in

@@ -16,16 +16,19 @@ pub record IsOneOf (Good : Type 0) (Fails : Fault → Type 0) : Type 0 where
   pub one_fault : (a b : Fault) → Fails a → Fails b → a ≡ b
   pub never_both : (a : Fault) → Good → Fails a → ⊥
 
-pub good_is_none : (Good : Type 0) (Fails : Fault → Type 0) → IsOneOf Good Fails → (result : Option Fault) → MatchOption result Good Fails → Good → IsNone result
+pub good_is_none : (Good : Type 0) (Fails : Fault → Type 0) → IsOneOf Good Fails → (result : Option Fault) → MatchOption result Good Fails → Good
+    → IsNone result
 good_is_none Good Fails one None first good = refl
 good_is_none Good Fails one (Some fault) first good = absurd (one.never_both fault good first)
 
-pub fault_is_some : (Good : Type 0) (Fails : Fault → Type 0) → IsOneOf Good Fails → (result : Option Fault) → MatchOption result Good Fails → (fault : Fault) → Fails fault → result ≡ Some fault
+pub fault_is_some : (Good : Type 0) (Fails : Fault → Type 0) → IsOneOf Good Fails → (result : Option Fault) → MatchOption result Good Fails → (fault : Fault)
+    → Fails fault → result ≡ Some fault
 fault_is_some Good Fails one None first fault fails = absurd (one.never_both fault first fails)
 fault_is_some Good Fails one (Some found) first fault fails = ap Some (one.one_fault found fault first fails)
 
 -- an error taken as the answer
-pub answer_first : (Good : Type 0) (Fails : Fault → Type 0) (result : Result (Unit {0}) Fault) (answer : Option Fault) → answer ≡ result_err result → MatchResult result (λ _. Good) Fails → MatchOption answer Good Fails
+pub answer_first : (Good : Type 0) (Fails : Fault → Type 0) (result : Result (Unit {0}) Fault) (answer : Option Fault) → answer ≡ result_err result
+    → MatchResult result (λ _. Good) Fails → MatchOption answer Good Fails
 answer_first Good Fails (Ok done) answer is good = rw is good
 answer_first Good Fails (Err fault) answer is fails = rw is fails
 

@@ -23,27 +23,35 @@ left_of reading = readers.left_of record_source reading
 pub stands_at_start : (frame : Frame) (reading : Reading) → reading ≡ records_start (placed_frame frame) → StandsBehind frame reading []
 stands_at_start frame reading is = readers.stands_at_start record_source (format_of (frame_text frame)) (placed_frame frame) tt reading is
 
-pub steps_from : (frame : Frame) (reading : Reading) (done : List RecordText) (stands : StandsBehind frame reading done) (result : Result (Option Record) Fault) (new : Reading) → Steps reading result new
+pub steps_from : (frame : Frame) (reading : Reading) (done : List RecordText) (stands : StandsBehind frame reading done)
+    (result : Result (Option Record) Fault) (new : Reading) → Steps reading result new
     → Steps (at (placed_frame frame) stands.offset tt) result new
-steps_from frame reading done stands result new steps = readers.steps_from record_source (format_of (frame_text frame)) (placed_frame frame) tt reading done stands result new steps
+steps_from frame reading done stands result new steps = readers.steps_from record_source (format_of (frame_text frame))
+    (placed_frame frame) tt reading done stands result new steps
 
 -- behind one record more
-pub stands_behind_next : (frame : Frame) (reading : Reading) (done : List RecordText) (stands : StandsBehind frame reading done) (found : Record) (new : Reading) → Steps reading (Ok (Some found)) new
+pub stands_behind_next : (frame : Frame) (reading : Reading) (done : List RecordText) (stands : StandsBehind frame reading done) (found : Record)
+    (new : Reading) → Steps reading (Ok (Some found)) new
     → StandsBehind frame new (done ++ record_text found ∷ [])
 stands_behind_next frame reading done stands found new steps =
     let s = steps_from frame reading done stands (Ok (Some found)) new steps in
-    readers.stands_behind_next record_source (format_of (frame_text frame)) (placed_frame frame) tt reading done stands found new (record_text found) steps s.0.may_stand refl refl
+    readers.stands_behind_next record_source (format_of (frame_text frame)) (placed_frame frame) tt reading done stands found new
+    (record_text found) steps s.0.may_stand refl refl
 
 -- a record takes some bytes
 pub step_falls : (reading : Reading) (found : Record) (new : Reading) → Steps reading (Ok (Some found)) new → left_of new < left_of reading
-step_falls reading found new steps = readers.step_falls record_source (λ frame before r stands. (frame_decided frame.unit).longer before r stands) reading found new steps
+step_falls reading found new steps = readers.step_falls record_source
+    (λ frame before r stands. (frame_decided frame.unit).longer before r stands) reading found new steps
 
 -- at the end the command bytes are the records
-pub records_end : (frame : Frame) (reading : Reading) (done : List RecordText) (stands : StandsBehind frame reading done) (new : Reading) → Steps reading (Ok None) new → HasRecords (frame_text frame) done
-records_end frame reading done stands new steps = readers.units_end record_source (format_of (frame_text frame)) (placed_frame frame) tt reading done stands new steps
+pub records_end : (frame : Frame) (reading : Reading) (done : List RecordText) (stands : StandsBehind frame reading done) (new : Reading)
+    → Steps reading (Ok None) new → HasRecords (frame_text frame) done
+records_end frame reading done stands new steps = readers.units_end record_source (format_of (frame_text frame))
+    (placed_frame frame) tt reading done stands new steps
 
 -- a fault is the first of the frame's content
-pub records_fail : (frame : Frame) (reading : Reading) (done : List RecordText) (stands : StandsBehind frame reading done) (fault : Fault) (new : Reading) → Steps reading (Err fault) new → HasContentFault frame fault
+pub records_fail : (frame : Frame) (reading : Reading) (done : List RecordText) (stands : StandsBehind frame reading done) (fault : Fault) (new : Reading)
+    → Steps reading (Err fault) new → HasContentFault frame fault
 records_fail frame reading done stands fault new steps =
     let s = steps_from frame reading done stands (Err fault) new steps in (
       32 + (stands.offset + 0),
@@ -52,6 +60,7 @@ records_fail frame reading done stands fault new steps =
     )
 
 -- where the frame's records have no fault, the reader has none
-pub fails_never : (frame : Frame) (reading : Reading) (done : List RecordText) (stands : StandsBehind frame reading done) (fault : Fault) (new : Reading) → HasReadableRecords (frame_text frame) → Steps reading (Err fault) new → ⊥
+pub fails_never : (frame : Frame) (reading : Reading) (done : List RecordText) (stands : StandsBehind frame reading done) (fault : Fault) (new : Reading)
+    → HasReadableRecords (frame_text frame) → Steps reading (Err fault) new → ⊥
 fails_never frame reading done stands fault new readable steps =
     readers.never_fails record_source (placed_frame frame) tt reading done readable.0 stands fault new (frame_decided (frame_text frame)) readable.1 steps

@@ -1,6 +1,6 @@
 //! The reader of a frame's attachment entries.
 
-ghost use Rattle.std.specs.Prelude.{◌≡◌, ◌≤◌, ◌<◌, ◌+◌, ◌^◌, ◌⊎◌, length, IfSome, IfNone, IfOk, IfErr, Some};
+ghost use Rattle.std.specs.Prelude.{◌≡◌, ◌≤◌, ◌<◌, ◌+◌, ◌⊎◌, length, IfSome, IfNone, IfOk, IfErr, Some};
 ghost use Rattle.capture_frame.specs.Envelope.{frame_text, commands_place, IsAbove};
 ghost use Rattle.record_view.specs.Records.{RecordText, StandsAt};
 ghost use Rattle.transaction_view.specs.Attachments.{MayStandEntry, EntryFails, entry_length};
@@ -37,7 +37,6 @@ pub struct Attachments<'c> {
 }
 
 impl<'c> Model for Attachments<'c> {
-    ghost use Rattle.std.specs.Prelude.{◌≡◌};
     ghost use Rattle.transaction_view.specs.Reading.{Reading};
 
     ghost Value = { Reading };
@@ -124,7 +123,8 @@ fn judge<'c>(
     ensures parts { IfOk result (λ found. ArePartsOf bytes.now found.0) }
     ensures stands { IfOk result (λ found.
         MayStandEntry (frame_text frame.entry) before (text_of_parts found.0)) }
-    ensures owner { IfOk result (λ found. found.1 ≡ commands_place frame.entry.place + found.0.offset) }
+    ensures owner { IfOk result (λ found.
+        found.1 ≡ commands_place frame.entry.place + found.0.offset) }
     ensures passed { IfOk result (λ found.
         HasNotPassed (frame_text frame.entry) frame.entry.place (Some found.0.offset) records.new) }
     ensures fails { IfErr result (EntryFails (frame_text frame.entry) before bytes.now) }

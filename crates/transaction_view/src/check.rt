@@ -23,9 +23,11 @@ pub fn first_fault(capture: &[u8]) -> Option<Fault>
     check(capture).err()
 }
 
-/// The first malformed record of a frame, or behind good records its first malformed entry, or none.
+/// The first malformed record of a frame, or behind good records its first malformed entry, or
+/// none.
 pub fn check_frame(frame: Frame<'_>) -> Option<Fault>
-    ensures first { MatchOption result (HasGoodContent (frame_text frame.entry)) (HasContentFault frame.entry) }
+    ensures first { MatchOption result
+        (HasGoodContent (frame_text frame.entry)) (HasContentFault frame.entry) }
 
     // There is no other answer.
     ensures good { HasGoodContent (frame_text frame.entry) → IsNone result }
@@ -45,7 +47,8 @@ fn check(capture: &[u8]) -> Result<(), Fault>
 }
 
 fn check_content(frame: Frame<'_>) -> Result<(), Fault>
-    ensures { MatchResult result (λ _. HasGoodContent (frame_text frame.entry)) (HasContentFault frame.entry) }
+    ensures { MatchResult result
+        (λ _. HasGoodContent (frame_text frame.entry)) (HasContentFault frame.entry) }
 {
     check_records(frame)?;
     check_entries(frame)
@@ -53,7 +56,8 @@ fn check_content(frame: Frame<'_>) -> Result<(), Fault>
 
 /// Checks the records of one frame.
 fn check_records(frame: Frame<'_>) -> Result<(), Fault>
-    ensures { MatchResult result (λ _. HasReadableRecords (frame_text frame.entry)) (HasContentFault frame.entry) }
+    ensures { MatchResult result
+        (λ _. HasReadableRecords (frame_text frame.entry)) (HasContentFault frame.entry) }
 {
     let mut records = Records::of(frame);
     while let Some(_) = records.next_record()? {}
@@ -63,7 +67,8 @@ fn check_records(frame: Frame<'_>) -> Result<(), Fault>
 /// Checks the entries of one frame, whose records have no fault.
 fn check_entries(frame: Frame<'_>) -> Result<(), Fault>
     requires { HasReadableRecords (frame_text frame) }
-    ensures { MatchResult result (λ _. HasReadableEntries (frame_text frame.entry)) (HasContentFault frame.entry) }
+    ensures { MatchResult result
+        (λ _. HasReadableEntries (frame_text frame.entry)) (HasContentFault frame.entry) }
 {
     let mut attachments = Attachments::of(frame);
     while let Some(_) = attachments.next_entry()? {}

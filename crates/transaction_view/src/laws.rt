@@ -37,10 +37,10 @@ pub fn one_reading_of_entries()
         NeverBoth (entry_format frame) None frame.attachments }
 {}
 
-/// A reader of a frame whose records have no fault, called again and again from its start, gives the
-/// frame's entries in order, each with its place, and then nothing at every later call; or those before
-/// the first fault, and then that fault at every later call. Any reader that has failed gives its fault
-/// for ever, and any that has ended gives nothing for ever.
+/// A reader of a frame whose records have no fault, called again and again from its start, gives
+/// the frame's entries in order, each with its place, and then nothing at every later call; or
+/// those before the first fault, and then that fault at every later call. Any reader that has
+/// failed gives its fault for ever, and any that has ended gives nothing for ever.
 pub fn all_calls()
     ensures whole { (frame : Placed FrameText) (entries : List EntryText) →
         HasReadableRecords frame.unit → HasEntries frame.unit entries →

@@ -1,11 +1,7 @@
 //! Transactions and replies, the attachments of a frame, and the first fault of a whole capture.
 #![tactic(auto)]
 
-#[cfg(test)]
-mod attachment_tests;
 mod attachments;
-#[cfg(test)]
-mod captures;
 mod check;
 mod entry;
 pub mod laws;

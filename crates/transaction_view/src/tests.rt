@@ -1,38 +1,70 @@
-//! Transactions and replies by hand, and the first faults of whole captures.
+//! Transactions, attachment entries and whole captures by their bytes, and the edges of what is
+//! refused.
 
 use super::*;
-use crate::captures::{
-    Attached, BC_ACQUIRE, BC_REPLY, BC_REPLY_SG, BC_TRANSACTION, BC_TRANSACTION_SG, BR_NOOP,
-    BR_REPLY, BR_TRANSACTION, BR_TRANSACTION_SEC_CTX, Capture, Commands, Way, first_frame,
-};
-use binder_code::{Code, Kind};
-use capture_frame::{Fault, FaultKind};
+use capture_frame::{Direction, Fault, FaultKind, Frame};
 use record_view::{Record, Records};
-use std::alloc::Global;
+use std::alloc::{AllocError, Global};
 use std::process::Abort;
 use std::test::Fail;
 
-/// A payload of the longer forms, whose bytes are 0x80, 0x81 and so on.
-const PAYLOAD: &[u8] = b"\
+// ---- transactions
+
+/// A `BC_TRANSACTION_SG` whose payload's bytes are 0x80, 0x81 and so on.
+const NUMBERED: &[u8] = b"\x11\x63\x48\x40\
     \x80\x81\x82\x83\x84\x85\x86\x87\x88\x89\x8a\x8b\x8c\x8d\x8e\x8f\
     \x90\x91\x92\x93\x94\x95\x96\x97\x98\x99\x9a\x9b\x9c\x9d\x9e\x9f\
     \xa0\xa1\xa2\xa3\xa4\xa5\xa6\xa7\xa8\xa9\xaa\xab\xac\xad\xae\xaf\
     \xb0\xb1\xb2\xb3\xb4\xb5\xb6\xb7\xb8\xb9\xba\xbb\xbc\xbd\xbe\xbf\
     \xc0\xc1\xc2\xc3\xc4\xc5\xc6\xc7";
 
-/// A capture of one frame with this record alone.
-fn capture_of(alloc: Global, way: Way, code: u32, payload: &[u8]) -> Result<Capture, Fail> {
-    let commands = Commands::new(alloc).record(code, payload)?;
-    Ok(Capture::new(alloc)?.frame(way, 1, &commands, &Attached::new(alloc))?)
+/// Two transactions of four body bytes and eight offset bytes, at 0 and 76, and behind each a record
+/// that is none: 152 bytes.
+const TRANSACTIONS: &[u8] = b"\
+    \0\x63\x40\x40\0\0\0\0\0\0\0\0\0\0\0\0\0\0\0\0\0\0\0\0\0\0\0\0\0\0\0\0\0\0\0\0\
+    \x04\0\0\0\0\0\0\0\x08\0\0\0\0\0\0\0\0\0\0\0\0\0\0\0\0\0\0\0\0\0\0\0\
+    \x05\x63\x04\x40\x05\0\0\0\
+    \0\x63\x40\x40\0\0\0\0\0\0\0\0\0\0\0\0\0\0\0\0\0\0\0\0\0\0\0\0\0\0\0\0\0\0\0\0\
+    \x04\0\0\0\0\0\0\0\x08\0\0\0\0\0\0\0\0\0\0\0\0\0\0\0\0\0\0\0\0\0\0\0\
+    \x05\x63\x04\x40\x05\0\0\0";
+
+/// A transaction of four body bytes and 2^32 more, and eight offset bytes.
+const LONG_DATA: &[u8] = b"\
+    \0\x63\x40\x40\0\0\0\0\0\0\0\0\0\0\0\0\0\0\0\0\0\0\0\0\0\0\0\0\0\0\0\0\0\0\0\0\
+    \x04\0\0\0\x01\0\0\0\x08\0\0\0\0\0\0\0\0\0\0\0\0\0\0\0\0\0\0\0\0\0\0\0";
+
+/// A record of a number that the header does not list, and as long as a transaction.
+const OPAQUE: &[u8] = b"\
+    \xff\x63\x40\x40\0\0\0\0\0\0\0\0\0\0\0\0\0\0\0\0\0\0\0\0\0\0\0\0\0\0\0\0\0\0\0\0\
+    \0\0\0\0\0\0\0\0\0\0\0\0\0\0\0\0\0\0\0\0\0\0\0\0\0\0\0\0\0\0\0\0";
+
+/// A write at 16, so that its records begin at 48.
+fn frame_of<'c>(rt: &impl Abort, commands: &'c [u8], attachments: &'c [u8]) -> Frame<'c> {
+    assert!(rt; commands.len() < 4096 && attachments.len() < 4096);
+    Frame {
+        place: 16,
+        sequence: 1,
+        process: 2,
+        thread: 3,
+        direction: Direction::Write,
+        commands,
+        attachments,
+    }
 }
 
-fn first_record(capture: &[u8]) -> Result<Record<'_>, Fail> {
-    let mut records = Records::of(first_frame(capture)?);
-    Ok(records.next_record()?.ok_or("no record")?)
+fn first_record(rt: &impl Abort, commands: &'static [u8]) -> Record<'static> {
+    let mut records = Records::of(frame_of(rt, commands, b""));
+    records
+        .next_record()
+        .unwrap_or(None)
+        .expect(rt, "no record")
 }
 
-/// The fields of `PAYLOAD` up to the sender.
-fn expect_call(rt: &impl Abort, transaction: Transaction<'_>) {
+#[test]
+fn reads_each_field(rt: HostRuntime) {
+    let carrier = first_record(&rt, NUMBERED);
+    let transaction = Transaction::of(carrier).expect(&rt, "no transaction");
+    assert_eq!(rt; transaction.carrier.place, 48);
     assert_eq!(rt; transaction.target_handle(), 0x8382_8180);
     assert_eq!(rt; transaction.target_ptr(), 0x8786_8584_8382_8180);
     assert_eq!(rt; transaction.cookie(), 0x8f8e_8d8c_8b8a_8988);
@@ -40,176 +72,276 @@ fn expect_call(rt: &impl Abort, transaction: Transaction<'_>) {
     assert_eq!(rt; transaction.flags(), 0x9796_9594);
     assert_eq!(rt; transaction.sender_pid(), -0x6465_6668);
     assert_eq!(rt; transaction.sender_euid(), 0x9f9e_9d9c);
-}
-
-/// The fields of `PAYLOAD` behind the sender.
-fn expect_data(rt: &impl Abort, transaction: Transaction<'_>) {
     assert_eq!(rt; transaction.data_size(), 0xa7a6_a5a4_a3a2_a1a0);
     assert_eq!(rt; transaction.offsets_size(), 0xafae_adac_abaa_a9a8);
     assert_eq!(rt; transaction.buffer(), 0xb7b6_b5b4_b3b2_b1b0);
     assert_eq!(rt; transaction.offsets(), 0xbfbe_bdbc_bbba_b9b8);
+    assert_eq!(rt; transaction.extra(), Some(0xc7c6_c5c4_c3c2_c1c0));
 }
 
 #[test]
-fn reads_each_field_at_its_place(rt: HostRuntime) -> Result<(), Fail> {
-    let extra = Some(0xc7c6_c5c4_c3c2_c1c0);
-    let short = &PAYLOAD[..64];
-    for (way, code, kind, payload, extra) in [
-        (Way::Write, BC_TRANSACTION, Kind::BcTransaction, short, None),
-        (Way::Write, BC_REPLY, Kind::BcReply, short, None),
-        (
-            Way::Write,
-            BC_TRANSACTION_SG,
-            Kind::BcTransactionSg,
-            PAYLOAD,
-            extra,
-        ),
-        (Way::Write, BC_REPLY_SG, Kind::BcReplySg, PAYLOAD, extra),
-        (Way::Read, BR_TRANSACTION, Kind::BrTransaction, short, None),
-        (
-            Way::Read,
-            BR_TRANSACTION_SEC_CTX,
-            Kind::BrTransactionSecCtx,
-            PAYLOAD,
-            extra,
-        ),
-        (Way::Read, BR_REPLY, Kind::BrReply, short, None),
-    ] {
-        let capture = capture_of(rt.alloc(), way, code, payload)?;
-        let record = first_record(&capture.bytes)?;
-        let transaction = Transaction::of(record).ok_or("no transaction")?;
-        assert_eq!(rt; transaction.carrier.kind, kind);
-        assert_eq!(rt; transaction.carrier.code, Code(code));
-        assert_eq!(rt; transaction.carrier.place, 48);
-        assert_eq!(rt; transaction.carrier.payload, payload);
-        expect_call(&rt, transaction);
-        expect_data(&rt, transaction);
-        assert_eq!(rt; transaction.extra(), extra);
+fn tells_transactions_from_others(rt: HostRuntime) {
+    let plain = Transaction::of(first_record(&rt, TRANSACTIONS)).expect(&rt, "no transaction");
+    assert_eq!(rt; plain.extra(), None);
+    assert!(rt; Transaction::of(first_record(&rt, OPAQUE)).is_none());
+}
+
+// ---- entries
+
+/// An entry for each of the two transactions.
+const ENTRIES: &[u8] = b"\0\0\0\0\x04\0\0\0\x08\0\0\0body\0\0\0\0\0\0\0\0\
+    \x4c\0\0\0\x04\0\0\0\x08\0\0\0text\x01\0\0\0\0\0\0\0";
+
+/// Commands and attachments, how many good entries of 24 bytes there are, and the fault behind them.
+type Row = (&'static [u8], &'static [u8], u64, FaultKind);
+
+const ROWS: &[Row] = &[
+    // Less than the numbers in front, behind nothing and behind a good entry.
+    (TRANSACTIONS, b"\xff", 0, FaultKind::AttachShort),
+    (
+        TRANSACTIONS,
+        b"\0\0\0\0\x04\0\0\0\x08\0\0\0body\0\0\0\0\0\0\0\0\
+        \x4c\0\0\0\x04\0\0\0\x08\0\0",
+        1,
+        FaultKind::AttachShort,
+    ),
+    // Lengths that tell of more than follows; their sum would be 12 in 32 bits. The record is wrong too.
+    (
+        TRANSACTIONS,
+        b"\x00\0\0\0\x04\0\0\0\x09\0\0\0body\0\0\0\0\0\0\0\0",
+        0,
+        FaultKind::AttachShort,
+    ),
+    (
+        TRANSACTIONS,
+        b"\x02\0\0\0\xff\xff\xff\xff\x0d\0\0\0body\0\0\0\0\0\0\0\0",
+        0,
+        FaultKind::AttachShort,
+    ),
+    // Within a record, at one that carries no transaction, behind them all, and far behind.
+    (
+        TRANSACTIONS,
+        b"\x04\0\0\0\x04\0\0\0\x08\0\0\0body\0\0\0\0\0\0\0\0",
+        0,
+        FaultKind::AttachRecord,
+    ),
+    (
+        TRANSACTIONS,
+        b"\x44\0\0\0\x04\0\0\0\x08\0\0\0body\0\0\0\0\0\0\0\0",
+        0,
+        FaultKind::AttachRecord,
+    ),
+    (
+        TRANSACTIONS,
+        b"\x98\0\0\0\x04\0\0\0\x08\0\0\0body\0\0\0\0\0\0\0\0",
+        0,
+        FaultKind::AttachRecord,
+    ),
+    (
+        TRANSACTIONS,
+        b"\xff\xff\xff\xff\x04\0\0\0\x08\0\0\0body\0\0\0\0\0\0\0\0",
+        0,
+        FaultKind::AttachRecord,
+    ),
+    // A second entry for one record, and one for a record before, with wrong sizes.
+    (
+        TRANSACTIONS,
+        b"\0\0\0\0\x04\0\0\0\x08\0\0\0body\0\0\0\0\0\0\0\0\
+        \0\0\0\0\x04\0\0\0\x08\0\0\0body\0\0\0\0\0\0\0\0",
+        1,
+        FaultKind::AttachRecord,
+    ),
+    (
+        TRANSACTIONS,
+        b"\x4c\0\0\0\x04\0\0\0\x08\0\0\0body\0\0\0\0\0\0\0\0\
+        \x00\0\0\0\x00\0\0\0\x00\0\0\0",
+        1,
+        FaultKind::AttachRecord,
+    ),
+    // Sizes that are not the record's, each by one, and in the low four bytes alone.
+    (
+        TRANSACTIONS,
+        b"\x00\0\0\0\x03\0\0\0\x08\0\0\0bod\0\0\0\0\0\0\0\0",
+        0,
+        FaultKind::AttachSize,
+    ),
+    (
+        TRANSACTIONS,
+        b"\0\0\0\0\x04\0\0\0\x08\0\0\0body\0\0\0\0\0\0\0\0\
+        \x4c\0\0\0\x04\0\0\0\x07\0\0\0body\0\0\0\0\0\0\0",
+        1,
+        FaultKind::AttachSize,
+    ),
+    (
+        LONG_DATA,
+        b"\0\0\0\0\x04\0\0\0\x08\0\0\0body\0\0\0\0\0\0\0\0",
+        0,
+        FaultKind::AttachSize,
+    ),
+];
+
+/// A reader of the frame's entries, and none where one of its records has a fault.
+fn reader_of(frame: Frame<'_>) -> Option<Attachments<'_>> {
+    let records_alone = Frame {
+        place: frame.place,
+        sequence: frame.sequence,
+        process: frame.process,
+        thread: frame.thread,
+        direction: frame.direction,
+        commands: frame.commands,
+        attachments: b"",
+    };
+    if check_frame(records_alone).is_some() {
+        return None;
+    }
+    Some(Attachments::of(frame))
+}
+
+fn expect_entry(
+    rt: &impl Abort,
+    reader: &mut Attachments<'_>,
+    places: (u64, u64),
+    body: &[u8],
+    offsets: &[u8],
+) -> Result<(), Fail> {
+    let entry = reader.next_entry()?.ok_or("an entry is missing")?;
+    assert_eq!(rt; (entry.place, entry.owner), places);
+    assert_eq!(rt; entry.body, body);
+    assert_eq!(rt; entry.offsets, offsets);
+    Ok(())
+}
+
+#[test]
+fn reads_entry_by_entry(rt: HostRuntime) -> Result<(), Fail> {
+    let frame = frame_of(&rt, TRANSACTIONS, ENTRIES);
+    assert_eq!(rt; check_frame(frame), None);
+    let mut reader = reader_of(frame).ok_or("a record fails")?;
+    expect_entry(&rt, &mut reader, (200, 48), b"body", b"\0\0\0\0\0\0\0\0")?;
+    expect_entry(&rt, &mut reader, (224, 124), b"text", b"\x01\0\0\0\0\0\0\0")?;
+    for _ in 0..2 {
+        assert!(rt; reader.next_entry()?.is_none());
     }
     Ok(())
 }
 
-/// Records of other kinds, opaque ones with the sizes of transactions among them.
-#[test]
-fn finds_no_transaction_in_other_records(rt: HostRuntime) -> Result<(), Fail> {
-    for (way, code, payload) in [
-        (Way::Write, BC_ACQUIRE, &PAYLOAD[..4]),
-        (Way::Read, BR_NOOP, &PAYLOAD[..0]),
-        (Way::Write, 0x4040_63ff, &PAYLOAD[..64]),
-        (Way::Write, 0x4048_63ff, PAYLOAD),
-        (Way::Read, 0x8040_72ff, &PAYLOAD[..64]),
-        (Way::Read, 0x8048_72ff, PAYLOAD),
-    ] {
-        let capture = capture_of(rt.alloc(), way, code, payload)?;
-        let record = first_record(&capture.bytes)?;
-        assert!(rt; Transaction::of(record).is_none());
+/// The fault is that of the frame and, at each call behind the good entries, of the reader.
+fn expect_fault(rt: &impl Abort, (commands, attachments, good, kind): Row) -> Result<(), Fail> {
+    assert!(rt; good < 2 && commands.len() < 200);
+    let place = 48 + commands.len() as u64 + 24 * good;
+    let fault = Fault { kind, place };
+    let frame = frame_of(rt, commands, attachments);
+    assert_eq!(rt; check_frame(frame), Some(fault));
+    let mut reader = reader_of(frame).ok_or("a record fails")?;
+    for _ in 0..good {
+        assert!(rt; reader.next_entry()?.is_some());
     }
+    for _ in 0..2 {
+        assert_eq!(rt; reader.next_entry().err(), Some(fault));
+    }
+    Ok(())
+}
+
+#[test]
+fn names_the_first_fault_of_an_entry(rt: HostRuntime) -> Result<(), Fail> {
+    for row in ROWS {
+        expect_fault(&rt, *row)?;
+    }
+    Ok(())
+}
+
+fn first_entry(frame: Frame<'_>) -> Result<Option<Entry<'_>>, Fail> {
+    let mut reader = reader_of(frame).ok_or("a record fails")?;
+    Ok(reader.next_entry()?)
+}
+
+#[test]
+fn leaves_an_entry_that_outlives_its_reader(rt: HostRuntime) -> Result<(), Fail> {
+    let frame = frame_of(&rt, TRANSACTIONS, ENTRIES);
+    let entry = first_entry(frame)?.ok_or("no entry")?;
+    assert_eq!(rt; entry.body, b"body".as_slice());
     Ok(())
 }
 
 // ---- whole captures
 
-/// Frames of one transaction and its entry each. The first frame has its record at 48 and its entry
-/// at 116, the second one begins at 140 and has them at 172 and 240.
-fn frames_of(alloc: Global, sequences: &[u64]) -> Result<Capture, Fail> {
-    let commands = Commands::new(alloc).transaction(BC_TRANSACTION, 4, 8)?;
-    let attached = Attached::new(alloc).entry(0, b"body", &[0; 8])?;
-    let mut capture = Capture::new(alloc)?;
-    for sequence in sequences {
-        capture = capture.frame(Way::Write, *sequence, &commands, &attached)?;
+/// Two frames of one transaction and its entry each: a frame begins at 16 and one at 140, their
+/// records at 48 and 172, their entries at 116 and 240.
+const CAPTURE: &[u8] = b"BNDRCAP1\x08\0\0\0\0\0\0\0\
+    \x01\0\0\0\0\0\0\0\x02\0\0\0\x03\0\0\0\x01\0\0\0\x44\0\0\0\x18\0\0\0\0\0\0\0\
+    \0\x63\x40\x40\0\0\0\0\0\0\0\0\0\0\0\0\0\0\0\0\0\0\0\0\0\0\0\0\0\0\0\0\0\0\0\0\
+    \x04\0\0\0\0\0\0\0\x08\0\0\0\0\0\0\0\0\0\0\0\0\0\0\0\0\0\0\0\0\0\0\0\
+    \0\0\0\0\x04\0\0\0\x08\0\0\0body\0\0\0\0\0\0\0\0\
+    \x02\0\0\0\0\0\0\0\x02\0\0\0\x03\0\0\0\x01\0\0\0\x44\0\0\0\x18\0\0\0\0\0\0\0\
+    \0\x63\x40\x40\0\0\0\0\0\0\0\0\0\0\0\0\0\0\0\0\0\0\0\0\0\0\0\0\0\0\0\0\0\0\0\0\
+    \x04\0\0\0\0\0\0\0\x08\0\0\0\0\0\0\0\0\0\0\0\0\0\0\0\0\0\0\0\0\0\0\0\
+    \0\0\0\0\x04\0\0\0\x08\0\0\0body\0\0\0\0\0\0\0\0";
+
+/// A byte or two that are changed, and the first fault that the capture has then.
+type Change = (&'static [(usize, u8)], FaultKind, u64);
+
+const CHANGES: &[Change] = &[
+    (&[(7, 0x32)], FaultKind::HeaderMagic, 0),
+    (&[(8, 7)], FaultKind::HeaderProtocol, 8),
+    (&[(12, 1)], FaultKind::HeaderReserved, 12),
+    (&[(32, 3)], FaultKind::FrameDirection, 16),
+    (&[(33, 1)], FaultKind::FrameReserved, 16),
+    (&[(164, 25)], FaultKind::FrameLength, 140),
+    (&[(140, 1)], FaultKind::FrameSequence, 140),
+    (&[(36, 67)], FaultKind::RecordShort, 48),
+    (&[(173, 0x72)], FaultKind::RecordDirection, 172),
+    (&[(50, 0x41)], FaultKind::RecordSize, 48),
+    (&[(40, 23)], FaultKind::AttachShort, 116),
+    (&[(240, 4)], FaultKind::AttachRecord, 240),
+    (&[(120, 3)], FaultKind::AttachSize, 116),
+    // A record and an entry of one frame, and both frames: the second one's kind comes before.
+    (&[(49, 0x72), (116, 4)], FaultKind::RecordDirection, 48),
+    (&[(116, 4), (156, 3)], FaultKind::AttachRecord, 116),
+    (&[(120, 3), (173, 0x72)], FaultKind::AttachSize, 116),
+    (&[(50, 0x41), (157, 1)], FaultKind::RecordSize, 48),
+];
+
+/// So many bytes of the capture, and its first fault then.
+const CUTS: &[(usize, FaultKind, u64)] = &[
+    (0, FaultKind::HeaderShort, 0),
+    (15, FaultKind::HeaderShort, 0),
+    (17, FaultKind::FrameShort, 16),
+    (139, FaultKind::FrameLength, 16),
+    (171, FaultKind::FrameShort, 140),
+    (263, FaultKind::FrameLength, 140),
+];
+
+fn expect_first(
+    rt: &impl Abort,
+    alloc: Global,
+    (bytes, kind, place): Change,
+) -> Result<(), AllocError> {
+    let mut capture = Vec::from_slice(alloc, CAPTURE)?;
+    for (at, byte) in bytes {
+        assert!(rt; *at < capture.len());
+        capture[*at] = *byte;
     }
-    Ok(capture)
+    assert_eq!(rt; first_fault(&capture), Some(Fault { kind, place }));
+    Ok(())
 }
 
-fn expect_first(rt: &impl Abort, capture: &[u8], kind: FaultKind, place: u64) {
-    assert_eq!(rt; first_fault(capture), Some(Fault { kind, place }));
+fn expect_cut(rt: &impl Abort, length: usize, kind: FaultKind, place: u64) {
+    let cut = &CAPTURE[..length.min(CAPTURE.len())];
+    assert_eq!(rt; first_fault(cut), Some(Fault { kind, place }));
 }
 
 #[test]
-fn finds_no_fault_in_good_captures(rt: HostRuntime) -> Result<(), Fail> {
-    let alloc = rt.alloc();
-    for sequences in [[].as_slice(), &[0], &[1, 2], &[5, 9, u64::MAX]] {
-        assert_eq!(rt; first_fault(&frames_of(alloc, sequences)?.bytes), None);
+fn names_the_first_fault_of_a_capture(rt: HostRuntime) -> Result<(), Fail> {
+    for change in CHANGES {
+        expect_first(&rt, rt.alloc(), *change)?;
     }
-    let commands = Commands::new(alloc)
-        .record(BR_NOOP, b"")?
-        .transaction(BR_REPLY, 2, 0)?;
-    let capture = frames_of(alloc, &[1])?
-        .frame(Way::Read, 2, &commands, &Attached::new(alloc))?
-        .frame(
-            Way::Read,
-            3,
-            &commands,
-            &Attached::new(alloc).entry(4, b"ok", b"")?,
-        )?
-        .frame(Way::Write, 4, &Commands::new(alloc), &Attached::new(alloc))?;
-    assert_eq!(rt; first_fault(&capture.bytes), None);
     Ok(())
 }
 
 #[test]
-fn names_the_fault_of_one_byte(rt: HostRuntime) -> Result<(), Fail> {
-    for (at, byte, kind, place) in [
-        (7, 0x32, FaultKind::HeaderMagic, 0),
-        (8, 7, FaultKind::HeaderProtocol, 8),
-        (12, 1, FaultKind::HeaderReserved, 12),
-        (32, 3, FaultKind::FrameDirection, 16),
-        (33, 1, FaultKind::FrameReserved, 16),
-        (40, 25, FaultKind::FrameLength, 16),
-        (36, 67, FaultKind::RecordShort, 48),
-        (49, 0x72, FaultKind::RecordDirection, 48),
-        (50, 0x41, FaultKind::RecordSize, 48),
-        (40, 23, FaultKind::AttachShort, 116),
-        (116, 4, FaultKind::AttachRecord, 116),
-        (120, 3, FaultKind::AttachSize, 116),
-    ] {
-        let capture = frames_of(rt.alloc(), &[1])?.with_byte(at, byte);
-        expect_first(&rt, &capture.bytes, kind, place);
+fn names_the_first_fault_of_a_cut_capture(rt: HostRuntime) {
+    for (length, kind, place) in CUTS {
+        expect_cut(&rt, *length, *kind, *place);
     }
-    Ok(())
-}
-
-#[test]
-fn names_faults_of_cuts_and_sequences(rt: HostRuntime) -> Result<(), Fail> {
-    let capture = frames_of(rt.alloc(), &[1, 2])?;
-    for (length, kind, place) in [
-        (0, FaultKind::HeaderShort, 0),
-        (15, FaultKind::HeaderShort, 0),
-        (17, FaultKind::FrameShort, 16),
-        (139, FaultKind::FrameLength, 16),
-        (171, FaultKind::FrameShort, 140),
-        (263, FaultKind::FrameLength, 140),
-    ] {
-        expect_first(&rt, capture.front(length), kind, place);
-    }
-    let capture = frames_of(rt.alloc(), &[2, 2])?;
-    expect_first(&rt, &capture.bytes, FaultKind::FrameSequence, 140);
-    Ok(())
-}
-
-/// Both frames have a fault, and the second one's is of a kind with a lower number.
-#[test]
-fn names_the_fault_of_the_first_bad_frame(rt: HostRuntime) -> Result<(), Fail> {
-    for (at, byte, kind, place) in [
-        (116, 4, FaultKind::AttachRecord, 116),
-        (120, 3, FaultKind::AttachSize, 116),
-        (50, 0x41, FaultKind::RecordSize, 48),
-    ] {
-        for (later, value) in [(156, 3), (157, 1), (173, 0x72), (240, 4)] {
-            let capture = frames_of(rt.alloc(), &[1, 2])?
-                .with_byte(at, byte)
-                .with_byte(later, value);
-            expect_first(&rt, &capture.bytes, kind, place);
-        }
-    }
-    for (at, byte, kind, place) in [
-        (240, 4, FaultKind::AttachRecord, 240),
-        (244, 3, FaultKind::AttachSize, 240),
-        (164, 23, FaultKind::AttachShort, 240),
-        (174, 0x41, FaultKind::RecordSize, 172),
-    ] {
-        let capture = frames_of(rt.alloc(), &[1, 2])?.with_byte(at, byte);
-        expect_first(&rt, &capture.bytes, kind, place);
-    }
-    Ok(())
+    assert_eq!(rt; first_fault(&CAPTURE[..140]), None);
+    assert_eq!(rt; first_fault(CAPTURE), None);
 }

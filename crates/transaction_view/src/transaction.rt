@@ -45,7 +45,9 @@ fn is_extended(kind: Kind) -> bool
 }
 
 impl<'c> Transaction<'c> {
-    ghost use Rattle.transaction_view.specs.Transaction.{target_handle, target_ptr, cookie, code, flags, sender_pid, sender_euid, data_size, offsets_size, buffer, offsets, extra};
+    ghost use Rattle.transaction_view.specs.Transaction.{target_handle, target_ptr, cookie, code};
+    ghost use Rattle.transaction_view.specs.Transaction.{flags, sender_pid, sender_euid, data_size};
+    ghost use Rattle.transaction_view.specs.Transaction.{offsets_size, buffer, offsets, extra};
 
     /// The transaction or reply that a record carries, and none where it carries neither.
     pub fn of(carrier: Record<'c>) -> Option<Transaction<'c>>

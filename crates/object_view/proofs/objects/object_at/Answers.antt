@@ -8,7 +8,8 @@ use Rattle.object_view.proofs.objects.object_at.Goals as goal
 pub invariant_of-result-clause-by_bytes : goal.invariant_of-result-clause-by_bytes
 invariant_of-result-clause-by_bytes c =
     ap (number_at 4 0) c.split_at.ensures.front ∙ number_in_front c.in-Some.sort c.length-2.result _ c.length-2.ensures
-    ∙ ap (number_at 4 0) (take_rest c.args.body.now c.args.offset) ∙ number_at-drop 4 c.args.offset c.args.body.now ∙ sym c.u32_at.ensures ∙ c.in-Some.ensures.known
+    ∙ ap (number_at 4 0) (take_rest c.args.body.now c.args.offset) ∙ number_at-drop 4 c.args.offset c.args.body.now ∙ sym c.u32_at.ensures
+    ∙ c.in-Some.ensures.known
 
 pub returns-in_default-clause-fails : goal.returns-in_default-clause-fails
 returns-in_default-clause-fails c =

@@ -10,7 +10,11 @@ returns-then-rest-from-clause-short c =
     let d : c.u32_at-body_length.result ≡ body_length bytes = c.u32_at-body_length.ensures in
     let o : c.u32_at-offsets_length.result ≡ offsets_length bytes = c.u32_at-offsets_length.ensures in
     let left = ap length (take_rest bytes 12) ∙ length-drop 12 bytes in
-    inr (omega (arith, c.if-bytes-lt-ENTRY_HEADER.false), omega (arith, d, o, left, c.from.ensures, c.from-2.ensures, c.if-rest-from.true, c.if-bytes-lt-ENTRY_HEADER.false))
+    inr (
+      omega (arith, c.if-bytes-lt-ENTRY_HEADER.false),
+      omega
+          (arith, d, o, left, c.from.ensures, c.from-2.ensures, c.if-rest-from.true, c.if-bytes-lt-ENTRY_HEADER.false),
+    )
 
 pub returns-clause-parts : goal.returns-clause-parts
 returns-clause-parts c =

@@ -19,6 +19,7 @@ returns-in-Ok c =
     let frame = c.in-Ok.frame in
     let bytes = c.self.inside.bytes.now in
     let is = sym c.self.view_is ∙ ap (reading_of bytes) c.in-At.is in
-    let width : c.in-At.offset + length (frame_bytes (frame_text frame)) ≡ c.in-At.offset + (32 + length frame.commands.now + length frame.attachments.now) = omega (arith, length-frame_bytes (frame_text frame)) in
+    let width : c.in-At.offset + length (frame_bytes (frame_text frame)) ≡ c.in-At.offset +
+    (32 + length frame.commands.now + length frame.attachments.now) = omega (arith, length-frame_bytes (frame_text frame)) in
     subst (λ (n : ℕ). Steps c.args.self.now (Ok (Some frame)) (at bytes n (Some frame.sequence))) width
     (steps_over frame_source c.args.self.now bytes c.in-At.offset c.in-At.before frame is c.in-Ok.ensures.found)

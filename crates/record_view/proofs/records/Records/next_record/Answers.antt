@@ -20,6 +20,8 @@ returns-in-Ok c =
     let frame = c.self.inside.frame in
     let found = c.in-Ok.record in
     let is = sym c.self.view_is ∙ ap (reading_of frame) c.in-At.is in
-    let width : c.in-At.offset + length (record_bytes (record_text found)) ≡ c.in-At.offset + 4 + length found.payload.now = omega (arith, length-record_bytes (record_text found)) in
+    let width : c.in-At.offset + length (record_bytes (record_text found)) ≡ c.in-At.offset + 4 + length found.payload.now = omega
+    (arith, length-record_bytes (record_text found)) in
     subst (λ (n : ℕ). Steps c.args.self.now (Ok (Some found)) (at (placed_frame frame) n tt)) width
-    (steps_over record_source c.args.self.now (placed_frame frame) c.in-At.offset tt found is (rw (c.protocol.ensures, c.commands_place.ensures) at c.in-Ok.ensures.found))
+    (steps_over record_source c.args.self.now (placed_frame frame) c.in-At.offset tt found is
+    (rw (c.protocol.ensures, c.commands_place.ensures) at c.in-Ok.ensures.found))

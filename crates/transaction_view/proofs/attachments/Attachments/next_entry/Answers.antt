@@ -21,5 +21,6 @@ invariant_of-result c =
 pub returns-in-Ok : goal.returns-in-Ok
 returns-in-Ok c =
     let frame = c.self.inside.frame in
-    entry_steps c.args.self.now (placed_frame frame) c.in-At.distance c.in-At.before c.in-Ok.parts _ (sym c.self.view_is ∙ ap (reading_of frame) c.in-At.is) c.in-Ok.ensures.parts c.in-Ok.ensures.stands
+    entry_steps c.args.self.now (placed_frame frame) c.in-At.distance c.in-At.before c.in-Ok.parts _
+    (sym c.self.view_is ∙ ap (reading_of frame) c.in-At.is) c.in-Ok.ensures.parts c.in-Ok.ensures.stands
     (record { place_is = ap (λ (n : ℕ). n + c.in-At.distance) c.attachments_place.ensures; owner = c.in-Ok.ensures.owner; body = refl; offsets = refl })
