@@ -55,7 +55,7 @@ AskForNothing words = (asked : Request) → ¬ Ask words asked
 abbrev pub AnswersWords : List Text → Option (List ℕ) → Option (List ℕ) → ℕ → Type 0
 AnswersWords words old new status =
     (asked : Request) × Ask words asked
-        × ((capture : List ℕ) × IsRead None capture × Answers asked capture old new status)
+    × ((capture : List ℕ) × IsRead None capture × Answers asked capture old new status)
 
 -- what a failure leaves on standard output: nothing more, but for a failed write the beginning of an answer
 abbrev pub Leaves : List Text → Option (List ℕ) → Option (List ℕ) → Failure → Type 0
@@ -66,7 +66,7 @@ Leaves words old new (Run Read) = (asked : Request) × Ask words asked × Keeps 
 Leaves words old new (Run Open) = (asked : Request) × Ask words asked × Keeps old new
 Leaves words old new (Run Write) =
     (asked : Request) × Ask words asked
-        × ((text : List ℕ) × IsOfRead (IsAnswer asked) None text × AppendsPrefix old new text)
+    × ((text : List ℕ) × IsOfRead (IsAnswer asked) None text × AppendsPrefix old new text)
 
 -- how the program ends on the words of a command line: what standard output, then standard error, held before and hold
 -- then, and the status. With an answer standard error stays; with a failure it grows by what could be written of the

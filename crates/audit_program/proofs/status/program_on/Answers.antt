@@ -12,7 +12,7 @@ use Rattle.audit_program.proofs.status.program_on.Goals as goal
 pub returns-in-Ok : goal.returns-in-Ok
 returns-in-Ok g c =
     let collected = items_from_collect c.collect.result c.collect.ensures.ran
-        (YieldsList-from_vec (into_iter_items c.args.words) refl c.args.words.rest.ok.0) in
+    (YieldsList-from_vec (into_iter_items c.args.words) refl c.args.words.rest.ok.0) in
     let same : c.as_slice.result.now ≡ into_iter_items c.args.words = c.as_slice.ensures.value ∙ rw c.in-Ok.is at collected in
     rw (← same) c.program.ensures
 
