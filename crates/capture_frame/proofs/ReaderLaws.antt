@@ -5,9 +5,9 @@ use Rattle.std.specs.Result.{result_unwrap_or}
 use Rattle.std.proofs.lemmas.List.{take_rest, length-drop}
 use Rattle.capture_frame.specs.declared.fault.Fault.{Fault}
 use Rattle.capture_frame.specs.declared.fault.FaultKind.{FaultKind}
-use Rattle.capture_frame.specs.Units.{Format, state_after, spelling_of, Placed, placed_at, Reads, FirstFailure, BeginsWith}
+use Rattle.capture_frame.specs.Units.{Format, state_after, spelling_of, Reads, FirstFailure, BeginsWith}
 use Rattle.capture_frame.specs.Calls.{Calls}
-use Rattle.capture_frame.specs.Readers.{Reading, at, failed, Source, StandsThere, behind, Steps, GivesUnit, GiveUnits}
+use Rattle.capture_frame.specs.Readers.{Reading, at, failed, Source, behind, Steps, GivesUnit, GiveUnits}
 use Rattle.capture_frame.proofs.FaultLaws.{fault_at, fault_at-is}
 use Rattle.capture_frame.proofs.CallLaws.{Reader, Call, gave, stayed, Goes, read_gives, failure_gives, from_start, stays}
 use Rattle.capture_frame.proofs.CallLaws as calls

@@ -1,15 +1,15 @@
 -- What the reader's steps rest on: a record made of what stands at the front of the bytes begins them.
-use Rattle.std.proofs.Common.{◌≡◌, ℕ, ◌+◌, ◌-◌, ◌≤◌, List, ◌++◌, length, take, drop, Some, Ok, refl, sym, ap, subst, ◌∙◌, length-append, arith}
+use Rattle.std.proofs.Common.{◌≡◌, ℕ, ◌+◌, ◌-◌, ◌≤◌, List, ◌++◌, length, take, drop, Ok, refl, sym, ap, subst, ◌∙◌, arith}
 use Rattle.std.specs.Prelude.{IsOk}
-use Rattle.std.proofs.lemmas.List.{take_rest, drop_at, length-take, length-drop}
+use Rattle.std.proofs.lemmas.List.{drop_at, length-take, length-drop}
 use Rattle.binder_code.specs.declared.protocol.Protocol.{Protocol}
 use Rattle.binder_code.specs.Code.{size}
 use Rattle.binder_code.specs.Commands.{kind_of}
 use Rattle.capture_frame.specs.Units.{IsBytes}
 use Rattle.record_view.specs.declared.record.Record.{Record}
 use Rattle.record_view.specs.Records.{RecordText, record_bytes, IsRecord, code_at}
-use Rattle.record_view.specs.Reading.{record_text, IsRecordView, BeginsWithRecord}
-use Rattle.record_view.proofs.RecordLaws.{text_at, rest_at, record_spelled, text_at-is_record, length-record_bytes}
+use Rattle.record_view.specs.Reading.{record_text, BeginsWithRecord}
+use Rattle.record_view.proofs.RecordLaws.{text_at, rest_at, record_spelled, text_at-is_record}
 
 -- the bytes of a good code, and of what it tells of
 pub record IsGoodFront (protocol : Protocol) (bytes : List ℕ) (found : Record) : Type 0 where

@@ -1,5 +1,5 @@
 -- What the state of the code's reader stands for.
-use Rattle.std.specs.Prelude.{ℕ, ◌≤◌, List, length}
+use Rattle.std.specs.Prelude.{◌≤◌, length}
 use Rattle.capture_frame.specs.declared.frame.Frame.{Frame}
 use Rattle.capture_frame.specs.Envelope.{placed_frame}
 use Rattle.capture_frame.specs.Readers.{at, failed}
