@@ -1,0 +1,4 @@
+pub mod SizeLaws
+pub mod EntryAt
+pub mod EventWalk
+pub mod EventCalls

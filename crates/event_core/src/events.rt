@@ -1,0 +1,94 @@
+//! The reader of a frame's events.
+
+ghost use Rattle.std.specs.Prelude.{◌≡◌};
+ghost use Rattle.capture_frame.specs.Envelope.{text_of};
+ghost use Rattle.transaction_view.specs.FirstFault.{HasGoodContent};
+ghost use Rattle.event_core.specs.State.{TakesAt};
+
+use crate::event::Event;
+use capture_frame::Frame;
+use record_view::Records;
+use std::marker::Model;
+use transaction_view::{Attachments, Entry, Transaction};
+
+/// Reads the events of a frame in order: its records, each with its attachment. One that has ended
+/// gives nothing more.
+#[derive(Debug, Drop)]
+pub struct Events<'c> {
+    frame: Frame<'c>,
+    records: Records<'c>,
+    attachments: Attachments<'c>,
+    /// The first attachment whose record is still ahead.
+    ahead: Option<Entry<'c>>,
+}
+
+impl<'c> Model for Events<'c> {
+    ghost use Rattle.std.specs.Prelude.{◌≡◌};
+    ghost use Rattle.event_core.specs.Reading.{Reading};
+
+    ghost Value = { Reading };
+
+    ghost use Rattle.event_core.specs.State.{reading_of, IsWithin};
+
+    ghost view = { λ r. reading_of r.frame r.records };
+
+    ghost invariant = { λ r. IsWithin r.frame r.records r.attachments r.ahead };
+}
+
+impl<'c> Events<'c> {
+    ghost use Rattle.event_core.specs.Reading.{Steps, start_of};
+
+    /// A reader of the frame's events, where its records and its entries have no fault.
+    pub fn of(frame: Frame<'c>) -> Events<'c>
+        requires { HasGoodContent (text_of frame) }
+        ensures { result ≡ start_of (text_of frame.entry) frame.entry.place }
+    {
+        let mut attachments = Attachments::of(frame);
+        // The entries are good, so there is no fault to give.
+        let ahead = attachments.next_entry().unwrap_or(None);
+        Events {
+            frame,
+            records: Records::of(frame),
+            attachments,
+            ahead,
+        }
+    }
+
+    /// The next event, or the end.
+    pub fn next_event(&mut self) -> Option<Event<'c>>
+        ensures { Steps self.old result self.new }
+    {
+        // The records are good, so there is no fault to give.
+        let Some(record) = self.records.next_record().unwrap_or(None) else {
+            return None;
+        };
+        let entry = take_at(&mut self.ahead, &mut self.attachments, record.place);
+        Some(Event {
+            place: record.place,
+            process: self.frame.process,
+            thread: self.frame.thread,
+            kind: record.kind,
+            payload: record.payload,
+            transaction: Transaction::of(record),
+            entry,
+        })
+    }
+}
+
+/// The attachment ahead, where it is that of the record at this place; then the next one is ahead.
+fn take_at<'c>(
+    ahead: &mut Option<Entry<'c>>,
+    attachments: &mut Attachments<'c>,
+    place: u64,
+) -> Option<Entry<'c>>
+    ensures { TakesAt place ahead.old attachments.old result ahead.new attachments.new }
+{
+    let Some(entry) = *ahead else {
+        return None;
+    };
+    if entry.owner != place {
+        return None;
+    }
+    *ahead = attachments.next_entry().unwrap_or(None);
+    Some(entry)
+}

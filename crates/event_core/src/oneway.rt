@@ -1,0 +1,44 @@
+//! Oneway transactions, and how many bytes of data they say that they have.
+
+ghost use Rattle.std.specs.Prelude.{◌≡◌};
+ghost use Rattle.event_core.specs.Oneway.{oneway_item};
+
+use crate::event::Event;
+use binder_code::Kind;
+
+/// `TF_ONE_WAY` of a transaction's flags.
+const ONE_WAY: u32 = 0x01;
+
+/// What a oneway transaction is counted under: sent, with the handle that it goes to; or received.
+#[derive(Clone, Copy, Debug, PartialEq, Eq, PartialOrd, Ord, Hash)]
+pub enum OnewayKey {
+    Sent(u32),
+    Received,
+}
+
+/// A oneway transaction, and how many bytes of data it says that it has.
+#[derive(Clone, Copy, Debug, PartialEq, Eq, Hash)]
+pub struct OnewayItem {
+    pub key: OnewayKey,
+    pub data_size: u64,
+}
+
+/// The item of a transaction that is sent or received with TF_ONE_WAY; None for every other event,
+/// replies among them.
+pub fn oneway_step(event: Event<'_>) -> Option<OnewayItem>
+    ensures { result ≡ oneway_item event.entry.kind event.entry.payload.now }
+{
+    let transaction = event.transaction?;
+    let key = match event.kind {
+        Kind::BcTransaction | Kind::BcTransactionSg => OnewayKey::Sent(transaction.target_handle()),
+        Kind::BrTransaction | Kind::BrTransactionSecCtx => OnewayKey::Received,
+        _ => return None,
+    };
+    if transaction.flags() & ONE_WAY == 0 {
+        return None;
+    }
+    Some(OnewayItem {
+        key,
+        data_size: transaction.data_size(),
+    })
+}
