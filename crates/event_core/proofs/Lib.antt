@@ -1,4 +1,6 @@
-pub mod SizeLaws
-pub mod EntryAt
+pub mod Sizes
+pub mod EntryPlaces
 pub mod EventWalk
 pub mod EventCalls
+pub mod EventPlaces
+pub mod RecordAt

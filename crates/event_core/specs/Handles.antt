@@ -3,19 +3,19 @@ use Rattle.std.specs.Prelude.{ℕ, List, Option, Some, None}
 use Rattle.std.specs.Option.{option_map}
 use Rattle.binder_code.specs.declared.record_kind.Kind.{Kind}
 use Rattle.binder_code.specs.declared.record_kind.Kind.TheVariants.{BcAcquire, BcRelease, BcIncrefs, BcDecrefs}
-use Rattle.transaction_view.specs.Envelope.{number_at}
-use Rattle.event_core.specs.declared.handle.Change.{Change}
-use Rattle.event_core.specs.declared.handle.Change.TheVariants.{Raise, Drop}
+use Rattle.capture_frame.specs.Envelope.{number_at}
+use Rattle.event_core.specs.declared.handle.HandleChange.{HandleChange}
+use Rattle.event_core.specs.declared.handle.HandleChange.TheVariants.{Raise, Lower}
 use Rattle.event_core.specs.declared.handle.HandleItem.{HandleItem}
 use Rattle.event_core.specs.declared.strength.Strength.{Strength}
 use Rattle.event_core.specs.declared.strength.Strength.TheVariants.{Strong, Weak}
 
--- which count a record of this kind changes, and how (`binder_driver_command_protocol`)
-abbrev pub handle_effect : Kind → Option (Strength × Change)
+-- which count a record of this kind changes, and how (`linux/android/binder.h`, `binder_driver_command_protocol`)
+abbrev pub handle_effect : Kind → Option (Strength × HandleChange)
 handle_effect BcAcquire = Some (Strong, Raise)
-handle_effect BcRelease = Some (Strong, Drop)
+handle_effect BcRelease = Some (Strong, Lower)
 handle_effect BcIncrefs = Some (Weak, Raise)
-handle_effect BcDecrefs = Some (Weak, Drop)
+handle_effect BcDecrefs = Some (Weak, Lower)
 handle_effect _ = None
 
 -- the change that a record makes, whose payload is then a handle; none for every other kind

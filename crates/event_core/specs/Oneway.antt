@@ -8,9 +8,9 @@ use Rattle.event_core.specs.declared.oneway.OnewayItem.{OnewayItem}
 use Rattle.event_core.specs.declared.oneway.OnewayKey.{OnewayKey}
 use Rattle.event_core.specs.declared.oneway.OnewayKey.TheVariants.{Sent, Received}
 
--- the flags have `TF_ONE_WAY`, their lowest bit
-abbrev pub is_oneway : List ℕ → Bool
-is_oneway payload = flags payload % 2 == 1
+-- the flags of a transaction have `TF_ONE_WAY`, their lowest bit (`linux/android/binder.h`, `enum transaction_flags`)
+abbrev pub has_one_way : List ℕ → Bool
+has_one_way payload = flags payload % 2 == 1
 
 -- what a oneway transaction of this kind is counted under; nothing for a reply and for every other record
 abbrev pub oneway_key : Kind → List ℕ → Option OnewayKey
@@ -23,4 +23,4 @@ oneway_key _ payload = None
 -- the item of a transaction that is sent or received with `TF_ONE_WAY`; none for every other record
 abbrev pub oneway_item : Kind → List ℕ → Option OnewayItem
 oneway_item kind payload =
-    if is_oneway payload then option_map (λ key. record { key = key; data_size = data_size payload }) (oneway_key kind payload) else None
+    if has_one_way payload then option_map (λ key. record { key = key; data_size = data_size payload }) (oneway_key kind payload) else None

@@ -1,53 +1,86 @@
 -- A reader of events, and what one call of it does.
-use Rattle.std.specs.Prelude.{◌≡◌, ℕ, ◌+◌, List, [], ◌++◌, length, drop, Option, Some, None, Ok}
-use Rattle.binder_code.specs.Commands.{kind_of}
-use Rattle.transaction_view.specs.Calls.{GiveInOrder}
-use Rattle.transaction_view.specs.Envelope.{FrameText}
-use Rattle.record_view.specs.Records.{RecordText, record_bytes, IsRecord, protocol_of}
-use Rattle.record_view.specs.Reading.{commands_place}
+use Rattle.std.specs.Prelude.{◌≡◌, ℕ, ◌+◌, List, [], length, drop, Option, Some, None}
+use Rattle.std.specs.Option.{option_map}
+use Rattle.capture_frame.specs.Units.{Placed, placed_at, BeginsWith}
+use Rattle.capture_frame.specs.Calls.{GiveInOrder}
+use Rattle.capture_frame.specs.Envelope.{FrameText, commands_place}
+use Rattle.capture_frame.specs.declared.frame.Frame.{Frame}
+use Rattle.record_view.specs.declared.record.Record.{Record}
+use Rattle.record_view.specs.Records.{RecordText, record_bytes, format_of, HasRecords}
 use Rattle.transaction_view.specs.declared.entry.Entry.{Entry}
 use Rattle.transaction_view.specs.Attachments.{EntryText, HasEntries}
-use Rattle.transaction_view.specs.Reading.{Says}
 use Rattle.event_core.specs.declared.event.Event.{Event}
-use Rattle.event_core.specs.Events.{EventText, event_of}
+use Rattle.event_core.specs.Events.{Attached, EventText, event_of, events_of, event_at_place}
 
--- so far into the command bytes of a frame, which begins at that place of the capture
-pub data Reading : Type 0 where
-  at : (frame : FrameText) (frame_place : ℕ) (offset : ℕ) → Reading
+-- what an attachment of the capture says
+abbrev pub attached_text : Entry → Attached
+attached_text found = record { place = found.place; body = found.body.now; offset_bytes = found.offsets.now }
 
--- the attachment of an event says this, or neither is there
-abbrev pub SaysEntry : ℕ → Option Entry → Option (ℕ × EntryText) → Type 0
-SaysEntry commands_at None None = Unit {0}
-SaysEntry commands_at (Some found) (Some there) = (found.place ≡ there.0) × Says commands_at found there.1
-SaysEntry commands_at _ _ = ⊥
+-- what an event of the capture says
+abbrev pub event_text : Event → EventText
+event_text found = record {
+  place = found.place;
+  process = found.process;
+  thread = found.thread;
+  kind = found.kind;
+  code = found.code.0;
+  payload = found.payload.now;
+  entry = option_map attached_text found.entry;
+}
 
--- the event of the capture says this, in a frame at that place
-pub record SaysEvent (frame : FrameText) (frame_place : ℕ) (found : Event) (e : EventText) : Type 0 where
-  pub place : found.place ≡ e.place
-  pub process : found.process ≡ e.process
-  pub thread : found.thread ≡ e.thread
-  pub kind : kind_of (protocol_of frame.direction) e.said.code ≡ Ok found.kind
-  pub payload : found.payload.now ≡ e.said.payload
-  pub entry : SaysEntry (commands_place frame_place) found.entry e.entry
+-- what the event of a record of a frame says, with this attachment
+abbrev pub text_of_event : Frame → Record → Option Entry → EventText
+text_of_event frame found entry = record {
+  place = found.place;
+  process = frame.process;
+  thread = frame.thread;
+  kind = found.kind;
+  code = found.code.0;
+  payload = found.payload.now;
+  entry = option_map attached_text entry;
+}
 
--- one call: it gives the event of the record that stands there and goes behind the record; or gives nothing at the end
--- of the command bytes and stays
+-- the record that an event of the capture is made of
+abbrev pub record_of : Event → RecordText
+record_of found = record { code = found.code.0; payload = found.payload.now }
+
+-- a reader stands so far into the command bytes of a frame
+pub record Reading : Type 0 where
+  pub frame : Placed FrameText
+  pub offset : ℕ
+
+abbrev pub reading_at : Placed FrameText → ℕ → Reading
+reading_at frame offset = record { frame = frame; offset = offset }
+
+-- the event is that of the record that stands so far into a frame's command bytes, with its attachment
+abbrev pub StandsThere : Placed FrameText → ℕ → Event → Type 0
+StandsThere frame offset found =
+    BeginsWith (format_of frame.unit) tt (drop offset frame.unit.commands) (record_of found)
+    ((entries : List EntryText) × HasEntries frame.unit entries
+    × (event_text found ≡ event_of frame entries (placed_at (commands_place frame.place + offset) (record_of found))))
+
+-- one call: it gives the event of the record that stands there and goes behind the record; or gives nothing at the end of
+-- the command bytes and stays
 abbrev pub Steps : Reading → Option Event → Reading → Type 0
-Steps (at frame frame_place offset) (Some found) new =
-    (r : RecordText) × (entries : List EntryText) × IsRecord (protocol_of frame.direction) r × HasEntries frame entries
-    × (drop offset frame.commands ≡ record_bytes r ++ drop (length (record_bytes r)) (drop offset frame.commands))
-    × SaysEvent frame frame_place found (event_of frame frame_place entries (offset, r))
-    × (new ≡ at frame frame_place (offset + length (record_bytes r)))
-Steps (at frame frame_place offset) None new = (drop offset frame.commands ≡ []) × (new ≡ at frame frame_place offset)
+Steps reading (Some found) new =
+    StandsThere reading.frame reading.offset found
+    × (new ≡ reading_at reading.frame (reading.offset + length (record_bytes (record_of found))))
+Steps reading None new = (drop reading.offset reading.frame.unit.commands ≡ []) × (new ≡ reading)
 
--- a reader of a frame at that place of the capture
-abbrev pub start_of : FrameText → ℕ → Reading
-start_of frame frame_place = at frame frame_place 0
+-- a reader before a frame's first event
+abbrev pub events_start : Placed FrameText → Reading
+events_start frame = reading_at frame 0
 
 -- the call gives this event
-abbrev pub GivesEvent : FrameText → ℕ → Option Event → EventText → Type 0
-GivesEvent frame frame_place result e = (found : Event) × (result ≡ Some found) × SaysEvent frame frame_place found e
+abbrev pub GivesEvent : Option Event → EventText → Type 0
+GivesEvent result e = option_map event_text result ≡ Some e
 
--- the results of calls are these events of a frame at that place, one by one, and then nothing again and again
-abbrev pub GiveEvents : FrameText → ℕ → List EventText → List (Option Event) → Type 0
-GiveEvents frame frame_place events results = GiveInOrder (GivesEvent frame frame_place) None None events results
+-- the results of calls are these events, one by one, and then nothing again and again
+abbrev pub GiveEvents : List EventText → List (Option Event) → Type 0
+GiveEvents events results = GiveInOrder GivesEvent None None events results
+
+-- the event of a frame at a place of the capture, or none where no event of the frame stands there
+abbrev pub IsEventAt : Placed FrameText → ℕ → Option Event → Type 0
+IsEventAt frame place result =
+    (records : List RecordText) (entries : List EntryText) → HasRecords frame.unit records → HasEntries frame.unit entries
+    → option_map event_text result ≡ event_at_place place (events_of frame records entries)

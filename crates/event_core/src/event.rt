@@ -1,15 +1,19 @@
-ghost use Rattle.std.specs.Prelude.{◌≡◌, ◌↔◌, length, IsTrue, IsSome};
+ghost use Rattle.std.specs.Prelude.{◌≡◌, ◌↔◌, ◌+◌, ◌<◌, ◌^◌, length, IsTrue, IsSome, Ok};
 ghost use Rattle.std.specs.Option.{ForSome};
-ghost use Rattle.binder_code.specs.Commands.{row_of};
+ghost use Rattle.binder_code.specs.Commands.{kind_of, protocol_of_word, row_of};
 ghost use Rattle.transaction_view.specs.Transaction.{has_transaction_data};
+ghost use Rattle.event_core.specs.Reading.{event_text, text_of_event};
 
-use binder_code::Kind;
+use binder_code::{Code, Kind};
+use capture_frame::Frame;
+use record_view::Record;
 use transaction_view::{Entry, Transaction};
 
-/// A record of a capture, with the process and the thread that sent or got it.
+/// A record of a capture, with the process and the thread that wrote or read it. The payload and the
+/// attachment are the capture's own bytes.
 #[derive(Clone, Copy, Debug)]
 pub struct Event<'c> {
-    /// Where the record begins in the capture, in bytes.
+    /// Where the record's code begins in the capture, in bytes.
     pub place: u64,
     /// The process of its frame.
     pub process: u32,
@@ -17,17 +21,46 @@ pub struct Event<'c> {
     pub thread: u32,
     /// What the record's code stands for.
     pub kind: Kind,
+    /// The code word as read; it tells opaque records apart.
+    pub code: Code,
     /// The bytes after the code.
     pub payload: &'c [u8],
     /// The fields of a transaction or a reply; None for every other record.
     pub transaction: Option<Transaction<'c>>,
     /// Its attachment, where the capture has one.
     pub entry: Option<Entry<'c>>,
-    // The payload of a listed kind is as long as `linux/android/binder.h` says.
+    ghost fits: { place + 4 + length payload.now < 2 ^ 64 },
+    // The kind is what the code means, in the protocol that its letter names.
+    ghost by_code: { kind_of (protocol_of_word code.0) code.0 ≡ Ok kind },
+    // The payload of a listed kind is as long as the header says.
     ghost sized: { ForSome (row_of kind) (λ row. length payload.now ≡ row.size) },
     // The seven kinds that have the fields have them here, and they are those of this very record.
     ghost carries: { IsSome transaction ↔ IsTrue (has_transaction_data kind) },
     ghost same_place: { ForSome transaction (λ found. found.carrier.place ≡ place) },
     ghost same_kind: { ForSome transaction (λ found. found.carrier.kind ≡ kind) },
+    ghost same_code: { ForSome transaction (λ found. found.carrier.code.0 ≡ code.0) },
     ghost same_payload: { ForSome transaction (λ found. found.carrier.payload.now ≡ payload.now) },
+    // An attachment belongs to this very record.
+    ghost owned: { ForSome entry (λ found. found.owner ≡ place) },
+}
+
+/// The event of a record of the frame, with its attachment if it has one.
+pub(crate) fn event_of<'c>(
+    frame: Frame<'c>,
+    carrier: Record<'c>,
+    attachment: Option<Entry<'c>>,
+) -> Event<'c>
+    requires { ForSome attachment (λ found. found.owner ≡ carrier.place) }
+    ensures { event_text result ≡ text_of_event frame.entry carrier.entry attachment.entry }
+{
+    Event {
+        place: carrier.place,
+        process: frame.process,
+        thread: frame.thread,
+        kind: carrier.kind,
+        code: carrier.code,
+        payload: carrier.payload,
+        transaction: Transaction::of(carrier),
+        entry: attachment,
+    }
 }

@@ -1,18 +1,18 @@
 //! The reader of a frame's events.
 
 ghost use Rattle.std.specs.Prelude.{◌≡◌};
-ghost use Rattle.capture_frame.specs.Envelope.{text_of};
+ghost use Rattle.capture_frame.specs.Envelope.{frame_text};
 ghost use Rattle.transaction_view.specs.FirstFault.{HasGoodContent};
 ghost use Rattle.event_core.specs.State.{TakesAt};
 
-use crate::event::Event;
+use crate::event::{Event, event_of};
 use capture_frame::Frame;
 use record_view::Records;
 use std::marker::Model;
-use transaction_view::{Attachments, Entry, Transaction};
+use transaction_view::{Attachments, Entry};
 
-/// Reads the events of a frame in order: its records, each with its attachment. One that has ended
-/// gives nothing more.
+/// Reads the events of a frame in order: its records, each with its attachment. Records and
+/// attachments are passed once, side by side. One that has ended gives nothing more.
 #[derive(Debug, Drop)]
 pub struct Events<'c> {
     frame: Frame<'c>,
@@ -36,12 +36,13 @@ impl<'c> Model for Events<'c> {
 }
 
 impl<'c> Events<'c> {
-    ghost use Rattle.event_core.specs.Reading.{Steps, start_of};
+    ghost use Rattle.capture_frame.specs.Envelope.{placed_frame};
+    ghost use Rattle.event_core.specs.Reading.{Steps, events_start};
 
     /// A reader of the frame's events, where its records and its entries have no fault.
     pub fn of(frame: Frame<'c>) -> Events<'c>
-        requires { HasGoodContent (text_of frame) }
-        ensures { result ≡ start_of (text_of frame.entry) frame.entry.place }
+        requires { HasGoodContent (frame_text frame) }
+        ensures { result ≡ events_start (placed_frame frame.entry) }
     {
         let mut attachments = Attachments::of(frame);
         // The entries are good, so there is no fault to give.
@@ -63,15 +64,7 @@ impl<'c> Events<'c> {
             return None;
         };
         let entry = take_at(&mut self.ahead, &mut self.attachments, record.place);
-        Some(Event {
-            place: record.place,
-            process: self.frame.process,
-            thread: self.frame.thread,
-            kind: record.kind,
-            payload: record.payload,
-            transaction: Transaction::of(record),
-            entry,
-        })
+        Some(event_of(self.frame, record, entry))
     }
 }
 

@@ -6,32 +6,32 @@ ghost use Rattle.event_core.specs.Handles.{handle_effect, handle_item};
 use crate::event::Event;
 use crate::strength::Strength;
 use binder_code::Kind;
-use byteorder::{ByteOrder, LittleEndian};
+use capture_frame::u32_at;
 
-/// Whether a count goes up or down by one.
-#[derive(Clone, Copy, Debug, PartialEq, Eq, Hash)]
-pub enum Change {
+/// Whether a count of a handle goes up or down by one.
+#[derive(Clone, Copy, Debug, PartialEq, Eq)]
+pub enum HandleChange {
     Raise,
-    Drop,
+    Lower,
 }
 
 /// A change of one of a handle's two counts.
-#[derive(Clone, Copy, Debug, PartialEq, Eq, Hash)]
+#[derive(Clone, Copy, Debug, PartialEq, Eq)]
 pub struct HandleItem {
     pub handle: u32,
     pub strength: Strength,
-    pub change: Change,
+    pub change: HandleChange,
 }
 
 /// Which count a record of this kind changes, and how.
-fn handle_effect(kind: Kind) -> Option<(Strength, Change)>
+fn handle_effect(kind: Kind) -> Option<(Strength, HandleChange)>
     ensures { result ≡ handle_effect kind }
 {
     match kind {
-        Kind::BcAcquire => Some((Strength::Strong, Change::Raise)),
-        Kind::BcRelease => Some((Strength::Strong, Change::Drop)),
-        Kind::BcIncrefs => Some((Strength::Weak, Change::Raise)),
-        Kind::BcDecrefs => Some((Strength::Weak, Change::Drop)),
+        Kind::BcAcquire => Some((Strength::Strong, HandleChange::Raise)),
+        Kind::BcRelease => Some((Strength::Strong, HandleChange::Lower)),
+        Kind::BcIncrefs => Some((Strength::Weak, HandleChange::Raise)),
+        Kind::BcDecrefs => Some((Strength::Weak, HandleChange::Lower)),
         _ => None,
     }
 }
@@ -43,7 +43,7 @@ pub fn handle_step(event: Event<'_>) -> Option<HandleItem>
 {
     let (strength, change) = handle_effect(event.kind)?;
     Some(HandleItem {
-        handle: LittleEndian::read_u32(event.payload),
+        handle: u32_at(event.payload, 0),
         strength,
         change,
     })

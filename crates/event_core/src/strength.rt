@@ -1,5 +1,5 @@
-/// Which of two counts a record changes.
-#[derive(Clone, Copy, Debug, PartialEq, Eq, Hash)]
+/// Which of the two counts of a handle, or of a node, a record changes.
+#[derive(Clone, Copy, Debug, PartialEq, Eq)]
 pub enum Strength {
     /// The references that keep what they refer to alive.
     Strong,
