@@ -1,6 +1,6 @@
 -- The event of a frame at a place.
 use Rattle.std.proofs.Common.{◌≡◌, ◌≢◌, ℕ, ◌+◌, ◌-◌, ◌<◌, ◌≤◌, List, [], ◌∷◌, ◌++◌, length, map, drop, Option, Some, None, refl, sym, ap, subst, ◌∙◌, append_assoc, length-append, arith}
-use Rattle.std.specs.Prelude.{find}
+use Rattle.std.specs.Prelude.{◌↔◌, true, false, find, IsSome}
 use Rattle.std.specs.Option.{option_map}
 use Rattle.std.proofs.lemmas.Bool.{eq-eqb, ne_eqb}
 use Rattle.std.proofs.lemmas.List.{append-nil, drop-drop, length-drop}
@@ -197,6 +197,13 @@ ended_elsewhere frame place reading looks new steps has =
     let not_before = looks.none_stands has.1.0 has.0 has.1.1 has.1.2 in
     let start = looks.offset_is in
     absurd (omega (arith, within, not_before, start))
+
+-- what is said of a record where an event was found, and where none was
+pub some_there : (P : Type 0) (found : Event) → P → IsSome (Some found) ↔ P
+some_there P found there = (λ _. there, λ _. refl)
+
+pub none_there : (P : Type 0) → (P → ⊥) → IsSome {T = Event} None ↔ P
+none_there P nowhere = (λ some. let wrong : false ≡ true = some in cc, λ there. absurd (nowhere there))
 
 -- how many command bytes a reader has left
 abbrev pub left_of : Reading → ℕ

@@ -117,21 +117,21 @@ HasAttachmentAt frame offset found =
 none_at : (frame : Frame) (offset : ℕ) (reading : entries.Reading) (given : List EntryText) (ahead : Option Entry) → HasGoodContent (frame_text frame) → All (λ (e : EntryText). e.offset < offset) given
     → ((found : Entry) → ahead ≡ Some found → found.owner ≢ commands_place frame.place + offset) → IsNext frame offset reading given ahead → HasAttachmentAt frame offset None
 none_at frame offset reading given ahead good before other (all_given is has) =
-    let at = commands_place frame.place in
+    let start = commands_place frame.place in
     let base = attachments_place (frame_text frame) frame.place in
-    let none : find (belongs_to at (at + offset)) (placed_entries (placed_frame frame) given) ≡ None =
-    ap (λ (t : List EntryText). find (belongs_to at (at + offset)) (placed_entries (placed_frame frame) t)) (sym (append-nil given)) ∙ find-behind at offset base given [] before in
+    let none : find (belongs_to start (start + offset)) (placed_entries (placed_frame frame) given) ≡ None =
+    ap (λ (t : List EntryText). find (belongs_to start (start + offset)) (placed_entries (placed_frame frame) t)) (sym (append-nil given)) ∙ find-behind start offset base given [] before in
     (given, has, sym (ap (option_map attached) none))
 none_at frame offset reading given ahead good before other (one_ahead found is far place_is has) =
-    let at = commands_place frame.place in
+    let start = commands_place frame.place in
     let base = attachments_place (frame_text frame) frame.place in
     let e = entry_text frame.place found in
     let all = all_of frame reading given e good has in
-    let apart : found.owner ≢ at + offset = other found is in
+    let apart : found.owner ≢ start + offset = other found is in
     let past : offset < e.offset = omega (arith, far, apart) in
-    let none : find (belongs_to at (at + offset)) (placed_entries (placed_frame frame) (given ++ e ∷ all.0)) ≡ None =
-    find-behind at offset base given (e ∷ all.0) before ∙ find-other at (at + offset) _ e all.0 (λ same. absurd (omega (arith, past, same)))
-    ∙ find-past (frame_text frame) at _ e.offset offset all.0 all.2 (omega (arith, past)) in
+    let none : find (belongs_to start (start + offset)) (placed_entries (placed_frame frame) (given ++ e ∷ all.0)) ≡ None =
+    find-behind start offset base given (e ∷ all.0) before ∙ find-other start (start + offset) _ e all.0 (λ same. absurd (omega (arith, past, same)))
+    ∙ find-past (frame_text frame) start _ e.offset offset all.0 all.2 (omega (arith, past)) in
     (given ++ e ∷ all.0, all.1, sym (ap (option_map attached) none))
 
 -- the entry at hand is still ahead behind a record that is not its own
@@ -167,21 +167,21 @@ keeps frame reading new attachments ahead within found steps other =
 -- ---- a record with its attachment
 
 attached_is : (found : Entry) (e : EntryText) (place : ℕ) → found.place ≡ place → found.body.now ≡ e.body → found.offsets.now ≡ e.offset_bytes → attached_text found ≡ attached (placed_at place e)
-attached_is found e place at body offsets = rw (at, body, offsets) refl
+attached_is found e place there body offsets = rw (there, body, offsets) refl
 
 -- the entry at hand is the record's
 one_at : (frame : Frame) (offset : ℕ) (reading : entries.Reading) (given : List EntryText) (ahead : Option Entry) → HasGoodContent (frame_text frame) → All (λ (e : EntryText). e.offset < offset) given
     → (found : Entry) → ahead ≡ Some found → found.owner ≡ commands_place frame.place + offset → IsNext frame offset reading given ahead → HasAttachmentAt frame offset (Some found)
 one_at frame offset reading given ahead good before found is here (all_given none has) = let wrong : None ≡ Some found = sym none ∙ is in cc
 one_at frame offset reading given ahead good before found is here (one_ahead other is_too far place_is has) =
-    let at = commands_place frame.place in
+    let start = commands_place frame.place in
     let base = attachments_place (frame_text frame) frame.place in
     let e = entry_text frame.place other in
     let all = all_of frame reading given e good has in
     let same : other ≡ found = some_is other found (sym is_too ∙ is) in
-    let owner : other.owner ≡ at + offset = ap (λ (x : Entry). x.owner) same ∙ here in
-    let there : find (belongs_to at (at + offset)) (placed_entries (placed_frame frame) (given ++ e ∷ all.0)) ≡ Some (placed_at (base + entries_span frame given) e) =
-    find-behind at offset base given (e ∷ all.0) before ∙ find-here at (at + offset) (base + entries_span frame given) e all.0 (omega (arith, owner)) in
+    let owner : other.owner ≡ start + offset = ap (λ (x : Entry). x.owner) same ∙ here in
+    let there : find (belongs_to start (start + offset)) (placed_entries (placed_frame frame) (given ++ e ∷ all.0)) ≡ Some (placed_at (base + entries_span frame given) e) =
+    find-behind start offset base given (e ∷ all.0) before ∙ find-here start (start + offset) (base + entries_span frame given) e all.0 (omega (arith, owner)) in
     let text : attached_text found ≡ attached (placed_at (base + entries_span frame given) e) =
     ap attached_text (sym same) ∙ attached_is other e (base + entries_span frame given) place_is refl refl in
     (given ++ e ∷ all.0, all.1, ap Some text ∙ sym (ap (option_map attached) there))

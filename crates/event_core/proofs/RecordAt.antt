@@ -1,5 +1,6 @@
 -- The record at a place of a frame, read from there on.
 use Rattle.std.proofs.Common.{◌≡◌, ℕ, ◌+◌, ◌-◌, ◌≤◌, List, [], ◌∷◌, ◌++◌, length, drop, Option, Some, None, Result, Ok, Err, refl, sym, ap, subst, ◌∙◌, length-append, arith}
+use Rattle.std.specs.Prelude.{IsOk, IsSome}
 use Rattle.std.specs.List.{flat_map}
 use Rattle.std.proofs.lemmas.Grind.{flat_map-append}
 use Rattle.std.proofs.lemmas.List.{append-nil, drop_at}
@@ -27,7 +28,7 @@ rest_at frame offset found stands =
     let has = stands.has_records in
     let whole : frame.commands ≡ flat_map record_bytes stands.before ++ flat_map record_bytes (found ∷ stands.behind) =
     has.joined ∙ append-nil (flat_map record_bytes (stands.before ++ found ∷ stands.behind)) ∙ flat_map-append record_bytes stands.before (found ∷ stands.behind) in
-    ap (drop offset) whole ∙ drop_at (flat_map record_bytes stands.before) (flat_map record_bytes (found ∷ stands.behind)) offset stands.offset_is ∙ flat_map-cons record_bytes found stands.behind
+    ap (drop offset) whole ∙ drop_at (flat_map record_bytes stands.before) (flat_map record_bytes (found ∷ stands.behind)) offset (sym stands.offset_is) ∙ flat_map-cons record_bytes found stands.behind
 
 -- a record is within the command bytes
 pub stands_in : (frame : FrameText) (offset : ℕ) (found : RecordText) → StandsAt frame offset found → offset + 4 ≤ length frame.commands
@@ -89,10 +90,18 @@ found_at frame cut place found stands is (Ok (Some given)) new steps =
       kind = subst (λ (d : Direction). kind_of (protocol_of d) given.code.0 ≡ Ok given.kind) is.direction steps.0.view.kind;
     }
 
+pub found_ok : (frame : Frame) (place : ℕ) (found : RecordText) (result : Result (Option Record) Fault) → FoundAt frame place found result → IsOk result
+found_ok frame place found result there = rw there.result_is refl
+
+pub found_some : (frame : Frame) (place : ℕ) (found : RecordText) (result : Result (Option Record) Fault) (answer : Option Record) → FoundAt frame place found result → result ≡ Ok answer → IsSome answer
+found_some frame place found result answer there is =
+    let same : answer ≡ Some there.given = let both : Ok (Some there.given) ≡ Ok answer = sym there.result_is ∙ is in cc in
+    rw same refl
+
 -- the event that is made of it
 pub bare_found : (frame : Frame) (place : ℕ) (found : RecordText) (result : Result (Option Record) Fault) (given : Record) → FoundAt frame place found result → result ≡ Ok (Some given)
     → (event : Event) → event_text event ≡ text_of_event frame given None → event_text event ≡ bare_event (frame_text frame) (placed_at place found)
-bare_found frame place found result given at is event text =
-    let same : at.given ≡ given = let both : Ok (Some at.given) ≡ Ok (Some given) = sym at.result_is ∙ is in cc in
-    text ∙ ap (λ (r : Record). text_of_event frame r None) (sym same) ∙ event_is frame at.given None place None at.place_is at.kind refl
-    ∙ ap (λ (r : RecordText). bare_event (frame_text frame) (placed_at place r)) at.text_is
+bare_found frame place found result given there is event text =
+    let same : there.given ≡ given = let both : Ok (Some there.given) ≡ Ok (Some given) = sym there.result_is ∙ is in cc in
+    text ∙ ap (λ (r : Record). text_of_event frame r None) (sym same) ∙ event_is frame there.given None place None there.place_is there.kind refl
+    ∙ ap (λ (r : RecordText). bare_event (frame_text frame) (placed_at place r)) there.text_is

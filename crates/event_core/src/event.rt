@@ -2,11 +2,8 @@ ghost use Rattle.std.specs.Prelude.{◌≡◌, ◌↔◌, ◌+◌, ◌<◌, ◌^
 ghost use Rattle.std.specs.Option.{ForSome};
 ghost use Rattle.binder_code.specs.Commands.{kind_of, protocol_of_word, row_of};
 ghost use Rattle.transaction_view.specs.Transaction.{has_transaction_data};
-ghost use Rattle.event_core.specs.Reading.{event_text, text_of_event};
 
 use binder_code::{Code, Kind};
-use capture_frame::Frame;
-use record_view::Record;
 use transaction_view::{Entry, Transaction};
 
 /// A record of a capture, with the process and the thread that wrote or read it. The payload and the
@@ -42,25 +39,4 @@ pub struct Event<'c> {
     ghost same_payload: { ForSome transaction (λ found. found.carrier.payload.now ≡ payload.now) },
     // An attachment belongs to this very record.
     ghost owned: { ForSome entry (λ found. found.owner ≡ place) },
-}
-
-/// The event of a record of the frame, with its attachment if it has one.
-pub(crate) fn event_of<'c>(
-    frame: Frame<'c>,
-    carrier: Record<'c>,
-    attachment: Option<Entry<'c>>,
-) -> Event<'c>
-    requires { ForSome attachment (λ found. found.owner ≡ carrier.place) }
-    ensures { event_text result ≡ text_of_event frame.entry carrier.entry attachment.entry }
-{
-    Event {
-        place: carrier.place,
-        process: frame.process,
-        thread: frame.thread,
-        kind: carrier.kind,
-        code: carrier.code,
-        payload: carrier.payload,
-        transaction: Transaction::of(carrier),
-        entry: attachment,
-    }
 }

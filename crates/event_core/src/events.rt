@@ -5,7 +5,8 @@ ghost use Rattle.capture_frame.specs.Envelope.{frame_text};
 ghost use Rattle.transaction_view.specs.FirstFault.{HasGoodContent};
 ghost use Rattle.event_core.specs.State.{TakesAt};
 
-use crate::event::{Event, event_of};
+use crate::event::Event;
+use crate::making::event_of;
 use capture_frame::Frame;
 use record_view::Records;
 use std::marker::Model;

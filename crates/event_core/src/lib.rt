@@ -13,6 +13,7 @@ mod events;
 mod handle;
 pub mod laws;
 mod lookup;
+mod making;
 mod marks;
 mod node;
 mod oneway;

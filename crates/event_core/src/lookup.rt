@@ -9,8 +9,9 @@ ghost use Rattle.event_core.specs.Events.{bare_event, RecordStandsAt, HasRecordA
 ghost use Rattle.event_core.specs.Reading.{event_text, IsEventAt};
 ghost use Rattle.event_core.specs.Lookup.{IsCutAt};
 
-use crate::event::{Event, event_of};
+use crate::event::Event;
 use crate::events::Events;
+use crate::making::event_of;
 use capture_frame::Frame;
 use record_view::Records;
 
@@ -37,9 +38,9 @@ pub fn bare_event_at<'c>(frame: Frame<'c>, place: u64) -> Event<'c>
     ensures { (found : RecordText) → RecordStandsAt (placed_frame frame.entry) place found →
         event_text result ≡ bare_event (frame_text frame.entry) (placed_at place found) }
 {
-    let Ok(Some(record)) = Records::of(from_place(frame, place)).next_record() else {
-        unreachable!()
-    };
+    let mut records = Records::of(from_place(frame, place));
+    // A record begins there, so there is one to give, and no fault.
+    let record = records.next_record().unwrap().unwrap();
     event_of(frame, record, None)
 }
 

@@ -1,7 +1,7 @@
 //! Oneway transactions, and how many bytes of data they say that they have.
 
 ghost use Rattle.std.specs.Prelude.{◌≡◌};
-ghost use Rattle.event_core.specs.Oneway.{has_one_way, oneway_item};
+ghost use Rattle.event_core.specs.Oneway.{has_one_way, item_under, oneway_item};
 
 use crate::event::Event;
 use binder_code::Kind;
@@ -31,22 +31,33 @@ pub(crate) fn has_one_way(transaction: Transaction<'_>) -> bool
     transaction.flags() & ONE_WAY != 0
 }
 
+/// The item of a transaction under this key, if it is a oneway one.
+fn item_of(transaction: Transaction<'_>, key: OnewayKey) -> Option<OnewayItem>
+    ensures { result ≡ item_under key transaction.entry.carrier.payload.now }
+{
+    if has_one_way(transaction) {
+        Some(OnewayItem {
+            key,
+            data_size: transaction.data_size(),
+        })
+    } else {
+        None
+    }
+}
+
 /// The item of a transaction that is sent or received with TF_ONE_WAY; None for every other event,
 /// replies among them.
 pub fn oneway_step(event: Event<'_>) -> Option<OnewayItem>
     ensures { result ≡ oneway_item event.entry.kind event.entry.payload.now }
 {
-    let transaction = event.transaction?;
-    let key = match event.kind {
-        Kind::BcTransaction | Kind::BcTransactionSg => OnewayKey::Sent(transaction.target_handle()),
-        Kind::BrTransaction | Kind::BrTransactionSecCtx => OnewayKey::Received,
-        _ => return None,
-    };
-    if !has_one_way(transaction) {
-        return None;
+    match event.kind {
+        Kind::BcTransaction | Kind::BcTransactionSg => {
+            let transaction = event.transaction?;
+            item_of(transaction, OnewayKey::Sent(transaction.target_handle()))
+        }
+        Kind::BrTransaction | Kind::BrTransactionSecCtx => {
+            item_of(event.transaction?, OnewayKey::Received)
+        }
+        _ => None,
     }
-    Some(OnewayItem {
-        key,
-        data_size: transaction.data_size(),
-    })
 }
