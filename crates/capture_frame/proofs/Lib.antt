@@ -8,3 +8,4 @@ pub mod ReadLaws
 pub mod HeaderLaws
 pub mod CaptureLaws
 pub mod Vectors
+pub mod CutLaws

@@ -5,3 +5,4 @@ pub mod Calls
 pub mod Readers
 pub mod Reading
 pub mod State
+pub mod Cut

@@ -2,6 +2,10 @@
 //! write to the Binder driver and of each read from it.
 #![tactic(auto)]
 
+mod all_frames;
+mod cut_off;
+#[cfg(test)]
+mod cut_tests;
 mod direction;
 mod fault;
 mod frame;
@@ -10,6 +14,8 @@ mod header;
 pub mod laws;
 mod number;
 
+pub use all_frames::cut;
+pub use cut_off::Cut;
 pub use direction::Direction;
 pub use fault::{Fault, FaultKind};
 pub use frame::Frame;

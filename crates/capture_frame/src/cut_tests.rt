@@ -1,0 +1,180 @@
+//! Whole captures at once: good ones, and one with each fault that a file header or a frame header has.
+
+use super::*;
+use std::alloc::Global;
+use std::process::Abort;
+use std::test::Fail;
+
+/// A capture, how many frames are given of it, and its first fault.
+#[derive(Clone, Copy)]
+struct Row {
+    capture: &'static [u8],
+    frames: usize,
+    fault: Option<Fault>,
+}
+
+/// The frames are those of process 100 and thread 101, of 36 bytes each, with the sequences 1, 2 and on.
+const ROWS: &[Row] = &[
+    Row {
+        capture: b"BNDRCAP1\x08\0\0\0\0\0\0\0",
+        frames: 0,
+        fault: None,
+    },
+    Row {
+        capture: b"BNDRCAP1\x08\0\0\0\0\0\0\0\
+            \x01\0\0\0\0\0\0\0\x64\0\0\0\x65\0\0\0\x01\0\0\0\x04\0\0\0\0\0\0\0\0\0\0\0\x0c\x63\0\0",
+        frames: 1,
+        fault: None,
+    },
+    Row {
+        capture: b"BNDRCAP1\x08\0\0\0\0\0\0\0\
+            \x01\0\0\0\0\0\0\0\x64\0\0\0\x65\0\0\0\x01\0\0\0\x04\0\0\0\0\0\0\0\0\0\0\0\x0c\x63\0\0\
+            \x02\0\0\0\0\0\0\0\x64\0\0\0\x65\0\0\0\x01\0\0\0\x04\0\0\0\0\0\0\0\0\0\0\0\x0c\x63\0\0",
+        frames: 2,
+        fault: None,
+    },
+    Row {
+        capture: b"BNDRCAP1\x08\0\0\0\0\0\0",
+        frames: 0,
+        fault: Some(Fault {
+            kind: FaultKind::HeaderShort,
+            place: 0,
+        }),
+    },
+    Row {
+        capture: b"",
+        frames: 0,
+        fault: Some(Fault {
+            kind: FaultKind::HeaderShort,
+            place: 0,
+        }),
+    },
+    Row {
+        capture: b"BNDRCAP2\x08\0\0\0\0\0\0\0\
+            \x01\0\0\0\0\0\0\0\x64\0\0\0\x65\0\0\0\x01\0\0\0\x04\0\0\0\0\0\0\0\0\0\0\0\x0c\x63\0\0",
+        frames: 0,
+        fault: Some(Fault {
+            kind: FaultKind::HeaderMagic,
+            place: 0,
+        }),
+    },
+    Row {
+        capture: b"BNDRCAP1\x07\0\0\0\0\0\0\0\
+            \x01\0\0\0\0\0\0\0\x64\0\0\0\x65\0\0\0\x01\0\0\0\x04\0\0\0\0\0\0\0\0\0\0\0\x0c\x63\0\0",
+        frames: 0,
+        fault: Some(Fault {
+            kind: FaultKind::HeaderProtocol,
+            place: 8,
+        }),
+    },
+    Row {
+        capture: b"BNDRCAP1\x08\0\0\0\x01\0\0\0\
+            \x01\0\0\0\0\0\0\0\x64\0\0\0\x65\0\0\0\x01\0\0\0\x04\0\0\0\0\0\0\0\0\0\0\0\x0c\x63\0\0",
+        frames: 0,
+        fault: Some(Fault {
+            kind: FaultKind::HeaderReserved,
+            place: 12,
+        }),
+    },
+    Row {
+        capture: b"BNDRCAP1\x08\0\0\0\0\0\0\0\
+            \x01\0\0\0\0\0\0\0\x64\0\0\0\x65\0\0\0\x01\0\0\0\x04\0\0\0\0\0\0\0\0\0\0\0\x0c\x63\0\0\
+            \x02\0\0\0\0\0\0\0\x64\0\0\0\x65\0\0\0\x01\0\0\0\x04\0\0\0\0\0\0\0\0\0\0\0\x0c\x63\0\0\
+            \x03",
+        frames: 2,
+        fault: Some(Fault {
+            kind: FaultKind::FrameShort,
+            place: 88,
+        }),
+    },
+    Row {
+        capture: b"BNDRCAP1\x08\0\0\0\0\0\0\0\
+            \x01\0\0\0\0\0\0\0\x64\0\0\0\x65\0\0\0\x01\0\0\0\x04\0\0\0\0\0\0\0\0\0\0\0\x0c\x63\0\0\
+            \x02\0\0\0\0\0\0\0\x64\0\0\0\x65\0\0\0\x01\0\0\0\x04\0\0\0\0\0\0\0\0\0\0\0\x0c\x63\0\0\
+            \x02\0\0\0\0\0\0\0\x64\0\0\0\x65\0\0\0\x01\0\0\0\x04\0\0\0\0\0\0\0\0\0\0\0\x0c\x63\0\0",
+        frames: 2,
+        fault: Some(Fault {
+            kind: FaultKind::FrameSequence,
+            place: 88,
+        }),
+    },
+    Row {
+        capture: b"BNDRCAP1\x08\0\0\0\0\0\0\0\
+            \x01\0\0\0\0\0\0\0\x64\0\0\0\x65\0\0\0\x01\0\0\0\x04\0\0\0\0\0\0\0\0\0\0\0\x0c\x63\0\0\
+            \x02\0\0\0\0\0\0\0\x64\0\0\0\x65\0\0\0\x01\0\0\0\x04\0\0\0\0\0\0\0\0\0\0\0\x0c\x63\0\0\
+            \x03\0\0\0\0\0\0\0\x64\0\0\0\x65\0\0\0\x03\0\0\0\x04\0\0\0\0\0\0\0\0\0\0\0\x0c\x63\0\0",
+        frames: 2,
+        fault: Some(Fault {
+            kind: FaultKind::FrameDirection,
+            place: 88,
+        }),
+    },
+    Row {
+        capture: b"BNDRCAP1\x08\0\0\0\0\0\0\0\
+            \x01\0\0\0\0\0\0\0\x64\0\0\0\x65\0\0\0\x01\0\0\0\x04\0\0\0\0\0\0\0\0\0\0\0\x0c\x63\0\0\
+            \x02\0\0\0\0\0\0\0\x64\0\0\0\x65\0\0\0\x01\0\0\0\x04\0\0\0\0\0\0\0\0\0\0\0\x0c\x63\0\0\
+            \x03\0\0\0\0\0\0\0\x64\0\0\0\x65\0\0\0\x01\0\0\x01\x04\0\0\0\0\0\0\0\0\0\0\0\x0c\x63\0\0",
+        frames: 2,
+        fault: Some(Fault {
+            kind: FaultKind::FrameReserved,
+            place: 88,
+        }),
+    },
+    Row {
+        capture: b"BNDRCAP1\x08\0\0\0\0\0\0\0\
+            \x01\0\0\0\0\0\0\0\x64\0\0\0\x65\0\0\0\x01\0\0\0\x04\0\0\0\0\0\0\0\0\0\0\0\x0c\x63\0\0\
+            \x02\0\0\0\0\0\0\0\x64\0\0\0\x65\0\0\0\x01\0\0\0\x04\0\0\0\0\0\0\0\0\0\0\0\x0c\x63\0\0\
+            \x03\0\0\0\0\0\0\0\x64\0\0\0\x65\0\0\0\x01\0\0\0\x04\0\0\0\x01\0\0\0\0\0\0\0\x0c\x63\0\0",
+        frames: 2,
+        fault: Some(Fault {
+            kind: FaultKind::FrameLength,
+            place: 88,
+        }),
+    },
+    Row {
+        capture: b"BNDRCAP1\x08\0\0\0\0\0\0\0\
+            \x00\0\0\0\0\0\0\0\x64\0\0\0\x65\0\0\0\x01\0\0\0\x04\0\0\0\0\0\0\0\0\0\0\x01\x0c\x63\0\0",
+        frames: 0,
+        fault: Some(Fault {
+            kind: FaultKind::FrameReserved,
+            place: 16,
+        }),
+    },
+];
+
+/// So many frames, each behind the one before it.
+fn expect_frames(rt: &impl Abort, frames: &[Frame<'_>], count: usize) {
+    assert_eq!(rt; frames.len(), count);
+    let mut place = 16;
+    let mut sequence = 1;
+    for frame in frames {
+        assert_eq!(rt; frame.place, place);
+        assert_eq!(rt; frame.sequence, sequence);
+        assert_eq!(rt; frame.commands, b"\x0c\x63\0\0".as_slice());
+        place = place.saturating_add(36);
+        sequence = sequence.saturating_add(1);
+    }
+}
+
+fn expect_cut(rt: &impl Abort, alloc: Global, row: Row) -> Result<(), Fail> {
+    match cut(alloc, row.capture) {
+        Ok(frames) => {
+            assert_eq!(rt; row.fault, None);
+            expect_frames(rt, &frames, row.frames);
+        }
+        Err(Cut::Bad { fault, before }) => {
+            assert_eq!(rt; row.fault, Some(fault));
+            expect_frames(rt, &before, row.frames);
+        }
+        Err(Cut::Memory) => return Err("no memory")?,
+    }
+    Ok(())
+}
+
+#[test]
+fn gives_all_frames_or_those_before_the_fault(rt: HostRuntime) -> Result<(), Fail> {
+    for row in ROWS {
+        expect_cut(&rt, rt.alloc(), *row)?;
+    }
+    Ok(())
+}

@@ -1,0 +1,28 @@
+-- Buffers that the driver delivers to a process, and that the process frees (docs/REPORT.md).
+use Rattle.std.specs.Prelude.{ℕ, List, Option, Some, None}
+use Rattle.binder_code.specs.declared.record_kind.Kind.{Kind}
+use Rattle.binder_code.specs.declared.record_kind.Kind.TheVariants.{BcFreeBuffer, BrTransaction, BrTransactionSecCtx, BrReply}
+use Rattle.capture_frame.specs.Envelope.{number_at}
+use Rattle.transaction_view.specs.Transaction.{buffer, data_size}
+use Rattle.event_core.specs.declared.buffer.BufferItem.{BufferItem}
+use Rattle.event_core.specs.declared.buffer.BufferItem.TheVariants.{Delivery, Free}
+use Rattle.event_core.specs.declared.pending.PendingItem.{PendingItem}
+use Rattle.event_core.specs.declared.pending.PendingChange.TheVariants.{Open, Close}
+
+-- the delivery that a record at this place makes, whose payload is then a transaction or a reply
+abbrev pub delivery : ℕ → Kind → List ℕ → BufferItem
+delivery place kind payload = Delivery place (buffer payload) (data_size payload) kind
+
+-- what a record at this place does to a buffer: the driver delivers it with the transaction or reply that it holds, and the
+-- process frees it by its address; nothing for every other kind
+abbrev pub buffer_item : ℕ → Kind → List ℕ → Option BufferItem
+buffer_item place BrTransaction payload = Some (delivery place BrTransaction payload)
+buffer_item place BrTransactionSecCtx payload = Some (delivery place BrTransactionSecCtx payload)
+buffer_item place BrReply payload = Some (delivery place BrReply payload)
+buffer_item place BcFreeBuffer payload = Some (Free place (number_at 8 0 payload))
+buffer_item place _ payload = None
+
+-- a delivery opens its address, and a free closes it
+abbrev pub buffer_pending : BufferItem → PendingItem ℕ
+buffer_pending (Delivery place address size kind) = record { place = place; key = address; change = Open }
+buffer_pending (Free place address) = record { place = place; key = address; change = Close }

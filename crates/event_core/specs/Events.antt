@@ -1,0 +1,95 @@
+-- The events of a capture: one for each record, with its process, its thread and its attachment (docs/REPORT.md).
+use Rattle.std.specs.Prelude.{◌≡◌, ℕ, ◌+◌, ◌==◌, Bool, List, map, find, Option, None}
+use Rattle.std.specs.List.{flat_map}
+use Rattle.std.specs.Option.{option_map}
+use Rattle.std.specs.Result.{result_unwrap_or}
+use Rattle.binder_code.specs.declared.record_kind.Kind.{Kind}
+use Rattle.binder_code.specs.declared.record_kind.Kind.TheVariants.{Opaque}
+use Rattle.binder_code.specs.Commands.{kind_of}
+use Rattle.capture_frame.specs.Units.{Placed, placed_at, placed}
+use Rattle.capture_frame.specs.Envelope.{FrameText, frame_bytes, file_header_length, commands_place, attachments_place}
+use Rattle.record_view.specs.Records.{RecordText, record_bytes, StandsAt, protocol_of}
+use Rattle.transaction_view.specs.Attachments.{EntryText, entry_bytes}
+use Rattle.transaction_view.specs.Grammar.{WholeFrame}
+
+-- the attachment of a record: its place in the capture, the data, and the bytes of the list of offsets
+pub record Attached : Type 0 where
+  pub place : ℕ
+  pub body : List ℕ
+  pub offset_bytes : List ℕ
+
+-- a record with its place in the capture, the process and the thread of its frame, what its code stands for, and its
+-- attachment if it has one
+pub record EventText : Type 0 where
+  pub place : ℕ
+  pub process : ℕ
+  pub thread : ℕ
+  pub kind : Kind
+  pub code : ℕ
+  pub payload : List ℕ
+  pub entry : Option Attached
+
+-- what a code stands for in a frame, whose own records' codes all stand for something
+abbrev pub kind_in : FrameText → ℕ → Kind
+kind_in frame code = result_unwrap_or (kind_of (protocol_of frame.direction) code) Opaque
+
+-- the event of a record of a frame, with the attachment left out
+abbrev pub bare_event : FrameText → Placed RecordText → EventText
+bare_event frame there = record {
+  place = there.place;
+  process = frame.process;
+  thread = frame.thread;
+  kind = kind_in frame there.unit.code;
+  code = there.unit.code;
+  payload = there.unit.payload;
+  entry = None;
+}
+
+-- an entry with its place, as the attachment of the record that it belongs to
+abbrev pub attached : Placed EntryText → Attached
+attached there = record { place = there.place; body = there.unit.body; offset_bytes = there.unit.offset_bytes }
+
+-- the entries of a frame with their places
+abbrev pub placed_entries : Placed FrameText → List EntryText → List (Placed EntryText)
+placed_entries frame entries = placed entry_bytes (attachments_place frame.unit frame.place) entries
+
+-- whether an entry, of a frame whose command bytes begin at the first place, belongs to the record at the second
+abbrev pub belongs_to : ℕ → ℕ → Placed EntryText → Bool
+belongs_to commands_at place there = commands_at + there.unit.offset == place
+
+-- the attachment of the record at a place: the entry that belongs to it
+abbrev pub attachment_of : Placed FrameText → List EntryText → ℕ → Option Attached
+attachment_of frame entries place =
+    option_map attached (find (belongs_to (commands_place frame.place) place) (placed_entries frame entries))
+
+-- the event of a record of a frame that has these entries
+abbrev pub event_of : Placed FrameText → List EntryText → Placed RecordText → EventText
+event_of frame entries there = record (bare_event frame.unit there) { entry = attachment_of frame entries there.place }
+
+-- the records of a frame with their places
+abbrev pub placed_records : Placed FrameText → List RecordText → List (Placed RecordText)
+placed_records frame records = placed record_bytes (commands_place frame.place) records
+
+-- the events of a frame with these records and these entries: one for each record, in rising place
+abbrev pub events_of : Placed FrameText → List RecordText → List EntryText → List EventText
+events_of frame records entries = map (event_of frame entries) (placed_records frame records)
+
+-- the events of a whole frame of a capture
+abbrev pub events_of_whole : Placed WholeFrame → List EventText
+events_of_whole there = events_of (placed_at there.place there.unit.frame) there.unit.records there.unit.entries
+
+-- the events of a capture in the grammar, as these frames: those of each frame, in rising place
+abbrev pub events_of_capture : List WholeFrame → List EventText
+events_of_capture frames = flat_map events_of_whole (placed (λ whole. frame_bytes whole.frame) file_header_length frames)
+
+-- the event at a place, where one of these stands there
+abbrev pub event_at_place : ℕ → List EventText → Option EventText
+event_at_place place events = find (λ e. e.place == place) events
+
+-- this record of the frame begins at this place of the capture
+abbrev pub RecordStandsAt : Placed FrameText → ℕ → RecordText → Type 0
+RecordStandsAt frame place found = (offset : ℕ) × StandsAt frame.unit offset found × (place ≡ commands_place frame.place + offset)
+
+-- some record of the frame begins at this place of the capture
+abbrev pub HasRecordAt : Placed FrameText → ℕ → Type 0
+HasRecordAt frame place = (found : RecordText) × RecordStandsAt frame place found

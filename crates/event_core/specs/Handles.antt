@@ -1,0 +1,24 @@
+-- References that a process holds by handle: what a record does to the two counts of a handle (docs/REPORT.md).
+use Rattle.std.specs.Prelude.{ℕ, List, Option, Some, None}
+use Rattle.std.specs.Option.{option_map}
+use Rattle.binder_code.specs.declared.record_kind.Kind.{Kind}
+use Rattle.binder_code.specs.declared.record_kind.Kind.TheVariants.{BcAcquire, BcRelease, BcIncrefs, BcDecrefs}
+use Rattle.capture_frame.specs.Envelope.{number_at}
+use Rattle.event_core.specs.declared.handle.HandleChange.{HandleChange}
+use Rattle.event_core.specs.declared.handle.HandleChange.TheVariants.{Raise, Lower}
+use Rattle.event_core.specs.declared.handle.HandleItem.{HandleItem}
+use Rattle.event_core.specs.declared.strength.Strength.{Strength}
+use Rattle.event_core.specs.declared.strength.Strength.TheVariants.{Strong, Weak}
+
+-- which count a record of this kind changes, and how (`linux/android/binder.h`, `binder_driver_command_protocol`)
+abbrev pub handle_effect : Kind → Option (Strength × HandleChange)
+handle_effect BcAcquire = Some (Strong, Raise)
+handle_effect BcRelease = Some (Strong, Lower)
+handle_effect BcIncrefs = Some (Weak, Raise)
+handle_effect BcDecrefs = Some (Weak, Lower)
+handle_effect _ = None
+
+-- the change that a record makes, whose payload is then a handle; none for every other kind
+abbrev pub handle_item : Kind → List ℕ → Option HandleItem
+handle_item kind payload =
+    option_map (λ effect. record { handle = number_at 4 0 payload; strength = effect.0; change = effect.1 }) (handle_effect kind)

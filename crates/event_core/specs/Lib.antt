@@ -1,0 +1,12 @@
+pub mod Handles
+pub mod Nodes
+pub mod Requests
+pub mod Buffers
+pub mod Deaths
+pub mod Clears
+pub mod Oneway
+pub mod Brackets
+pub mod Events
+pub mod Reading
+pub mod State
+pub mod Lookup

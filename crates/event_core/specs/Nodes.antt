@@ -1,0 +1,33 @@
+-- References that the driver holds to a node of a process: what a record does to the counts of a node
+-- (docs/REPORT.md).
+use Rattle.std.specs.Prelude.{ℕ, List, Option, Some, None}
+use Rattle.std.specs.Option.{option_map}
+use Rattle.binder_code.specs.declared.record_kind.Kind.{Kind}
+use Rattle.binder_code.specs.declared.record_kind.Kind.TheVariants.{BrAcquire, BrRelease, BrIncrefs, BrDecrefs, BcAcquireDone, BcIncrefsDone}
+use Rattle.capture_frame.specs.Envelope.{number_at}
+use Rattle.event_core.specs.declared.node.NodeChange.{NodeChange}
+use Rattle.event_core.specs.declared.node.NodeChange.TheVariants.{Raise, Lower, Done}
+use Rattle.event_core.specs.declared.node.NodeItem.{NodeItem}
+use Rattle.event_core.specs.declared.node.NodeKey.{NodeKey}
+use Rattle.event_core.specs.declared.strength.Strength.{Strength}
+use Rattle.event_core.specs.declared.strength.Strength.TheVariants.{Strong, Weak}
+
+-- the node that a payload names (`linux/android/binder.h`, `struct binder_ptr_cookie`)
+abbrev pub node_key : List ℕ → NodeKey
+node_key payload = record { ptr = number_at 8 0 payload; cookie = number_at 8 8 payload }
+
+-- which references a record of this kind changes, and how (`linux/android/binder.h`, `binder_driver_return_protocol`, and
+-- the two answers to it)
+abbrev pub node_effect : Kind → Option (Strength × NodeChange)
+node_effect BrAcquire = Some (Strong, Raise)
+node_effect BrRelease = Some (Strong, Lower)
+node_effect BcAcquireDone = Some (Strong, Done)
+node_effect BrIncrefs = Some (Weak, Raise)
+node_effect BrDecrefs = Some (Weak, Lower)
+node_effect BcIncrefsDone = Some (Weak, Done)
+node_effect _ = None
+
+-- the change that a record makes, whose payload then names a node; none for every other kind
+abbrev pub node_item : Kind → List ℕ → Option NodeItem
+node_item kind payload =
+    option_map (λ effect. record { node = node_key payload; strength = effect.0; change = effect.1 }) (node_effect kind)

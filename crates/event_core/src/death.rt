@@ -1,0 +1,33 @@
+//! Deaths that the driver tells a process of, and that the process acknowledges.
+
+ghost use Rattle.std.specs.Prelude.{◌≡◌};
+ghost use Rattle.event_core.specs.Deaths.{death_change, death_item};
+
+use crate::event::Event;
+use crate::pending::{PendingChange, PendingItem};
+use binder_code::Kind;
+use capture_frame::u64_at;
+
+/// What a record of this kind does to the death of its cookie.
+fn death_change(kind: Kind) -> Option<PendingChange>
+    ensures { result ≡ death_change kind }
+{
+    match kind {
+        Kind::BrDeadBinder => Some(PendingChange::Open),
+        Kind::BcDeadBinderDone => Some(PendingChange::Close),
+        _ => None,
+    }
+}
+
+/// The open of its cookie that a BR_DEAD_BINDER is, or the close that a BC_DEAD_BINDER_DONE is; None
+/// for every other event.
+pub fn death_step(event: Event<'_>) -> Option<PendingItem<u64>>
+    ensures { result ≡ death_item event.entry.place event.entry.kind event.entry.payload.now }
+{
+    let change = death_change(event.kind)?;
+    Some(PendingItem {
+        place: event.place,
+        key: u64_at(event.payload, 0),
+        change,
+    })
+}

@@ -1,0 +1,42 @@
+ghost use Rattle.std.specs.Prelude.{◌≡◌, ◌↔◌, ◌+◌, ◌<◌, ◌^◌, length, IsTrue, IsSome, Ok};
+ghost use Rattle.std.specs.Option.{ForSome};
+ghost use Rattle.binder_code.specs.Commands.{kind_of, protocol_of_word, row_of};
+ghost use Rattle.transaction_view.specs.Transaction.{has_transaction_data};
+
+use binder_code::{Code, Kind};
+use transaction_view::{Entry, Transaction};
+
+/// A record of a capture, with the process and the thread that wrote or read it. The payload and the
+/// attachment are the capture's own bytes.
+#[derive(Clone, Copy, Debug)]
+pub struct Event<'c> {
+    /// Where the record's code begins in the capture, in bytes.
+    pub place: u64,
+    /// The process of its frame.
+    pub process: u32,
+    /// The thread of its frame.
+    pub thread: u32,
+    /// What the record's code stands for.
+    pub kind: Kind,
+    /// The code word as read; it tells opaque records apart.
+    pub code: Code,
+    /// The bytes after the code.
+    pub payload: &'c [u8],
+    /// The fields of a transaction or a reply; None for every other record.
+    pub transaction: Option<Transaction<'c>>,
+    /// Its attachment, where the capture has one.
+    pub entry: Option<Entry<'c>>,
+    ghost fits: { place + 4 + length payload.now < 2 ^ 64 },
+    // The kind is what the code means, in the protocol that its letter names.
+    ghost by_code: { kind_of (protocol_of_word code.0) code.0 ≡ Ok kind },
+    // The payload of a listed kind is as long as the header says.
+    ghost sized: { ForSome (row_of kind) (λ row. length payload.now ≡ row.size) },
+    // The seven kinds that have the fields have them here, and they are those of this very record.
+    ghost carries: { IsSome transaction ↔ IsTrue (has_transaction_data kind) },
+    ghost same_place: { ForSome transaction (λ found. found.carrier.place ≡ place) },
+    ghost same_kind: { ForSome transaction (λ found. found.carrier.kind ≡ kind) },
+    ghost same_code: { ForSome transaction (λ found. found.carrier.code.0 ≡ code.0) },
+    ghost same_payload: { ForSome transaction (λ found. found.carrier.payload.now ≡ payload.now) },
+    // An attachment belongs to this very record.
+    ghost owned: { ForSome entry (λ found. found.owner ≡ place) },
+}

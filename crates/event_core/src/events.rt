@@ -1,0 +1,88 @@
+//! The reader of a frame's events.
+
+ghost use Rattle.std.specs.Prelude.{◌≡◌};
+ghost use Rattle.capture_frame.specs.Envelope.{frame_text};
+ghost use Rattle.transaction_view.specs.FirstFault.{HasGoodContent};
+ghost use Rattle.event_core.specs.State.{TakesAt};
+
+use crate::event::Event;
+use crate::making::event_of;
+use capture_frame::Frame;
+use record_view::Records;
+use std::marker::Model;
+use transaction_view::{Attachments, Entry};
+
+/// Reads the events of a frame in order: its records, each with its attachment. Records and
+/// attachments are passed once, side by side. One that has ended gives nothing more.
+#[derive(Debug, Drop)]
+pub struct Events<'c> {
+    frame: Frame<'c>,
+    records: Records<'c>,
+    attachments: Attachments<'c>,
+    /// The first attachment whose record is still ahead.
+    ahead: Option<Entry<'c>>,
+}
+
+impl<'c> Model for Events<'c> {
+    ghost use Rattle.std.specs.Prelude.{◌≡◌};
+    ghost use Rattle.event_core.specs.Reading.{Reading};
+
+    ghost Value = { Reading };
+
+    ghost use Rattle.event_core.specs.State.{reading_of, IsWithin};
+
+    ghost view = { λ r. reading_of r.frame r.records };
+
+    ghost invariant = { λ r. IsWithin r.frame r.records r.attachments r.ahead };
+}
+
+impl<'c> Events<'c> {
+    ghost use Rattle.capture_frame.specs.Envelope.{placed_frame};
+    ghost use Rattle.event_core.specs.Reading.{Steps, events_start};
+
+    /// A reader of the frame's events, where its records and its entries have no fault.
+    pub fn of(frame: Frame<'c>) -> Events<'c>
+        requires { HasGoodContent (frame_text frame) }
+        ensures { result ≡ events_start (placed_frame frame.entry) }
+    {
+        let mut attachments = Attachments::of(frame);
+        // The entries are good, so there is no fault to give.
+        let ahead = attachments.next_entry().unwrap_or(None);
+        Events {
+            frame,
+            records: Records::of(frame),
+            attachments,
+            ahead,
+        }
+    }
+
+    /// The next event, or the end.
+    pub fn next_event(&mut self) -> Option<Event<'c>>
+        ensures { Steps self.old result self.new }
+    {
+        // The records are good, so there is no fault to give.
+        let Some(record) = self.records.next_record().unwrap_or(None) else {
+            return None;
+        };
+        let entry = take_at(&mut self.ahead, &mut self.attachments, record.place);
+        Some(event_of(self.frame, record, entry))
+    }
+}
+
+/// The attachment ahead, where it is that of the record at this place; then the next one is ahead.
+fn take_at<'c>(
+    ahead: &mut Option<Entry<'c>>,
+    attachments: &mut Attachments<'c>,
+    place: u64,
+) -> Option<Entry<'c>>
+    ensures { TakesAt place ahead.old attachments.old result ahead.new attachments.new }
+{
+    let Some(entry) = *ahead else {
+        return None;
+    };
+    if entry.owner != place {
+        return None;
+    }
+    *ahead = attachments.next_entry().unwrap_or(None);
+    Some(entry)
+}

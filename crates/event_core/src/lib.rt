@@ -1,0 +1,40 @@
+//! The events of a frame: each record with its thread and its attachment; and what an event does to
+//! the things that the audit counts.
+#![tactic(auto)]
+
+mod brackets;
+mod buffer;
+#[cfg(test)]
+mod captures;
+mod clear;
+mod death;
+mod event;
+mod events;
+mod handle;
+pub mod laws;
+mod lookup;
+mod making;
+mod marks;
+mod node;
+mod oneway;
+mod pending;
+mod request;
+mod strength;
+
+pub use brackets::{bracket, mark};
+pub use buffer::{BufferItem, buffer_step};
+pub use clear::clear_step;
+pub use death::death_step;
+pub use event::Event;
+pub use events::Events;
+pub use handle::{HandleChange, HandleItem, handle_step};
+pub use lookup::{bare_event_at, event_at};
+pub use marks::{Bracket, Mark};
+pub use node::{NodeChange, NodeItem, NodeKey, node_step};
+pub use oneway::{OnewayItem, OnewayKey, oneway_step};
+pub use pending::{PendingChange, PendingItem};
+pub use request::{RequestChange, RequestItem, RequestKey, request_step};
+pub use strength::Strength;
+
+#[cfg(test)]
+mod tests;

@@ -1,0 +1,64 @@
+//! The event at a place of the capture.
+
+ghost use Rattle.std.specs.Prelude.{◌≡◌, ◌≤◌, ◌+◌, ◌↔◌, ℕ, length, drop, IsSome};
+ghost use Rattle.capture_frame.specs.Units.{placed_at};
+ghost use Rattle.capture_frame.specs.Envelope.{frame_text, placed_frame, commands_place};
+ghost use Rattle.record_view.specs.Records.{RecordText};
+ghost use Rattle.transaction_view.specs.FirstFault.{HasGoodContent};
+ghost use Rattle.event_core.specs.Events.{bare_event, RecordStandsAt, HasRecordAt};
+ghost use Rattle.event_core.specs.Reading.{event_text, IsEventAt};
+ghost use Rattle.event_core.specs.Lookup.{IsCutAt};
+
+use crate::event::Event;
+use crate::events::Events;
+use crate::making::event_of;
+use capture_frame::Frame;
+use record_view::Records;
+
+/// The event of a frame at a place of the capture; None where no record of the frame begins there.
+/// The frame's records and its entries have no fault.
+pub fn event_at<'c>(frame: Frame<'c>, place: u64) -> Option<Event<'c>>
+    requires { HasGoodContent (frame_text frame) }
+    ensures exact { IsEventAt (placed_frame frame.entry) place result }
+    ensures there { IsSome result ↔ HasRecordAt (placed_frame frame.entry) place }
+{
+    let mut events = Events::of(frame);
+    while let Some(event) = events.next_event() {
+        if event.place == place {
+            return Some(event);
+        }
+    }
+    None
+}
+
+/// The event of the record of a frame that begins at a place of the capture, with the attachment left
+/// out. Unlike `event_at` it does not pass the records before.
+pub fn bare_event_at<'c>(frame: Frame<'c>, place: u64) -> Event<'c>
+    requires { HasRecordAt (placed_frame frame) place }
+    ensures { (found : RecordText) → RecordStandsAt (placed_frame frame.entry) place found →
+        event_text result ≡ bare_event (frame_text frame.entry) (placed_at place found) }
+{
+    let mut records = Records::of(from_place(frame, place));
+    // A record begins there, so there is one to give, and no fault.
+    let record = records.next_record().unwrap().unwrap();
+    event_of(frame, record, None)
+}
+
+/// The frame without the records before a place and without its attachments: a reader of its records
+/// begins there.
+fn from_place<'c>(frame: Frame<'c>, place: u64) -> Frame<'c>
+    requires from { commands_place frame.place ≤ place }
+    requires to { place ≤ commands_place frame.place + length frame.commands.now }
+    ensures { IsCutAt frame.entry place result }
+{
+    let offset = place - frame.commands_place();
+    Frame {
+        place: frame.place + offset,
+        sequence: frame.sequence,
+        process: frame.process,
+        thread: frame.thread,
+        direction: frame.direction,
+        commands: &frame.commands[offset as usize..],
+        attachments: &[],
+    }
+}

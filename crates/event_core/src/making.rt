@@ -1,0 +1,29 @@
+ghost use Rattle.std.specs.Prelude.{◌≡◌};
+ghost use Rattle.std.specs.Option.{ForSome};
+ghost use Rattle.event_core.specs.Reading.{event_text, text_of_event};
+
+use crate::event::Event;
+use capture_frame::Frame;
+use record_view::Record;
+use transaction_view::{Entry, Transaction};
+
+/// The event of a record of the frame, with its attachment if it has one.
+pub(crate) fn event_of<'c>(
+    frame: Frame<'c>,
+    carrier: Record<'c>,
+    attachment: Option<Entry<'c>>,
+) -> Event<'c>
+    requires { ForSome attachment (λ found. found.owner ≡ carrier.place) }
+    ensures { event_text result ≡ text_of_event frame.entry carrier.entry attachment.entry }
+{
+    Event {
+        place: carrier.place,
+        process: frame.process,
+        thread: frame.thread,
+        kind: carrier.kind,
+        code: carrier.code,
+        payload: carrier.payload,
+        transaction: Transaction::of(carrier),
+        entry: attachment,
+    }
+}

@@ -1,0 +1,76 @@
+//! What an event does to the references that the driver holds to a node of a process.
+
+ghost use Rattle.std.specs.Prelude.{◌≡◌, ◌≤◌, length};
+ghost use Rattle.event_core.specs.Nodes.{node_effect, node_item, node_key};
+
+use crate::event::Event;
+use crate::strength::Strength;
+use binder_code::Kind;
+use capture_frame::u64_at;
+
+/// A node of a process, `struct binder_ptr_cookie` of `linux/android/binder.h`.
+#[derive(Clone, Copy, Debug, PartialEq, Eq, PartialOrd, Ord)]
+pub struct NodeKey {
+    pub ptr: u64,
+    pub cookie: u64,
+}
+
+impl NodeKey {
+    /// The node that a payload of 16 bytes names.
+    fn of(payload: &[u8]) -> NodeKey
+        requires { 16 ≤ length payload.now }
+        ensures { result ≡ node_key payload.now }
+    {
+        NodeKey {
+            ptr: u64_at(payload, 0),
+            cookie: u64_at(payload, 8),
+        }
+    }
+}
+
+/// What a record does to the references of one strength that the driver holds to a node.
+#[derive(Clone, Copy, Debug, PartialEq, Eq)]
+pub enum NodeChange {
+    /// The driver asks the process to take one: they are one more, and one more is due.
+    Raise,
+    /// The driver gives one back: they are one fewer.
+    Lower,
+    /// The process has taken one that it was asked for: one fewer is due.
+    Done,
+}
+
+/// A change of the references to a node.
+#[derive(Clone, Copy, Debug, PartialEq, Eq)]
+pub struct NodeItem {
+    pub node: NodeKey,
+    pub strength: Strength,
+    pub change: NodeChange,
+}
+
+/// Which references a record of this kind changes, and how.
+fn node_effect(kind: Kind) -> Option<(Strength, NodeChange)>
+    ensures { result ≡ node_effect kind }
+{
+    match kind {
+        Kind::BrAcquire => Some((Strength::Strong, NodeChange::Raise)),
+        Kind::BrRelease => Some((Strength::Strong, NodeChange::Lower)),
+        Kind::BcAcquireDone => Some((Strength::Strong, NodeChange::Done)),
+        Kind::BrIncrefs => Some((Strength::Weak, NodeChange::Raise)),
+        Kind::BrDecrefs => Some((Strength::Weak, NodeChange::Lower)),
+        Kind::BcIncrefsDone => Some((Strength::Weak, NodeChange::Done)),
+        _ => None,
+    }
+}
+
+/// The change that a BR_ACQUIRE, BR_RELEASE, BR_INCREFS, BR_DECREFS, BC_ACQUIRE_DONE or
+/// BC_INCREFS_DONE makes; None for every other event.
+pub fn node_step(event: Event<'_>) -> Option<NodeItem>
+    ensures { result ≡ node_item event.entry.kind event.entry.payload.now }
+{
+    let (strength, change) = node_effect(event.kind)?;
+    Some(NodeItem {
+        node: NodeKey::of(event.payload),
+        strength,
+        change,
+    })
+}

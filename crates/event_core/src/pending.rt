@@ -1,0 +1,17 @@
+/// What a record does to its key in a list of opens and closes.
+#[derive(Clone, Copy, Debug, PartialEq, Eq)]
+pub enum PendingChange {
+    /// It begins what a later close of the key ends.
+    Open,
+    /// It ends what an earlier open of the key began.
+    Close,
+}
+
+/// An open or a close of a key, with the place of the record that makes it.
+#[derive(Clone, Copy, Debug, PartialEq, Eq)]
+pub struct PendingItem<K> {
+    /// Where the record begins in the capture, in bytes.
+    pub place: u64,
+    pub key: K,
+    pub change: PendingChange,
+}
