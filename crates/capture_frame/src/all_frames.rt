@@ -8,10 +8,12 @@ use crate::frame::Frame;
 use crate::frames::Frames;
 use std::alloc::Global;
 
-/// The frames of a capture in order, where its file header and all its frame headers are good. This is
-/// the one call here that takes memory.
+/// The frames of a capture in order, where its file header and all its frame headers are good. This
+/// is the one call here that takes memory.
 pub fn cut<'c>(alloc: Global, capture: &'c [u8]) -> Result<Vec<Frame<'c>>, Cut<'c>>
-    ensures { MatchResult result (λ frames. AreFrames capture.now frames.items) (IsCutOff capture.now) }
+    ensures { MatchResult result
+        (λ frames. AreFrames capture.now frames.items)
+        (IsCutOff capture.now) }
 {
     let mut frames = Vec::new(alloc);
     let mut reader = match Frames::new(capture) {

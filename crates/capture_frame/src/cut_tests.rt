@@ -1,4 +1,5 @@
-//! Whole captures at once: good ones, and one with each fault that a file header or a frame header has.
+//! Whole captures at once: good ones, and one with each fault that a file header or a frame header
+//! has.
 
 use super::*;
 use std::alloc::Global;
@@ -13,7 +14,8 @@ struct Row {
     fault: Option<Fault>,
 }
 
-/// The frames are those of process 100 and thread 101, of 36 bytes each, with the sequences 1, 2 and on.
+/// The frames are those of process 100 and thread 101, of 36 bytes each, with the sequences 1, 2
+/// and on.
 const ROWS: &[Row] = &[
     Row {
         capture: b"BNDRCAP1\x08\0\0\0\0\0\0\0",

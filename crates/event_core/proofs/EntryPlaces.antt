@@ -11,14 +11,16 @@ use Rattle.transaction_view.specs.Attachments.{EntryText, entry_bytes, entry_for
 use Rattle.event_core.specs.Events.{belongs_to}
 
 pub find-other : (commands_at place base : ℕ) (e : EntryText) (others : List EntryText) → commands_at + e.offset ≢ place
-    → find (belongs_to commands_at place) (placed entry_bytes base (e ∷ others)) ≡ find (belongs_to commands_at place) (placed entry_bytes (base + length (entry_bytes e)) others)
+    → find (belongs_to commands_at place) (placed entry_bytes base (e ∷ others)) ≡ find (belongs_to commands_at place)
+    (placed entry_bytes (base + length (entry_bytes e)) others)
 find-other commands_at place base e others other = rw (ne_eqb (commands_at + e.offset) place other) refl
 
 -- it is none of those whose records begin before
 pub find-behind : (commands_at offset base : ℕ) (given others : List EntryText) → All (λ e. e.offset < offset) given
     → find (belongs_to commands_at (commands_at + offset)) (placed entry_bytes base (given ++ others))
     ≡ find (belongs_to commands_at (commands_at + offset)) (placed entry_bytes (base + length (flat_map entry_bytes given)) others)
-find-behind commands_at offset base [] others before = ap (λ (n : ℕ). find (belongs_to commands_at (commands_at + offset)) (placed entry_bytes n others)) (omega arith)
+find-behind commands_at offset base [] others before = ap (λ (n : ℕ). find (belongs_to commands_at (commands_at + offset)) (placed entry_bytes n others))
+    (omega arith)
 find-behind commands_at offset base (e ∷ given) others before =
     let less : e.offset < offset = All-head (λ (x : EntryText). x.offset < offset) e given before in
     let whole = ap length (flat_map-cons entry_bytes e given) ∙ length-append (entry_bytes e) (flat_map entry_bytes given) in
@@ -32,7 +34,8 @@ pub find-here : (commands_at place base : ℕ) (e : EntryText) (others : List En
 find-here commands_at place base e others same = rw (eq-eqb (commands_at + e.offset) place same) refl
 
 -- and none of those whose records begin further on
-pub find-past : (frame : FrameText) (commands_at base last offset : ℕ) (entries : List EntryText) → AllStand (entry_format frame) (Some last) entries → offset ≤ last
+pub find-past : (frame : FrameText) (commands_at base last offset : ℕ) (entries : List EntryText) → AllStand (entry_format frame) (Some last) entries
+    → offset ≤ last
     → find (belongs_to commands_at (commands_at + offset)) (placed entry_bytes base entries) ≡ None
 find-past frame commands_at base last offset [] stand past = refl
 find-past frame commands_at base last offset (e ∷ entries) stand past =

@@ -1,6 +1,6 @@
 -- The event of a frame at a place.
 use Rattle.std.proofs.Common.{◌≡◌, ◌≢◌, ℕ, ◌+◌, ◌-◌, ◌<◌, ◌≤◌, List, [], ◌∷◌, ◌++◌, length, map, drop, Option, Some, None, refl, sym, ap, subst, ◌∙◌, append_assoc, length-append, arith}
-use Rattle.std.specs.Prelude.{◌↔◌, true, false, find, IsSome}
+use Rattle.std.specs.Prelude.{◌↔◌, true, false, IsSome}
 use Rattle.std.specs.Option.{option_map}
 use Rattle.std.proofs.lemmas.Bool.{eq-eqb, ne_eqb}
 use Rattle.std.proofs.lemmas.List.{append-nil, drop-drop, length-drop}
@@ -19,9 +19,11 @@ use Rattle.event_core.specs.Events.{EventText, event_of, events_of, event_at_pla
 use Rattle.event_core.specs.Reading.{Reading, reading_at, record_of, event_text, Steps, events_start, IsEventAt}
 
 -- a reading whose first unit is known, and what is behind that unit
-first_ahead : {S U K : Type 0} (format : Format S U K) (decided : IsDecided format) (state : S) (bytes : List ℕ) (ahead : List U) (unit : U) (View : Type 0) → Reads format state bytes ahead → BeginsWith format state bytes unit View
+first_ahead : {S U K : Type 0} (format : Format S U K) (decided : IsDecided format) (state : S) (bytes : List ℕ) (ahead : List U) (unit : U) (View : Type 0)
+    → Reads format state bytes ahead → BeginsWith format state bytes unit View
     → (others : List U) × (ahead ≡ unit ∷ others) × Reads format (format.after state unit) (drop (length (format.spelling unit)) bytes) others
-first_ahead format decided state bytes [] unit View reads begins = absurd (no_unit_at_end format decided state unit _ begins.may_stand (sym reads.joined ∙ begins.joined))
+first_ahead format decided state bytes [] unit View reads begins =
+    absurd (no_unit_at_end format decided state unit _ begins.may_stand (sym reads.joined ∙ begins.joined))
 first_ahead {S} {U} {K} format decided state bytes (u ∷ us) unit View reads begins =
     let tail = Splits-tail format state bytes u us [] reads in
     let same = decided.one_unit state u unit _ _ tail.1 begins.may_stand (sym tail.0 ∙ begins.joined) in
@@ -46,9 +48,11 @@ pub record Looks (frame : Frame) (place : ℕ) (reading : Reading) : Type 0 wher
   pub offset_is : offset ≡ span_of passed
   pub none_stands : (there : ℕ) (r : RecordText) → StandsAt (frame_text frame) there r → place ≡ commands_place frame.place + there → offset ≤ there
   pub reads : Reads (format_of (frame_text frame)) tt (drop offset frame.commands.now) ahead
-  pub none_passed : event_at_place place (events_of (placed_frame frame) records entries) ≡ event_at_place place (events_from (placed_frame frame) entries offset ahead)
+  pub none_passed : event_at_place place (events_of (placed_frame frame) records entries)
+      ≡ event_at_place place (events_from (placed_frame frame) entries offset ahead)
 
-pub looks_at_start : (frame : Frame) (place : ℕ) (reading : Reading) → HasGoodContent (frame_text frame) → reading ≡ events_start (placed_frame frame) → Looks frame place reading
+pub looks_at_start : (frame : Frame) (place : ℕ) (reading : Reading) → HasGoodContent (frame_text frame) → reading ≡ events_start (placed_frame frame)
+    → Looks frame place reading
 looks_at_start frame place reading good is = record {
   records = good.0.0;
   has_records = good.0.1;
@@ -67,7 +71,8 @@ looks_at_start frame place reading good is = record {
       ap (λ (n : ℕ). event_at_place place (map (event_of (placed_frame frame) good.1.0) (placed record_bytes n good.0.0))) same;
 }
 
-steps_from : (frame : Frame) (place : ℕ) (reading : Reading) (looks : Looks frame place reading) (result : Option Event) (new : Reading) → Steps reading result new → Steps (reading_at (placed_frame frame) looks.offset) result new
+steps_from : (frame : Frame) (place : ℕ) (reading : Reading) (looks : Looks frame place reading) (result : Option Event) (new : Reading)
+    → Steps reading result new → Steps (reading_at (placed_frame frame) looks.offset) result new
 steps_from frame place reading looks result new steps = subst (λ (r : Reading). Steps r result new) looks.reading_is steps
 
 -- what the reader gives is the first event ahead of it
@@ -80,7 +85,8 @@ pub record GivesFirst (frame : Frame) (place : ℕ) (reading : Reading) (looks :
   pub none_passed : event_at_place place (events_of (placed_frame frame) looks.records looks.entries)
       ≡ event_at_place place (event_text found ∷ events_from (placed_frame frame) looks.entries (looks.offset + length (record_bytes (record_of found))) others)
 
-gives_first : (frame : Frame) (place : ℕ) (reading : Reading) (looks : Looks frame place reading) (found : Event) (new : Reading) → Steps reading (Some found) new → GivesFirst frame place reading looks found new
+gives_first : (frame : Frame) (place : ℕ) (reading : Reading) (looks : Looks frame place reading) (found : Event) (new : Reading)
+    → Steps reading (Some found) new → GivesFirst frame place reading looks found new
 gives_first frame place reading looks found new steps =
     let s = steps_from frame place reading looks (Some found) new steps in
     let ft = frame_text frame in
@@ -106,18 +112,22 @@ gives_first frame place reading looks found new steps =
     }
 
 -- it stands where the reader stood
-place_of : (frame : Frame) (place : ℕ) (reading : Reading) (looks : Looks frame place reading) (found : Event) (new : Reading) → GivesFirst frame place reading looks found new → found.place ≡ commands_place frame.place + looks.offset
+place_of : (frame : Frame) (place : ℕ) (reading : Reading) (looks : Looks frame place reading) (found : Event) (new : Reading)
+    → GivesFirst frame place reading looks found new → found.place ≡ commands_place frame.place + looks.offset
 place_of frame place reading looks found new g = ap (λ (e : EventText). e.place) g.text
 
 -- and the frame's records are those passed, its own, and others
-records_with : (frame : Frame) (place : ℕ) (reading : Reading) (looks : Looks frame place reading) (found : Event) (new : Reading) (g : GivesFirst frame place reading looks found new) → HasRecords (frame_text frame) (looks.passed ++ record_of found ∷ g.others)
+records_with : (frame : Frame) (place : ℕ) (reading : Reading) (looks : Looks frame place reading) (found : Event) (new : Reading)
+    (g : GivesFirst frame place reading looks found new) → HasRecords (frame_text frame) (looks.passed ++ record_of found ∷ g.others)
 records_with frame place reading looks found new g = subst (HasRecords (frame_text frame)) g.records_are looks.has_records
 
 -- an event elsewhere is passed
-pub looks_on : (frame : Frame) (place : ℕ) (reading : Reading) (looks : Looks frame place reading) (found : Event) (new : Reading) → Steps reading (Some found) new → found.place ≢ place → Looks frame place new
+pub looks_on : (frame : Frame) (place : ℕ) (reading : Reading) (looks : Looks frame place reading) (found : Event) (new : Reading)
+    → Steps reading (Some found) new → found.place ≢ place → Looks frame place new
 looks_on frame place reading looks found new steps other =
     let g = gives_first frame place reading looks found new steps in
-    let skip : event_at_place place (event_text found ∷ events_from (placed_frame frame) looks.entries (looks.offset + length (record_bytes (record_of found))) g.others)
+    let skip : event_at_place place (event_text found ∷ events_from (placed_frame frame) looks.entries (looks.offset + length (record_bytes (record_of found)))
+    g.others)
     ≡ event_at_place place (events_from (placed_frame frame) looks.entries (looks.offset + length (record_bytes (record_of found))) g.others) =
     rw (ne_eqb found.place place other) refl in
     record {
@@ -136,7 +146,8 @@ looks_on frame place reading looks found new steps other =
           let not_before = looks.none_stands there r stands at in
           let own = place_of frame place reading looks found new g in
           let apart : looks.offset ≢ there = λ same. other (own ∙ ap (λ (n : ℕ). commands_place frame.place + n) same ∙ sym at) in
-          let behind = stands_behind (frame_text frame) looks.passed g.others (record_of found) there r (records_with frame place reading looks found new g) stands (omega (arith, start, not_before, apart)) in
+          let behind = stands_behind (frame_text frame) looks.passed g.others (record_of found) there r (records_with frame place reading looks found new g)
+          stands (omega (arith, start, not_before, apart)) in
           omega (arith, start, behind, span_of-snoc looks.passed (record_of found));
       reads = g.reads;
       none_passed = g.none_passed ∙ skip;
@@ -144,7 +155,8 @@ looks_on frame place reading looks found new steps other =
 
 -- what was found is the frame's, however its bytes are read
 for_all_readings : (frame : Frame) (place : ℕ) (reading : Reading) (looks : Looks frame place reading) (result : Option Event)
-    → option_map event_text result ≡ event_at_place place (events_of (placed_frame frame) looks.records looks.entries) → IsEventAt (placed_frame frame) place result
+    → option_map event_text result ≡ event_at_place place (events_of (placed_frame frame) looks.records looks.entries)
+    → IsEventAt (placed_frame frame) place result
 for_all_readings frame place reading looks result is records others has_records has_entries =
     let same = one_reading (frame_text frame) looks.records records looks.has_records has_records in
     let same_entries = entry_laws.one_reading (frame_text frame) looks.entries others (looks.records, looks.has_records) looks.has_entries has_entries in
@@ -152,15 +164,18 @@ for_all_readings frame place reading looks result is records others has_records 
     ∙ ap (λ (es : List EntryText). event_at_place place (events_of (placed_frame frame) records es)) same_entries
 
 -- an event there is the one
-pub looks_found : (frame : Frame) (place : ℕ) (reading : Reading) (looks : Looks frame place reading) (found : Event) (new : Reading) → Steps reading (Some found) new → found.place ≡ place → IsEventAt (placed_frame frame) place (Some found)
+pub looks_found : (frame : Frame) (place : ℕ) (reading : Reading) (looks : Looks frame place reading) (found : Event) (new : Reading)
+    → Steps reading (Some found) new → found.place ≡ place → IsEventAt (placed_frame frame) place (Some found)
 looks_found frame place reading looks found new steps here =
     let g = gives_first frame place reading looks found new steps in
-    let hit : event_at_place place (event_text found ∷ events_from (placed_frame frame) looks.entries (looks.offset + length (record_bytes (record_of found))) g.others) ≡ Some (event_text found) =
+    let hit : event_at_place place (event_text found ∷ events_from (placed_frame frame) looks.entries (looks.offset + length (record_bytes (record_of found)))
+    g.others) ≡ Some (event_text found) =
     rw (eq-eqb found.place place here) refl in
     for_all_readings frame place reading looks (Some found) (sym (g.none_passed ∙ hit))
 
 -- and a record begins there
-pub found_there : (frame : Frame) (place : ℕ) (reading : Reading) (looks : Looks frame place reading) (found : Event) (new : Reading) → Steps reading (Some found) new → found.place ≡ place → HasRecordAt (placed_frame frame) place
+pub found_there : (frame : Frame) (place : ℕ) (reading : Reading) (looks : Looks frame place reading) (found : Event) (new : Reading)
+    → Steps reading (Some found) new → found.place ≡ place → HasRecordAt (placed_frame frame) place
 found_there frame place reading looks found new steps here =
     let g = gives_first frame place reading looks found new steps in (
       record_of found,
@@ -171,7 +186,8 @@ found_there frame place reading looks found new steps here =
       ),
     )
 
-nothing_ahead : (frame : Frame) (offset : ℕ) (ahead : List RecordText) → Reads (format_of (frame_text frame)) tt (drop offset frame.commands.now) ahead → drop offset frame.commands.now ≡ [] → ahead ≡ []
+nothing_ahead : (frame : Frame) (offset : ℕ) (ahead : List RecordText) → Reads (format_of (frame_text frame)) tt (drop offset frame.commands.now) ahead
+    → drop offset frame.commands.now ≡ [] → ahead ≡ []
 nothing_ahead frame offset [] reads none = refl
 nothing_ahead frame offset (r ∷ rs) reads none =
     let format = format_of (frame_text frame) in
@@ -179,7 +195,8 @@ nothing_ahead frame offset (r ∷ rs) reads none =
     absurd (no_unit_at_end format (frame_decided (frame_text frame)) tt r _ tail.1 (sym none ∙ tail.0))
 
 -- at the end there is none
-pub looks_ended : (frame : Frame) (place : ℕ) (reading : Reading) (looks : Looks frame place reading) (new : Reading) → Steps reading None new → IsEventAt (placed_frame frame) place None
+pub looks_ended : (frame : Frame) (place : ℕ) (reading : Reading) (looks : Looks frame place reading) (new : Reading) → Steps reading None new
+    → IsEventAt (placed_frame frame) place None
 looks_ended frame place reading looks new steps =
     let s = steps_from frame place reading looks None new steps in
     let nothing = nothing_ahead frame looks.offset looks.ahead looks.reads s.0 in
@@ -187,7 +204,8 @@ looks_ended frame place reading looks new steps =
     (sym (looks.none_passed ∙ ap (λ (l : List RecordText). event_at_place place (events_from (placed_frame frame) looks.entries looks.offset l)) nothing))
 
 -- and no record begins there
-pub ended_elsewhere : (frame : Frame) (place : ℕ) (reading : Reading) (looks : Looks frame place reading) (new : Reading) → Steps reading None new → HasRecordAt (placed_frame frame) place → ⊥
+pub ended_elsewhere : (frame : Frame) (place : ℕ) (reading : Reading) (looks : Looks frame place reading) (new : Reading) → Steps reading None new
+    → HasRecordAt (placed_frame frame) place → ⊥
 ended_elsewhere frame place reading looks new steps has =
     let s = steps_from frame place reading looks None new steps in
     let nothing = nothing_ahead frame looks.offset looks.ahead looks.reads s.0 in

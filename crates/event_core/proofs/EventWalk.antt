@@ -1,7 +1,6 @@
 -- A reader of events goes through a good frame, record by record, with the next entry at hand.
 use Rattle.std.proofs.Common.{◌≡◌, ◌≢◌, ℕ, ◌+◌, ◌<◌, ◌≤◌, List, [], ◌∷◌, ◌++◌, length, drop, All, Option, Some, None, Result, Ok, Err, refl, sym, ap, subst, ◌∙◌, append_assoc, arith}
 use Rattle.std.specs.Prelude.{find}
-use Rattle.std.specs.List.{flat_map}
 use Rattle.std.specs.Result.{result_unwrap_or}
 use Rattle.std.specs.Option.{ForSome, option_map, unwrap_or}
 use Rattle.std.proofs.lemmas.List.{append-nil}
@@ -12,7 +11,7 @@ use Rattle.binder_code.specs.Commands.{kind_of}
 use Rattle.capture_frame.specs.declared.fault.Fault.{Fault}
 use Rattle.capture_frame.specs.declared.frame.Frame.{Frame}
 use Rattle.capture_frame.specs.Envelope.{frame_text, placed_frame, commands_place, attachments_place}
-use Rattle.capture_frame.specs.Units.{AllStand, Splits, state_after, placed_at, BeginsWith}
+use Rattle.capture_frame.specs.Units.{AllStand, state_after, placed_at, BeginsWith}
 use Rattle.capture_frame.specs.Readers.{at}
 use Rattle.capture_frame.proofs.UnitLaws.{reading_behind, state_after-snoc}
 use Rattle.capture_frame.proofs.ReaderLaws as readers
@@ -22,7 +21,7 @@ use Rattle.record_view.specs.Reading.{record_text}
 use Rattle.record_view.specs.Reading as records
 use Rattle.record_view.proofs.RecordLaws.{length-record_bytes}
 use Rattle.transaction_view.specs.declared.entry.Entry.{Entry}
-use Rattle.transaction_view.specs.Attachments.{EntryText, entry_bytes, MayStandEntry, entry_format, HasEntries}
+use Rattle.transaction_view.specs.Attachments.{EntryText, MayStandEntry, entry_format, HasEntries}
 use Rattle.transaction_view.specs.Reading.{entry_text, entry_source}
 use Rattle.transaction_view.specs.Reading as entries
 use Rattle.transaction_view.specs.FirstFault.{HasGoodContent}
@@ -31,8 +30,8 @@ use Rattle.transaction_view.proofs.EntryWalk.{StandsBehind, stands_at_start, sta
 use Rattle.transaction_view.proofs.RecordPlaces.{span_of-snoc, stands_behind}
 use Rattle.transaction_view.proofs.SearchLaws.{Searches, Gives, gives, search_never_fails}
 use Rattle.event_core.specs.declared.event.Event.{Event}
-use Rattle.event_core.specs.Events.{Attached, EventText, attached, belongs_to, placed_entries, attachment_of, bare_event, event_of}
-use Rattle.event_core.specs.Reading.{Reading, attached_text, event_text, text_of_event, record_of, Steps}
+use Rattle.event_core.specs.Events.{AttachmentText, EventText, attachment_text, belongs_to, placed_entries, attachment_of, bare_event, event_of}
+use Rattle.event_core.specs.Reading.{Reading, entry_attachment, event_text, text_of_event, record_of, Steps}
 use Rattle.event_core.specs.State.{HasRead, IsNext, all_given, one_ahead, IsWithin, TakesAt, reading_of, entries_span}
 use Rattle.event_core.proofs.EntryPlaces.{find-behind, find-here, find-other, find-past}
 
@@ -42,29 +41,45 @@ some_is x y same = ap (λ (o : Option _). unwrap_or o x) same
 -- ---- the entry that comes next
 
 stands_of : (frame : Frame) (reading : entries.Reading) (done : List EntryText) → HasRead frame reading done → StandsBehind frame reading done
-stands_of frame reading done has = record { offset = has.distance; reading_is = has.reading_is; walks = record { splits = has.splits; length_is = has.distance_is } }
+stands_of frame reading done has = record {
+  offset = has.distance;
+  reading_is = has.reading_is;
+  walks =
+      record { splits = has.splits; length_is = has.distance_is };
+}
 
 read_of : (frame : Frame) (reading : entries.Reading) (done : List EntryText) → StandsBehind frame reading done → HasRead frame reading done
-read_of frame reading done stands = record { distance = stands.offset; reading_is = stands.reading_is; splits = stands.walks.splits; distance_is = stands.walks.length_is }
+read_of frame reading done stands = record {
+  distance = stands.offset;
+  reading_is = stands.reading_is;
+  splits = stands.walks.splits;
+  distance_is =
+      stands.walks.length_is;
+}
 
 -- a call of the reader of entries, behind these, leaves the next one at hand, or there is none
-pub next_at_hand : (frame : Frame) (reading new : entries.Reading) (done : List EntryText) (offset : ℕ) → HasGoodContent (frame_text frame) → StandsBehind frame reading done
+pub next_at_hand : (frame : Frame) (reading new : entries.Reading) (done : List EntryText) (offset : ℕ) → HasGoodContent (frame_text frame)
+    → StandsBehind frame reading done
     → ((e : EntryText) → MayStandEntry (frame_text frame) (state_after (entry_format (frame_text frame)) None done) e → offset ≤ e.offset)
-    → (result : Result (Option Entry) Fault) (ahead : Option Entry) → entries.Steps reading result new → ahead ≡ result_unwrap_or result None → IsNext frame offset new done ahead
+    → (result : Result (Option Entry) Fault) (ahead : Option Entry) → entries.Steps reading result new → ahead ≡ result_unwrap_or result None
+    → IsNext frame offset new done ahead
 next_at_hand frame reading new done offset good stands later (Ok None) ahead steps is = all_given is (entries_end frame reading done stands new steps)
-next_at_hand frame reading new done offset good stands later (Err fault) ahead steps is = absurd (entries_never_fail frame reading done stands fault new good steps)
+next_at_hand frame reading new done offset good stands later (Err fault) ahead steps is =
+    absurd (entries_never_fail frame reading done stands fault new good steps)
 next_at_hand frame reading new done offset good stands later (Ok (Some found)) ahead steps is =
     let s = readers.steps_from entry_source (entry_format (frame_text frame)) (placed_frame frame) None reading done stands (Ok (Some found)) new steps in
     let e = entry_text frame.place found in
     let says = given_says frame reading done stands found new steps in
     let owner = says.owner in
     let far = later e s.0.may_stand in
-    one_ahead found is (omega (arith, owner, far)) (s.0.view.place_is ∙ ap (λ (n : ℕ). attachments_place (frame_text frame) frame.place + n) stands.walks.length_is)
+    one_ahead found is (omega (arith, owner, far)) (s.0.view.place_is ∙ ap (λ (n : ℕ). attachments_place (frame_text frame) frame.place + n)
+    stands.walks.length_is)
     (read_of frame new (done ++ e ∷ []) (stands_behind_next frame reading done stands found new steps))
 
 -- ---- the record that comes next
 
-abbrev searches_of : (frame : Frame) (reading : records.Reading) (attachments : entries.Reading) (ahead : Option Entry) → (within : IsWithin frame reading attachments ahead) → Searches (frame_text frame) frame.place (span_of within.passed) reading
+abbrev searches_of : (frame : Frame) (reading : records.Reading) (attachments : entries.Reading) (ahead : Option Entry)
+    → (within : IsWithin frame reading attachments ahead) → Searches (frame_text frame) frame.place (span_of within.passed) reading
 searches_of frame reading attachments ahead within = record {
   passed = within.passed;
   ahead = within.further;
@@ -73,7 +88,8 @@ searches_of frame reading attachments ahead within = record {
   none_passed = λ found stands. omega arith;
 }
 
-given_of : (frame : Frame) (reading new : records.Reading) (attachments : entries.Reading) (ahead : Option Entry) (within : IsWithin frame reading attachments ahead) (found : Record) → records.Steps reading (Ok (Some found)) new
+given_of : (frame : Frame) (reading new : records.Reading) (attachments : entries.Reading) (ahead : Option Entry)
+    (within : IsWithin frame reading attachments ahead) (found : Record) → records.Steps reading (Ok (Some found)) new
     → Gives (frame_text frame) frame.place within.passed found new
 given_of frame reading new attachments ahead within found steps =
     gives (frame_text frame) frame.place (span_of within.passed) reading (searches_of frame reading attachments ahead within) found new steps
@@ -83,11 +99,13 @@ longer : (frame : Frame) (passed : List RecordText) (r : RecordText) → span_of
 longer frame passed r = omega (arith, span_of-snoc passed r, length-record_bytes r)
 
 -- what was before its end still is, behind one record more
-still_before : (given : List EntryText) (near far : ℕ) → near < far → All (λ (e : EntryText). e.offset < near) given → All (λ (e : EntryText). e.offset < far) given
+still_before : (given : List EntryText) (near far : ℕ) → near < far → All (λ (e : EntryText). e.offset < near) given
+    → All (λ (e : EntryText). e.offset < far) given
 still_before [] near far less before = All-nil (λ (e : EntryText). e.offset < far)
 still_before (e ∷ given) near far less before =
     let first = All-head (λ (x : EntryText). x.offset < near) e given before in
-    All-cons (λ (x : EntryText). x.offset < far) e given (omega (arith, less, first)) (still_before given near far less (All-tail (λ (x : EntryText). x.offset < near) e given before))
+    All-cons (λ (x : EntryText). x.offset < far) e given (omega (arith, less, first))
+    (still_before given near far less (All-tail (λ (x : EntryText). x.offset < near) e given before))
 
 last_stands : (frame : Frame) (state : Option ℕ) (given : List EntryText) (e : EntryText) → AllStand (entry_format (frame_text frame)) state (given ++ e ∷ [])
     → MayStandEntry (frame_text frame) (state_after (entry_format (frame_text frame)) state given) e
@@ -95,11 +113,13 @@ last_stands frame state [] e all = all.0
 last_stands frame state (g ∷ given) e all = last_stands frame (Some g.offset) given e all.1
 
 -- the frame's entries are those that were given, the one at hand, and others further on
-all_of : (frame : Frame) (reading : entries.Reading) (given : List EntryText) (e : EntryText) → HasGoodContent (frame_text frame) → HasRead frame reading (given ++ e ∷ [])
+all_of : (frame : Frame) (reading : entries.Reading) (given : List EntryText) (e : EntryText) → HasGoodContent (frame_text frame)
+    → HasRead frame reading (given ++ e ∷ [])
     → (others : List EntryText) × HasEntries (frame_text frame) (given ++ e ∷ others) × AllStand (entry_format (frame_text frame)) (Some e.offset) others
 all_of frame reading given e good has =
     let format = entry_format (frame_text frame) in
-    let behind = reading_behind format (entries_decided (frame_text frame) good.0.0 good.0.1) None frame.attachments.now (given ++ e ∷ []) good.1.0 _ has.splits good.1.1 in
+    let behind = reading_behind format (entries_decided (frame_text frame) good.0.0 good.0.1) None frame.attachments.now (given ++ e ∷ []) good.1.0 _
+    has.splits good.1.1 in
     let state : state_after format None (given ++ e ∷ []) ≡ Some e.offset = state_after-snoc format None given e in (
       behind.0,
       subst (HasEntries (frame_text frame)) (behind.1 ∙ append_assoc given (e ∷ []) behind.0) good.1.1,
@@ -110,18 +130,21 @@ all_of frame reading given e good has =
 abbrev pub HasAttachmentAt : Frame → ℕ → Option Entry → Type 0
 HasAttachmentAt frame offset found =
     (entries : List EntryText) × HasEntries (frame_text frame) entries
-    × (option_map attached_text found ≡ attachment_of (placed_frame frame) entries (commands_place frame.place + offset))
+    × (option_map entry_attachment found ≡ attachment_of (placed_frame frame) entries (commands_place frame.place + offset))
 
 -- ---- a record without an attachment
 
-none_at : (frame : Frame) (offset : ℕ) (reading : entries.Reading) (given : List EntryText) (ahead : Option Entry) → HasGoodContent (frame_text frame) → All (λ (e : EntryText). e.offset < offset) given
-    → ((found : Entry) → ahead ≡ Some found → found.owner ≢ commands_place frame.place + offset) → IsNext frame offset reading given ahead → HasAttachmentAt frame offset None
+none_at : (frame : Frame) (offset : ℕ) (reading : entries.Reading) (given : List EntryText) (ahead : Option Entry) → HasGoodContent (frame_text frame)
+    → All (λ (e : EntryText). e.offset < offset) given
+    → ((found : Entry) → ahead ≡ Some found → found.owner ≢ commands_place frame.place + offset) → IsNext frame offset reading given ahead
+    → HasAttachmentAt frame offset None
 none_at frame offset reading given ahead good before other (all_given is has) =
     let start = commands_place frame.place in
     let base = attachments_place (frame_text frame) frame.place in
     let none : find (belongs_to start (start + offset)) (placed_entries (placed_frame frame) given) ≡ None =
-    ap (λ (t : List EntryText). find (belongs_to start (start + offset)) (placed_entries (placed_frame frame) t)) (sym (append-nil given)) ∙ find-behind start offset base given [] before in
-    (given, has, sym (ap (option_map attached) none))
+    ap (λ (t : List EntryText). find (belongs_to start (start + offset)) (placed_entries (placed_frame frame) t)) (sym (append-nil given))
+    ∙ find-behind start offset base given [] before in
+    (given, has, sym (ap (option_map attachment_text) none))
 none_at frame offset reading given ahead good before other (one_ahead found is far place_is has) =
     let start = commands_place frame.place in
     let base = attachments_place (frame_text frame) frame.place in
@@ -132,11 +155,13 @@ none_at frame offset reading given ahead good before other (one_ahead found is f
     let none : find (belongs_to start (start + offset)) (placed_entries (placed_frame frame) (given ++ e ∷ all.0)) ≡ None =
     find-behind start offset base given (e ∷ all.0) before ∙ find-other start (start + offset) _ e all.0 (λ same. absurd (omega (arith, past, same)))
     ∙ find-past (frame_text frame) start _ e.offset offset all.0 all.2 (omega (arith, past)) in
-    (given ++ e ∷ all.0, all.1, sym (ap (option_map attached) none))
+    (given ++ e ∷ all.0, all.1, sym (ap (option_map attachment_text) none))
 
 -- the entry at hand is still ahead behind a record that is not its own
-still_ahead : (frame : Frame) (near far : ℕ) (reading : entries.Reading) (given : List EntryText) (ahead : Option Entry) → ((found : Entry) → ahead ≡ Some found → found.owner ≢ commands_place frame.place + near)
-    → ((offset : ℕ) (owner : RecordText) → StandsAt (frame_text frame) offset owner → near < offset → far ≤ offset) → IsNext frame near reading given ahead → IsNext frame far reading given ahead
+still_ahead : (frame : Frame) (near far : ℕ) (reading : entries.Reading) (given : List EntryText) (ahead : Option Entry)
+    → ((found : Entry) → ahead ≡ Some found → found.owner ≢ commands_place frame.place + near)
+    → ((offset : ℕ) (owner : RecordText) → StandsAt (frame_text frame) offset owner → near < offset → far ≤ offset) → IsNext frame near reading given ahead
+    → IsNext frame far reading given ahead
 still_ahead frame near far reading given ahead other not_inside (all_given is has) = all_given is has
 still_ahead frame near far reading given ahead other not_inside (one_ahead found is at_or_past place_is has) =
     let e = entry_text frame.place found in
@@ -146,7 +171,8 @@ still_ahead frame near far reading given ahead other not_inside (one_ahead found
     one_ahead found is (omega (arith, at_or_past, further)) place_is has
 
 -- the reader without an attachment to give
-keeps : (frame : Frame) (reading new : records.Reading) (attachments : entries.Reading) (ahead : Option Entry) (within : IsWithin frame reading attachments ahead) (found : Record) → records.Steps reading (Ok (Some found)) new
+keeps : (frame : Frame) (reading new : records.Reading) (attachments : entries.Reading) (ahead : Option Entry)
+    (within : IsWithin frame reading attachments ahead) (found : Record) → records.Steps reading (Ok (Some found)) new
     → ((e : Entry) → ahead ≡ Some e → e.owner ≢ commands_place frame.place + span_of within.passed) → IsWithin frame new attachments ahead
 keeps frame reading new attachments ahead within found steps other =
     let r = record_text found in
@@ -166,12 +192,15 @@ keeps frame reading new attachments ahead within found steps other =
 
 -- ---- a record with its attachment
 
-attached_is : (found : Entry) (e : EntryText) (place : ℕ) → found.place ≡ place → found.body.now ≡ e.body → found.offsets.now ≡ e.offset_bytes → attached_text found ≡ attached (placed_at place e)
+attached_is : (found : Entry) (e : EntryText) (place : ℕ) → found.place ≡ place → found.body.now ≡ e.body → found.offsets.now ≡ e.offset_bytes
+    → entry_attachment found ≡ attachment_text (placed_at place e)
 attached_is found e place there body offsets = rw (there, body, offsets) refl
 
 -- the entry at hand is the record's
-one_at : (frame : Frame) (offset : ℕ) (reading : entries.Reading) (given : List EntryText) (ahead : Option Entry) → HasGoodContent (frame_text frame) → All (λ (e : EntryText). e.offset < offset) given
-    → (found : Entry) → ahead ≡ Some found → found.owner ≡ commands_place frame.place + offset → IsNext frame offset reading given ahead → HasAttachmentAt frame offset (Some found)
+one_at : (frame : Frame) (offset : ℕ) (reading : entries.Reading) (given : List EntryText) (ahead : Option Entry) → HasGoodContent (frame_text frame)
+    → All (λ (e : EntryText). e.offset < offset) given
+    → (found : Entry) → ahead ≡ Some found → found.owner ≡ commands_place frame.place + offset → IsNext frame offset reading given ahead
+    → HasAttachmentAt frame offset (Some found)
 one_at frame offset reading given ahead good before found is here (all_given none has) = let wrong : None ≡ Some found = sym none ∙ is in cc
 one_at frame offset reading given ahead good before found is here (one_ahead other is_too far place_is has) =
     let start = commands_place frame.place in
@@ -180,25 +209,32 @@ one_at frame offset reading given ahead good before found is here (one_ahead oth
     let all = all_of frame reading given e good has in
     let same : other ≡ found = some_is other found (sym is_too ∙ is) in
     let owner : other.owner ≡ start + offset = ap (λ (x : Entry). x.owner) same ∙ here in
-    let there : find (belongs_to start (start + offset)) (placed_entries (placed_frame frame) (given ++ e ∷ all.0)) ≡ Some (placed_at (base + entries_span frame given) e) =
-    find-behind start offset base given (e ∷ all.0) before ∙ find-here start (start + offset) (base + entries_span frame given) e all.0 (omega (arith, owner)) in
-    let text : attached_text found ≡ attached (placed_at (base + entries_span frame given) e) =
-    ap attached_text (sym same) ∙ attached_is other e (base + entries_span frame given) place_is refl refl in
-    (given ++ e ∷ all.0, all.1, ap Some text ∙ sym (ap (option_map attached) there))
+    let there : find (belongs_to start (start + offset)) (placed_entries (placed_frame frame) (given ++ e ∷ all.0))
+    ≡ Some (placed_at (base + entries_span frame given) e) =
+    find-behind start offset base given (e ∷ all.0) before ∙ find-here start (start + offset) (base + entries_span frame given) e all.0 (omega (arith, owner))
+    in
+    let text : entry_attachment found ≡ attachment_text (placed_at (base + entries_span frame given) e) =
+    ap entry_attachment (sym same) ∙ attached_is other e (base + entries_span frame given) place_is refl refl in
+    (given ++ e ∷ all.0, all.1, ap Some text ∙ sym (ap (option_map attachment_text) there))
 
-taken_before : (given : List EntryText) (e : EntryText) (near far : ℕ) → near < far → e.offset ≡ near → All (λ (x : EntryText). x.offset < near) given → All (λ (x : EntryText). x.offset < far) (given ++ e ∷ [])
+taken_before : (given : List EntryText) (e : EntryText) (near far : ℕ) → near < far → e.offset ≡ near → All (λ (x : EntryText). x.offset < near) given
+    → All (λ (x : EntryText). x.offset < far) (given ++ e ∷ [])
 taken_before given e near far less here before =
     let IsBefore : EntryText → Type 0 = λ x. x.offset < far in
     All-append IsBefore given (e ∷ []) (still_before given near far less before) (All-cons IsBefore e [] (omega (arith, less, here)) (All-nil IsBefore))
 
 -- the entries given out with the one at hand, and the next one
-takes_next : (frame : Frame) (near far : ℕ) (reading next : entries.Reading) (given : List EntryText) (ahead : Option Entry) → HasGoodContent (frame_text frame) → near < far
+takes_next : (frame : Frame) (near far : ℕ) (reading next : entries.Reading) (given : List EntryText) (ahead : Option Entry)
+    → HasGoodContent (frame_text frame) → near < far
     → ((offset : ℕ) (owner : RecordText) → StandsAt (frame_text frame) offset owner → near < offset → far ≤ offset)
-    → All (λ (e : EntryText). e.offset < near) given → (found : Entry) → ahead ≡ Some found → found.owner ≡ commands_place frame.place + near → IsNext frame near reading given ahead
+    → All (λ (e : EntryText). e.offset < near) given → (found : Entry) → ahead ≡ Some found → found.owner ≡ commands_place frame.place + near
+    → IsNext frame near reading given ahead
     → (result : Result (Option Entry) Fault) (answer : Option Entry) → entries.Steps reading result next → answer ≡ result_unwrap_or result None
     → (more : List EntryText) × All (λ (e : EntryText). e.offset < far) more × IsNext frame far next more answer
-takes_next frame near far reading next given ahead good less not_inside before found is here (all_given none has) result answer steps answer_is = let wrong : None ≡ Some found = sym none ∙ is in cc
-takes_next frame near far reading next given ahead good less not_inside before found is here (one_ahead other is_too at_or_past place_is has) result answer steps answer_is =
+takes_next frame near far reading next given ahead good less not_inside before found is here (all_given none has) result answer steps answer_is =
+    let wrong : None ≡ Some found = sym none ∙ is in cc
+takes_next frame near far reading next given ahead good less not_inside before found is here (one_ahead other is_too at_or_past place_is has) result answer
+    steps answer_is =
     let format = entry_format (frame_text frame) in
     let e = entry_text frame.place other in
     let same : other ≡ found = some_is other found (sym is_too ∙ is) in
@@ -214,14 +250,18 @@ takes_next frame near far reading next given ahead good less not_inside before f
           result answer steps answer_is,
     )
 
-takes : (frame : Frame) (reading new : records.Reading) (attachments next : entries.Reading) (ahead : Option Entry) (within : IsWithin frame reading attachments ahead) (found : Record) → records.Steps reading (Ok (Some found)) new
+takes : (frame : Frame) (reading new : records.Reading) (attachments next : entries.Reading) (ahead : Option Entry)
+    (within : IsWithin frame reading attachments ahead) (found : Record) → records.Steps reading (Ok (Some found)) new
     → (e : Entry) → ahead ≡ Some e → e.owner ≡ commands_place frame.place + span_of within.passed
-    → (result : Result (Option Entry) Fault) (answer : Option Entry) → entries.Steps attachments result next → answer ≡ result_unwrap_or result None → IsWithin frame new next answer
+    → (result : Result (Option Entry) Fault) (answer : Option Entry) → entries.Steps attachments result next → answer ≡ result_unwrap_or result None
+    → IsWithin frame new next answer
 takes frame reading new attachments next ahead within found steps e is here result answer entry_steps answer_is =
     let r = record_text found in
     let g = given_of frame reading new attachments ahead within found steps in
-    let after = takes_next frame (span_of within.passed) (span_of (within.passed ++ r ∷ [])) attachments next within.given ahead within.good (longer frame within.passed r)
-    (λ offset owner stands less. stands_behind (frame_text frame) within.passed g.behind r offset owner g.has_records stands less) within.given_before e is here within.next result answer entry_steps answer_is in
+    let after = takes_next frame (span_of within.passed) (span_of (within.passed ++ r ∷ [])) attachments next within.given ahead within.good
+    (longer frame within.passed r)
+    (λ offset owner stands less. stands_behind (frame_text frame) within.passed g.behind r offset owner g.has_records stands less) within.given_before e is
+    here within.next result answer entry_steps answer_is in
     record {
       good = within.good;
       passed = within.passed ++ r ∷ [];
@@ -236,8 +276,10 @@ takes frame reading new attachments next ahead within found steps e is here resu
 -- ---- one call
 
 -- a reader at the start
-pub starts : (frame : Frame) (reading : records.Reading) (attachments new : entries.Reading) (result : Result (Option Entry) Fault) (ahead : Option Entry) → HasGoodContent (frame_text frame)
-    → reading ≡ records.records_start (placed_frame frame) → attachments ≡ entries.entries_start (placed_frame frame) → entries.Steps attachments result new → ahead ≡ result_unwrap_or result None → IsWithin frame reading new ahead
+pub starts : (frame : Frame) (reading : records.Reading) (attachments new : entries.Reading) (result : Result (Option Entry) Fault) (ahead : Option Entry)
+    → HasGoodContent (frame_text frame)
+    → reading ≡ records.records_start (placed_frame frame) → attachments ≡ entries.entries_start (placed_frame frame) → entries.Steps attachments result new
+    → ahead ≡ result_unwrap_or result None → IsWithin frame reading new ahead
 starts frame reading attachments new result ahead good is attachments_is steps ahead_is = record {
   good = good;
   passed = [];
@@ -250,44 +292,56 @@ starts frame reading attachments new result ahead good is attachments_is steps a
 }
 
 -- a reader behind a record, and the attachment that it gives with it
-pub goes_on : (frame : Frame) (reading new : records.Reading) (attachments next : entries.Reading) (ahead new_ahead : Option Entry) (within : IsWithin frame reading attachments ahead) (found : Record) → records.Steps reading (Ok (Some found)) new
-    → (entry : Option Entry) → TakesAt found.place ahead attachments entry new_ahead next → IsWithin frame new next new_ahead × HasAttachmentAt frame (span_of within.passed) entry
+pub goes_on : (frame : Frame) (reading new : records.Reading) (attachments next : entries.Reading) (ahead new_ahead : Option Entry)
+    (within : IsWithin frame reading attachments ahead) (found : Record) → records.Steps reading (Ok (Some found)) new
+    → (entry : Option Entry) → TakesAt found.place ahead attachments entry new_ahead next → IsWithin frame new next new_ahead
+    × HasAttachmentAt frame (span_of within.passed) entry
 goes_on frame reading new attachments next ahead new_ahead within found steps None takes_at =
     let place = (given_of frame reading new attachments ahead within found steps).place_is in
-    let other : (e : Entry) → ahead ≡ Some e → e.owner ≢ commands_place frame.place + span_of within.passed = λ e is here. takes_at.2 e is (here ∙ sym place) in (
-      subst (λ (r : entries.Reading). IsWithin frame new r new_ahead) (sym takes_at.1) (subst (IsWithin frame new attachments) (sym takes_at.0) (keeps frame reading new attachments ahead within found steps other)),
+    let other : (e : Entry) → ahead ≡ Some e → e.owner ≢ commands_place frame.place + span_of within.passed =
+    λ e is here. takes_at.2 e is (here ∙ sym place) in (
+      subst (λ (r : entries.Reading). IsWithin frame new r new_ahead) (sym takes_at.1)
+          (subst (IsWithin frame new attachments) (sym takes_at.0) (keeps frame reading new attachments ahead within found steps other)),
       none_at frame (span_of within.passed) attachments within.given ahead within.good within.given_before other within.next,
     )
 goes_on frame reading new attachments next ahead new_ahead within found steps (Some e) takes_at =
-    let here : e.owner ≡ commands_place frame.place + span_of within.passed = takes_at.1 ∙ (given_of frame reading new attachments ahead within found steps).place_is in (
+    let here : e.owner ≡ commands_place frame.place + span_of within.passed = takes_at.1
+    ∙ (given_of frame reading new attachments ahead within found steps).place_is in (
       takes frame reading new attachments next ahead within found steps e takes_at.0 here takes_at.2 new_ahead takes_at.3 takes_at.4,
       one_at frame (span_of within.passed) attachments within.given ahead within.good within.given_before e takes_at.0 here within.next,
     )
 
 -- the attachment that is given with a record belongs to it
-pub taken_owned : (place : ℕ) (ahead : Option Entry) (reading : entries.Reading) (entry new_ahead : Option Entry) (new : entries.Reading) → TakesAt place ahead reading entry new_ahead new → ForSome entry (λ found. found.owner ≡ place)
+pub taken_owned : (place : ℕ) (ahead : Option Entry) (reading : entries.Reading) (entry new_ahead : Option Entry) (new : entries.Reading)
+    → TakesAt place ahead reading entry new_ahead new → ForSome entry (λ found. found.owner ≡ place)
 taken_owned place ahead reading None new_ahead new takes_at = λ found is. let wrong : None ≡ Some found = is in cc
 taken_owned place ahead reading (Some e) new_ahead new takes_at = λ found is. ap (λ (x : Entry). x.owner) (sym (some_is e found is)) ∙ takes_at.1
 
 -- where the reader stands, by the records that it has passed
-reads_at : (frame : Frame) (reading : records.Reading) (attachments : entries.Reading) (ahead : Option Entry) (within : IsWithin frame reading attachments ahead) → reading_of frame reading ≡ reading_of frame (at (placed_frame frame) (span_of within.passed) tt)
+reads_at : (frame : Frame) (reading : records.Reading) (attachments : entries.Reading) (ahead : Option Entry)
+    (within : IsWithin frame reading attachments ahead) → reading_of frame reading ≡ reading_of frame (at (placed_frame frame) (span_of within.passed) tt)
 reads_at frame reading attachments ahead within = ap (reading_of frame) within.reading_is
 
 -- a record is the event of its place, with what its attachment is
-pub event_is : (frame : Frame) (found : Record) (entry : Option Entry) (place : ℕ) (attachment : Option Attached) → found.place ≡ place → kind_of (protocol_of frame.direction) found.code.0 ≡ Ok found.kind
-    → option_map attached_text entry ≡ attachment → text_of_event frame found entry ≡ record (bare_event (frame_text frame) (placed_at place (record_text found))) { entry = attachment }
+pub event_is : (frame : Frame) (found : Record) (entry : Option Entry) (place : ℕ) (attachment : Option AttachmentText) → found.place ≡ place
+    → kind_of (protocol_of frame.direction) found.code.0 ≡ Ok found.kind
+    → option_map entry_attachment entry ≡ attachment → text_of_event frame found entry
+    ≡ record (bare_event (frame_text frame) (placed_at place (record_text found))) { entry = attachment }
 event_is frame found entry place attachment is kind attached_is =
-    let make : ℕ → Kind → Option Attached → EventText =
+    let make : ℕ → Kind → Option AttachmentText → EventText =
     λ p k a. record { place = p; process = frame.process; thread = frame.thread; kind = k; code = found.code.0; payload = found.payload.now; entry = a } in
-    let same_kind : found.kind ≡ result_unwrap_or (kind_of (protocol_of frame.direction) found.code.0) Opaque = sym (ap (λ (r : _). result_unwrap_or r Opaque) kind) in
-    ap (λ (p : ℕ). make p found.kind (option_map attached_text entry)) is ∙ ap (λ (k : Kind). make place k (option_map attached_text entry)) same_kind
+    let same_kind : found.kind ≡ result_unwrap_or (kind_of (protocol_of frame.direction) found.code.0) Opaque =
+    sym (ap (λ (r : _). result_unwrap_or r Opaque) kind) in
+    ap (λ (p : ℕ). make p found.kind (option_map entry_attachment entry)) is ∙ ap (λ (k : Kind). make place k (option_map entry_attachment entry)) same_kind
     ∙ ap (make place (result_unwrap_or (kind_of (protocol_of frame.direction) found.code.0) Opaque)) attached_is
 
-same_record : (frame : Frame) (found : Record) (entry : Option Entry) (event : Event) → event_text event ≡ text_of_event frame found entry → record_text found ≡ record_of event
+same_record : (frame : Frame) (found : Record) (entry : Option Entry) (event : Event) → event_text event ≡ text_of_event frame found entry → record_text found
+    ≡ record_of event
 same_record frame found entry event is = sym (ap (λ (t : EventText). let r : RecordText = record { code = t.code; payload = t.payload } in r) is)
 
 -- a record that is given, as an event
-pub steps_on : (frame : Frame) (reading new : records.Reading) (attachments : entries.Reading) (ahead : Option Entry) (within : IsWithin frame reading attachments ahead) (found : Record) → records.Steps reading (Ok (Some found)) new
+pub steps_on : (frame : Frame) (reading new : records.Reading) (attachments : entries.Reading) (ahead : Option Entry)
+    (within : IsWithin frame reading attachments ahead) (found : Record) → records.Steps reading (Ok (Some found)) new
     → (entry : Option Entry) → HasAttachmentAt frame (span_of within.passed) entry → (event : Event) → event_text event ≡ text_of_event frame found entry
     → (old : Reading) → reading_of frame reading ≡ old → Steps old (Some event) (reading_of frame new)
 steps_on frame reading new attachments ahead within found steps entry has event is old old_is =
@@ -297,27 +351,34 @@ steps_on frame reading new attachments ahead within found steps entry has event 
     let rest = drop (span_of within.passed) frame.commands.now in
     let place = commands_place frame.place + span_of within.passed in
     let text : event_text event ≡ event_of (placed_frame frame) has.0 (placed_at place (record_of event)) =
-    is ∙ event_is frame found entry place (attachment_of (placed_frame frame) has.0 place) g.place_is g.kind has.2 ∙ ap (λ (r : RecordText). event_of (placed_frame frame) has.0 (placed_at place r)) same in
-    let stands : BeginsWith (format_of (frame_text frame)) tt rest (record_of event) ((es : List EntryText) × HasEntries (frame_text frame) es × (event_text event ≡ event_of (placed_frame frame) es (placed_at place (record_of event)))) =
+    is ∙ event_is frame found entry place (attachment_of (placed_frame frame) has.0 place) g.place_is g.kind has.2
+    ∙ ap (λ (r : RecordText). event_of (placed_frame frame) has.0 (placed_at place r)) same in
+    let stands : BeginsWith (format_of (frame_text frame)) tt rest (record_of event)
+    ((es : List EntryText) × HasEntries (frame_text frame) es × (event_text event ≡ event_of (placed_frame frame) es (placed_at place (record_of event)))) =
     record {
       may_stand = subst (λ (r : RecordText). (format_of (frame_text frame)).MayStand tt r) same s.0.may_stand;
       joined = subst (λ (r : RecordText). rest ≡ record_bytes r ++ drop (length (record_bytes r)) rest) same s.0.joined;
       view = (has.0, has.1, text);
     } in
-    let behind = ap (reading_of frame) s.1 ∙ ap (λ (r : RecordText). reading_of frame (at (placed_frame frame) (span_of within.passed + length (record_bytes r)) tt)) same in
+    let behind = ap (reading_of frame) s.1
+    ∙ ap (λ (r : RecordText). reading_of frame (at (placed_frame frame) (span_of within.passed + length (record_bytes r)) tt)) same in
     subst (λ (x : Reading). Steps x (Some event) (reading_of frame new)) (sym (reads_at frame reading attachments ahead within) ∙ old_is) (stands, behind)
 
 -- no record that is given: the reader is at the end, and stays
-pub at_end : (frame : Frame) (reading new : records.Reading) (attachments : entries.Reading) (ahead : Option Entry) (within : IsWithin frame reading attachments ahead) (result : Result (Option Record) Fault) (answer : Option Record)
-    → records.Steps reading result new → answer ≡ result_unwrap_or result None → answer ≡ None → (new ≡ reading) × (drop (span_of within.passed) frame.commands.now ≡ [])
+pub at_end : (frame : Frame) (reading new : records.Reading) (attachments : entries.Reading) (ahead : Option Entry)
+    (within : IsWithin frame reading attachments ahead) (result : Result (Option Record) Fault) (answer : Option Record)
+    → records.Steps reading result new → answer ≡ result_unwrap_or result None → answer ≡ None → (new ≡ reading)
+    × (drop (span_of within.passed) frame.commands.now ≡ [])
 at_end frame reading new attachments ahead within (Ok None) answer steps is none =
     let s = subst (λ (x : records.Reading). records.Steps x (Ok None) new) within.reading_is steps in
     (s.1 ∙ sym within.reading_is, s.0)
 at_end frame reading new attachments ahead within (Ok (Some found)) answer steps is none = let wrong : Some found ≡ None = sym is ∙ none in cc
 at_end frame reading new attachments ahead within (Err fault) answer steps is none =
-    absurd (search_never_fails (frame_text frame) frame.place (span_of within.passed) reading (searches_of frame reading attachments ahead within) fault new steps)
+    absurd (search_never_fails (frame_text frame) frame.place (span_of within.passed) reading (searches_of frame reading attachments ahead within) fault new
+    steps)
 
-pub steps_end : (frame : Frame) (reading new : records.Reading) (attachments : entries.Reading) (ahead : Option Entry) (within : IsWithin frame reading attachments ahead) → new ≡ reading → drop (span_of within.passed) frame.commands.now ≡ []
+pub steps_end : (frame : Frame) (reading new : records.Reading) (attachments : entries.Reading) (ahead : Option Entry)
+    (within : IsWithin frame reading attachments ahead) → new ≡ reading → drop (span_of within.passed) frame.commands.now ≡ []
     → Steps (reading_of frame reading) None (reading_of frame new)
 steps_end frame reading new attachments ahead within same none =
     let there = reads_at frame reading attachments ahead within in

@@ -13,35 +13,40 @@ use Rattle.capture_frame.specs.declared.direction.Direction.{Direction}
 use Rattle.capture_frame.specs.Envelope.{FrameText, frame_text, placed_frame, commands_place}
 use Rattle.capture_frame.specs.Units.{AllStand, placed_at}
 use Rattle.record_view.specs.declared.record.Record.{Record}
-use Rattle.record_view.specs.Records.{RecordText, record_bytes, record_format, IsRecord, HasRecords, StandsAt, span_of, protocol_of}
+use Rattle.record_view.specs.Records.{RecordText, record_bytes, record_format, IsRecord, StandsAt, protocol_of}
 use Rattle.record_view.specs.Reading.{Reading, record_text, records_start, Steps}
 use Rattle.record_view.proofs.RecordLaws.{records_decided, length-record_bytes}
 use Rattle.event_core.specs.declared.event.Event.{Event}
-use Rattle.event_core.specs.Events.{RecordStandsAt, HasRecordAt, bare_event}
+use Rattle.event_core.specs.Events.{RecordStandsAt, bare_event}
 use Rattle.event_core.specs.Reading.{event_text, text_of_event}
 use Rattle.event_core.specs.Lookup.{IsCutAt}
 use Rattle.event_core.proofs.EventWalk.{event_is}
 
 -- what stands where a record begins: its bytes, and those of the records behind it
-rest_at : (frame : FrameText) (offset : ℕ) (found : RecordText) (stands : StandsAt frame offset found) → drop offset frame.commands ≡ record_bytes found ++ flat_map record_bytes stands.behind
+rest_at : (frame : FrameText) (offset : ℕ) (found : RecordText) (stands : StandsAt frame offset found) → drop offset frame.commands
+    ≡ record_bytes found ++ flat_map record_bytes stands.behind
 rest_at frame offset found stands =
     let has = stands.has_records in
     let whole : frame.commands ≡ flat_map record_bytes stands.before ++ flat_map record_bytes (found ∷ stands.behind) =
-    has.joined ∙ append-nil (flat_map record_bytes (stands.before ++ found ∷ stands.behind)) ∙ flat_map-append record_bytes stands.before (found ∷ stands.behind) in
-    ap (drop offset) whole ∙ drop_at (flat_map record_bytes stands.before) (flat_map record_bytes (found ∷ stands.behind)) offset (sym stands.offset_is) ∙ flat_map-cons record_bytes found stands.behind
+    has.joined ∙ append-nil (flat_map record_bytes (stands.before ++ found ∷ stands.behind))
+    ∙ flat_map-append record_bytes stands.before (found ∷ stands.behind) in
+    ap (drop offset) whole ∙ drop_at (flat_map record_bytes stands.before) (flat_map record_bytes (found ∷ stands.behind)) offset (sym stands.offset_is)
+    ∙ flat_map-cons record_bytes found stands.behind
 
 -- a record is within the command bytes
 pub stands_in : (frame : FrameText) (offset : ℕ) (found : RecordText) → StandsAt frame offset found → offset + 4 ≤ length frame.commands
 stands_in frame offset found stands =
     let has = stands.has_records in
     let whole : frame.commands ≡ flat_map record_bytes stands.before ++ flat_map record_bytes (found ∷ stands.behind) =
-    has.joined ∙ append-nil (flat_map record_bytes (stands.before ++ found ∷ stands.behind)) ∙ flat_map-append record_bytes stands.before (found ∷ stands.behind) in
+    has.joined ∙ append-nil (flat_map record_bytes (stands.before ++ found ∷ stands.behind))
+    ∙ flat_map-append record_bytes stands.before (found ∷ stands.behind) in
     let long = ap length whole ∙ length-append (flat_map record_bytes stands.before) (flat_map record_bytes (found ∷ stands.behind)) in
     let more = ap length (flat_map-cons record_bytes found stands.behind) ∙ length-append (record_bytes found) (flat_map record_bytes stands.behind) in
     let at = stands.offset_is in
     omega (arith, long, more, at, length-record_bytes found)
 
-is_record : (protocol : Protocol) (before : List RecordText) (r : RecordText) (behind : List RecordText) → AllStand (record_format protocol) tt (before ++ r ∷ behind) → IsRecord protocol r
+is_record : (protocol : Protocol) (before : List RecordText) (r : RecordText) (behind : List RecordText)
+    → AllStand (record_format protocol) tt (before ++ r ∷ behind) → IsRecord protocol r
 is_record protocol [] r behind all = all.0
 is_record protocol (p ∷ before) r behind all = is_record protocol before r behind all.1
 
@@ -65,7 +70,8 @@ rest_of_cut frame cut place found stands is =
 pub found_at : (frame cut : Frame) (place : ℕ) (found : RecordText) → RecordStandsAt (placed_frame frame) place found → IsCutAt frame place cut
     → (result : Result (Option Record) Fault) (new : Reading) → Steps (records_start (placed_frame cut)) result new → FoundAt frame place found result
 found_at frame cut place found stands is (Ok None) new steps =
-    let none = ap length (sym steps.0 ∙ rest_of_cut frame cut place found stands is) ∙ length-append (record_bytes found) (flat_map record_bytes stands.1.behind) in
+    let none = ap length (sym steps.0 ∙ rest_of_cut frame cut place found stands is)
+    ∙ length-append (record_bytes found) (flat_map record_bytes stands.1.behind) in
     absurd (omega (arith, none, length-record_bytes found))
 found_at frame cut place found stands is (Err fault) new steps =
     let protocol = protocol_of frame.direction in
@@ -79,7 +85,8 @@ found_at frame cut place found stands is (Ok (Some given)) new steps =
     let r = record_text given in
     let good = is_record protocol stands.1.before found stands.1.behind stands.1.has_records.stand in
     let good_too = subst (λ (d : Direction). IsRecord (protocol_of d) r) is.direction steps.0.may_stand in
-    let one = (records_decided protocol).one_unit tt r found _ (flat_map record_bytes stands.1.behind) good_too good (sym steps.0.joined ∙ rest_of_cut frame cut place found stands is) in
+    let one = (records_decided protocol).one_unit tt r found _ (flat_map record_bytes stands.1.behind) good_too good
+    (sym steps.0.joined ∙ rest_of_cut frame cut place found stands is) in
     let begins = is.begins in
     let at = steps.0.view.place_is in
     record {
@@ -93,13 +100,15 @@ found_at frame cut place found stands is (Ok (Some given)) new steps =
 pub found_ok : (frame : Frame) (place : ℕ) (found : RecordText) (result : Result (Option Record) Fault) → FoundAt frame place found result → IsOk result
 found_ok frame place found result there = rw there.result_is refl
 
-pub found_some : (frame : Frame) (place : ℕ) (found : RecordText) (result : Result (Option Record) Fault) (answer : Option Record) → FoundAt frame place found result → result ≡ Ok answer → IsSome answer
+pub found_some : (frame : Frame) (place : ℕ) (found : RecordText) (result : Result (Option Record) Fault) (answer : Option Record)
+    → FoundAt frame place found result → result ≡ Ok answer → IsSome answer
 found_some frame place found result answer there is =
     let same : answer ≡ Some there.given = let both : Ok (Some there.given) ≡ Ok answer = sym there.result_is ∙ is in cc in
     rw same refl
 
 -- the event that is made of it
-pub bare_found : (frame : Frame) (place : ℕ) (found : RecordText) (result : Result (Option Record) Fault) (given : Record) → FoundAt frame place found result → result ≡ Ok (Some given)
+pub bare_found : (frame : Frame) (place : ℕ) (found : RecordText) (result : Result (Option Record) Fault) (given : Record) → FoundAt frame place found result
+    → result ≡ Ok (Some given)
     → (event : Event) → event_text event ≡ text_of_event frame given None → event_text event ≡ bare_event (frame_text frame) (placed_at place found)
 bare_found frame place found result given there is event text =
     let same : there.given ≡ given = let both : Ok (Some there.given) ≡ Ok (Some given) = sym there.result_is ∙ is in cc in

@@ -1,5 +1,5 @@
 -- How long the payload of a record is that a step reads.
-use Rattle.std.proofs.Common.{◌≡◌, ℕ, Option, Some, None, refl, subst, ◌∙◌, arith}
+use Rattle.std.proofs.Common.{◌≡◌, ℕ, Option, Some, None, refl, subst, ◌∙◌}
 use Rattle.std.specs.Option.{ForSome, option_map}
 use Rattle.binder_code.specs.declared.record_kind.Kind.{Kind}
 use Rattle.binder_code.specs.declared.record_kind.Kind.TheVariants.{BcAcquire, BcRelease, BcIncrefs, BcDecrefs, BrAcquire, BrRelease, BrIncrefs, BrDecrefs, BcAcquireDone, BcIncrefsDone, BrDeadBinder, BcDeadBinderDone}

@@ -1,5 +1,5 @@
--- The calls of a thread: which records are marks, which error replies are refused sends, and which records open and close a
--- call (docs/REPORT.md).
+-- The calls of a thread: which records are marks, which error replies are refused sends, and which records open and
+-- close a call (docs/REPORT.md).
 use Rattle.std.specs.Prelude.{ℕ, if◌then◌else◌, List, Option, Some, None}
 use Rattle.binder_code.specs.declared.record_kind.Kind.{Kind}
 use Rattle.binder_code.specs.declared.record_kind.Kind.TheVariants.{BcTransaction, BcReply, BcTransactionSg, BcReplySg, BrTransaction, BrTransactionSecCtx, BrReply, BrDeadReply, BrTransactionComplete, BrFailedReply, BrFrozenReply, BrOnewaySpamSuspect, BrTransactionPendingFrozen}
@@ -17,8 +17,8 @@ sent_mark payload = Some (if has_one_way payload then Oneway else Other)
 abbrev pub received_mark : List ℕ → Option Mark
 received_mark payload = if has_one_way payload then None else Some Other
 
--- the mark that a record leaves in its thread: each record that is sent or got for a call, or in place of a reply; none for
--- every other kind. `TF_ONE_WAY` on a reply says nothing.
+-- the mark that a record leaves in its thread: each record that is sent or got for a call, or in place of a reply; none
+-- for every other kind. `TF_ONE_WAY` on a reply says nothing.
 abbrev pub mark_of : Kind → List ℕ → Option Mark
 mark_of BcTransaction payload = sent_mark payload
 mark_of BcTransactionSg payload = sent_mark payload
@@ -39,8 +39,8 @@ mark_of _ payload = None
 abbrev pub opener : Bracket → List ℕ → Bracket
 opener bracket payload = if has_one_way payload then Neither else bracket
 
--- what an error reply is, by the last mark before it: where that is a send which has no reply to come, the send is refused;
--- else it closes a call
+-- what an error reply is, by the last mark before it: where that is a send which has no reply to come, the send is
+-- refused; else it closes a call
 abbrev pub error_reply : Option Mark → Bracket
 error_reply (Some Oneway) = Refused
 error_reply (Some SentReply) = Refused

@@ -13,8 +13,8 @@ use Rattle.event_core.specs.declared.pending.PendingChange.TheVariants.{Open, Cl
 abbrev pub delivery : ℕ → Kind → List ℕ → BufferItem
 delivery place kind payload = Delivery place (buffer payload) (data_size payload) kind
 
--- what a record at this place does to a buffer: the driver delivers it with the transaction or reply that it holds, and the
--- process frees it by its address; nothing for every other kind
+-- what a record at this place does to a buffer: the driver delivers it with the transaction or reply that it holds, and
+-- the process frees it by its address; nothing for every other kind
 abbrev pub buffer_item : ℕ → Kind → List ℕ → Option BufferItem
 buffer_item place BrTransaction payload = Some (delivery place BrTransaction payload)
 buffer_item place BrTransactionSecCtx payload = Some (delivery place BrTransactionSecCtx payload)

@@ -6,9 +6,11 @@ use Rattle.event_core.specs.declared.pending.PendingItem.{PendingItem}
 use Rattle.event_core.specs.declared.pending.PendingChange.TheVariants.{Open, Close}
 use Rattle.event_core.specs.Requests.{request_key, cookie_alone}
 
--- a record at this place that takes back a request opens its cookie, and one that confirms it closes the cookie; nothing
--- for every other kind
+-- a record at this place that takes back a request opens its cookie, and one that confirms it closes the cookie;
+-- nothing for every other kind
 abbrev pub clear_item : ℕ → Kind → List ℕ → Option (PendingItem ℕ)
-clear_item place BcClearDeathNotification payload = Some (record { place = place; key = (request_key payload).cookie; change = Open })
-clear_item place BrClearDeathNotificationDone payload = Some (record { place = place; key = cookie_alone payload; change = Close })
+clear_item place BcClearDeathNotification payload =
+    Some (record { place = place; key = (request_key payload).cookie; change = Open })
+clear_item place BrClearDeathNotificationDone payload =
+    Some (record { place = place; key = cookie_alone payload; change = Close })
 clear_item place _ payload = None

@@ -13,7 +13,7 @@ use Rattle.transaction_view.specs.Attachments.{EntryText, entry_bytes}
 use Rattle.transaction_view.specs.Grammar.{WholeFrame}
 
 -- the attachment of a record: its place in the capture, the data, and the bytes of the list of offsets
-pub record Attached : Type 0 where
+pub record AttachmentText : Type 0 where
   pub place : ℕ
   pub body : List ℕ
   pub offset_bytes : List ℕ
@@ -27,7 +27,7 @@ pub record EventText : Type 0 where
   pub kind : Kind
   pub code : ℕ
   pub payload : List ℕ
-  pub entry : Option Attached
+  pub entry : Option AttachmentText
 
 -- what a code stands for in a frame, whose own records' codes all stand for something
 abbrev pub kind_in : FrameText → ℕ → Kind
@@ -46,8 +46,8 @@ bare_event frame there = record {
 }
 
 -- an entry with its place, as the attachment of the record that it belongs to
-abbrev pub attached : Placed EntryText → Attached
-attached there = record { place = there.place; body = there.unit.body; offset_bytes = there.unit.offset_bytes }
+abbrev pub attachment_text : Placed EntryText → AttachmentText
+attachment_text there = record { place = there.place; body = there.unit.body; offset_bytes = there.unit.offset_bytes }
 
 -- the entries of a frame with their places
 abbrev pub placed_entries : Placed FrameText → List EntryText → List (Placed EntryText)
@@ -58,9 +58,9 @@ abbrev pub belongs_to : ℕ → ℕ → Placed EntryText → Bool
 belongs_to commands_at place there = commands_at + there.unit.offset == place
 
 -- the attachment of the record at a place: the entry that belongs to it
-abbrev pub attachment_of : Placed FrameText → List EntryText → ℕ → Option Attached
+abbrev pub attachment_of : Placed FrameText → List EntryText → ℕ → Option AttachmentText
 attachment_of frame entries place =
-    option_map attached (find (belongs_to (commands_place frame.place) place) (placed_entries frame entries))
+    option_map attachment_text (find (belongs_to (commands_place frame.place) place) (placed_entries frame entries))
 
 -- the event of a record of a frame that has these entries
 abbrev pub event_of : Placed FrameText → List EntryText → Placed RecordText → EventText
@@ -80,7 +80,8 @@ events_of_whole there = events_of (placed_at there.place there.unit.frame) there
 
 -- the events of a capture in the grammar, as these frames: those of each frame, in rising place
 abbrev pub events_of_capture : List WholeFrame → List EventText
-events_of_capture frames = flat_map events_of_whole (placed (λ whole. frame_bytes whole.frame) file_header_length frames)
+events_of_capture frames =
+    flat_map events_of_whole (placed (λ whole. frame_bytes whole.frame) file_header_length frames)
 
 -- the event at a place, where one of these stands there
 abbrev pub event_at_place : ℕ → List EventText → Option EventText
@@ -88,7 +89,8 @@ event_at_place place events = find (λ e. e.place == place) events
 
 -- this record of the frame begins at this place of the capture
 abbrev pub RecordStandsAt : Placed FrameText → ℕ → RecordText → Type 0
-RecordStandsAt frame place found = (offset : ℕ) × StandsAt frame.unit offset found × (place ≡ commands_place frame.place + offset)
+RecordStandsAt frame place found =
+    (offset : ℕ) × StandsAt frame.unit offset found × (place ≡ commands_place frame.place + offset)
 
 -- some record of the frame begins at this place of the capture
 abbrev pub HasRecordAt : Placed FrameText → ℕ → Type 0

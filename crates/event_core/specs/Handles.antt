@@ -21,4 +21,5 @@ handle_effect _ = None
 -- the change that a record makes, whose payload is then a handle; none for every other kind
 abbrev pub handle_item : Kind → List ℕ → Option HandleItem
 handle_item kind payload =
-    option_map (λ effect. record { handle = number_at 4 0 payload; strength = effect.0; change = effect.1 }) (handle_effect kind)
+    option_map (λ effect. record { handle = number_at 4 0 payload; strength = effect.0; change = effect.1 })
+    (handle_effect kind)

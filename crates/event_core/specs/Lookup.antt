@@ -3,7 +3,7 @@ use Rattle.std.specs.Prelude.{◌≡◌, ℕ, ◌-◌, drop}
 use Rattle.capture_frame.specs.declared.frame.Frame.{Frame}
 use Rattle.capture_frame.specs.Envelope.{commands_place}
 
--- the command bytes begin at this place and are the frame's from there on; process, thread and direction are the frame's
+-- the command bytes begin at this place and are the frame's from there on, and so is their direction
 pub record IsCutAt (frame : Frame) (place : ℕ) (found : Frame) : Type 0 where
   pub begins : commands_place found.place ≡ place
   pub commands : found.commands.now ≡ drop (place - commands_place frame.place) frame.commands.now

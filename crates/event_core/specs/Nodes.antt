@@ -16,8 +16,8 @@ use Rattle.event_core.specs.declared.strength.Strength.TheVariants.{Strong, Weak
 abbrev pub node_key : List ℕ → NodeKey
 node_key payload = record { ptr = number_at 8 0 payload; cookie = number_at 8 8 payload }
 
--- which references a record of this kind changes, and how (`linux/android/binder.h`, `binder_driver_return_protocol`, and
--- the two answers to it)
+-- which references a record of this kind changes, and how (`linux/android/binder.h`, `binder_driver_return_protocol`,
+-- and the two answers to it)
 abbrev pub node_effect : Kind → Option (Strength × NodeChange)
 node_effect BrAcquire = Some (Strong, Raise)
 node_effect BrRelease = Some (Strong, Lower)

@@ -13,7 +13,8 @@ has_one_way payload = flags payload % 2 == 1
 
 -- the item of a transaction under a key; none where it is no oneway one
 abbrev pub item_under : OnewayKey → List ℕ → Option OnewayItem
-item_under key payload = if has_one_way payload then Some (record { key = key; data_size = data_size payload }) else None
+item_under key payload =
+    if has_one_way payload then Some (record { key = key; data_size = data_size payload }) else None
 
 -- the item of a transaction that is sent or received with `TF_ONE_WAY`; none for a reply and for every other record
 abbrev pub oneway_item : Kind → List ℕ → Option OnewayItem

@@ -10,11 +10,11 @@ use Rattle.record_view.specs.Records.{RecordText, record_bytes, format_of, HasRe
 use Rattle.transaction_view.specs.declared.entry.Entry.{Entry}
 use Rattle.transaction_view.specs.Attachments.{EntryText, HasEntries}
 use Rattle.event_core.specs.declared.event.Event.{Event}
-use Rattle.event_core.specs.Events.{Attached, EventText, event_of, events_of, event_at_place}
+use Rattle.event_core.specs.Events.{AttachmentText, EventText, event_of, events_of, event_at_place}
 
 -- what an attachment of the capture says
-abbrev pub attached_text : Entry → Attached
-attached_text found = record { place = found.place; body = found.body.now; offset_bytes = found.offsets.now }
+abbrev pub entry_attachment : Entry → AttachmentText
+entry_attachment found = record { place = found.place; body = found.body.now; offset_bytes = found.offsets.now }
 
 -- what an event of the capture says
 abbrev pub event_text : Event → EventText
@@ -25,7 +25,7 @@ event_text found = record {
   kind = found.kind;
   code = found.code.0;
   payload = found.payload.now;
-  entry = option_map attached_text found.entry;
+  entry = option_map entry_attachment found.entry;
 }
 
 -- what the event of a record of a frame says, with this attachment
@@ -37,7 +37,7 @@ text_of_event frame found entry = record {
   kind = found.kind;
   code = found.code.0;
   payload = found.payload.now;
-  entry = option_map attached_text entry;
+  entry = option_map entry_attachment entry;
 }
 
 -- the record that an event of the capture is made of
@@ -59,8 +59,8 @@ StandsThere frame offset found =
     ((entries : List EntryText) × HasEntries frame.unit entries
     × (event_text found ≡ event_of frame entries (placed_at (commands_place frame.place + offset) (record_of found))))
 
--- one call: it gives the event of the record that stands there and goes behind the record; or gives nothing at the end of
--- the command bytes and stays
+-- one call: it gives the event of the record that stands there and goes behind the record; or gives nothing at the end
+-- of the command bytes and stays
 abbrev pub Steps : Reading → Option Event → Reading → Type 0
 Steps reading (Some found) new =
     StandsThere reading.frame reading.offset found
@@ -82,5 +82,6 @@ GiveEvents events results = GiveInOrder GivesEvent None None events results
 -- the event of a frame at a place of the capture, or none where no event of the frame stands there
 abbrev pub IsEventAt : Placed FrameText → ℕ → Option Event → Type 0
 IsEventAt frame place result =
-    (records : List RecordText) (entries : List EntryText) → HasRecords frame.unit records → HasEntries frame.unit entries
+    (records : List RecordText) (entries : List EntryText) → HasRecords frame.unit records
+    → HasEntries frame.unit entries
     → option_map event_text result ≡ event_at_place place (events_of frame records entries)

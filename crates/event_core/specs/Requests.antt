@@ -26,4 +26,5 @@ request_change _ payload = None
 
 -- the same, with the record's place
 abbrev pub request_item : ℕ → Kind → List ℕ → Option RequestItem
-request_item place kind payload = option_map (λ change. record { place = place; change = change }) (request_change kind payload)
+request_item place kind payload =
+    option_map (λ change. record { place = place; change = change }) (request_change kind payload)

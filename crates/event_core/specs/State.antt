@@ -32,19 +32,23 @@ entries_span frame given = length (spelling_of (entry_format (frame_text frame))
 pub record HasRead (frame : Frame) (reading : entries.Reading) (done : List EntryText) : Type 0 where
   pub distance : ℕ
   pub reading_is : reading ≡ at (placed_frame frame) distance (state_after (entry_format (frame_text frame)) None done)
-  pub splits : Splits (entry_format (frame_text frame)) None frame.attachments.now done (drop distance frame.attachments.now)
+  pub splits : Splits (entry_format (frame_text frame)) None frame.attachments.now done
+      (drop distance frame.attachments.now)
   pub distance_is : distance ≡ entries_span frame done
 
--- The entry at hand, of a frame that has given these: there is none, and they are all; or it is the next, its record is not
--- before the offset, and the reader of entries stands behind it.
-pub data IsNext (frame : Frame) (offset : ℕ) (reading : entries.Reading) (given : List EntryText) (ahead : Option Entry) : Type 0 where
+-- The entry at hand, of a frame that has given these: there is none, and they are all; or it is the next, its record is
+-- not before the offset, and the reader of entries stands behind it.
+pub data IsNext (frame : Frame) (offset : ℕ) (reading : entries.Reading) (given : List EntryText)
+    (ahead : Option Entry) : Type 0 where
   all_given : ahead ≡ None → HasEntries (frame_text frame) given → IsNext frame offset reading given ahead
   one_ahead : (found : Entry) → ahead ≡ Some found → commands_place frame.place + offset ≤ found.owner
       → found.place ≡ attachments_place (frame_text frame) frame.place + entries_span frame given
       → HasRead frame reading (given ++ entry_text frame.place found ∷ []) → IsNext frame offset reading given ahead
 
--- the reader of records stands behind these records of a good frame, and the entries given out are those of passed records
-pub record IsWithin (frame : Frame) (reading : records.Reading) (attachments : entries.Reading) (ahead : Option Entry) : Type 0 where
+-- the reader of records stands behind these records of a good frame, and the entries given out are those of passed
+-- records
+pub record IsWithin (frame : Frame) (reading : records.Reading) (attachments : entries.Reading)
+    (ahead : Option Entry) : Type 0 where
   pub good : HasGoodContent (frame_text frame)
   pub passed : List RecordText
   pub further : List RecordText
@@ -58,6 +62,7 @@ pub record IsWithin (frame : Frame) (reading : records.Reading) (attachments : e
 abbrev pub TakesAt : ℕ → Option Entry → entries.Reading → Option Entry → Option Entry → entries.Reading → Type 0
 TakesAt place ahead reading (Some found) new_ahead new =
     (ahead ≡ Some found) × (found.owner ≡ place)
-    × (result : Result (Option Entry) Fault) × entries.Steps reading result new × (new_ahead ≡ result_unwrap_or result None)
+    × (result : Result (Option Entry) Fault) × entries.Steps reading result new
+    × (new_ahead ≡ result_unwrap_or result None)
 TakesAt place ahead reading None new_ahead new =
     (new_ahead ≡ ahead) × (new ≡ reading) × ((found : Entry) → ahead ≡ Some found → found.owner ≢ place)

@@ -1,8 +1,8 @@
-//! Captures for tests, byte by byte, as `linux/android/binder.h` lays records out: a capture header, a
-//! frame header of thread 3 of process 2, and a record on each line or its lines.
+//! Captures for tests, byte by byte, as `linux/android/binder.h` lays records out: a capture
+//! header, a frame header of thread 3 of process 2, and a record on each line or its lines.
 
-/// A write of every command and of an opaque record; transactions and replies without TF_ONE_WAY and
-/// with it.
+/// A write of every command and of an opaque record; transactions and replies without TF_ONE_WAY
+/// and with it.
 pub(crate) const COMMANDS: &[u8] = b"BNDRCAP1\x08\0\0\0\0\0\0\0\
     \x01\0\0\0\0\0\0\0\x02\0\0\0\x03\0\0\0\
     \x01\0\0\0\xa4\x02\0\0\0\0\0\0\0\0\0\0\
@@ -90,7 +90,7 @@ pub(crate) const RETURNS: &[u8] = b"BNDRCAP1\x08\0\0\0\0\0\0\0\
     \x15\x72\x00\x00";
 
 /// A write of seven records, of which the second and the fourth have attachments.
-pub(crate) const ATTACHED: &[u8] = b"BNDRCAP1\x08\0\0\0\0\0\0\0\
+pub(crate) const WITH_ATTACHMENTS: &[u8] = b"BNDRCAP1\x08\0\0\0\0\0\0\0\
     \x01\0\0\0\0\0\0\0\x02\0\0\0\x03\0\0\0\
     \x01\0\0\0\x30\x01\0\0\x29\0\0\0\0\0\0\0\
     \x00\x63\x40\x40\xa0\xa1\xa2\xa3\xa4\xa5\xa6\xa7\0\0\0\0\0\0\0\0\0\0\0\0\x00\0\0\0\0\0\0\0\

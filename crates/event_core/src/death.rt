@@ -19,8 +19,8 @@ fn death_change(kind: Kind) -> Option<PendingChange>
     }
 }
 
-/// The open of its cookie that a BR_DEAD_BINDER is, or the close that a BC_DEAD_BINDER_DONE is; None
-/// for every other event.
+/// The open of its cookie that a BR_DEAD_BINDER is, or the close that a BC_DEAD_BINDER_DONE is;
+/// None for every other event.
 pub fn death_step(event: Event<'_>) -> Option<PendingItem<u64>>
     ensures { result ≡ death_item event.entry.place event.entry.kind event.entry.payload.now }
 {

@@ -6,8 +6,8 @@ ghost use Rattle.transaction_view.specs.Transaction.{has_transaction_data};
 use binder_code::{Code, Kind};
 use transaction_view::{Entry, Transaction};
 
-/// A record of a capture, with the process and the thread that wrote or read it. The payload and the
-/// attachment are the capture's own bytes.
+/// A record of a capture, with the process and the thread that wrote or read it. The payload and
+/// the attachment are the capture's own bytes.
 #[derive(Clone, Copy, Debug)]
 pub struct Event<'c> {
     /// Where the record's code begins in the capture, in bytes.

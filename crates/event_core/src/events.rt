@@ -6,7 +6,7 @@ ghost use Rattle.transaction_view.specs.FirstFault.{HasGoodContent};
 ghost use Rattle.event_core.specs.State.{TakesAt};
 
 use crate::event::Event;
-use crate::making::event_of;
+use crate::record_event::event_of;
 use capture_frame::Frame;
 use record_view::Records;
 use std::marker::Model;

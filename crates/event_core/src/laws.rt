@@ -10,10 +10,12 @@ ghost use Rattle.event_core.specs.declared.event.Event.{Event};
 ghost use Rattle.event_core.specs.Events.{events_of};
 ghost use Rattle.event_core.specs.Reading.{Reading, Steps, events_start, GiveEvents};
 
-/// A reader of a frame without a fault, called again and again from its start, gives the frame's events
-/// in order and then nothing at every later call. Any reader that has ended gives nothing for ever.
+/// A reader of a frame without a fault, called again and again from its start, gives the frame's
+/// events in order and then nothing at every later call. Any reader that has ended gives nothing
+/// for ever.
 pub fn all_calls()
-    ensures whole { (frame : Placed FrameText) (records : List RecordText) (entries : List EntryText) →
+    ensures whole { (frame : Placed FrameText) →
+        (records : List RecordText) (entries : List EntryText) →
         HasRecords frame.unit records → HasEntries frame.unit entries →
         (results : List (Option Event)) → Calls Steps (events_start frame) results →
         GiveEvents (events_of frame records entries) results }

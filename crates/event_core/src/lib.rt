@@ -13,11 +13,11 @@ mod events;
 mod handle;
 pub mod laws;
 mod lookup;
-mod making;
 mod marks;
 mod node;
 mod oneway;
 mod pending;
+mod record_event;
 mod request;
 mod strength;
 

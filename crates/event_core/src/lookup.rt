@@ -11,7 +11,7 @@ ghost use Rattle.event_core.specs.Lookup.{IsCutAt};
 
 use crate::event::Event;
 use crate::events::Events;
-use crate::making::event_of;
+use crate::record_event::event_of;
 use capture_frame::Frame;
 use record_view::Records;
 
@@ -31,8 +31,8 @@ pub fn event_at<'c>(frame: Frame<'c>, place: u64) -> Option<Event<'c>>
     None
 }
 
-/// The event of the record of a frame that begins at a place of the capture, with the attachment left
-/// out. Unlike `event_at` it does not pass the records before.
+/// The event of the record of a frame that begins at a place of the capture, with the attachment
+/// left out. Unlike `event_at` it does not pass the records before.
 pub fn bare_event_at<'c>(frame: Frame<'c>, place: u64) -> Event<'c>
     requires { HasRecordAt (placed_frame frame) place }
     ensures { (found : RecordText) → RecordStandsAt (placed_frame frame.entry) place found →
@@ -44,8 +44,8 @@ pub fn bare_event_at<'c>(frame: Frame<'c>, place: u64) -> Event<'c>
     event_of(frame, record, None)
 }
 
-/// The frame without the records before a place and without its attachments: a reader of its records
-/// begins there.
+/// The frame without the records before a place and without its attachments: a reader of its
+/// records begins there.
 fn from_place<'c>(frame: Frame<'c>, place: u64) -> Frame<'c>
     requires from { commands_place frame.place ≤ place }
     requires to { place ≤ commands_place frame.place + length frame.commands.now }

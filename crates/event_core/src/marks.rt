@@ -1,5 +1,5 @@
-//! What an event is to its thread: a mark, which says where the thread stands among its calls; and an
-//! opener or a closer of a call.
+//! What an event is to its thread: a mark, which says where the thread stands among its calls; and
+//! an opener or a closer of a call.
 
 /// What an error reply that follows next in the thread would answer.
 #[derive(Clone, Copy, Debug, PartialEq, Eq)]
@@ -25,8 +25,8 @@ pub enum Bracket {
     Sent,
     /// The thread gets an error in place of a reply: a closer.
     Error,
-    /// The driver has refused a oneway transaction or a reply that the thread sent: neither an opener
-    /// nor a closer.
+    /// The driver has refused a oneway transaction or a reply that the thread sent: neither an
+    /// opener nor a closer.
     Refused,
     /// No record of a call.
     Neither,

@@ -2,7 +2,7 @@
 //! their places.
 
 use super::*;
-use crate::captures::{ATTACHED, COMMANDS, RETURNS};
+use crate::captures::{COMMANDS, RETURNS, WITH_ATTACHMENTS};
 use binder_code::Kind;
 use capture_frame::{Frame, Frames};
 use std::process::Abort;
@@ -393,7 +393,7 @@ const RETURN_ROWS: &[Row] = &[
     },
 ];
 
-/// A record of the frame of `ATTACHED`: its place, and that of its attachment.
+/// A record of the frame of `WITH_ATTACHMENTS`: its place, and that of its attachment.
 #[derive(Clone, Copy)]
 struct Start {
     place: u64,
@@ -472,7 +472,7 @@ fn expect_at(rt: &impl Abort, frame: Frame<'_>, place: u64) {
     }
 }
 
-/// The event is that of a record of `ATTACHED`.
+/// The event is that of a record of `WITH_ATTACHMENTS`.
 fn expect_start(rt: &impl Abort, event: Event<'_>, start: Start) {
     assert_eq!(rt; event.place, start.place);
     assert_eq!(rt; event.process, 2);
@@ -587,7 +587,7 @@ fn reads_every_return(rt: HostRuntime) -> Result<(), Fail> {
 
 #[test]
 fn gives_each_attachment_to_its_own_record(rt: HostRuntime) -> Result<(), Fail> {
-    let mut events = events_of(ATTACHED)?;
+    let mut events = events_of(WITH_ATTACHMENTS)?;
     for start in STARTS {
         let event = events.next_event().ok_or("an event is missing")?;
         expect_start(&rt, event, *start);
@@ -600,7 +600,7 @@ fn gives_each_attachment_to_its_own_record(rt: HostRuntime) -> Result<(), Fail> 
 
 #[test]
 fn finds_the_event_at_a_place(rt: HostRuntime) -> Result<(), Fail> {
-    let frame = first_frame(ATTACHED)?;
+    let frame = first_frame(WITH_ATTACHMENTS)?;
     for place in 0..400 {
         expect_at(&rt, frame, place);
     }

@@ -14,17 +14,20 @@ pub unwrap-requires : goal.unwrap-requires
 unwrap-requires c =
     let has = c.requires in
     found_ok c.args.frame c.args.place has.0 c.next_record.result
-    (found_at c.args.frame c.from_place.result c.args.place has.0 has.1 c.from_place.ensures c.next_record.result c.next_record.new.self (rw c.of-records.ensures at c.next_record.ensures))
+    (found_at c.args.frame c.from_place.result c.args.place has.0 has.1 c.from_place.ensures c.next_record.result c.next_record.new.self
+    (rw c.of-records.ensures at c.next_record.ensures))
 
 pub unwrap-record-requires : goal.unwrap-record-requires
 unwrap-record-requires c =
     let has = c.requires in
     found_some c.args.frame c.args.place has.0 c.next_record.result c.unwrap.result
-    (found_at c.args.frame c.from_place.result c.args.place has.0 has.1 c.from_place.ensures c.next_record.result c.next_record.new.self (rw c.of-records.ensures at c.next_record.ensures))
+    (found_at c.args.frame c.from_place.result c.args.place has.0 has.1 c.from_place.ensures c.next_record.result c.next_record.new.self
+    (rw c.of-records.ensures at c.next_record.ensures))
     c.unwrap.ensures
 
 pub returns : goal.returns
 returns c = λ found stands.
     bare_found c.args.frame c.args.place found c.next_record.result c.unwrap-record.result
-    (found_at c.args.frame c.from_place.result c.args.place found stands c.from_place.ensures c.next_record.result c.next_record.new.self (rw c.of-records.ensures at c.next_record.ensures))
+    (found_at c.args.frame c.from_place.result c.args.place found stands c.from_place.ensures c.next_record.result c.next_record.new.self
+    (rw c.of-records.ensures at c.next_record.ensures))
     (c.unwrap.ensures ∙ ap Ok c.unwrap-record.ensures) c.event_of.result c.event_of.ensures

@@ -9,7 +9,8 @@ loop-event-smaller c = step_falls c.loop-event.events c.in-Some.event c.next_eve
 
 pub loop-event-preserved : goal.loop-event-preserved
 loop-event-preserved c =
-    looks_on c.args.frame c.args.place c.loop-event.events c.loop-event.invariant c.in-Some.event c.next_event.new.self (rw c.in-Some.is at c.next_event.ensures) c.if-event-place.false
+    looks_on c.args.frame c.args.place c.loop-event.events c.loop-event.invariant c.in-Some.event c.next_event.new.self
+    (rw c.in-Some.is at c.next_event.ensures) c.if-event-place.false
 
 pub returns-then-event-place : goal.returns-then-event-place
 returns-then-event-place c =
@@ -17,7 +18,8 @@ returns-then-event-place c =
     let looks = c.loop-event.invariant in
     record {
       exact = looks_found c.args.frame c.args.place c.loop-event.events looks c.in-Some.event c.next_event.new.self steps c.if-event-place.true;
-      there = some_there _ c.in-Some.event (found_there c.args.frame c.args.place c.loop-event.events looks c.in-Some.event c.next_event.new.self steps c.if-event-place.true);
+      there = some_there _ c.in-Some.event (found_there c.args.frame c.args.place c.loop-event.events looks c.in-Some.event c.next_event.new.self steps
+          c.if-event-place.true);
     }
 
 pub returns : goal.returns

@@ -1,3 +1,5 @@
+//! The event of a record, with its attachment.
+
 ghost use Rattle.std.specs.Prelude.{◌≡◌};
 ghost use Rattle.std.specs.Option.{ForSome};
 ghost use Rattle.event_core.specs.Reading.{event_text, text_of_event};
