@@ -1,0 +1,42 @@
+-- What the report says of a capture in the grammar (docs/REPORT.md).
+use Rattle.std.specs.Prelude.{◌≡◌, ℕ, ◌-◌, List, [], ◌∷◌, length, count_by}
+use Rattle.transaction_view.specs.Grammar.{WholeFrame}
+use Rattle.capture_frame.specs.Units.{Placed}
+use Rattle.event_core.specs.Events.{EventText}
+use Rattle.audit_join.specs.declared.codes.CodeRow.{CodeRow}
+use Rattle.audit_join.specs.declared.sort_counts.SortCounts.{SortCounts}
+use Rattle.audit_join.specs.Codes.{is_opaque, code_words, AreCodeRows}
+use Rattle.audit_join.specs.Flags.{flagged}
+use Rattle.audit_join.specs.Frames.{events_of_wholes}
+use Rattle.audit_join.specs.Objects.{BadOwned, attachments_of, AreObjectFindings}
+
+-- the sequence of the last of these frames
+abbrev pub last_sequence : Placed WholeFrame → List (Placed WholeFrame) → ℕ
+last_sequence first [] = first.unit.frame.sequence
+last_sequence first (next ∷ others) = last_sequence next others
+
+-- how many sequences from the first frame's to the last one's have no frame here
+abbrev pub missing_count : List (Placed WholeFrame) → ℕ
+missing_count [] = 0
+missing_count (first ∷ others) = (last_sequence first others - first.unit.frame.sequence) - length others
+
+-- the numbers and the rows of a report; a listed event stands there as the event itself
+pub record FindingsText : Type 0 where
+  pub frames : ℕ
+  pub records : ℕ
+  pub opaque : ℕ
+  pub missing : ℕ
+  pub codes : List CodeRow
+  pub objects : SortCounts
+  pub bad_objects : List BadOwned
+  pub flags : List EventText
+
+-- the findings are those of these frames
+pub record AreFindings (wholes : List (Placed WholeFrame)) (said : FindingsText) : Type 0 where
+  pub frames : said.frames ≡ length wholes
+  pub records : said.records ≡ length (events_of_wholes wholes)
+  pub opaque : said.opaque ≡ count_by is_opaque (events_of_wholes wholes)
+  pub missing : said.missing ≡ missing_count wholes
+  pub codes : AreCodeRows (code_words (events_of_wholes wholes)) said.codes
+  pub objects : AreObjectFindings (attachments_of (events_of_wholes wholes)) said.objects said.bad_objects
+  pub flags : said.flags ≡ flagged (events_of_wholes wholes)

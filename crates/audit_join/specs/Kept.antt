@@ -1,0 +1,29 @@
+-- What the findings keep of what the report says: of a listed event its place, and what its record does not hold.
+use Rattle.std.specs.Prelude.{◌≡◌, List, length, map}
+use Rattle.capture_frame.specs.declared.frame.Frame.{Frame}
+use Rattle.transaction_view.specs.Grammar.{WholeFrame}
+use Rattle.audit_join.specs.declared.objects.BadRow.{BadRow}
+use Rattle.audit_join.specs.declared.findings.Sections.{Sections}
+use Rattle.audit_join.specs.Findings.{FindingsText, AreFindings}
+use Rattle.audit_join.specs.Frames.{Show, wholes_of}
+use Rattle.audit_join.specs.Objects.{BadOwned}
+
+-- what is kept of a bad object: its record's place, and the object
+abbrev pub kept_bad : BadOwned → BadRow
+kept_bad b = record { owner = b.owner.place; bad = b.bad }
+
+-- the numbers are the same, and each row of events is kept by their places
+pub record Keep (sections : Sections) (said : FindingsText) : Type 0 where
+  pub records : sections.records ≡ said.records
+  pub opaque : sections.opaque ≡ said.opaque
+  pub missing : sections.missing ≡ said.missing
+  pub codes : sections.codes ≡ said.codes
+  pub objects : sections.objects ≡ said.objects
+  pub bad_objects : sections.bad_objects ≡ map kept_bad said.bad_objects
+  pub flags : sections.flags ≡ map (λ e. e.place) said.flags
+
+-- the views show these frames of a capture, whose findings say this, and the sections keep it
+pub record Tell (wholes : List WholeFrame) (said : FindingsText) (frames : List Frame) (sections : Sections) : Type 0 where
+  pub show : Show frames (wholes_of wholes)
+  pub are : AreFindings (wholes_of wholes) said
+  pub keep : Keep sections said

@@ -1,0 +1,9 @@
+pub mod Frames
+pub mod Codes
+pub mod Objects
+pub mod Flags
+pub mod Findings
+pub mod Kept
+pub mod Ledgers
+pub mod Summary
+pub mod Audit

@@ -1,0 +1,26 @@
+//! From a capture to its findings: what its frames come to, kept as places, numbers and rows.
+#![tactic(auto)]
+
+mod audit;
+mod audit_error;
+mod codes;
+mod event_ledgers;
+mod findings;
+mod flags;
+mod ledgers;
+mod limits;
+mod objects;
+mod piece_summary;
+mod rows;
+mod sequences;
+mod sort_counts;
+
+pub use audit::audit_one;
+pub use audit_error::AuditError;
+pub use codes::CodeRow;
+pub use findings::{Findings, Sections};
+pub use limits::CAPTURE_LIMIT;
+pub use objects::BadRow;
+pub use piece_summary::PieceSummary;
+pub use rows::Rows;
+pub use sort_counts::SortCounts;

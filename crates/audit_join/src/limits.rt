@@ -1,0 +1,4 @@
+//! The bounds on what is audited.
+
+/// The most bytes that a capture may have.
+pub const CAPTURE_LIMIT: usize = 1_073_741_824;

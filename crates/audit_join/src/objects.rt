@@ -1,0 +1,91 @@
+//! The section `objects`.
+
+ghost use Rattle.std.specs.Prelude.{◌≡◌, ◌+◌, ◌≤◌, ◌<◌, ◌^◌, ◌++◌, ◌∷◌, [], ℕ, List, length, map, IfOk, OnOk};
+ghost use Rattle.event_core.specs.Events.{EventText};
+ghost use Rattle.event_core.specs.Reading.{event_text};
+ghost use Rattle.object_view.specs.declared.sort.Sort.{Sort};
+ghost use Rattle.object_view.specs.Objects.{ObjectText, AreObjects};
+ghost use Rattle.summary_law.specs.Summary.{CanAdd, Adds, CanJoin, Joins};
+ghost use Rattle.audit_join.specs.Objects.{count_of, times_of};
+ghost use Rattle.audit_join.specs.Ledgers.{SumsObjects, AreFewEvents};
+
+use crate::sort_counts::SortCounts;
+use event_core::Event;
+use object_view::{BadObject, Objects};
+use std::alloc::{AllocError, Global};
+use transaction_view::Entry;
+
+/// A bad object, and whose it is.
+#[derive(Clone, Copy, Debug, PartialEq, Eq)]
+pub struct BadRow {
+    /// Where the record that its attachment belongs to begins in the capture.
+    pub owner: u64,
+    /// The object.
+    pub bad: BadObject,
+}
+
+/// How many good objects of each sort there are, and the bad ones.
+#[derive(Drop)]
+pub(crate) struct ObjectLedger {
+    pub counts: SortCounts,
+    pub bad: Vec<BadRow>,
+}
+
+impl ObjectLedger {
+    pub fn empty(alloc: Global) -> Self
+        ensures { SumsObjects result [] }
+    {
+        ObjectLedger {
+            counts: SortCounts::NONE,
+            bad: Vec::new(alloc),
+        }
+    }
+
+    /// Adds the objects of an event's attachment.
+    pub fn add(&mut self, event: Event<'_>) -> Result<(), AllocError>
+        requires { CanAdd SumsObjects AreFewEvents self.old (event_text event) }
+        ensures { OnOk result
+            (Adds SumsObjects AreFewEvents self.old (event_text event.entry) self.new) }
+    {
+        if let Some(entry) = event.entry
+            && let Some(bad) = count_entry(&mut self.counts, entry)
+        {
+            self.bad.push(BadRow {
+                owner: event.place,
+                bad,
+            })?;
+        }
+        Ok(())
+    }
+
+    /// Those of these events and of the later ones.
+    pub fn join(self, later: ObjectLedger) -> Result<ObjectLedger, AllocError>
+        requires { CanJoin SumsObjects AreFewEvents self later }
+        ensures { IfOk result (Joins SumsObjects AreFewEvents self later) }
+    {
+        let mut bad = self.bad;
+        bad.extend_from_slice(later.bad.as_slice())?;
+        Ok(ObjectLedger {
+            counts: self.counts.plus(later.counts),
+            bad,
+        })
+    }
+}
+
+/// Counts the objects of an attachment, up to the first bad one, which is given.
+fn count_entry(counts: &mut SortCounts, entry: Entry<'_>) -> Option<BadObject>
+    requires { (sort : Sort) → count_of counts.old sort + length entry.offsets.now < 2 ^ 64 }
+    ensures { (objects : List ObjectText)
+        × AreObjects entry.entry.body.now entry.entry.offsets.now objects result
+        × ((sort : Sort) → count_of counts.new sort ≡ count_of counts.old sort
+        + times_of sort objects) }
+{
+    let mut objects = Objects::of(entry);
+    while let Some(next) = objects.next_object() {
+        match next {
+            Ok(object) => counts.add(object.sort),
+            Err(bad) => return Some(bad),
+        }
+    }
+    None
+}

@@ -1,0 +1,42 @@
+//! A list that a contract sees as such.
+
+ghost use Rattle.std.specs.Prelude.{◌≡◌, length};
+
+use std::marker::Model;
+
+/// Rows in their order: those of a section, or the frames of a capture.
+#[derive(Debug, Drop)]
+pub struct Rows<T> {
+    rows: Vec<T>,
+}
+
+impl<T> Model for Rows<T> {
+    ghost use Rattle.std.specs.Prelude.{List};
+
+    ghost Value = { List T };
+
+    ghost view = { λ r. r.rows.items };
+}
+
+impl<T> Rows<T> {
+    /// The rows of a list.
+    pub fn of(rows: Vec<T>) -> Self
+        ensures { result ≡ rows.items }
+    {
+        Rows { rows }
+    }
+
+    /// How many there are.
+    pub fn len(&self) -> usize
+        ensures { result ≡ length self.now }
+    {
+        self.rows.len()
+    }
+
+    /// All of them.
+    pub fn as_slice(&self) -> &[T]
+        ensures { result.now ≡ self.now }
+    {
+        self.rows.as_slice()
+    }
+}
