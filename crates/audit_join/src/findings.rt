@@ -1,15 +1,13 @@
 //! The findings of a capture.
 
-ghost use Rattle.std.specs.Prelude.{◌≡◌, List, ℕ};
-ghost use Rattle.transaction_view.specs.Grammar.{WholeFrame};
-ghost use Rattle.audit_join.specs.Findings.{FindingsText};
-ghost use Rattle.audit_join.specs.Kept.{Tell};
+ghost use Rattle.std.specs.Prelude.{◌≡◌};
 
 use crate::codes::CodeRow;
 use crate::objects::BadRow;
 use crate::rows::Rows;
 use crate::sort_counts::SortCounts;
 use capture_frame::Frame;
+use std::marker::Model;
 
 /// The numbers and the rows of the report, beside the number of frames.
 #[derive(Debug, Drop)]
@@ -34,11 +32,43 @@ pub struct Sections {
 /// place; the rest of its row is read from the frames again.
 #[derive(Debug, Drop)]
 pub struct Findings<'c> {
-    /// The frames of the capture, in order.
-    pub frames: Rows<Frame<'c>>,
-    /// The numbers and the rows of each section.
-    pub sections: Sections,
+    frames: Vec<Frame<'c>>,
+    sections: Sections,
+}
+
+impl<'c> Model for Findings<'c> {
+    ghost use Rattle.audit_join.specs.Kept.{KeptFindings, kept_findings, AreOfFrames};
+
+    ghost Value = { KeptFindings };
+
+    ghost view = { λ f. kept_findings f.frames.items f.sections };
+
     // They are those of some frames of a capture, which the views show.
-    ghost told: { (wholes : List WholeFrame) × (said : FindingsText)
-        × Tell wholes said frames sections },
+    ghost invariant = { λ f. AreOfFrames f.frames.items f.sections };
+}
+
+impl<'c> Findings<'c> {
+    ghost use Rattle.audit_join.specs.Kept.{kept_findings, AreOfFrames};
+
+    /// The findings of frames and what is kept of them.
+    pub(crate) fn new(frames: Vec<Frame<'c>>, sections: Sections) -> Findings<'c>
+        requires { AreOfFrames frames.items sections }
+        ensures { result ≡ kept_findings frames.entry.items sections }
+    {
+        Findings { frames, sections }
+    }
+
+    /// The frames of the capture, in order.
+    pub fn frames(&self) -> &[Frame<'c>]
+        ensures { result.now ≡ self.now.frames }
+    {
+        self.frames.as_slice()
+    }
+
+    /// The numbers and the rows of the sections.
+    pub fn sections(&self) -> &Sections
+        ensures { result.now ≡ self.now.sections }
+    {
+        &self.sections
+    }
 }
