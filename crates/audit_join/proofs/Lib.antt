@@ -8,3 +8,5 @@ pub mod FrameLaws
 pub mod EventSizes
 pub mod PieceLaws
 pub mod CaptureLaws
+pub mod LookupLaws
+pub mod RecordsThere

@@ -3,10 +3,12 @@
 ghost use Rattle.std.specs.Prelude.{◌≡◌};
 
 use crate::codes::CodeRow;
+use crate::lookup::{count_up_to, end_of};
 use crate::objects::BadRow;
 use crate::rows::Rows;
 use crate::sort_counts::SortCounts;
 use capture_frame::Frame;
+use event_core::{Event, bare_event_at};
 use std::marker::Model;
 
 /// The numbers and the rows of the report, beside the number of frames.
@@ -49,6 +51,7 @@ impl<'c> Model for Findings<'c> {
 
 impl<'c> Findings<'c> {
     ghost use Rattle.audit_join.specs.Kept.{kept_findings, AreOfFrames};
+    ghost use Rattle.audit_join.specs.Lookup.{IsFrameAt, HasRecordIn, SaysEventAt};
 
     /// The findings of frames and what is kept of them.
     pub(crate) fn new(frames: Vec<Frame<'c>>, sections: Sections) -> Findings<'c>
@@ -70,5 +73,32 @@ impl<'c> Findings<'c> {
         ensures { result.now ≡ self.now.sections }
     {
         &self.sections
+    }
+
+    /// The frame that holds the byte at a place of the capture; None where no frame does.
+    pub fn frame_at(&self, place: u64) -> Option<Frame<'c>>
+        ensures { IsFrameAt self.now.frames place result }
+    {
+        let frames = self.frames.as_slice();
+        let count = count_up_to(frames, place);
+        if count == 0 {
+            return None;
+        }
+        let frame = frames[count - 1];
+        if place < end_of(frame) {
+            Some(frame)
+        } else {
+            None
+        }
+    }
+
+    /// The event of the record that begins at a place of the capture, with the attachment left out.
+    pub fn record_at(&self, place: u64) -> Event<'c>
+        requires { HasRecordIn self.now.frames place }
+        ensures { SaysEventAt self.now.frames place result }
+    {
+        // A record begins there, so there is a frame.
+        let frame = self.frame_at(place).unwrap();
+        bare_event_at(frame, place)
     }
 }
