@@ -1,14 +1,1 @@
-pub mod PlaceLaws
-pub mod ObjectWalk
-pub mod OutcomeLaws
-pub mod FindingLaws
-pub mod RowLaws
-pub mod FlagLaws
-pub mod FrameWalk
-pub mod RecordWalk
 pub mod RunLaws
-pub mod TextLaws
-pub mod TotalsLaws
-pub mod Vectors
-pub mod SameRows
-pub mod OneText

@@ -6,7 +6,7 @@ use Rattle.audit_run.specs.declared.run_error.RunError.{RunError}
 use Rattle.audit_run.specs.declared.run_error.RunError.TheVariants.{Memory, TooLarge, Read, Write, Open}
 use Rattle.audit_run.specs.KnownBytes.{AppendsPrefix}
 use Rattle.audit_run.specs.Run.{IsRead, IsOfRead, StaysOrBegins}
-use Rattle.audit_run.specs.Text.{fault_line}
+use Rattle.report_text.specs.Fault.{fault_line}
 
 known : (bytes : Option (List ℕ)) (read : List ℕ) (P : List ℕ → Type 0) → IfSome bytes (λ b. read ≡ b) → P read → IfSome bytes P
 known None read P same holds = tt

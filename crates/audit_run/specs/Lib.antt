@@ -1,15 +1,3 @@
-pub mod Audit
-pub mod Places
-pub mod Flags
-pub mod Objects
-pub mod ObjectTotals
-pub mod Findings
 pub mod KnownBytes
-pub mod Laws
 pub mod Run
 pub mod RunError
-pub mod Text
-pub mod Totals
-pub use Rattle.transaction_view.specs.Envelope
-pub use Rattle.transaction_view.specs.Units
-pub use Rattle.transaction_view.specs.Grammar

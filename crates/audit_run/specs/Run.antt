@@ -2,25 +2,21 @@
 use Rattle.std.specs.Prelude.{◌≡◌, ℕ, ◌≤◌, List, length, Option, Some, None, IfSome, ⊤}
 use Rattle.std.specs.Io.KnownBytes.{Appends, Keeps}
 use Rattle.capture_frame.specs.declared.fault.Fault.{Fault}
-use Rattle.audit_run.specs.declared.limits.TheConstants.{CAPTURE_LIMIT}
+use Rattle.audit_join.specs.declared.limits.TheConstants.{CAPTURE_LIMIT}
 use Rattle.audit_run.specs.declared.runs.Written.{Written}
 use Rattle.audit_run.specs.declared.runs.Written.TheVariants.{Report, Malformed}
 use Rattle.audit_run.specs.declared.run_error.RunError.{RunError}
 use Rattle.audit_run.specs.declared.run_error.RunError.TheVariants.{Memory, Write, Open}
 use Rattle.transaction_view.specs.Grammar.{IsReadable, HasFirstFault}
 use Rattle.audit_run.specs.KnownBytes.{AppendsPrefix}
-use Rattle.audit_run.specs.Text.{IsReportOn, fault_line, no_fault_line}
+use Rattle.report_text.specs.Fault.{fault_line, no_fault_line}
+use Rattle.report_text.specs.Text.{IsReportOn}
 
 -- a report: the capture is in the grammar, and its report was written; a malformed capture: the fault is its
 -- first, and the line that names it was written. Nothing else was.
 abbrev pub Reports : List ℕ → Option (List ℕ) → Option (List ℕ) → Written → Type 0
 Reports capture old new Report = (text : List ℕ) × IsReportOn capture text × Appends old new text
 Reports capture old new (Malformed fault) = HasFirstFault capture fault × Appends old new (fault_line fault)
-
--- the text of a capture: its report, or the line that names its first fault
-pub data IsTextOf (capture text : List ℕ) : Type 0 where
-  report : IsReportOn capture text → IsTextOf capture text
-  malformed : (fault : Fault) → HasFirstFault capture fault → text ≡ fault_line fault → IsTextOf capture text
 
 -- after a failed write a prefix of such a text was written, and after another fault nothing
 abbrev pub StaysOrBegins : (List ℕ → Type 0) → Option (List ℕ) → Option (List ℕ) → RunError → Type 0
@@ -31,11 +27,6 @@ StaysOrBegins IsSuch old new _ = Keeps old new
 abbrev pub NamesFirstFault : List ℕ → Option (List ℕ) → Option (List ℕ) → Option Fault → Type 0
 NamesFirstFault capture old new None = IsReadable capture × Appends old new no_fault_line
 NamesFirstFault capture old new (Some fault) = HasFirstFault capture fault × Appends old new (fault_line fault)
-
--- the line on a capture: the one that names its first fault, or that there is none
-pub data IsLineOn (capture text : List ℕ) : Type 0 where
-  none : IsReadable capture → text ≡ no_fault_line → IsLineOn capture text
-  named : (fault : Fault) → HasFirstFault capture fault → text ≡ fault_line fault → IsLineOn capture text
 
 -- a capture that was read: within the limit, and all that the reader had where that is known
 abbrev pub IsRead : Option (List ℕ) → List ℕ → Type 0

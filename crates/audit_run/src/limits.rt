@@ -1,9 +1,6 @@
 //! The bounds on what a run takes.
 ghost use Rattle.std.specs.Prelude.{◌≡◌, ◌≤◌, ◌↔◌, IsSome, IfSome};
 
-/// The most bytes that a capture may have.
-pub const CAPTURE_LIMIT: usize = 1_073_741_824;
-
 /// How many frames a worker takes at a time: 1 to 65,536.
 #[derive(Clone, Copy, Debug, PartialEq, Eq)]
 pub struct Piece {

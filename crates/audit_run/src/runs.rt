@@ -3,18 +3,19 @@
 ghost use Rattle.std.specs.Prelude.{◌<◌, ◌≤◌, ℕ, List, length, IfOk, IfErr, IfSome, OnOk, OnErr, IsErrOf, IsOkUnless};
 ghost use Rattle.std.specs.Io.KnownBytes.{Appends};
 ghost use Rattle.audit_run.specs.KnownBytes.{AppendsPrefix};
-ghost use Rattle.audit_run.specs.Text.{fault_line};
-ghost use Rattle.audit_run.specs.Run.{Reports, NamesFirstFault, IsTextOf, IsLineOn, IsRead, IsOfRead, StaysOrBegins, IsRunFault, IsAnswerFault};
-ghost use Rattle.audit_run.specs.declared.limits.TheConstants.{CAPTURE_LIMIT};
+ghost use Rattle.report_text.specs.Fault.{fault_line};
+ghost use Rattle.audit_run.specs.Run.{Reports, NamesFirstFault, IsRead, IsOfRead, StaysOrBegins, IsRunFault, IsAnswerFault};
+ghost use Rattle.report_text.specs.Answers.{IsTextOf, IsLineOn};
+ghost use Rattle.audit_join.specs.declared.limits.TheConstants.{CAPTURE_LIMIT};
 
-use crate::audit::{AuditError, audit};
-use crate::limits::{CAPTURE_LIMIT, Piece};
+use crate::limits::Piece;
 use crate::reading::read_capture;
 use crate::run_error::RunError;
-use crate::text::{fault_text, report};
 use crate::writing::write_text;
+use audit_join::{AuditError, CAPTURE_LIMIT, audit_one};
 use capture_frame::Fault;
 use claim_board::Workers;
+use report_text::{fault_text, text};
 use std::alloc::Global;
 use std::io::{Read, Write};
 use std::thread::Threads;
@@ -32,7 +33,7 @@ pub enum Written {
 /// Reads a capture to its end, and writes its report, or the line that names its first fault. One
 /// thread does all the work, whatever the number of workers and the size of a piece.
 pub fn run<T: Threads + Sync, R: Read, W: Write>(
-    _rt: &T,
+    rt: &T,
     alloc: Global,
     reader: &mut R,
     writer: &mut W,
@@ -60,24 +61,26 @@ pub fn run<T: Threads + Sync, R: Read, W: Write>(
     ensures fault { IfErr result IsRunFault }
 {
     let capture = read_capture(alloc, reader, CAPTURE_LIMIT)?;
-    write_answer(alloc, capture.as_slice(), writer)
+    write_answer(rt, alloc, capture.as_slice(), writer)
 }
 
 /// Writes the report on a capture, or the line that names its first fault.
-fn write_answer<W: Write>(
+fn write_answer<T: Threads + Sync, W: Write>(
+    rt: &T,
     alloc: Global,
     capture: &[u8],
     writer: &mut W,
 ) -> Result<Written, RunError>
+    requires { length capture.now ≤ CAPTURE_LIMIT }
     ensures written { IfOk result
         (Reports capture.now (W.contents writer.old) (W.contents writer.new)) }
     ensures failed { IfErr result
         (StaysOrBegins (IsTextOf capture.now) (W.contents writer.old) (W.contents writer.new)) }
     ensures fault { IfErr result IsAnswerFault }
 {
-    match audit(alloc, capture) {
+    match audit_one(rt, alloc, capture) {
         Ok(found) => {
-            let text = report(alloc, &found).map_err(|_| RunError::Memory)?;
+            let text = text(rt, alloc, &found).map_err(|_| RunError::Memory)?;
             write_text(writer, text.as_bytes())?;
             Ok(Written::Report)
         }

@@ -1,6 +1,6 @@
 use Rattle.std.proofs.Common.{refl}
 use Rattle.std.proofs.lemmas.Result.{err_from_is_err_and}
-use Rattle.audit_run.specs.Run.{IsTextOf, malformed}
+use Rattle.report_text.specs.Answers.{IsTextOf, malformed}
 use Rattle.audit_run.proofs.RunLaws.{line_unwritten}
 use Rattle.audit_run.proofs.runs.write_answer.Goals as goal
 

@@ -1,6 +1,6 @@
 use Rattle.std.proofs.Common.{refl}
 use Rattle.std.proofs.lemmas.Result.{err_from_is_err_and}
-use Rattle.audit_run.specs.Run.{IsLineOn, named}
+use Rattle.report_text.specs.Answers.{IsLineOn, named}
 use Rattle.audit_run.proofs.RunLaws.{line_unwritten}
 use Rattle.audit_run.proofs.runs.write_first_fault.Goals as goal
 

@@ -1,4 +1,0 @@
-use Rattle.audit_run.proofs.line.+push_hex_digits.Given as goal
-
-abbrev pub decreases-push_hex_digits : goal.decreases-push_hex_digits
-decreases-push_hex_digits l = l.digits
