@@ -1,0 +1,5 @@
+pub mod Pushes
+pub mod Sections
+pub mod Listed
+pub mod SameRows
+pub mod OneText
