@@ -1,6 +1,6 @@
 -- Views of frames, the whole frames that they show, and their events.
-use Rattle.std.specs.Prelude.{◌≡◌, ℕ, ◌+◌, ◌≤◌, ◌<◌, ◌^◌, List, ◌++◌, length, map, sum, All}
-use Rattle.std.specs.List.{flat_map}
+use Rattle.std.specs.Prelude.{◌≡◌, ℕ, ◌+◌, ◌≤◌, ◌<◌, ◌^◌, List, ◌++◌, length, map, All}
+use Rattle.std.specs.List.{flat_map, sum_by}
 use Rattle.capture_frame.specs.declared.frame.Frame.{Frame}
 use Rattle.capture_frame.specs.Units.{Placed, placed_at, placed}
 use Rattle.capture_frame.specs.Envelope.{FrameText, frame_text, placed_frame, frame_bytes, file_header_length, frame_header_length}
@@ -11,9 +11,8 @@ use Rattle.transaction_view.specs.Grammar.{WholeFrame}
 use Rattle.event_core.specs.Events.{EventText, events_of_whole}
 use Rattle.summary_law.specs.Fits.{all_parts}
 use Rattle.summary_law.specs.Summary.{FitsInParts}
-use Rattle.std.proofs.Common.{arith, ◌∙◌, ap}
-use Rattle.std.proofs.lemmas.List.{map-append}
-use Rattle.std.proofs.lemmas.List.Sums.{sum-append}
+use Rattle.std.proofs.Common.{arith}
+use Rattle.std.proofs.lemmas.List.Sums.{sum_by-append}
 
 -- where a whole frame stands, and what its header and its bytes tell
 abbrev pub placed_text : Placed WholeFrame → Placed FrameText
@@ -42,14 +41,13 @@ span_of frame = frame_header_length + length frame.commands.now + length frame.a
 
 -- frames whose records and entries have no fault, of at most 2^32 bytes
 pub record AreGoodFrames (frames : List Frame) : Type 0 where
-  pub few : sum (map span_of frames) ≤ 2 ^ 32
+  pub few : sum_by span_of frames ≤ 2 ^ 32
   pub good : All (λ frame. HasGoodContent (frame_text frame)) frames
 
 pub good_frames_parts : FitsInParts AreGoodFrames
 good_frames_parts first second fit =
     let good = all_parts (λ (frame : Frame). HasGoodContent (frame_text frame)) first second fit.good in
-    let parts : sum (map span_of (first ++ second)) ≡ sum (map span_of first) + sum (map span_of second) =
-    ap sum (map-append span_of first second) ∙ sum-append (map span_of first) (map span_of second) in
+    let parts = sum_by-append span_of first second in
     let few = fit.few in (
       record { few = omega (arith, parts, few); good = good.0 },
       record { few = omega (arith, parts, few); good = good.1 },

@@ -1,5 +1,5 @@
 -- What the ledgers of some events, and of some frames, come to while they are made.
-use Rattle.std.specs.Prelude.{◌≡◌, ℕ, ◌+◌, ◌≤◌, ◌^◌, List, [], ◌∷◌, ◌++◌, length, map, sum, count_by}
+use Rattle.std.specs.Prelude.{◌≡◌, ℕ, ◌+◌, ◌<◌, ◌^◌, List, [], ◌∷◌, ◌++◌, length, map, count_by, All}
 use Rattle.std.specs.Option.{option_map_or}
 use Rattle.std.specs.Ordering.{nat_cmp}
 use Rattle.capture_frame.specs.declared.frame.Frame.{Frame}
@@ -25,9 +25,9 @@ use Rattle.audit_join.specs.Objects.{BadOwned, AreObjectFindings, attachments_of
 abbrev pub offset_bytes_of : EventText → ℕ
 offset_bytes_of e = option_map_or (λ (a : AttachmentText). length a.offset_bytes) e.entry 0
 
--- at most 2^32 events, with at most 2^32 bytes of lists of offsets
+-- at most 2^32 events, none with a list of offsets of 2^32 bytes
 abbrev pub AreFewEvents : List EventText → Type 0
-AreFewEvents events = IsShort events × (sum (map offset_bytes_of events) ≤ 2 ^ 32)
+AreFewEvents events = IsShort events × All (λ e. offset_bytes_of e < 2 ^ 32) events
 
 -- an event in the tally of code words: its code word, with weight 0
 abbrev pub code_item : EventText → ℕ × ℕ

@@ -77,3 +77,8 @@ pub record AreObjectFindings (attachments : List Attached) (counts : SortCounts)
   pub are : AreOutcomes attachments outcomes
   pub counted : (sort : Sort) → count_of counts sort ≡ times_of sort (good_objects outcomes)
   pub bad_are : bad ≡ bad_objects outcomes
+
+-- the bad object of an owner's attachment, if it has one
+abbrev pub owned_by : EventText → Option BadObject → List BadOwned
+owned_by owner None = []
+owned_by owner (Some bad) = record { owner = owner; bad = bad } ∷ []

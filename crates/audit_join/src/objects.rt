@@ -6,8 +6,8 @@ ghost use Rattle.event_core.specs.Reading.{event_text};
 ghost use Rattle.object_view.specs.declared.sort.Sort.{Sort};
 ghost use Rattle.object_view.specs.Objects.{ObjectText, AreObjects};
 ghost use Rattle.summary_law.specs.Summary.{CanAdd, Adds, CanJoin, Joins};
-ghost use Rattle.audit_join.specs.Objects.{count_of, times_of};
-ghost use Rattle.audit_join.specs.Ledgers.{SumsObjects, AreFewEvents};
+ghost use Rattle.audit_join.specs.Objects.{count_of, times_of, Outcome, AreOutcomes, attachments_of, good_objects, bad_objects, owned_by};
+ghost use Rattle.audit_join.specs.Ledgers.{SumsObjects, AreFewEvents, offset_bytes_of};
 
 use crate::sort_counts::SortCounts;
 use event_core::Event;
@@ -47,9 +47,7 @@ impl ObjectLedger {
         ensures { OnOk result
             (Adds SumsObjects AreFewEvents self.old (event_text event.entry) self.new) }
     {
-        if let Some(entry) = event.entry
-            && let Some(bad) = count_entry(&mut self.counts, entry)
-        {
+        if let Some(bad) = count_attachment(&mut self.counts, event) {
             self.bad.push(BadRow {
                 owner: event.place,
                 bad,
@@ -69,6 +67,22 @@ impl ObjectLedger {
             counts: self.counts.plus(later.counts),
             bad,
         })
+    }
+}
+
+/// Counts the objects of an event's attachment, up to the first bad one, which is given.
+fn count_attachment(counts: &mut SortCounts, event: Event<'_>) -> Option<BadObject>
+    requires { (sort : Sort) →
+        count_of counts.old sort + offset_bytes_of (event_text event) < 2 ^ 64 }
+    ensures { (outcomes : List Outcome)
+        × AreOutcomes (attachments_of (event_text event.entry ∷ [])) outcomes
+        × ((sort : Sort) → count_of counts.new sort ≡ count_of counts.old sort
+        + times_of sort (good_objects outcomes))
+        × (bad_objects outcomes ≡ owned_by (event_text event.entry) result) }
+{
+    match event.entry {
+        Some(entry) => count_entry(counts, entry),
+        None => None,
     }
 }
 

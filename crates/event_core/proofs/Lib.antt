@@ -4,3 +4,4 @@ pub mod EventWalk
 pub mod EventCalls
 pub mod EventPlaces
 pub mod RecordAt
+pub mod EventsGiven

@@ -1,0 +1,4 @@
+pub mod ObjectWalk
+pub mod OutcomeLaws
+pub mod FlagLaws
+pub mod SequenceLaws

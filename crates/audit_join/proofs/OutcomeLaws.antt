@@ -1,0 +1,124 @@
+-- The objects of the attachments of a list of events, and of one that follows it.
+use Rattle.std.proofs.Common.{◌≡◌, ℕ, ◌+◌, ◌*◌, ◌^◌, ◌<◌, ◌≤◌, List, [], ◌∷◌, ◌++◌, length, map, All, Option, Some, None, refl, sym, ap, ap₂, subst, ◌∙◌, length-append, arith}
+use Rattle.std.proofs.lemmas.Grind.{flat_map-append}
+use Rattle.std.proofs.lemmas.List.{length-map, map-append}
+use Rattle.std.proofs.lemmas.List.Concat.{flat_map-cons}
+use Rattle.std.proofs.lemmas.List.Elements.{All-append, All-cons, All-head, All-nil, All-tail, filter_map-append}
+use Rattle.object_view.specs.declared.bad_object.BadObject.{BadObject}
+use Rattle.object_view.specs.declared.sort.Sort.{Sort}
+use Rattle.object_view.specs.Objects.{ObjectText, AreObjects}
+use Rattle.object_view.proofs.ListLaws.{objects_short}
+use Rattle.event_core.specs.Events.{AttachmentText, EventText}
+use Rattle.audit_join.specs.declared.objects.ObjectLedger.{ObjectLedger}
+use Rattle.audit_join.specs.declared.sort_counts.SortCounts.{SortCounts}
+use Rattle.audit_join.specs.Kept.{kept_bad}
+use Rattle.audit_join.specs.Ledgers.{SumsObjects, AreFewEvents, offset_bytes_of}
+use Rattle.audit_join.specs.Objects.{Attached, attached_to, attachments_of, Outcome, IsOutcome, AreOutcomes, count_of, times_of, good_objects, BadOwned, bad_of, bad_objects, AreObjectFindings, owned_by}
+use Rattle.audit_join.proofs.ObjectWalk.{times_of-append, times_of-short}
+
+pub attachments-append : (events more : List EventText) → attachments_of (events ++ more) ≡ attachments_of events ++ attachments_of more
+attachments-append events more = filter_map-append attached_to events more
+
+-- the findings of attachments and of those behind them
+findings_joined : (attachments others : List Attached) (counts new : SortCounts) (bad : List BadOwned) (outcomes : List Outcome)
+    → AreObjectFindings attachments counts bad → AreOutcomes others outcomes
+    → ((sort : Sort) → count_of new sort ≡ count_of counts sort + times_of sort (good_objects outcomes))
+    → AreObjectFindings (attachments ++ others) new (bad ++ bad_objects outcomes)
+findings_joined attachments others counts new bad outcomes found are more =
+    let good : good_objects (found.outcomes ++ outcomes) ≡ good_objects found.outcomes ++ good_objects outcomes =
+    flat_map-append (λ (o : Outcome). o.objects) found.outcomes outcomes in
+    record {
+      outcomes = found.outcomes ++ outcomes;
+      are = record {
+        each = map-append (λ (o : Outcome). o.of) found.outcomes outcomes
+            ∙ ap₂ (λ (first second : List Attached). first ++ second) found.are.each are.each;
+        are_objects = All-append IsOutcome found.outcomes outcomes found.are.are_objects are.are_objects;
+      };
+      counted = λ sort.
+          let added = more sort in
+          let before = found.counted sort in
+          let parts = ap (times_of sort) good ∙ times_of-append sort (good_objects found.outcomes) (good_objects outcomes) in
+          omega (arith, added, before, parts);
+      bad_are = ap (λ (t : List BadOwned). t ++ bad_objects outcomes) found.bad_are ∙ sym (filter_map-append bad_of found.outcomes outcomes);
+    }
+
+-- the ledger of events and of those behind them
+pub objects_more : (old new : ObjectLedger) (events more : List EventText) (outcomes : List Outcome) → SumsObjects old events
+    → AreOutcomes (attachments_of more) outcomes
+    → ((sort : Sort) → count_of new.counts sort ≡ count_of old.counts sort + times_of sort (good_objects outcomes))
+    → new.bad.items ≡ old.bad.items ++ map kept_bad (bad_objects outcomes) → SumsObjects new (events ++ more)
+objects_more old new events more outcomes sums are counts is = record {
+  bad = sums.bad ++ bad_objects outcomes;
+  are = subst (λ (t : List Attached). AreObjectFindings t new.counts (sums.bad ++ bad_objects outcomes)) (sym (attachments-append events more))
+      (findings_joined (attachments_of events) (attachments_of more) old.counts new.counts sums.bad outcomes sums.are are counts);
+  kept = is ∙ ap (λ (t : List _). t ++ map kept_bad (bad_objects outcomes)) sums.kept ∙ sym (map-append kept_bad sums.bad (bad_objects outcomes));
+}
+
+-- and of two ledgers
+pub objects_joined : (first second new : ObjectLedger) (events more : List EventText) → SumsObjects first events → SumsObjects second more
+    → ((sort : Sort) → count_of new.counts sort ≡ count_of first.counts sort + count_of second.counts sort)
+    → new.bad.items ≡ first.bad.items ++ second.bad.items → SumsObjects new (events ++ more)
+objects_joined first second new events more sums others counts is =
+    objects_more first new events more others.are.outcomes sums others.are.are
+    (λ sort. counts sort ∙ ap (λ (n : ℕ). count_of first.counts sort + n) (others.are.counted sort))
+    (is ∙ ap (λ (t : List _). first.bad.items ++ t) (others.kept ∙ ap (map kept_bad) others.are.bad_are))
+
+-- ---- how many objects there are
+
+-- how many bytes of a list of offsets an attachment has
+abbrev offset_bytes : Attached → ℕ
+offset_bytes a = length a.attachment.offset_bytes
+
+-- a list of offsets of an attachment is small
+abbrev IsSmall : Attached → Type 0
+IsSmall a = offset_bytes a < 2 ^ 32
+
+-- the good objects are no more than there is room for offsets
+outcomes_short : (outcomes : List Outcome) → All IsOutcome outcomes → All IsSmall (map (λ (o : Outcome). o.of) outcomes)
+    → 8 * length (good_objects outcomes) ≤ 2 ^ 32 * length outcomes
+outcomes_short [] all small = omega arith
+outcomes_short (o ∷ outcomes) all small =
+    let first = objects_short o.of.attachment.body o.of.attachment.offset_bytes o.objects o.bad (All-head IsOutcome o outcomes all) in
+    let bytes : offset_bytes o.of < 2 ^ 32 = All-head IsSmall o.of (map (λ (x : Outcome). x.of) outcomes) small in
+    let others = outcomes_short outcomes (All-tail IsOutcome o outcomes all) (All-tail IsSmall o.of (map (λ (x : Outcome). x.of) outcomes) small) in
+    let split = ap length (flat_map-cons (λ (x : Outcome). x.objects) o outcomes) ∙ length-append o.objects (good_objects outcomes) in
+    omega (arith, first, bytes, others, split)
+
+-- an event has at most one attachment, and its list of offsets is small where that of the event is
+abbrev HasSmall : EventText → Type 0
+HasSmall e = offset_bytes_of e < 2 ^ 32
+
+first_attachment : (e : EventText) (events : List EventText) (entry : Option AttachmentText) → e.entry ≡ entry → HasSmall e
+    → All IsSmall (attachments_of events) × (length (attachments_of events) ≤ length events)
+    → All IsSmall (attachments_of (e ∷ events)) × (length (attachments_of (e ∷ events)) ≤ length events + 1)
+first_attachment e events None is small others =
+    let short = others.1 in
+    rw is (others.0, omega (arith, short))
+first_attachment e events (Some a) is small others =
+    let short = others.1 in
+    let there : Attached = record { owner = e; attachment = a } in
+    let first : IsSmall there = rw is at small in
+    rw is (All-cons IsSmall there (attachments_of events) first others.0, omega (arith, short))
+
+attachments_few : (events : List EventText) → All HasSmall events
+    → All IsSmall (attachments_of events) × (length (attachments_of events) ≤ length events)
+attachments_few [] all = (All-nil IsSmall, omega arith)
+attachments_few (e ∷ events) all =
+    let more = first_attachment e events e.entry refl (All-head HasSmall e events all) (attachments_few events (All-tail HasSmall e events all)) in
+    let short = more.1 in
+    (more.0, omega (arith, short))
+
+-- no sort has more than 2^61 objects
+pub counts_short : (ledger : ObjectLedger) (events : List EventText) → SumsObjects ledger events → AreFewEvents events → (sort : Sort)
+    → count_of ledger.counts sort ≤ 2 ^ 61
+counts_short ledger events sums fits sort =
+    let outcomes = sums.are.outcomes in
+    let counted = sums.are.counted sort in
+    let few = times_of-short sort (good_objects outcomes) in
+    let small = attachments_few events fits.1 in
+    let same = sums.are.are.each in
+    let short = outcomes_short outcomes sums.are.are.are_objects (subst (All IsSmall) (sym same) small.0) in
+    let long = sym (length-map outcomes (λ (o : Outcome). o.of)) ∙ ap length same in
+    let less = small.1 in
+    let all_short = fits.0 in
+    omega (arith, counted, few, short, long, less, all_short)
