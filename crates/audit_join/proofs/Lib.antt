@@ -2,3 +2,4 @@ pub mod ObjectWalk
 pub mod OutcomeLaws
 pub mod FlagLaws
 pub mod SequenceLaws
+pub mod RecordsThere
