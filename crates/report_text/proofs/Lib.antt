@@ -1,5 +1,6 @@
 pub mod Pushes
 pub mod Sections
 pub mod Listed
+pub mod ObjectOwners
 pub mod SameRows
 pub mod OneText

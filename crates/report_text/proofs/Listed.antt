@@ -1,88 +1,52 @@
--- The rows of the findings are of events of the frames.
-use Rattle.std.proofs.Common.{◌≡◌, ℕ, ◌<◌, List, [], ◌∷◌, ◌++◌, length, get_or, map, Option, Some, None, refl, sym, ap, subst, ◌∙◌, arith}
-use mathlib.Core.Logic.{∥∥₁_map}
-use Rattle.std.specs.Prelude.{All, Contains, IfSome}
-use Rattle.std.specs.List.{filter_map, cons_option}
-use Rattle.std.specs.Option.{option_map}
-use Rattle.std.proofs.lemmas.List.{get_or-map, length-map}
-use Rattle.std.proofs.lemmas.List.Elements.{All-filter, All-map, All-contains_itself, All-cons, All-nil, All-head, All-tail}
-use Rattle.object_view.specs.declared.bad_object.BadObject.{BadObject}
-use Rattle.event_core.specs.Events.{AttachmentText, EventText}
+-- Rows that are kept as the places of their records, and read again.
+use Rattle.std.proofs.Common.{◌≡◌, ℕ, List, map, sym, subst, ◌∙◌}
+use Rattle.std.specs.Prelude.{All, Contains}
+use Rattle.std.specs.List.{AllZip}
+use Rattle.std.proofs.lemmas.List.Elements.{All-map}
+use Rattle.transaction_view.specs.Grammar.{WholeFrame}
+use Rattle.event_core.specs.Events.{EventText}
 use Rattle.audit_join.specs.declared.findings.Findings.{Findings}
-use Rattle.audit_join.specs.declared.objects.BadRow.{BadRow}
-use Rattle.audit_join.specs.declared.sort_counts.SortCounts.{SortCounts}
+use Rattle.audit_join.specs.Findings.{FindingsText}
 use Rattle.audit_join.specs.Frames.{HasRecordIn, wholes_of, events_of_wholes}
-use Rattle.audit_join.specs.Kept.{kept_bad}
+use Rattle.audit_join.specs.Kept.{Tell}
 use Rattle.audit_join.proofs.RecordsThere.{IsOfSome, of_some}
-use Rattle.audit_join.specs.Flags.{flagged, has_unknown_flags}
-use Rattle.audit_join.specs.Objects.{Attached, attached_to, attachments_of, Outcome, BadOwned, bad_of, bad_objects, AreObjectFindings}
+use Rattle.report_text.specs.Pushed.{ShowsEvent}
+use Rattle.report_text.proofs.Sections.{shown_lines}
+use mathlib.Core.Logic.{∥∥₁_map}
 
--- what holds of each item that is made of a list's holds of the list of them
-made_all : {X Y : Type 0} (make : X → Option Y) (P : Y → Type 0) (xs : List X) → All (λ x. IfSome (make x) P) xs → All P (filter_map make xs)
-made_all make P [] each = All-nil P
-made_all make P (x ∷ xs) each =
-    one_made (make x) P (filter_map make xs) (All-head (λ (y : _). IfSome (make y) P) x xs each)
-    (made_all make P xs (All-tail (λ (y : _). IfSome (make y) P) x xs each))
-  where
-    one_made : {Y : Type 0} (made : Option Y) (P : Y → Type 0) (ys : List Y) → IfSome made P → All P ys → All P (cons_option made ys)
-    one_made None P ys here others = others
-    one_made (Some y) P ys here others = All-cons P y ys here others
+-- how a section's rows are kept: each row of the report has an event, and what is kept of it has that event's place
+pub record EventRows (K S : Type 0) : Type 0 where
+  pub kept : Findings → List K
+  pub place : K → ℕ
+  pub rows : FindingsText → List S
+  pub keep : S → K
+  pub owner : S → EventText
+  pub same_place : (s : S) → place (keep s) ≡ (owner s).place
+  pub keeps : (found : Findings) (wholes : List WholeFrame) (said : FindingsText) → Tell wholes said found.frames found.sections
+      → kept found ≡ map keep (rows said)
+  pub are_events : (found : Findings) (wholes : List WholeFrame) (said : FindingsText) → Tell wholes said found.frames found.sections
+      → All (λ s. Contains (events_of_wholes (wholes_of wholes)) (owner s)) (rows said)
 
--- what holds of each view of a list's items
-pub unmapped : {X Y : Type 0} (f : X → Y) (P : Y → Type 0) (xs : List X) → All P (map f xs) → All (λ x. P (f x)) xs
-unmapped f P xs all = λ k d within.
-    let inside : k < length (map f xs) = omega (arith, length-map xs f) in
-    subst P (get_or-map f xs k d (f d) within) (all k (f d) inside)
+module _ {K S : Type 0} (section : EventRows K S) (found : Findings) where
+  -- a record of the frames begins at the place of each
+  pub listed : All (λ k. HasRecordIn found.frames (section.place k)) (section.kept found)
+  listed = λ k d within.
+      ∥∥₁_map found.told
+      (λ (wholes, said, tell).
+      let P : K → Type 0 = λ x. IsOfSome found.frames (section.place x) in
+      let each : All P (map section.keep (section.rows said)) =
+      All-map P section.keep (section.rows said)
+      (λ j s inside.
+      subst (IsOfSome found.frames) (sym (section.same_place _))
+      (of_some found.frames (wholes_of wholes) _ tell.show (section.are_events found wholes said tell j s inside))) in
+      subst (All P) (sym (section.keeps found wholes said tell)) each k d within)
 
--- the listed events are events
-pub flagged_there : (events : List EventText) → All (Contains events) (flagged events)
-flagged_there events = All-filter has_unknown_flags (Contains events) events (All-contains_itself events)
-
--- so are the owners of attachments
-attached_there : (events : List EventText) → All (λ a. Contains events a.owner) (attachments_of events)
-attached_there events =
-    made_all attached_to (λ a. Contains events a.owner) events (λ k d within. one (get_or events k d) (get_or events k d).entry (All-contains_itself events k d within))
-  where
-    one : (e : EventText) (entry : Option AttachmentText) → Contains events e
-        → IfSome (option_map (λ (x : AttachmentText). (let a : Attached = record { owner = e; attachment = x } in a)) entry) (λ a. Contains events a.owner)
-    one e None there = tt
-    one e (Some a) there = there
-
--- and those of bad objects
-pub owners_there : (events : List EventText) (counts : SortCounts) (bad : List BadOwned) → AreObjectFindings (attachments_of events) counts bad
-    → All (λ b. Contains events b.owner) bad
-owners_there events counts bad are =
-    let owned : All (λ (o : Outcome). Contains events o.of.owner) are.outcomes =
-    unmapped (λ (o : Outcome). o.of) (λ (a : Attached). Contains events a.owner) are.outcomes
-    (subst (All (λ (a : Attached). Contains events a.owner)) (sym are.are.each) (attached_there events)) in
-    subst (All (λ (b : BadOwned). Contains events b.owner)) (sym are.bad_are)
-    (made_all bad_of (λ b. Contains events b.owner) are.outcomes
-    (λ k d within. one (get_or are.outcomes k d).of.owner (get_or are.outcomes k d).bad (owned k d within)))
-  where
-    one : (owner : EventText) (bad : Option BadObject) → Contains events owner
-        → IfSome (option_map (λ (x : BadObject). (let b : BadOwned = record { owner = owner; bad = x } in b)) bad) (λ b. Contains events b.owner)
-    one owner None there = tt
-    one owner (Some x) there = there
-
--- so a record of the frames begins at the place of each listed event, whatever the findings tell
-pub flags_listed : (found : Findings) → All (HasRecordIn found.frames) found.sections.flags
-flags_listed found = λ k d within.
-    ∥∥₁_map found.told
-    (λ (wholes, said, tell).
-    let events = events_of_wholes (wholes_of wholes) in
-    let P : ℕ → Type 0 = IsOfSome found.frames in
-    let there : All (Contains events) said.flags = subst (All (Contains events)) (sym tell.are.flags) (flagged_there events) in
-    let places : All P (map (λ (e : EventText). e.place) said.flags) =
-    All-map P (λ (e : EventText). e.place) said.flags (λ j e inside. of_some found.frames (wholes_of wholes) _ tell.show (there j e inside)) in
-    subst (All P) (sym tell.keep.flags) places k d within)
-
-pub owners_listed : (found : Findings) → All (λ row. HasRecordIn found.frames row.owner) found.sections.bad_objects
-owners_listed found = λ k d within.
-    ∥∥₁_map found.told
-    (λ (wholes, said, tell).
-    let events = events_of_wholes (wholes_of wholes) in
-    let P : BadRow → Type 0 = λ row. IsOfSome found.frames row.owner in
-    let there = owners_there events said.objects said.bad_objects tell.are.objects in
-    let places : All P (map kept_bad said.bad_objects) =
-    All-map P kept_bad said.bad_objects (λ j b inside. of_some found.frames (wholes_of wholes) _ tell.show (there j b inside)) in
-    subst (All P) (sym tell.keep.bad_objects) places k d within)
+  -- lines that show what is kept are those of the rows
+  pub event_lines : (made : K → EventText → List ℕ) (line_of : S → List ℕ) → ((s : S) → made (section.keep s) (section.owner s) ≡ line_of s)
+      → (shown : List (List ℕ)) → AllZip (λ k line. ShowsEvent (made k) found.frames (section.place k) line) (section.kept found) shown
+      → (wholes : List WholeFrame) (said : FindingsText) → Tell wholes said found.frames found.sections → shown ≡ map line_of (section.rows said)
+  event_lines made line_of makes shown shows wholes said tell =
+      shown_lines (λ k line. ShowsEvent (made k) found.frames (section.place k) line) section.keep line_of (section.kept found) (section.rows said) shown
+      (section.keeps found wholes said tell)
+      (λ j s inside line here.
+      here (wholes_of wholes) _ tell.show (section.are_events found wholes said tell j s inside) (sym (section.same_place _)) ∙ makes _) shows

@@ -1,8 +1,8 @@
 -- The lines of a section, and what holds lines.
-use Rattle.std.proofs.Common.{◌≡◌, ℕ, List, [], ◌∷◌, ◌++◌, map, refl, sym, ap, ap₂, subst, ◌∙◌, append_assoc}
+use Rattle.std.proofs.Common.{◌≡◌, ℕ, ◌<◌, List, [], ◌∷◌, ◌++◌, length, map, refl, sym, ap, ap₂, subst, ◌∙◌, append_assoc, arith}
 use Rattle.std.specs.Prelude.{All}
 use Rattle.std.specs.List.{AllZip, FoldsTo, flat_map}
-use Rattle.std.proofs.lemmas.List.{append-nil}
+use Rattle.std.proofs.lemmas.List.{append-nil, get_or-map, length-map}
 use Rattle.std.proofs.lemmas.List.Elements.{All-head, All-tail, All-cons, All-nil}
 
 module _ {K S : Type 0} (Shows : K → List ℕ → Type 0) (keep : S → K) (line_of : S → List ℕ) where
@@ -43,3 +43,9 @@ module _ {V : Type 0} (takes : V → List ℕ → V → Type 0) where
 pub one_by_one : (lines : List (List ℕ)) → flat_map (λ line. line ∷ []) lines ≡ lines
 one_by_one [] = refl
 one_by_one (line ∷ lines) = ap (λ (ls : List (List ℕ)). line ∷ ls) (one_by_one lines)
+
+-- what holds of each view of a list's items
+pub unmapped : {X Y : Type 0} (f : X → Y) (P : Y → Type 0) (xs : List X) → All P (map f xs) → All (λ x. P (f x)) xs
+unmapped f P xs all = λ k d within.
+    let inside : k < length (map f xs) = omega (arith, length-map xs f) in
+    subst P (get_or-map f xs k d (f d) within) (all k (f d) inside)

@@ -1,5 +1,5 @@
 -- The report on a capture (docs/REPORT.md).
-use Rattle.std.specs.Prelude.{◌≡◌, ℕ, List, ◌∷◌, ◌++◌, codes}
+use Rattle.std.specs.Prelude.{◌≡◌, ℕ, List, [], ◌∷◌, ◌++◌, codes}
 use Rattle.std.specs.List.{flat_map}
 use Rattle.std.specs.Fmt.{decimal}
 use Rattle.transaction_view.specs.Grammar.{WholeFrame, IsInGrammar}
@@ -14,17 +14,25 @@ use Rattle.report_text.specs.Flags.{flags_lines}
 abbrev pub title : List ℕ
 title = codes "BINDER AUDIT 1"
 
+abbrev pub title_lines : FindingsText → List (List ℕ)
+title_lines said = title ∷ []
+
 -- the line of totals: frames, records, opaque ones among them, missing frames
 abbrev pub totals : ℕ → ℕ → ℕ → ℕ → List ℕ
 totals frames records opaque missing =
     codes "frames " ++ decimal frames ++ codes " records " ++ decimal records
     ++ codes " opaque " ++ decimal opaque ++ codes " missing " ++ decimal missing
 
+abbrev pub totals_lines : FindingsText → List (List ℕ)
+totals_lines said = totals said.frames said.records said.opaque said.missing ∷ []
+
+-- the parts of the report, in their order: the first two lines, and the sections
+abbrev pub parts : List (FindingsText → List (List ℕ))
+parts = title_lines ∷ totals_lines ∷ codes_lines ∷ objects_lines ∷ flags_lines ∷ []
+
 -- the lines of the report, without their line feeds
 abbrev pub report_lines : FindingsText → List (List ℕ)
-report_lines said =
-    title ∷ totals said.frames said.records said.opaque said.missing ∷ codes_lines said
-    ++ (objects_lines said ++ flags_lines said)
+report_lines said = flat_map (λ part. part said) parts
 
 -- the report
 unfoldable pub report_text : FindingsText → List ℕ

@@ -9,7 +9,8 @@ use capture_frame::{Fault, FaultKind};
 /// The line that names a fault, with its line feed.
 #[tactic(auto, unfolding(crate::specs::Fault::fault_line))]
 pub fn fault_text(fault: Fault) -> Row
-    ensures { result.bytes ≡ fault_line fault }
+    ensures line { result.bytes ≡ fault_line fault }
+    ensures short { length result.bytes ≤ 256 }
 {
     let mut line = Row::new();
     line.push_str("malformed ");

@@ -2,8 +2,7 @@ use Rattle.std.proofs.Common.{◌≡◌, ℕ, ◌≤◌, List, [], ◌∷◌, �
 use Rattle.std.specs.Prelude.{All}
 use Rattle.std.specs.List.{flat_map}
 use Rattle.arrayvec.specs.ArrayString.{ArrayString}
-use Rattle.report_text.proofs.Listed.{unmapped}
-use Rattle.report_text.proofs.Sections.{taken, taken_all, one_by_one}
+use Rattle.report_text.proofs.Sections.{taken, taken_all, one_by_one, unmapped}
 use Rattle.report_text.proofs.report.rows.Goals as goal
 
 pub returns-clause-lines : goal.returns-clause-lines
