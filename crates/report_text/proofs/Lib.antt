@@ -4,3 +4,4 @@ pub mod Listed
 pub mod ObjectOwners
 pub mod SameRows
 pub mod OneText
+pub mod Vectors

@@ -28,7 +28,7 @@ pub(crate) fn push_codes<T: Threads + Sync, L: Lines>(
 
 /// The rows of the section, which are kept as they are.
 #[derive(Clone, Copy)]
-struct CodeRows;
+pub(crate) struct CodeRows;
 
 impl Shown for CodeRows {
     ghost use Rattle.std.specs.Prelude.{◌≡◌, ⊤};
@@ -54,7 +54,7 @@ fn head_line(different: usize) -> Row
     line
 }
 
-fn row_line(row: CodeRow) -> Row
+pub(crate) fn row_line(row: CodeRow) -> Row
     ensures { result.bytes ≡ codes_row row }
 {
     let mut line = Row::new();

@@ -14,3 +14,6 @@ mod shown;
 pub use fault::fault_text;
 pub use line::Row;
 pub use report::{rows, text};
+
+#[cfg(test)]
+mod tests;

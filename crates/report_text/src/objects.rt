@@ -52,7 +52,7 @@ impl<'f, 'c> Shown for ObjectRows<'f, 'c> {
     }
 }
 
-fn head_line(counts: SortCounts, bad: usize) -> Row
+pub(crate) fn head_line(counts: SortCounts, bad: usize) -> Row
     ensures { result.bytes ≡ objects_head counts bad }
 {
     let mut line = Row::new();
@@ -75,7 +75,7 @@ fn head_line(counts: SortCounts, bad: usize) -> Row
     line
 }
 
-fn row_line(owner: Event<'_>, bad: BadObject) -> Row
+pub(crate) fn row_line(owner: Event<'_>, bad: BadObject) -> Row
     ensures { result.bytes ≡ objects_row (record { owner = event_text owner.entry; bad = bad }) }
 {
     let mut line = Row::new();
@@ -93,7 +93,7 @@ fn row_line(owner: Event<'_>, bad: BadObject) -> Row
 }
 
 /// The name of a cause, as it is printed.
-fn cause_name(cause: Cause) -> &'static str
+pub(crate) fn cause_name(cause: Cause) -> &'static str
     ensures name { result.now ≡ cause_name cause }
     ensures short { length result.now ≤ 11 }
 {

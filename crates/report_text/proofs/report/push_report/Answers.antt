@@ -11,13 +11,14 @@ use Rattle.report_text.specs.Text.{totals, parts}
 use Rattle.report_text.proofs.Pushes.{all_parts}
 use Rattle.report_text.proofs.report.push_report.Goals as goal
 
-totals_told : (found : Findings) (wholes : List WholeFrame) (said : FindingsText) → Tell wholes said found.frames found.sections
-    → totals (length found.frames) found.sections.records found.sections.opaque found.sections.missing
-    ≡ totals said.frames said.records said.opaque said.missing
-totals_told found wholes said tell =
+-- the totals are those of what the findings tell
+totals_told : (found : Findings) (wholes : List WholeFrame) (said : FindingsText) (line : List ℕ) → Tell wholes said found.frames found.sections
+    → line ≡ totals (length found.frames) found.sections.records found.sections.opaque found.sections.missing
+    → line ≡ totals said.frames said.records said.opaque said.missing
+totals_told found wholes said line tell is =
     let count : length found.frames ≡ said.frames =
     sym (length-map found.frames placed_frame) ∙ ap length tell.show.stand ∙ length-map (wholes_of wholes) placed_text ∙ sym tell.are.frames in
-    ap₂ (λ (f r : ℕ). totals f r found.sections.opaque found.sections.missing) count tell.keep.records
+    is ∙ ap₂ (λ (f r : ℕ). totals f r found.sections.opaque found.sections.missing) count tell.keep.records
     ∙ ap₂ (λ (o m : ℕ). totals said.frames said.records o m) tell.keep.opaque tell.keep.missing
 
 pub returns : goal.returns
@@ -34,7 +35,7 @@ returns g c =
         (
           alone c.totals_line.result.bytes,
           (c.push_line-2.new.self, c.in_ok-push_line-2.ensures, refl),
-          λ wholes said tell. ap alone (c.totals_line.ensures ∙ totals_told found wholes said tell),
+          λ wholes said tell. ap alone (totals_told found wholes said c.totals_line.result.bytes tell c.totals_line.ensures),
         ),
         (
           c.push_codes.new.lines,
