@@ -1,8 +1,8 @@
 -- Lines that are pushed one behind another.
 use Rattle.std.proofs.Common.{◌≡◌, ℕ, List, [], ◌∷◌, ◌++◌, map, refl, sym, ap₂, subst}
 use Rattle.std.specs.List.{AllZip, FoldsTo, flat_map}
-use Rattle.audit_join.specs.declared.findings.Findings.{Findings}
 use Rattle.audit_join.specs.Findings.{FindingsText}
+use Rattle.audit_join.specs.Kept.{KeptFindings}
 use Rattle.report_text.specs.Pushed.{TakesLines}
 
 -- some lines, and then others
@@ -19,7 +19,7 @@ AllZip-mapped R f [] (y ∷ ys) all = absurd all
 AllZip-mapped R f (x ∷ xs) [] all = absurd all
 AllZip-mapped R f (x ∷ xs) (y ∷ ys) all = (all.0, AllZip-mapped R f xs ys all.1)
 
-module _ {L : Type 0} (takes : L → List ℕ → L → Type 0) (found : Findings) where
+module _ {L : Type 0} (takes : L → List ℕ → L → Type 0) (found : KeptFindings) where
   -- the lines of parts, one part behind another
   pub all_parts : (parts : List (FindingsText → List (List ℕ))) (a b : L) → FoldsTo (λ old part new. TakesLines takes part found old new) a parts b
       → TakesLines takes (λ said. flat_map (λ part. part said) parts) found a b

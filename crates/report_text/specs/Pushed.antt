@@ -5,10 +5,9 @@ use Rattle.capture_frame.specs.declared.frame.Frame.{Frame}
 use Rattle.capture_frame.specs.Units.{Placed}
 use Rattle.transaction_view.specs.Grammar.{WholeFrame}
 use Rattle.event_core.specs.Events.{EventText}
-use Rattle.audit_join.specs.declared.findings.Findings.{Findings}
 use Rattle.audit_join.specs.Findings.{FindingsText}
 use Rattle.audit_join.specs.Frames.{Show, events_of_wholes}
-use Rattle.audit_join.specs.Kept.{Tell}
+use Rattle.audit_join.specs.Kept.{KeptFindings, Tell}
 
 -- the line is made so of the event at this place of the frames that the views show
 abbrev pub ShowsEvent : (EventText → List ℕ) → List Frame → ℕ → List ℕ → Type 0
@@ -22,7 +21,7 @@ TakesRows takes shows kept old new =
     (shown : List (List ℕ)) × AllZip shows kept shown × FoldsTo takes old shown new
 
 -- one behind another, lines were taken, which are these lines of whatever the findings tell
-abbrev pub TakesLines : {L : Type 0} → (L → List ℕ → L → Type 0) → (FindingsText → List (List ℕ)) → Findings → L → L
+abbrev pub TakesLines : {L : Type 0} → (L → List ℕ → L → Type 0) → (FindingsText → List (List ℕ)) → KeptFindings → L → L
     → Type 0
 TakesLines takes lines_of found old new =
     (lines : List (List ℕ)) × FoldsTo takes old lines new

@@ -21,7 +21,7 @@ pub(crate) fn push_codes<T: Threads + Sync, L: Lines>(
 ) -> Result<(), AllocError>
     ensures { OnOk result (TakesLines L.takes codes_lines found.now lines.old lines.new) }
 {
-    let rows = found.sections.codes.as_slice();
+    let rows = found.sections().codes.as_slice();
     lines.push_line(&head_line(rows.len()))?;
     push_rows(rt, alloc, CodeRows, rows, lines)
 }

@@ -24,7 +24,7 @@ pub(crate) fn push_flags<T: Threads + Sync, L: Lines>(
 ) -> Result<(), AllocError>
     ensures { OnOk result (TakesLines L.takes flags_lines found.now lines.old lines.new) }
 {
-    let places = found.sections.flags.as_slice();
+    let places = found.sections().flags.as_slice();
     lines.push_line(&head_line(places.len()))?;
     push_rows(rt, alloc, FlagRows { found }, places, lines)
 }
@@ -36,7 +36,7 @@ struct FlagRows<'f, 'c> {
 }
 
 impl<'f, 'c> Shown for FlagRows<'f, 'c> {
-    ghost use Rattle.audit_join.specs.Frames.{HasRecordIn};
+    ghost use Rattle.audit_join.specs.Lookup.{HasRecordIn};
     ghost use Rattle.report_text.specs.Flags.{flags_row};
     ghost use Rattle.report_text.specs.Pushed.{ShowsEvent};
 

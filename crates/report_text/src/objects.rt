@@ -23,8 +23,9 @@ pub(crate) fn push_objects<T: Threads + Sync, L: Lines>(
 ) -> Result<(), AllocError>
     ensures { OnOk result (TakesLines L.takes objects_lines found.now lines.old lines.new) }
 {
-    let rows = found.sections.bad_objects.as_slice();
-    lines.push_line(&head_line(found.sections.objects, rows.len()))?;
+    let sections = found.sections();
+    let rows = sections.bad_objects.as_slice();
+    lines.push_line(&head_line(sections.objects, rows.len()))?;
     push_rows(rt, alloc, ObjectRows { found }, rows, lines)
 }
 
@@ -35,7 +36,7 @@ struct ObjectRows<'f, 'c> {
 }
 
 impl<'f, 'c> Shown for ObjectRows<'f, 'c> {
-    ghost use Rattle.audit_join.specs.Frames.{HasRecordIn};
+    ghost use Rattle.audit_join.specs.Lookup.{HasRecordIn};
     ghost use Rattle.report_text.specs.Objects.{objects_row};
     ghost use Rattle.report_text.specs.Pushed.{ShowsEvent};
 

@@ -75,14 +75,15 @@ fn totals_line(found: &Findings<'_>) -> Row
     ensures { result.bytes ≡ totals (length found.now.frames) found.now.sections.records
         found.now.sections.opaque found.now.sections.missing }
 {
+    let sections = found.sections();
     let mut line = Row::new();
     line.push_str("frames ");
-    push_decimal(&mut line, found.frames.len() as u64);
+    push_decimal(&mut line, found.frames().len() as u64);
     line.push_str(" records ");
-    push_decimal(&mut line, found.sections.records);
+    push_decimal(&mut line, sections.records);
     line.push_str(" opaque ");
-    push_decimal(&mut line, found.sections.opaque);
+    push_decimal(&mut line, sections.opaque);
     line.push_str(" missing ");
-    push_decimal(&mut line, found.sections.missing);
+    push_decimal(&mut line, sections.missing);
     line
 }

@@ -4,8 +4,10 @@ use Rattle.std.proofs.lemmas.List.{length-map}
 use Rattle.std.proofs.lemmas.List.Elements.{All-filter, All-contains_itself}
 use Rattle.std.proofs.lemmas.Result.{on_ok_weaker}
 use Rattle.event_core.specs.Events.{EventText}
+use Rattle.audit_join.specs.declared.findings.Sections.{Sections}
 use Rattle.audit_join.specs.Flags.{has_unknown_flags}
-use Rattle.audit_join.specs.Frames.{HasRecordIn, wholes_of, events_of_wholes}
+use Rattle.audit_join.specs.Frames.{wholes_of, events_of_wholes}
+use Rattle.audit_join.specs.Lookup.{HasRecordIn}
 use Rattle.report_text.specs.Flags.{flags_head, flags_row}
 use Rattle.report_text.proofs.Listed.{EventRows, listed, event_lines}
 use Rattle.report_text.proofs.flags.push_flags.Goals as goal
@@ -27,18 +29,20 @@ flag_rows = record {
 
 pub push_rows-requires-after_bounds : goal.push_rows-requires-after_bounds
 push_rows-requires-after_bounds g c κs within =
-    subst (All (HasRecordIn c.args.found.now.frames)) (sym c.as_slice-places.ensures) (listed flag_rows c.args.found.now)
+    let is = c.as_slice-places.ensures ∙ ap (λ (s : Sections). s.flags) c.sections.ensures.value in
+    subst (All (HasRecordIn c.args.found.now.frames)) (sym is) (listed flag_rows c.args.found.now c.sections.ensures.told)
 
 pub returns : goal.returns
 returns g c =
+    let is = c.as_slice-places.ensures ∙ ap (λ (s : Sections). s.flags) c.sections.ensures.value in
     on_ok_weaker c.push_rows.result
     (λ rows. (
       c.head_line.result.bytes ∷ rows.0,
       (c.push_line.new.self, c.in_ok-push_line.ensures, rows.2),
       λ wholes said tell.
-          let count = ap length (c.as_slice-places.ensures ∙ tell.keep.flags) ∙ length-map said.flags (λ (e : EventText). e.place) in
+          let count = ap length (is ∙ tell.keep.flags) ∙ length-map said.flags (λ (e : EventText). e.place) in
           ap₂ (λ (l : List ℕ) (ls : List (List ℕ)). l ∷ ls) (c.head_line.ensures ∙ ap flags_head count)
-          (event_lines flag_rows c.args.found.now (λ place. flags_row) flags_row (λ e. refl) rows.0 (rw c.as_slice-places.ensures at rows.1)
+          (event_lines flag_rows c.args.found.now (λ place. flags_row) flags_row (λ e. refl) rows.0 (rw is at rows.1)
           wholes said tell),
     ))
     c.push_rows.ensures

@@ -4,7 +4,9 @@ use Rattle.std.proofs.lemmas.List.{length-map}
 use Rattle.std.proofs.lemmas.Result.{on_ok_weaker}
 use Rattle.event_core.specs.Events.{EventText}
 use Rattle.audit_join.specs.declared.objects.BadRow.{BadRow}
-use Rattle.audit_join.specs.Frames.{HasRecordIn, wholes_of, events_of_wholes}
+use Rattle.audit_join.specs.declared.findings.Sections.{Sections}
+use Rattle.audit_join.specs.Frames.{wholes_of, events_of_wholes}
+use Rattle.audit_join.specs.Lookup.{HasRecordIn}
 use Rattle.audit_join.specs.Kept.{kept_bad}
 use Rattle.audit_join.specs.Objects.{BadOwned}
 use Rattle.report_text.specs.Objects.{objects_head, objects_row}
@@ -27,18 +29,21 @@ object_rows = record {
 
 pub push_rows-requires-after_bounds : goal.push_rows-requires-after_bounds
 push_rows-requires-after_bounds g c κs within =
-    subst (All (λ (row : BadRow). HasRecordIn c.args.found.now.frames row.owner)) (sym c.as_slice-rows.ensures) (listed object_rows c.args.found.now)
+    let is = c.as_slice-rows.ensures ∙ ap (λ (s : Sections). s.bad_objects) c.sections-sections.ensures.value in
+    subst (All (λ (row : BadRow). HasRecordIn c.args.found.now.frames row.owner)) (sym is)
+    (listed object_rows c.args.found.now c.sections-sections.ensures.told)
 
 pub returns : goal.returns
 returns g c =
+    let is = c.as_slice-rows.ensures ∙ ap (λ (s : Sections). s.bad_objects) c.sections-sections.ensures.value in
     on_ok_weaker c.push_rows.result
     (λ rows. (
       c.head_line.result.bytes ∷ rows.0,
       (c.push_line.new.self, c.in_ok-push_line.ensures, rows.2),
       λ wholes said tell.
-          let count = ap length (c.as_slice-rows.ensures ∙ tell.keep.bad_objects) ∙ length-map said.bad_objects kept_bad in
-          ap₂ (λ (l : List ℕ) (ls : List (List ℕ)). l ∷ ls) (c.head_line.ensures ∙ ap₂ objects_head tell.keep.objects count)
+          let count = ap length (is ∙ tell.keep.bad_objects) ∙ length-map said.bad_objects kept_bad in
+          ap₂ (λ (l : List ℕ) (ls : List (List ℕ)). l ∷ ls) (c.head_line.ensures ∙ ap₂ objects_head (ap (λ (s : Sections). s.objects) c.sections-sections.ensures.value ∙ tell.keep.objects) count)
           (event_lines object_rows c.args.found.now (λ (row : BadRow) e. objects_row (record { owner = e; bad = row.bad })) objects_row (λ b. refl) rows.0
-          (rw c.as_slice-rows.ensures at rows.1) wholes said tell),
+          (rw is at rows.1) wholes said tell),
     ))
     c.push_rows.ensures

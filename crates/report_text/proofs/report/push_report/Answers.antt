@@ -3,16 +3,15 @@ use Rattle.std.proofs.lemmas.List.{length-map}
 use Rattle.std.proofs.lemmas.Result.{on_ok_weaker}
 use Rattle.capture_frame.specs.Envelope.{placed_frame}
 use Rattle.transaction_view.specs.Grammar.{WholeFrame}
-use Rattle.audit_join.specs.declared.findings.Findings.{Findings}
 use Rattle.audit_join.specs.Findings.{FindingsText}
 use Rattle.audit_join.specs.Frames.{wholes_of, placed_text}
-use Rattle.audit_join.specs.Kept.{Tell}
+use Rattle.audit_join.specs.Kept.{KeptFindings, Tell}
 use Rattle.report_text.specs.Text.{totals, parts}
 use Rattle.report_text.proofs.Pushes.{all_parts}
 use Rattle.report_text.proofs.report.push_report.Goals as goal
 
 -- the totals are those of what the findings tell
-totals_told : (found : Findings) (wholes : List WholeFrame) (said : FindingsText) (line : List ℕ) → Tell wholes said found.frames found.sections
+totals_told : (found : KeptFindings) (wholes : List WholeFrame) (said : FindingsText) (line : List ℕ) → Tell wholes said found.frames found.sections
     → line ≡ totals (length found.frames) found.sections.records found.sections.opaque found.sections.missing
     → line ≡ totals said.frames said.records said.opaque said.missing
 totals_told found wholes said line tell is =
