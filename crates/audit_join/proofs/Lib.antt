@@ -1,5 +1,12 @@
 pub mod ObjectWalk
+pub mod FewLaws
 pub mod OutcomeLaws
 pub mod FlagLaws
 pub mod SequenceLaws
+pub mod CodeLaws
+pub mod FrameLaws
+pub mod EventSizes
+pub mod PieceLaws
+pub mod CaptureLaws
+pub mod LookupLaws
 pub mod RecordsThere

@@ -1,14 +1,19 @@
 -- The objects of the attachments of a list of events, and of one that follows it.
 use Rattle.std.proofs.Common.{◌≡◌, ℕ, ◌+◌, ◌*◌, ◌^◌, ◌<◌, ◌≤◌, List, [], ◌∷◌, ◌++◌, length, map, All, Option, Some, None, refl, sym, ap, ap₂, subst, ◌∙◌, length-append, arith}
+use Rattle.std.specs.List.{filter_map}
+use Rattle.std.specs.Option.{option_map, option_map_or}
 use Rattle.std.proofs.lemmas.Grind.{flat_map-append}
-use Rattle.std.proofs.lemmas.List.{length-map, map-append}
+use Rattle.std.proofs.lemmas.List.{append-nil, length-map, map-append}
 use Rattle.std.proofs.lemmas.List.Concat.{flat_map-cons}
 use Rattle.std.proofs.lemmas.List.Elements.{All-append, All-cons, All-head, All-nil, All-tail, filter_map-append}
 use Rattle.object_view.specs.declared.bad_object.BadObject.{BadObject}
 use Rattle.object_view.specs.declared.sort.Sort.{Sort}
 use Rattle.object_view.specs.Objects.{ObjectText, AreObjects}
 use Rattle.object_view.proofs.ListLaws.{objects_short}
+use Rattle.transaction_view.specs.declared.entry.Entry.{Entry}
+use Rattle.event_core.specs.declared.event.Event.{Event}
 use Rattle.event_core.specs.Events.{AttachmentText, EventText}
+use Rattle.event_core.specs.Reading.{event_text, entry_attachment}
 use Rattle.audit_join.specs.declared.objects.ObjectLedger.{ObjectLedger}
 use Rattle.audit_join.specs.declared.sort_counts.SortCounts.{SortCounts}
 use Rattle.audit_join.specs.Kept.{kept_bad}
@@ -84,21 +89,37 @@ outcomes_short (o ∷ outcomes) all small =
     let split = ap length (flat_map-cons (λ (x : Outcome). x.objects) o outcomes) ∙ length-append o.objects (good_objects outcomes) in
     omega (arith, first, bytes, others, split)
 
+-- an attachment as that of an event
+abbrev attached_as : EventText → Option AttachmentText → Option Attached
+attached_as e entry = option_map (λ (a : AttachmentText). record { owner = e; attachment = a }) entry
+
 -- an event has at most one attachment, and its list of offsets is small where that of the event is
 abbrev HasSmall : EventText → Type 0
 HasSmall e = offset_bytes_of e < 2 ^ 32
+
+-- what an element gives stands before what the others give
+gives_none : {X Y : Type 0} (f : X → Option Y) (x : X) (xs : List X) → f x ≡ None → filter_map f (x ∷ xs) ≡ filter_map f xs
+gives_none f x xs is = rw is refl
+
+gives_some : {X Y : Type 0} (f : X → Option Y) (x : X) (xs : List X) (y : Y) → f x ≡ Some y → filter_map f (x ∷ xs) ≡ y ∷ filter_map f xs
+gives_some f x xs y is = rw is refl
 
 first_attachment : (e : EventText) (events : List EventText) (entry : Option AttachmentText) → e.entry ≡ entry → HasSmall e
     → All IsSmall (attachments_of events) × (length (attachments_of events) ≤ length events)
     → All IsSmall (attachments_of (e ∷ events)) × (length (attachments_of (e ∷ events)) ≤ length events + 1)
 first_attachment e events None is small others =
     let short = others.1 in
-    rw is (others.0, omega (arith, short))
+    let same : attachments_of (e ∷ events) ≡ attachments_of events = gives_none attached_to e events (ap (attached_as e) is) in
+    let long = ap length same in
+    (subst (All IsSmall) (sym same) others.0, omega (arith, short, long))
 first_attachment e events (Some a) is small others =
     let short = others.1 in
     let there : Attached = record { owner = e; attachment = a } in
-    let first : IsSmall there = rw is at small in
-    rw is (All-cons IsSmall there (attachments_of events) first others.0, omega (arith, short))
+    let same : attachments_of (e ∷ events) ≡ there ∷ attachments_of events = gives_some attached_to e events there (ap (attached_as e) is) in
+    let long = ap length same in
+    let bytes : offset_bytes_of e ≡ length a.offset_bytes = ap (λ (o : Option AttachmentText). option_map_or (λ (x : AttachmentText). length x.offset_bytes) o 0) is in
+    let first : IsSmall there = omega (arith, small, bytes) in
+    (subst (All IsSmall) (sym same) (All-cons IsSmall there (attachments_of events) first others.0), omega (arith, short, long))
 
 attachments_few : (events : List EventText) → All HasSmall events
     → All IsSmall (attachments_of events) × (length (attachments_of events) ≤ length events)
@@ -122,3 +143,38 @@ counts_short ledger events sums fits sort =
     let less = small.1 in
     let all_short = fits.0 in
     omega (arith, counted, few, short, long, less, all_short)
+
+-- ---- one attachment
+
+-- the objects of an event's attachment, as an outcome
+abbrev pub outcome_of : Event → Entry → List ObjectText → Option BadObject → Outcome
+outcome_of e found objects bad =
+    record { of = record { owner = event_text e; attachment = entry_attachment found }; objects = objects; bad = bad }
+
+pub one_outcome : (e : Event) (found : Entry) (objects : List ObjectText) (bad : Option BadObject) → e.entry ≡ Some found
+    → AreObjects found.body.now found.offsets.now objects bad → AreOutcomes (attachments_of (event_text e ∷ [])) (outcome_of e found objects bad ∷ [])
+one_outcome e found objects bad is are =
+    let attached : attached_to (event_text e) ≡ Some (outcome_of e found objects bad).of =
+    ap (λ (o : Option Entry). attached_as (event_text e) (option_map entry_attachment o)) is in
+    record {
+      each = sym (gives_some attached_to (event_text e) [] (outcome_of e found objects bad).of attached);
+      are_objects = All-cons IsOutcome (outcome_of e found objects bad) [] are (All-nil IsOutcome);
+    }
+
+pub one_bad : (e : Event) (found : Entry) (objects : List ObjectText) (bad : Option BadObject)
+    → bad_objects (outcome_of e found objects bad ∷ []) ≡ owned_by (event_text e) bad
+one_bad e found objects None = refl
+one_bad e found objects (Some bad) = refl
+
+pub one_good : (e : Event) (found : Entry) (objects : List ObjectText) (bad : Option BadObject) (sort : Sort)
+    → times_of sort (good_objects (outcome_of e found objects bad ∷ [])) ≡ times_of sort objects
+one_good e found objects bad sort = ap (times_of sort) (append-nil objects)
+
+-- the last event's attachment, behind those before it
+pub objects_last : (old new : ObjectLedger) (events : List EventText) (e : EventText) (bad : Option BadObject) (outcomes : List Outcome)
+    → SumsObjects old events → AreOutcomes (attachments_of (e ∷ [])) outcomes
+    → ((sort : Sort) → count_of new.counts sort ≡ count_of old.counts sort + times_of sort (good_objects outcomes))
+    → bad_objects outcomes ≡ owned_by e bad → new.bad.items ≡ old.bad.items ++ map kept_bad (owned_by e bad) → SumsObjects new (events ++ e ∷ [])
+objects_last old new events e bad outcomes sums are counts owned is =
+    objects_more old new events (e ∷ []) outcomes sums are counts
+    (is ∙ ap (λ (t : List BadOwned). old.bad.items ++ map kept_bad t) (sym owned))

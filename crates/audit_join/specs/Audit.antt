@@ -3,17 +3,16 @@ use Rattle.std.specs.Prelude.{ℕ, List, ⊤}
 use Rattle.transaction_view.specs.Grammar.{WholeFrame, IsInGrammar, HasFirstFault}
 use Rattle.audit_join.specs.declared.audit_error.AuditError.{AuditError}
 use Rattle.audit_join.specs.declared.audit_error.AuditError.TheVariants.{Memory, Malformed}
-use Rattle.audit_join.specs.declared.findings.Findings.{Findings}
 use Rattle.audit_join.specs.Findings.{FindingsText}
-use Rattle.audit_join.specs.Kept.{Tell}
+use Rattle.audit_join.specs.Kept.{KeptFindings, Tell}
 
 -- the capture is in the grammar, and the findings are those of its frames
-abbrev pub IsAudited : List ℕ → Findings → Type 0
+abbrev pub IsAudited : List ℕ → KeptFindings → Type 0
 IsAudited capture found =
     (wholes : List WholeFrame) × (said : FindingsText) × IsInGrammar capture wholes
     × Tell wholes said found.frames found.sections
 
--- what is malformed is the capture's first fault
+-- a fault is the capture's first; of want of memory nothing is said
 abbrev pub IsMalformed : List ℕ → AuditError → Type 0
 IsMalformed capture Memory = ⊤
 IsMalformed capture (Malformed fault) = HasFirstFault capture fault

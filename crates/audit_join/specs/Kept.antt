@@ -27,3 +27,15 @@ pub record Tell (wholes : List WholeFrame) (said : FindingsText) (frames : List 
   pub show : Show frames (wholes_of wholes)
   pub are : AreFindings (wholes_of wholes) said
   pub keep : Keep sections said
+
+-- findings as they are kept: the views of the frames, and the sections
+pub record KeptFindings : Type 0 where
+  pub frames : List Frame
+  pub sections : Sections
+
+abbrev pub kept_findings : List Frame → Sections → KeptFindings
+kept_findings frames sections = record { frames = frames; sections = sections }
+
+-- the sections keep the findings of some frames of a capture, which the views show
+abbrev pub AreOfFrames : List Frame → Sections → Type 0
+AreOfFrames frames sections = (wholes : List WholeFrame) × (said : FindingsText) × Tell wholes said frames sections

@@ -8,6 +8,7 @@ use Rattle.transaction_view.specs.Grammar.{WholeFrame}
 use Rattle.event_core.specs.Events.{AttachmentText, EventText}
 use Rattle.summary_law.specs.Fits.{IsShort}
 use Rattle.summary_law.specs.Tally.{TallySums}
+use Rattle.audit_join.specs.declared.codes.CodeRow.{CodeRow}
 use Rattle.audit_join.specs.declared.event_ledgers.EventLedgers.{EventLedgers}
 use Rattle.audit_join.specs.declared.findings.Sections.{Sections}
 use Rattle.audit_join.specs.declared.flags.FlagLedger.{FlagLedger}
@@ -79,20 +80,12 @@ Takes old frames new =
     (wholes others : List (Placed WholeFrame)) → SumsLedgers old wholes → Show frames others
     → AreFewFrames (wholes ++ others) → SumsLedgers new (wholes ++ others)
 
--- the ledgers are those of some frames that are few together
-abbrev pub CanJoinLedgers : Ledgers → Ledgers → Type 0
-CanJoinLedgers earlier later =
-    (wholes others : List (Placed WholeFrame)) × SumsLedgers earlier wholes × SumsLedgers later others
-    × AreFewFrames (wholes ++ others)
-
--- whatever frames they are those of, the joined ones are those of one followed by the other
-abbrev pub JoinsLedgers : Ledgers → Ledgers → Ledgers → Type 0
-JoinsLedgers earlier later joined =
-    (wholes others : List (Placed WholeFrame)) → SumsLedgers earlier wholes → SumsLedgers later others
-    → AreFewFrames (wholes ++ others) → SumsLedgers joined (wholes ++ others)
-
 -- whatever frames the ledgers are those of, the sections keep their findings
 abbrev pub GiveSections : Ledgers → Sections → Type 0
 GiveSections ledgers sections =
     (wholes : List (Placed WholeFrame)) → SumsLedgers ledgers wholes
     → (said : FindingsText) × AreFindings wholes said × Keep sections said
+
+-- the key and the count of a tally's row
+abbrev pub row_of : ℕ × ℕ × ℕ → CodeRow
+row_of row = record { word = row.0; count = row.1 }

@@ -6,4 +6,5 @@ pub mod Findings
 pub mod Kept
 pub mod Ledgers
 pub mod Summary
+pub mod Lookup
 pub mod Audit

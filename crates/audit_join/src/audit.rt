@@ -1,6 +1,9 @@
 //! From a capture to its findings.
 
-ghost use Rattle.std.specs.Prelude.{◌≡◌, ◌≤◌, length, IfErr, IfOk};
+ghost use Rattle.std.specs.Prelude.{◌≡◌, ◌≤◌, ◌++◌, ◌∷◌, [], length, IfErr, IfOk, OnOk};
+ghost use Rattle.summary_law.specs.Summary.{CanAdd, Adds};
+ghost use Rattle.audit_join.specs.Frames.{AreGoodFrames};
+ghost use Rattle.audit_join.specs.Summary.{SumsPiece};
 ghost use Rattle.audit_join.specs.Audit.{IsAudited, IsMalformed};
 ghost use Rattle.audit_join.specs.declared.limits.TheConstants.{CAPTURE_LIMIT};
 
@@ -8,9 +11,8 @@ use crate::audit_error::AuditError;
 use crate::findings::Findings;
 use crate::limits::CAPTURE_LIMIT;
 use crate::piece_summary::PieceSummary;
-use crate::rows::Rows;
-use capture_frame::Frames;
-use std::alloc::Global;
+use capture_frame::{Frame, Frames};
+use std::alloc::{AllocError, Global};
 use std::thread::Threads;
 use summary_law::Summary;
 use transaction_view::check_frame;
@@ -32,11 +34,23 @@ pub fn audit_one<'c, T: Threads + Sync>(
         if let Some(fault) = check_frame(frame) {
             return Err(AuditError::Malformed(fault));
         }
-        frames.push(frame)?;
-        summary.add(frame)?;
+        take_frame(&mut frames, &mut summary, frame)?;
     }
-    Ok(Findings {
-        frames: Rows::of(frames),
-        sections: summary.sections()?,
-    })
+    let sections = summary.sections()?;
+    Ok(Findings::new(frames, sections))
+}
+
+/// Takes a frame into the list of frames, and into their summary.
+fn take_frame<'c>(
+    frames: &mut Vec<Frame<'c>>,
+    summary: &mut PieceSummary<'c>,
+    frame: Frame<'c>,
+) -> Result<(), AllocError>
+    requires { CanAdd SumsPiece AreGoodFrames summary.old frame }
+    ensures frames { OnOk result (frames.new.items ≡ frames.old.items ++ frame.entry ∷ []) }
+    ensures summary { OnOk result
+        (Adds SumsPiece AreGoodFrames summary.old frame.entry summary.new) }
+{
+    frames.push(frame)?;
+    summary.add(frame)
 }

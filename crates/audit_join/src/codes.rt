@@ -1,11 +1,11 @@
 //! The section `codes`.
 
-ghost use Rattle.std.specs.Prelude.{◌≡◌, List, IfOk, map};
+ghost use Rattle.std.specs.Prelude.{◌≡◌, if◌then◌else◌, List, IfOk, map};
 ghost use Rattle.std.specs.Ordering.{nat_cmp};
 ghost use Rattle.event_core.specs.Events.{EventText};
 ghost use Rattle.summary_law.specs.Tally.{TallySums};
 ghost use Rattle.audit_join.specs.Codes.{AreCodeRows, code_words, is_opaque_kind};
-ghost use Rattle.audit_join.specs.Ledgers.{code_item};
+ghost use Rattle.audit_join.specs.Ledgers.{code_item, row_of};
 
 use crate::rows::Rows;
 use binder_code::Kind;
@@ -20,10 +20,7 @@ pub struct CodeRow {
 }
 
 /// The rows of the section, from the tally of the records' code words.
-pub(crate) fn code_rows(
-    alloc: Global,
-    codes: &Tally<u32>,
-) -> Result<Rows<CodeRow>, AllocError>
+pub(crate) fn code_rows(alloc: Global, codes: &Tally<u32>) -> Result<Rows<CodeRow>, AllocError>
     ensures { IfOk result (λ rows. (events : List EventText) →
         TallySums nat_cmp codes.now (map code_item events) →
         AreCodeRows (code_words events) rows) }
@@ -46,9 +43,12 @@ fn rows_of(alloc: Global, tallied: &[(u32, u64, u128)]) -> Result<Vec<CodeRow>, 
         .collect(alloc)
 }
 
-/// Whether the command table does not list the kind.
-pub(crate) fn is_opaque(kind: Kind) -> bool
-    ensures { result ≡ is_opaque_kind kind }
+/// How many opaque records a record of this kind is.
+pub(crate) fn opaque_count(kind: Kind) -> u64
+    ensures { result ≡ (if is_opaque_kind kind then 1 else 0) }
 {
-    matches!(kind, Kind::Opaque)
+    match kind {
+        Kind::Opaque => 1,
+        _ => 0,
+    }
 }

@@ -5,7 +5,7 @@ ghost use Rattle.event_core.specs.Reading.{event_text};
 ghost use Rattle.summary_law.specs.Summary.{CanAdd, Adds, CanJoin, Joins};
 ghost use Rattle.audit_join.specs.Ledgers.{SumsEvents, AreFewEvents};
 
-use crate::codes::is_opaque;
+use crate::codes::opaque_count;
 use crate::flags::FlagLedger;
 use crate::objects::ObjectLedger;
 use event_core::Event;
@@ -43,9 +43,7 @@ impl EventLedgers {
             (Adds SumsEvents AreFewEvents self.old (event_text event.entry) self.new) }
     {
         self.records += 1;
-        if is_opaque(event.kind) {
-            self.opaque += 1;
-        }
+        self.opaque += opaque_count(event.kind);
         self.codes.add((event.code.0, 0))?;
         self.objects.add(event)?;
         self.flags.add(event)

@@ -1,15 +1,15 @@
 //! The findings of a capture.
 
-ghost use Rattle.std.specs.Prelude.{◌≡◌, List, ℕ};
-ghost use Rattle.transaction_view.specs.Grammar.{WholeFrame};
-ghost use Rattle.audit_join.specs.Findings.{FindingsText};
-ghost use Rattle.audit_join.specs.Kept.{Tell};
+ghost use Rattle.std.specs.Prelude.{◌≡◌};
 
 use crate::codes::CodeRow;
+use crate::lookup::{count_up_to, end_of};
 use crate::objects::BadRow;
 use crate::rows::Rows;
 use crate::sort_counts::SortCounts;
 use capture_frame::Frame;
+use event_core::{Event, bare_event_at};
+use std::marker::Model;
 
 /// The numbers and the rows of the report, beside the number of frames.
 #[derive(Debug, Drop)]
@@ -34,11 +34,71 @@ pub struct Sections {
 /// place; the rest of its row is read from the frames again.
 #[derive(Debug, Drop)]
 pub struct Findings<'c> {
-    /// The frames of the capture, in order.
-    pub frames: Rows<Frame<'c>>,
-    /// The numbers and the rows of each section.
-    pub sections: Sections,
+    frames: Vec<Frame<'c>>,
+    sections: Sections,
+}
+
+impl<'c> Model for Findings<'c> {
+    ghost use Rattle.audit_join.specs.Kept.{KeptFindings, kept_findings, AreOfFrames};
+
+    ghost Value = { KeptFindings };
+
+    ghost view = { λ f. kept_findings f.frames.items f.sections };
+
     // They are those of some frames of a capture, which the views show.
-    ghost told: { (wholes : List WholeFrame) × (said : FindingsText)
-        × Tell wholes said frames sections },
+    ghost invariant = { λ f. AreOfFrames f.frames.items f.sections };
+}
+
+impl<'c> Findings<'c> {
+    ghost use Rattle.audit_join.specs.Kept.{kept_findings, AreOfFrames};
+    ghost use Rattle.audit_join.specs.Lookup.{IsFrameAt, HasRecordIn, SaysEventAt};
+
+    /// The findings of frames and what is kept of them.
+    pub(crate) fn new(frames: Vec<Frame<'c>>, sections: Sections) -> Findings<'c>
+        requires { AreOfFrames frames.items sections }
+        ensures { result ≡ kept_findings frames.entry.items sections }
+    {
+        Findings { frames, sections }
+    }
+
+    /// The frames of the capture, in order.
+    pub fn frames(&self) -> &[Frame<'c>]
+        ensures { result.now ≡ self.now.frames }
+    {
+        self.frames.as_slice()
+    }
+
+    /// The numbers and the rows of the sections.
+    pub fn sections(&self) -> &Sections
+        ensures { result.now ≡ self.now.sections }
+    {
+        &self.sections
+    }
+
+    /// The frame that holds the byte at a place of the capture; None where no frame does.
+    pub fn frame_at(&self, place: u64) -> Option<Frame<'c>>
+        ensures { IsFrameAt self.now.frames place result }
+    {
+        let frames = self.frames.as_slice();
+        let count = count_up_to(frames, place);
+        if count == 0 {
+            return None;
+        }
+        let frame = frames[count - 1];
+        if place < end_of(frame) {
+            Some(frame)
+        } else {
+            None
+        }
+    }
+
+    /// The event of the record that begins at a place of the capture, with the attachment left out.
+    pub fn record_at(&self, place: u64) -> Event<'c>
+        requires { HasRecordIn self.now.frames place }
+        ensures { SaysEventAt self.now.frames place result }
+    {
+        // A record begins there, so there is a frame.
+        let frame = self.frame_at(place).unwrap();
+        bare_event_at(frame, place)
+    }
 }

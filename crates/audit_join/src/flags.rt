@@ -3,7 +3,7 @@
 ghost use Rattle.std.specs.Prelude.{◌≡◌, ◌++◌, ◌∷◌, [], List, map, IfOk, OnOk};
 ghost use Rattle.event_core.specs.Events.{EventText};
 ghost use Rattle.event_core.specs.Reading.{event_text};
-ghost use Rattle.audit_join.specs.Flags.{unknown_flags};
+ghost use Rattle.audit_join.specs.Flags.{unknown_flags, flagged};
 ghost use Rattle.audit_join.specs.Ledgers.{ListsFlagged};
 
 use binder_code::unknown_bits;
@@ -43,9 +43,7 @@ impl FlagLedger {
             ListsFlagged joined (events ++ others)) }
     {
         let mut places = self.places;
-        for place in &later.places {
-            places.push(*place)?;
-        }
+        places.extend_from_slice(later.places.as_slice())?;
         Ok(FlagLedger { places })
     }
 

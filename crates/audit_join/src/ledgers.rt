@@ -1,7 +1,8 @@
 //! What frames come to.
 
 ghost use Rattle.std.specs.Prelude.{◌≡◌, [], ◌∷◌, IfOk, OnOk};
-ghost use Rattle.audit_join.specs.Ledgers.{SumsLedgers, CanTake, Takes, CanJoinLedgers, JoinsLedgers, GiveSections};
+ghost use Rattle.summary_law.specs.Summary.{CanJoin, Joins};
+ghost use Rattle.audit_join.specs.Ledgers.{SumsLedgers, AreFewFrames, CanTake, Takes, GiveSections};
 
 use crate::codes::code_rows;
 use crate::event_ledgers::EventLedgers;
@@ -55,8 +56,8 @@ impl Ledgers {
 
     /// Those of these frames and of the later ones.
     pub fn join(self, later: Ledgers) -> Result<Ledgers, AllocError>
-        requires { CanJoinLedgers self later }
-        ensures { IfOk result (JoinsLedgers self later) }
+        requires { CanJoin SumsLedgers AreFewFrames self later }
+        ensures { IfOk result (Joins SumsLedgers AreFewFrames self later) }
     {
         Ok(Ledgers {
             sequences: self.sequences.then(later.sequences),

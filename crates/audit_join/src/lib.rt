@@ -9,6 +9,7 @@ mod findings;
 mod flags;
 mod ledgers;
 mod limits;
+mod lookup;
 mod objects;
 mod piece_summary;
 mod rows;

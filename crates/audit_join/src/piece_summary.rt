@@ -1,9 +1,12 @@
 //! The summary of some frames of a capture.
 
-ghost use Rattle.std.specs.Prelude.{◌≡◌, ◌×◌, [], List, IfOk, OnOk};
+ghost use Rattle.std.specs.Prelude.{◌≡◌, ◌++◌, [], List, IfOk, OnOk};
 ghost use Rattle.capture_frame.specs.declared.frame.Frame.{Frame};
+ghost use Rattle.capture_frame.specs.Units.{Placed};
+ghost use Rattle.transaction_view.specs.Grammar.{WholeFrame};
+ghost use Rattle.audit_join.specs.Ledgers.{SumsLedgers};
 ghost use Rattle.audit_join.specs.Frames.{AreGoodFrames, good_frames_parts};
-ghost use Rattle.audit_join.specs.Summary.{SumsPiece, CanSettle, Settles, GiveSectionsOf};
+ghost use Rattle.audit_join.specs.Summary.{SumsPut, SumsPiece, CanSettle, Settles, CanPut, Puts, CanFollow, Follow, GiveSectionsOf};
 
 use crate::findings::Sections;
 use crate::ledgers::Ledgers;
@@ -43,28 +46,91 @@ impl<'c> PieceSummary<'c> {
         requires { CanSettle self.old }
         ensures { OnOk result (Settles self.old self.new) }
     {
-        let mut ledgers = match self.ledgers.take() {
-            Some(ledgers) => ledgers,
-            None => Box::new(self.alloc, Ledgers::empty(self.alloc))?,
-        };
-        ledgers.add_all(self.kept.as_slice())?;
-        self.kept.clear();
+        let ledgers = put(self.alloc, self.ledgers.take(), self.kept.as_slice())?;
         self.ledgers = Some(ledgers);
+        self.kept.clear();
         Ok(())
+    }
+
+    /// The same frames and these behind them, which are kept as long as they are few.
+    fn with_kept(self, later: Vec<Frame<'c>>) -> Result<PieceSummary<'c>, AllocError>
+        requires { (frames : List Frame) × SumsPiece self frames
+            × AreGoodFrames (frames ++ later.items) }
+        ensures { IfOk result (λ joined. (frames : List Frame) → SumsPiece self.entry frames →
+            AreGoodFrames (frames ++ later.entry.items) →
+            SumsPiece joined (frames ++ later.entry.items)) }
+    {
+        let mut joined = self;
+        joined.kept.extend_from_slice(later.as_slice())?;
+        if joined.kept.len() > joined.most_kept {
+            joined.settle()?;
+        }
+        Ok(joined)
+    }
+
+    /// The same frames and, behind them, those of ledgers and the ones that are kept behind those.
+    fn with_ledgers(
+        self,
+        after: Box<Ledgers>,
+        kept: Vec<Frame<'c>>,
+    ) -> Result<PieceSummary<'c>, AllocError>
+        requires { CanFollow self after.value kept.items }
+        ensures { IfOk result (Follow self.entry after.value kept.entry.items) }
+    {
+        let PieceSummary {
+            ledgers,
+            kept: first,
+            most_kept,
+            alloc,
+        } = self;
+        let before = put(alloc, ledgers, first.as_slice())?;
+        let both = Box::into_inner(before).join(Box::into_inner(after))?;
+        Ok(PieceSummary {
+            ledgers: Some(Box::new(alloc, both)?),
+            kept,
+            most_kept,
+            alloc,
+        })
     }
 
     /// What the findings keep of the frames.
     pub(crate) fn sections(self) -> Result<Sections, AllocError>
         requires { CanSettle self }
-        ensures { IfOk result (GiveSectionsOf self) }
+        ensures { IfOk result (GiveSectionsOf self.entry) }
     {
-        let mut settled = self;
-        settled.settle()?;
-        let ledgers = match settled.ledgers {
-            Some(ledgers) => Box::into_inner(ledgers),
-            None => Ledgers::empty(settled.alloc),
-        };
-        ledgers.sections(settled.alloc)
+        let PieceSummary {
+            ledgers,
+            kept,
+            most_kept: _,
+            alloc,
+        } = self;
+        let ledgers = put(alloc, ledgers, kept.as_slice())?;
+        Box::into_inner(ledgers).sections(alloc)
+    }
+}
+
+/// The ledgers with these frames besides.
+fn put(
+    alloc: Global,
+    ledgers: Option<Box<Ledgers>>,
+    frames: &[Frame<'_>],
+) -> Result<Box<Ledgers>, AllocError>
+    requires { CanPut ledgers frames.now }
+    ensures { IfOk result (λ all. Puts ledgers frames.entry.now all.value) }
+{
+    let mut all = ledgers_or_none(alloc, ledgers)?;
+    all.add_all(frames)?;
+    Ok(all)
+}
+
+/// The ledgers, or those of no frame.
+fn ledgers_or_none(alloc: Global, ledgers: Option<Box<Ledgers>>) -> Result<Box<Ledgers>, AllocError>
+    ensures { IfOk result (λ all. (wholes : List (Placed WholeFrame)) → SumsPut ledgers wholes →
+        SumsLedgers all.value wholes) }
+{
+    match ledgers {
+        Some(ledgers) => Ok(ledgers),
+        None => Ok(Box::new(alloc, Ledgers::empty(alloc))?),
     }
 }
 
@@ -93,27 +159,16 @@ impl<'c> Summary for PieceSummary<'c> {
     }
 
     fn join(self, later: PieceSummary<'c>) -> Result<PieceSummary<'c>, AllocError> {
-        let mut joined = self;
-        match later.ledgers {
-            None => {
-                joined.kept.extend_from_slice(later.kept.as_slice())?;
-                if joined.kept.len() > joined.most_kept {
-                    joined.settle()?;
-                }
-            }
-            Some(after) => {
-                joined.settle()?;
-                joined.ledgers = match joined.ledgers {
-                    Some(before) => {
-                        let both = Box::into_inner(before).join(Box::into_inner(after))?;
-                        Some(Box::new(joined.alloc, both)?)
-                    }
-                    None => Some(after),
-                };
-                joined.kept = later.kept;
-            }
+        let PieceSummary {
+            ledgers,
+            kept,
+            most_kept: _,
+            alloc: _,
+        } = later;
+        match ledgers {
+            Some(after) => self.with_ledgers(after, kept),
+            None => self.with_kept(kept),
         }
-        Ok(joined)
     }
 
     ghost fits_parts = { good_frames_parts };

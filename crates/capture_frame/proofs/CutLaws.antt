@@ -14,7 +14,7 @@ use Rattle.capture_frame.proofs.FrameLaws.{frames_decided}
 use Rattle.capture_frame.proofs.ReaderLaws.{StandsBehind, stands_at_start, stands_behind_next, steps_from, units_end}
 use Rattle.capture_frame.proofs.ReaderLaws as readers
 
-placed-snoc : {U : Type 0} (spelling : U → List ℕ) (place : ℕ) (units : List U) (unit : U)
+pub placed-snoc : {U : Type 0} (spelling : U → List ℕ) (place : ℕ) (units : List U) (unit : U)
     → placed spelling place (units ++ unit ∷ []) ≡ placed spelling place units ++ placed_at (place + length (flat_map spelling units)) unit ∷ []
 placed-snoc spelling place [] unit = ap (λ (n : ℕ). placed_at n unit ∷ []) (omega arith)
 placed-snoc spelling place (u ∷ units) unit =
