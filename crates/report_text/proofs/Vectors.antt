@@ -1,0 +1,89 @@
+-- The definitions at findings that were worked out by hand.
+use Rattle.std.proofs.Common.{◌≡◌, ℕ, List, [], ◌∷◌, ◌++◌, replicate, codes, refl, ap, ◌∙◌, arith}
+use Rattle.std.specs.Prelude.{Option, None}
+use Rattle.std.specs.Fmt.{decimal}
+use Rattle.std.proofs.lemmas.Fmt.{decimal_digit}
+use Rattle.itoa.proofs.Decimal.{decimal_two, decimal_pair}
+use Rattle.binder_code.specs.declared.record_kind.Kind.TheVariants.{BcTransaction}
+use Rattle.capture_frame.specs.Envelope.{number_at}
+use Rattle.capture_frame.specs.declared.fault.FaultKind.TheVariants.{RecordDirection}
+use Rattle.object_view.specs.declared.bad_object.Cause.TheVariants.{Overlap}
+use Rattle.object_view.specs.Objects.{bad_at}
+use Rattle.event_core.specs.Events.{EventText}
+use Rattle.audit_join.specs.Findings.{FindingsText}
+use Rattle.report_text.specs.Codes.{codes_row}
+use Rattle.report_text.specs.Fault.{fault_line, no_fault_line}
+use Rattle.report_text.specs.Flags.{flags_row}
+use Rattle.report_text.specs.Objects.{objects_row}
+use Rattle.report_text.specs.Text.{report_text}
+
+nothing : FindingsText
+nothing = record {
+  frames = 0;
+  records = 0;
+  opaque = 0;
+  missing = 0;
+  codes = [];
+  objects = record { binder = 0; weak_binder = 0; handle = 0; weak_handle = 0; fd = 0; fda = 0; ptr = 0 };
+  bad_objects = [];
+  flags = [];
+}
+
+-- `BC_TRANSACTION` to the handle 1 with flags 0x82
+send : EventText
+send = record {
+  place = 48;
+  process = 100;
+  thread = 101;
+  kind = BcTransaction;
+  code = 0x40406300;
+  payload = 1 ∷ replicate 19 0 ++ 0x82 ∷ replicate 43 0;
+  entry = None;
+}
+
+zero_said : decimal 0 ≡ codes "0"
+zero_said = decimal_digit 0 (omega arith)
+
+one_said : decimal 1 ≡ codes "1"
+one_said = decimal_digit 1 (omega arith)
+
+two_said : decimal 2 ≡ codes "2"
+two_said = decimal_digit 2 (omega arith)
+
+twenty_said : decimal 20 ≡ codes "20"
+twenty_said = decimal_two 20 (omega arith) (omega arith)
+
+forty_eight_said : decimal 48 ≡ codes "48"
+forty_eight_said = decimal_two 48 (omega arith) (omega arith)
+
+eighty_four_said : decimal 84 ≡ codes "84"
+eighty_four_said = decimal_two 84 (omega arith) (omega arith)
+
+hundred_said : decimal 100 ≡ codes "100"
+hundred_said = decimal_pair 100 (omega arith) (omega arith) ∙ ap (λ (t : List ℕ). t ++ codes "00") (decimal_digit 1 (omega arith))
+
+empty_report : report_text nothing
+    ≡ codes "BINDER AUDIT 1\nframes 0 records 0 opaque 0 missing 0\ncodes 0\nobjects binder 0 weak_binder 0 handle 0 weak_handle 0 fd 0 fda 0 ptr 0 bad 0\nflags 0\n"
+unfolding nothing report_text
+empty_report = rw zero_said refl
+
+acquire_row : codes_row (record { word = 0x40046305; count = 2 }) ≡ codes "  0x40046305 BC_ACQUIRE 2"
+acquire_row = rw two_said refl
+
+opaque_row : codes_row (record { word = 0x400c6313; count = 1 }) ≡ codes "  0x400c6313 OPAQUE 1"
+opaque_row = rw one_said refl
+
+overlap_row : objects_row (record { owner = send; bad = bad_at 1 20 Overlap }) ≡ codes "  48 100 1 20 Overlap"
+unfolding send
+overlap_row = rw (forty_eight_said, hundred_said, one_said, twenty_said) refl
+
+unknown_row : flags_row send ≡ codes "  48 100 0x00000082"
+unfolding send number_at
+unknown_row = rw (forty_eight_said, hundred_said) refl
+
+direction_line : fault_line (record { kind = RecordDirection; place = 84 }) ≡ codes "malformed RecordDirection at 84\n"
+unfolding fault_line
+direction_line = rw eighty_four_said refl
+
+good_line : no_fault_line ≡ codes "no malformed record\n"
+good_line = refl

@@ -1,0 +1,11 @@
+use Rattle.std.proofs.Common.{◌≡◌, ap, ◌∙◌}
+use Rattle.rayon.proofs.ListFacts.{IfOk-then}
+use Rattle.rayon.proofs.ToStd.{slice-AllZip}
+use Rattle.report_text.proofs.shown.rendered.Goals as goal
+
+pub returns : goal.returns
+returns g c =
+    let slice = ap (λ it. it.slice.now) c.map.ensures.base ∙ c.par_iter.ensures in
+    IfOk-then c.collect.result _ _ c.collect.ensures (λ v h.
+    let chain = rw c.map.ensures.f at h.1 in
+    rw h.2 (slice-AllZip chain.0 c.args.kept.now (chain.1 ∙ slice) (λ k row. g.S.Shown.shows c.args.section k row.bytes) h.0 chain.2))

@@ -1,0 +1,30 @@
+-- The lines of the section `codes` (docs/REPORT.md).
+use Rattle.std.specs.Prelude.{ℕ, List, ◌∷◌, ◌++◌, [], length, map, codes, Option, Some, None}
+use Rattle.std.specs.Fmt.{decimal}
+use Rattle.std.specs.Result.{result_ok}
+use Rattle.binder_code.specs.declared.record_kind.Kind.{Kind}
+use Rattle.binder_code.specs.Commands.{kind_of, protocol_of_word, name_of}
+use Rattle.audit_join.specs.declared.codes.CodeRow.{CodeRow}
+use Rattle.audit_join.specs.Findings.{FindingsText}
+use Rattle.report_text.specs.Line.{hex_word}
+
+-- the name of a kind, and nothing where there is none
+abbrev pub name_of_kind : Option Kind → List ℕ
+name_of_kind None = []
+name_of_kind (Some kind) = name_of kind
+
+-- the name of the record that a good code word stands for
+abbrev pub name_of_word : ℕ → List ℕ
+name_of_word word = name_of_kind (result_ok (kind_of (protocol_of_word word) word))
+
+-- the head: how many different code words there are
+abbrev pub codes_head : ℕ → List ℕ
+codes_head different = codes "codes " ++ decimal different
+
+-- a row: code word, kind, count
+abbrev pub codes_row : CodeRow → List ℕ
+codes_row row = codes "  " ++ hex_word row.word ++ codes " " ++ name_of_word row.word ++ codes " " ++ decimal row.count
+
+-- the section
+abbrev pub codes_lines : FindingsText → List (List ℕ)
+codes_lines said = codes_head (length said.codes) ∷ map codes_row said.codes

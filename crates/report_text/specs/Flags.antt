@@ -1,0 +1,20 @@
+-- The lines of the section `flags` (docs/REPORT.md).
+use Rattle.std.specs.Prelude.{ℕ, List, ◌∷◌, ◌++◌, length, map, codes}
+use Rattle.std.specs.Fmt.{decimal}
+use Rattle.event_core.specs.Events.{EventText}
+use Rattle.audit_join.specs.Findings.{FindingsText}
+use Rattle.audit_join.specs.Flags.{unknown_flags}
+use Rattle.report_text.specs.Line.{hex_word}
+
+-- the head: how many rows there are
+abbrev pub flags_head : ℕ → List ℕ
+flags_head rows = codes "flags " ++ decimal rows
+
+-- a row: place, process, unknown bits
+abbrev pub flags_row : EventText → List ℕ
+flags_row e =
+    codes "  " ++ decimal e.place ++ codes " " ++ decimal e.process ++ codes " " ++ hex_word (unknown_flags e)
+
+-- the section
+abbrev pub flags_lines : FindingsText → List (List ℕ)
+flags_lines said = flags_head (length said.flags) ∷ map flags_row said.flags

@@ -1,0 +1,18 @@
+-- Laws of the definitions.
+use Rattle.std.specs.Prelude.{◌≡◌, ℕ, List}
+use Rattle.capture_frame.specs.declared.fault.Fault.{Fault}
+use Rattle.transaction_view.specs.Grammar.{HasFirstFault}
+use Rattle.report_text.specs.Answers.{IsTextOf, IsLineOn}
+use Rattle.report_text.specs.Text.{IsReportOn}
+
+-- two texts of a capture are one
+abbrev pub HasOneText : Type 0
+HasOneText = (capture text other : List ℕ) → IsTextOf capture text → IsTextOf capture other → text ≡ other
+
+-- two lines of `first-fault` on a capture are one
+abbrev pub HasOneLine : Type 0
+HasOneLine = (capture line other : List ℕ) → IsLineOn capture line → IsLineOn capture other → line ≡ other
+
+-- no capture has both a report and a first fault
+abbrev pub HasNoTwoAnswers : Type 0
+HasNoTwoAnswers = (capture text : List ℕ) (fault : Fault) → IsReportOn capture text → HasFirstFault capture fault → ⊥

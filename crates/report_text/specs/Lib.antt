@@ -1,0 +1,9 @@
+pub mod Line
+pub mod Codes
+pub mod Objects
+pub mod Flags
+pub mod Fault
+pub mod Text
+pub mod Answers
+pub mod Laws
+pub mod Pushed

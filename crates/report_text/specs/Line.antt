@@ -1,0 +1,16 @@
+-- The parts of a line (docs/REPORT.md).
+use Rattle.std.specs.Prelude.{ℕ, zero, suc, ◌/◌, ◌%◌, List, [], ◌∷◌, ◌++◌, codes, false}
+use Rattle.std.specs.Fmt.{digit_glyph}
+
+-- the last k hexadecimal digits of a number, lower case
+abbrev pub hex_digits : ℕ → ℕ → List ℕ
+hex_digits zero n = []
+hex_digits (suc k) n = hex_digits k (n / 16) ++ digit_glyph false (n % 16) ∷ []
+
+-- `0x` and eight hexadecimal digits
+abbrev pub hex_word : ℕ → List ℕ
+hex_word word = codes "0x" ++ hex_digits 8 word
+
+-- a line, ended by one line feed
+abbrev pub ended : List ℕ → List ℕ
+ended line = line ++ codes "\n"

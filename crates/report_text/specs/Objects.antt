@@ -1,0 +1,34 @@
+-- The lines of the section `objects` (docs/REPORT.md).
+use Rattle.std.specs.Prelude.{ℕ, List, ◌∷◌, ◌++◌, length, map, codes}
+use Rattle.std.specs.Fmt.{decimal}
+use Rattle.object_view.specs.declared.bad_object.Cause.{Cause}
+use Rattle.object_view.specs.declared.bad_object.Cause.TheVariants.{ListLength, Misaligned, Overlap, Short, UnknownSort}
+use Rattle.audit_join.specs.declared.sort_counts.SortCounts.{SortCounts}
+use Rattle.audit_join.specs.Findings.{FindingsText}
+use Rattle.audit_join.specs.Objects.{BadOwned}
+
+-- the head: how many good objects of each sort there are, and how many bad ones
+abbrev pub objects_head : SortCounts → ℕ → List ℕ
+objects_head counts bad =
+    codes "objects binder " ++ decimal counts.binder ++ codes " weak_binder " ++ decimal counts.weak_binder
+    ++ codes " handle " ++ decimal counts.handle ++ codes " weak_handle " ++ decimal counts.weak_handle
+    ++ codes " fd " ++ decimal counts.fd ++ codes " fda " ++ decimal counts.fda
+    ++ codes " ptr " ++ decimal counts.ptr ++ codes " bad " ++ decimal bad
+
+-- the name of a cause, as it is printed
+abbrev pub cause_name : Cause → List ℕ
+cause_name ListLength = codes "ListLength"
+cause_name Misaligned = codes "Misaligned"
+cause_name Overlap = codes "Overlap"
+cause_name Short = codes "Short"
+cause_name UnknownSort = codes "UnknownSort"
+
+-- a row: place and process of the owning record, index, offset, cause
+abbrev pub objects_row : BadOwned → List ℕ
+objects_row row =
+    codes "  " ++ decimal row.owner.place ++ codes " " ++ decimal row.owner.process ++ codes " "
+    ++ decimal row.bad.index ++ codes " " ++ decimal row.bad.offset ++ codes " " ++ cause_name row.bad.cause
+
+-- the section
+abbrev pub objects_lines : FindingsText → List (List ℕ)
+objects_lines said = objects_head said.objects (length said.bad_objects) ∷ map objects_row said.bad_objects

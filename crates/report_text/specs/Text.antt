@@ -1,0 +1,45 @@
+-- The report on a capture (docs/REPORT.md).
+use Rattle.std.specs.Prelude.{◌≡◌, ℕ, List, [], ◌∷◌, ◌++◌, codes}
+use Rattle.std.specs.List.{flat_map}
+use Rattle.std.specs.Fmt.{decimal}
+use Rattle.transaction_view.specs.Grammar.{WholeFrame, IsInGrammar}
+use Rattle.audit_join.specs.Findings.{FindingsText, AreFindings}
+use Rattle.audit_join.specs.Frames.{wholes_of}
+use Rattle.report_text.specs.Line.{ended}
+use Rattle.report_text.specs.Codes.{codes_lines}
+use Rattle.report_text.specs.Objects.{objects_lines}
+use Rattle.report_text.specs.Flags.{flags_lines}
+
+-- the title
+abbrev pub title : List ℕ
+title = codes "BINDER AUDIT 1"
+
+abbrev pub title_lines : FindingsText → List (List ℕ)
+title_lines said = title ∷ []
+
+-- the line of totals: frames, records, opaque ones among them, missing frames
+abbrev pub totals : ℕ → ℕ → ℕ → ℕ → List ℕ
+totals frames records opaque missing =
+    codes "frames " ++ decimal frames ++ codes " records " ++ decimal records
+    ++ codes " opaque " ++ decimal opaque ++ codes " missing " ++ decimal missing
+
+abbrev pub totals_lines : FindingsText → List (List ℕ)
+totals_lines said = totals said.frames said.records said.opaque said.missing ∷ []
+
+-- the parts of the report, in their order: the first two lines, and the sections
+abbrev pub parts : List (FindingsText → List (List ℕ))
+parts = title_lines ∷ totals_lines ∷ codes_lines ∷ objects_lines ∷ flags_lines ∷ []
+
+-- the lines of the report, without their line feeds
+abbrev pub report_lines : FindingsText → List (List ℕ)
+report_lines said = flat_map (λ part. part said) parts
+
+-- the report
+unfoldable pub report_text : FindingsText → List ℕ
+report_text said = flat_map ended (report_lines said)
+
+-- the text is the report on a capture in the grammar
+abbrev pub IsReportOn : List ℕ → List ℕ → Type 0
+IsReportOn capture text =
+    (wholes : List WholeFrame) × (said : FindingsText) × IsInGrammar capture wholes
+    × AreFindings (wholes_of wholes) said × (text ≡ report_text said)

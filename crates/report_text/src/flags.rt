@@ -1,0 +1,84 @@
+//! The section `flags`.
+
+ghost use Rattle.std.specs.Prelude.{◌≡◌, OnOk};
+ghost use Rattle.event_core.specs.Reading.{event_text};
+ghost use Rattle.audit_join.specs.Flags.{unknown_flags};
+ghost use Rattle.report_text.specs.Flags.{flags_head, flags_row, flags_lines};
+ghost use Rattle.report_text.specs.Pushed.{TakesLines};
+
+use crate::line::{Row, push_decimal, push_hex_word};
+use crate::lines::Lines;
+use crate::shown::{Shown, push_rows};
+use audit_join::Findings;
+use binder_code::unknown_bits;
+use event_core::Event;
+use std::alloc::{AllocError, Global};
+use std::thread::Threads;
+
+/// Pushes the lines of the section.
+pub(crate) fn push_flags<T: Threads + Sync, L: Lines>(
+    rt: &T,
+    alloc: Global,
+    found: &Findings<'_>,
+    lines: &mut L,
+) -> Result<(), AllocError>
+    ensures { OnOk result (TakesLines L.takes flags_lines found.now lines.old lines.new) }
+{
+    let places = found.sections().flags.as_slice();
+    lines.push_line(&head_line(places.len()))?;
+    push_rows(rt, alloc, FlagRows { found }, places, lines)
+}
+
+/// The rows of the section, each kept as the place of its record.
+#[derive(Clone, Copy)]
+struct FlagRows<'f, 'c> {
+    found: &'f Findings<'c>,
+}
+
+impl<'f, 'c> Shown for FlagRows<'f, 'c> {
+    ghost use Rattle.audit_join.specs.Lookup.{HasRecordIn};
+    ghost use Rattle.report_text.specs.Flags.{flags_row};
+    ghost use Rattle.report_text.specs.Pushed.{ShowsEvent};
+
+    type Kept = u64;
+
+    ghost can_show = { λ rows place. HasRecordIn rows.found.now.frames place };
+
+    ghost shows = { λ rows place line. ShowsEvent flags_row rows.found.now.frames place line };
+
+    fn line(&self, kept: &u64) -> Row {
+        row_line(self.found.record_at(*kept))
+    }
+}
+
+fn head_line(rows: usize) -> Row
+    ensures { result.bytes ≡ flags_head rows }
+{
+    let mut line = Row::new();
+    line.push_str("flags ");
+    push_decimal(&mut line, rows as u64);
+    line
+}
+
+fn row_line(event: Event<'_>) -> Row
+    ensures { result.bytes ≡ flags_row (event_text event.entry) }
+{
+    let mut line = Row::new();
+    line.push_str("  ");
+    push_decimal(&mut line, event.place);
+    line.push_str(" ");
+    push_decimal(&mut line, u64::from(event.process));
+    line.push_str(" ");
+    push_hex_word(&mut line, unknown_flags(event));
+    line
+}
+
+/// The flag bits of an event's record that the header does not name.
+fn unknown_flags(event: Event<'_>) -> u32
+    ensures { result ≡ unknown_flags (event_text event.entry) }
+{
+    match event.transaction {
+        Some(transaction) => unknown_bits(transaction.flags()),
+        None => 0,
+    }
+}

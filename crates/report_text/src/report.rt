@@ -1,0 +1,89 @@
+//! The whole report.
+
+ghost use Rattle.std.specs.Prelude.{◌≡◌, ◌≤◌, List, All, map, length, IfOk, OnOk, string_bytes};
+ghost use Rattle.transaction_view.specs.Grammar.{WholeFrame};
+ghost use Rattle.audit_join.specs.Findings.{FindingsText};
+ghost use Rattle.audit_join.specs.Kept.{Tell};
+ghost use Rattle.report_text.specs.Pushed.{TakesLines};
+ghost use Rattle.report_text.specs.Text.{title, totals, report_lines, report_text};
+
+use crate::codes::push_codes;
+use crate::flags::push_flags;
+use crate::line::{Row, push_decimal};
+use crate::lines::Lines;
+use crate::objects::push_objects;
+use audit_join::Findings;
+use std::alloc::{AllocError, Global};
+use std::thread::Threads;
+
+/// The lines of the report, without their line feeds.
+pub fn rows<T: Threads + Sync>(
+    rt: &T,
+    alloc: Global,
+    found: &Findings<'_>,
+) -> Result<Vec<Row>, AllocError>
+    ensures lines { IfOk result (λ rows. (wholes : List WholeFrame) (said : FindingsText)
+        → Tell wholes said found.now.frames found.now.sections
+        → map (λ row. row.bytes) rows.items ≡ report_lines said) }
+    ensures short { IfOk result (λ rows. All (λ row. length row.bytes ≤ 256) rows.items) }
+{
+    let mut rows = Vec::new(alloc);
+    push_report(rt, alloc, found, &mut rows)?;
+    Ok(rows)
+}
+
+/// The report, each line with its line feed.
+pub fn text<T: Threads + Sync>(
+    rt: &T,
+    alloc: Global,
+    found: &Findings<'_>,
+) -> Result<String, AllocError>
+    ensures { IfOk result (λ text. (wholes : List WholeFrame) (said : FindingsText)
+        → Tell wholes said found.now.frames found.now.sections
+        → string_bytes text ≡ report_text said) }
+{
+    let mut text = String::new(alloc);
+    push_report(rt, alloc, found, &mut text)?;
+    Ok(text)
+}
+
+/// Pushes the lines of the report.
+fn push_report<T: Threads + Sync, L: Lines>(
+    rt: &T,
+    alloc: Global,
+    found: &Findings<'_>,
+    lines: &mut L,
+) -> Result<(), AllocError>
+    ensures { OnOk result (TakesLines L.takes report_lines found.now lines.old lines.new) }
+{
+    lines.push_line(&title_line())?;
+    lines.push_line(&totals_line(found))?;
+    push_codes(rt, alloc, found, lines)?;
+    push_objects(rt, alloc, found, lines)?;
+    push_flags(rt, alloc, found, lines)
+}
+
+fn title_line() -> Row
+    ensures { result.bytes ≡ title }
+{
+    let mut line = Row::new();
+    line.push_str("BINDER AUDIT 1");
+    line
+}
+
+fn totals_line(found: &Findings<'_>) -> Row
+    ensures { result.bytes ≡ totals (length found.now.frames) found.now.sections.records
+        found.now.sections.opaque found.now.sections.missing }
+{
+    let sections = found.sections();
+    let mut line = Row::new();
+    line.push_str("frames ");
+    push_decimal(&mut line, found.frames().len() as u64);
+    line.push_str(" records ");
+    push_decimal(&mut line, sections.records);
+    line.push_str(" opaque ");
+    push_decimal(&mut line, sections.opaque);
+    line.push_str(" missing ");
+    push_decimal(&mut line, sections.missing);
+    line
+}

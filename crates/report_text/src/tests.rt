@@ -1,0 +1,172 @@
+//! Lines as docs/REPORT.md and docs/ENVELOPE.md spell them, and more rows than are held at a time.
+
+use crate::codes::{self, CodeRows};
+use crate::shown::push_rows;
+use crate::{fault_text, objects};
+use audit_join::{CodeRow, SortCounts};
+use capture_frame::{Fault, FaultKind};
+use object_view::Cause;
+use std::process::Abort;
+use std::test::Fail;
+
+/// A fault of each kind at the greatest place.
+const FAULT_LINES: &[(FaultKind, &str)] = &[
+    (
+        FaultKind::HeaderShort,
+        "malformed HeaderShort at 18446744073709551615\n",
+    ),
+    (
+        FaultKind::HeaderMagic,
+        "malformed HeaderMagic at 18446744073709551615\n",
+    ),
+    (
+        FaultKind::HeaderProtocol,
+        "malformed HeaderProtocol at 18446744073709551615\n",
+    ),
+    (
+        FaultKind::HeaderReserved,
+        "malformed HeaderReserved at 18446744073709551615\n",
+    ),
+    (
+        FaultKind::FrameShort,
+        "malformed FrameShort at 18446744073709551615\n",
+    ),
+    (
+        FaultKind::FrameSequence,
+        "malformed FrameSequence at 18446744073709551615\n",
+    ),
+    (
+        FaultKind::FrameDirection,
+        "malformed FrameDirection at 18446744073709551615\n",
+    ),
+    (
+        FaultKind::FrameReserved,
+        "malformed FrameReserved at 18446744073709551615\n",
+    ),
+    (
+        FaultKind::FrameLength,
+        "malformed FrameLength at 18446744073709551615\n",
+    ),
+    (
+        FaultKind::RecordShort,
+        "malformed RecordShort at 18446744073709551615\n",
+    ),
+    (
+        FaultKind::RecordDirection,
+        "malformed RecordDirection at 18446744073709551615\n",
+    ),
+    (
+        FaultKind::RecordSize,
+        "malformed RecordSize at 18446744073709551615\n",
+    ),
+    (
+        FaultKind::AttachShort,
+        "malformed AttachShort at 18446744073709551615\n",
+    ),
+    (
+        FaultKind::AttachRecord,
+        "malformed AttachRecord at 18446744073709551615\n",
+    ),
+    (
+        FaultKind::AttachSize,
+        "malformed AttachSize at 18446744073709551615\n",
+    ),
+];
+
+#[test]
+fn names_each_fault(rt: HostRuntime) {
+    for (kind, line) in FAULT_LINES {
+        check_fault(&rt, *kind, line);
+    }
+}
+
+fn check_fault<R: Abort>(rt: &R, kind: FaultKind, line: &str) {
+    let fault = Fault {
+        kind,
+        place: u64::MAX,
+    };
+    assert_eq!(rt; fault_text(fault).as_str(), line);
+}
+
+/// Code words, and how often they stand there. One word is no good code, and has no name.
+const CODE_LINES: &[(u32, u64, &str)] = &[
+    (0x4004_6305, 2, "  0x40046305 BC_ACQUIRE 2"),
+    (0x8040_7203, 0, "  0x80407203 BR_REPLY 0"),
+    (0x0000_630c, 10, "  0x0000630c BC_ENTER_LOOPER 10"),
+    (0x400c_6313, 1, "  0x400c6313 OPAQUE 1"),
+    (
+        0x8008_7210,
+        u64::MAX,
+        "  0x80087210 BR_CLEAR_DEATH_NOTIFICATION_DONE 18446744073709551615",
+    ),
+    (0xffff_ffff, 7, "  0xffffffff  7"),
+];
+
+#[test]
+fn spells_code_rows(rt: HostRuntime) {
+    for (word, count, line) in CODE_LINES {
+        check_code(&rt, *word, *count, line);
+    }
+}
+
+fn check_code<R: Abort>(rt: &R, word: u32, count: u64, line: &str) {
+    assert_eq!(rt; codes::row_line(CodeRow { word, count }).as_str(), line);
+}
+
+const CAUSES: &[(Cause, &str)] = &[
+    (Cause::ListLength, "ListLength"),
+    (Cause::Misaligned, "Misaligned"),
+    (Cause::Overlap, "Overlap"),
+    (Cause::Short, "Short"),
+    (Cause::UnknownSort, "UnknownSort"),
+];
+
+#[test]
+fn names_each_cause(rt: HostRuntime) {
+    for (cause, name) in CAUSES {
+        assert_eq!(rt; objects::cause_name(*cause), *name);
+    }
+    let most = SortCounts {
+        binder: u64::MAX,
+        weak_binder: u64::MAX,
+        handle: u64::MAX,
+        weak_handle: u64::MAX,
+        fd: u64::MAX,
+        fda: u64::MAX,
+        ptr: u64::MAX,
+    };
+    assert_eq!(rt;
+        objects::head_line(most, usize::MAX).as_str(),
+        "objects \
+        binder 18446744073709551615 weak_binder 18446744073709551615 \
+        handle 18446744073709551615 weak_handle 18446744073709551615 \
+        fd 18446744073709551615 fda 18446744073709551615 \
+        ptr 18446744073709551615 bad 18446744073709551615"
+    );
+}
+
+/// One more than the rows that are held at a time.
+const MANY: u64 = 65_537;
+
+#[test]
+fn pushes_more_rows_than_it_holds(rt: HostRuntime) -> Result<(), Fail> {
+    let mut rows = Vec::new(rt.alloc());
+    for i in 0..MANY {
+        rows.push(CodeRow {
+            word: u32::MAX,
+            count: 100_000 + i,
+        })?;
+    }
+    let mut text = String::new(rt.alloc());
+    push_rows(&rt, rt.alloc(), CodeRows, rows.as_slice(), &mut text)?;
+    assert_eq!(rt; text.len(), 65_537 * 21);
+    assert!(rt;
+        text.as_str()
+            .starts_with("  0xffffffff  100000\n  0xffffffff  100001\n")
+    );
+    assert!(rt;
+        text.as_str()
+            .ends_with("  0xffffffff  165535\n  0xffffffff  165536\n")
+    );
+    Ok(())
+}
