@@ -1,11 +1,13 @@
 //! From the bytes of a reader to the bytes of a writer.
 
-ghost use Rattle.std.specs.Prelude.{◌<◌, ◌≤◌, ℕ, List, length, IfOk, IfErr, IfSome, OnOk, OnErr, IsErrOf, IsOkUnless};
+ghost use Rattle.std.specs.Prelude.{◌<◌, ◌≤◌, ℕ, List, length, IfOk, IfErr, IfSome, OnOk, OnErr, IsErrOf, IsOkUnless, string_bytes};
 ghost use Rattle.std.specs.Io.KnownBytes.{Appends};
 ghost use Rattle.audit_run.specs.KnownBytes.{AppendsPrefix};
 ghost use Rattle.report_text.specs.Fault.{fault_line};
 ghost use Rattle.audit_run.specs.Run.{Reports, NamesFirstFault, IsRead, IsOfRead, StaysOrBegins, IsRunFault, IsAnswerFault};
 ghost use Rattle.report_text.specs.Answers.{IsTextOf, IsLineOn};
+ghost use Rattle.report_text.specs.Text.{IsReportOn};
+ghost use Rattle.audit_join.specs.Audit.{IsMalformed};
 ghost use Rattle.audit_join.specs.declared.limits.TheConstants.{CAPTURE_LIMIT};
 
 use crate::limits::Piece;
@@ -78,9 +80,8 @@ fn write_answer<T: Threads + Sync, W: Write>(
         (StaysOrBegins (IsTextOf capture.now) (W.contents writer.old) (W.contents writer.new)) }
     ensures fault { IfErr result IsAnswerFault }
 {
-    match audit_one(rt, alloc, capture) {
-        Ok(found) => {
-            let text = text(rt, alloc, &found).map_err(|_| RunError::Memory)?;
+    match report_on(rt, alloc, capture) {
+        Ok(text) => {
             write_text(writer, text.as_bytes())?;
             Ok(Written::Report)
         }
@@ -92,6 +93,16 @@ fn write_answer<T: Threads + Sync, W: Write>(
             }
         },
     }
+}
+
+/// The report on a capture.
+fn report_on<T: Threads + Sync>(rt: &T, alloc: Global, capture: &[u8]) -> Result<String, AuditError>
+    requires { length capture.now ≤ CAPTURE_LIMIT }
+    ensures report { IfOk result (λ text. IsReportOn capture.now (string_bytes text)) }
+    ensures malformed { IfErr result (IsMalformed capture.now) }
+{
+    let found = audit_one(rt, alloc, capture)?;
+    Ok(text(rt, alloc, &found)?)
 }
 
 /// Reads a capture to its end, and writes the line that names its first fault, or that there is
