@@ -14,7 +14,8 @@ use Rattle.audit_run.specs.declared.run_error.RunError.TheVariants.{Memory, TooL
 use Rattle.audit_run.specs.declared.runs.Written.{Written}
 use Rattle.audit_run.specs.declared.runs.Written.TheVariants.{Report, Malformed}
 use Rattle.audit_run.specs.KnownBytes.{AppendsPrefix}
-use Rattle.audit_run.specs.Run.{Reports, NamesFirstFault, IsTextOf, IsLineOn, IsRead, IsOfRead}
+use Rattle.audit_run.specs.Answers.{IsTextOf, IsLineOn}
+use Rattle.audit_run.specs.Run.{Reports, NamesFirstFault, IsRead, IsOfRead}
 use Rattle.audit_program.specs.declared.command_line.Request.{Request}
 use Rattle.audit_program.specs.declared.command_line.Request.TheVariants as request
 use Rattle.audit_program.specs.declared.failure.Failure.{Failure}

@@ -1,7 +1,6 @@
 //! The answer to what the words of a command line ask for.
-ghost use Rattle.std.specs.Prelude.{◌<◌, ℕ, List, length, map, string_bytes, IfErr, IfOk, IfSome, IsErrOf, IsOkUnless};
-ghost use Rattle.audit_run.specs.Run.{IsRead, IsOfRead, IsRunFault, StaysOrBegins};
-ghost use Rattle.audit_run.specs.declared.limits.TheConstants.{CAPTURE_LIMIT};
+ghost use Rattle.std.specs.Prelude.{ℕ, List, map, string_bytes, IfErr, IfOk, IfSome, IsErrOf, IsOkUnless};
+ghost use Rattle.audit_run.specs.Run.{IsRead, IsOfRead, IsRunFault, IsTooLarge, StaysOrBegins};
 ghost use Rattle.audit_program.specs.Program.{Answers, AnswersWords, IsAnswer, Leaves};
 
 use crate::command_line::{Request, parse};
@@ -29,7 +28,7 @@ pub(crate) fn answer<T: Threads + Sync, R: Read, W: Write>(
         (StaysOrBegins (IsOfRead (IsAnswer request.entry) (R.remaining reader.old))
         (W.contents out.old) (W.contents out.new)) }
     ensures too_large { IsErrOf result RunError.TooLarge
-        → IfSome (R.remaining reader.old) (λ capture. CAPTURE_LIMIT < length capture) }
+        → IfSome (R.remaining reader.old) IsTooLarge }
     ensures fault { IfErr result IsRunFault }
 {
     match request {

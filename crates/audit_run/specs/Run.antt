@@ -1,5 +1,5 @@
 -- What a run writes.
-use Rattle.std.specs.Prelude.{◌≡◌, ℕ, ◌≤◌, List, length, Option, Some, None, IfSome, ⊤}
+use Rattle.std.specs.Prelude.{◌≡◌, ℕ, ◌≤◌, ◌<◌, List, length, Option, Some, None, IfSome, ⊤}
 use Rattle.std.specs.Io.KnownBytes.{Appends, Keeps}
 use Rattle.capture_frame.specs.declared.fault.Fault.{Fault}
 use Rattle.audit_join.specs.declared.limits.TheConstants.{CAPTURE_LIMIT}
@@ -46,3 +46,7 @@ abbrev pub IsAnswerFault : RunError → Type 0
 IsAnswerFault Memory = ⊤
 IsAnswerFault Write = ⊤
 IsAnswerFault _ = ⊥
+
+-- the capture has more bytes than are allowed
+abbrev pub IsTooLarge : List ℕ → Type 0
+IsTooLarge capture = CAPTURE_LIMIT < length capture
