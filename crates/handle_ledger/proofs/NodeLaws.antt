@@ -8,17 +8,18 @@ use Rattle.std.specs.List.{filter_map}
 use Rattle.event_core.specs.declared.node.NodeItem.{NodeItem}
 use Rattle.event_core.specs.declared.node.NodeKey.{NodeKey}
 use Rattle.event_core.specs.declared.strength.Strength.TheVariants.{Strong, Weak}
-use Rattle.handle_ledger.proofs.Counting.{count_more, sum_more}
+use Rattle.handle_ledger.proofs.Counting.{IsSmall, count_more, sum_more, sum_small}
 use Rattle.handle_ledger.proofs.KeyLaws.{itself, count_at, sum_at}
 use Rattle.handle_ledger.proofs.RowLaws.{read_rows, map_rows}
-use Rattle.handle_ledger.specs.Nodes.{node_cmp, change_at_node, due_at_node, node_change, node_due_change, node_of, by_node, NodeCountsSum, IsNodeRow, AreNodeRows}
+use Rattle.handle_ledger.specs.Nodes.{node_cmp, change_at_node, due_at_node, node_change, node_due_change, node_of, by_node}
+use Rattle.handle_ledger.specs.Nodes.{NodeCountsSum, IsNodeRow, AreNodeRows}
 use Rattle.handle_ledger.specs.declared.node_counts.NodeCounts.{NodeCounts}
 use Rattle.handle_ledger.specs.declared.node_row.NodeRow.{NodeRow}
 use Rattle.summary_law.proofs.CountLaws.{read_counts, same_total}
 use Rattle.summary_law.specs.ByKey.{SumsByKey}
 use Rattle.summary_law.specs.Count.{total, CountsOneMore}
-use Rattle.summary_law.specs.Fits.{IsShort}
-use Rattle.summary_law.specs.Summary.{Adds}
+use Rattle.summary_law.specs.Fits.{IsShort, short_parts}
+use Rattle.summary_law.specs.Summary.{CanAdd, Adds}
 
 node_cmp_total : IsTotalOrder node_cmp
 node_cmp_total = then_total (on_total (λ (key : NodeKey). key.ptr) nat_cmp_total) (on_total (λ (key : NodeKey). key.cookie) nat_cmp_total)
@@ -61,3 +62,11 @@ node_more old new item strong weak strong_due weak_due = λ items sums fits. rec
   strong_due = sum_more (node_due_change Strong) old.strong_due new.strong_due items item strong_due sums.strong_due;
   weak_due = sum_more (node_due_change Weak) old.weak_due new.weak_due items item weak_due sums.weak_due;
 }
+
+-- what is due before one item more, over few items
+pub dues_small : (counts : NodeCounts) (item : NodeItem) → CanAdd NodeCountsSum IsShort counts item → IsSmall counts.strong_due × IsSmall counts.weak_due
+dues_small counts item can =
+    let few = (short_parts can.0 (item ∷ []) can.2).0 in (
+      sum_small (node_due_change Strong) counts.strong_due can.0 can.1.strong_due few,
+      sum_small (node_due_change Weak) counts.weak_due can.0 can.1.weak_due few,
+    )

@@ -17,8 +17,8 @@ pub struct HandleLedger {
 }
 
 impl HandleLedger {
-    /// A row for each handle that an item names, also where its counts are 0, in rising order. Their
-    /// memory comes from `alloc`.
+    /// A row for each handle that an item names, also where its counts are 0, handles rising. The
+    /// rows' memory comes from `alloc`.
     pub fn rows(&self, alloc: Global) -> Result<Vec<HandleRow>, AllocError>
         ensures { IfOk result (λ rows. GivesHandleRows self.now rows.items) }
     {

@@ -19,7 +19,7 @@ pub struct NodeLedger {
 
 impl NodeLedger {
     /// A row for each node that an item names, also where its counts are 0, by rising ptr and then
-    /// by rising cookie. Their memory comes from `alloc`.
+    /// by rising cookie. The rows' memory comes from `alloc`.
     pub fn rows(&self, alloc: Global) -> Result<Vec<NodeRow>, AllocError>
         ensures { IfOk result (λ rows. GivesNodeRows self.now rows.items) }
     {

@@ -51,8 +51,8 @@ macro_rules! row {
     };
 }
 
-/// The least and the greatest node; and under each of the ptrs 1 and 2 three nodes, each named by one
-/// record.
+/// The least and the greatest node; and under each of the ptrs 1 and 2 three nodes, each named by
+/// one record.
 const ITEMS: &[NodeItem] = &[
     item!(2, 3, Weak, Done),
     item!(18446744073709551615, 18446744073709551615, Weak, Raise),

@@ -8,12 +8,14 @@ use Rattle.summary_law.specs.Fits.{short_parts}
 
 pub then-requires : goal.then-requires
 then-requires c =
-    let can = can_join (node_change Strong) c.args.self.strong c.args.later.strong c.requires.0 c.requires.1 c.requires.2.strong c.requires.3.strong c.requires.4 in
+    let can = can_join (node_change Strong) c.args.self.strong c.args.later.strong
+    c.requires.0 c.requires.1 c.requires.2.strong c.requires.3.strong c.requires.4 in
     record { sum_low = can.sum_low; sum_high = can.sum_high; low_low = can.low_low; low_high = can.low_high }
 
 pub then-requires-2 : goal.then-requires-2
 then-requires-2 c =
-    let can = can_join (node_change Weak) c.args.self.weak c.args.later.weak c.requires.0 c.requires.1 c.requires.2.weak c.requires.3.weak c.requires.4 in
+    let can = can_join (node_change Weak) c.args.self.weak c.args.later.weak
+    c.requires.0 c.requires.1 c.requires.2.weak c.requires.3.weak c.requires.4 in
     record { sum_low = can.sum_low; sum_high = can.sum_high; low_low = can.low_low; low_high = can.low_high }
 
 pub overflow_add-result : goal.overflow_add-result
