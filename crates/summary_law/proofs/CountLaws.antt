@@ -148,13 +148,13 @@ kept_counts count changes counts =
 total-cons : (change : Change) (changes : List Change) → total (change ∷ changes) ≡ total (change ∷ []) +ℤ total changes
 total-cons change changes = total-append (change ∷ []) changes
 
-total_low : (changes : List Change) → pos 0 ≤ℤ (total changes +ℤ pos (length changes))
+pub total_low : (changes : List Change) → pos 0 ≤ℤ (total changes +ℤ pos (length changes))
 total_low [] = omega (arith, ints)
 total_low (raises ∷ cs) = omega (arith, ints, total-cons raises cs, total_low cs)
 total_low (lowers ∷ cs) = omega (arith, ints, total-cons lowers cs, total_low cs)
 total_low (keeps ∷ cs) = omega (arith, ints, total-cons keeps cs, total_low cs)
 
-total_high : (changes : List Change) → total changes ≤ℤ pos (length changes)
+pub total_high : (changes : List Change) → total changes ≤ℤ pos (length changes)
 total_high [] = omega (arith, ints)
 total_high (raises ∷ cs) = omega (arith, ints, total-cons raises cs, total_high cs)
 total_high (lowers ∷ cs) = omega (arith, ints, total-cons lowers cs, total_high cs)
@@ -187,7 +187,8 @@ module _ {E I : Type 0} (read : E → Option I) (change : I → Change) where
   abbrev own : List E → List Change
   own es = map change (filter_map read es)
 
-  same_total : (es : List E) → total (all es) ≡ total (own es)
+  -- what all things sum up to is what the items do that are read from them
+  pub same_total : (es : List E) → total (all es) ≡ total (own es)
   same_total [] = refl
   same_total (e ∷ es) =
       elim (read e) as (λ o. total (option_map_or change o keeps ∷ all es) ≡ total (map change (cons_option o (filter_map read es))))

@@ -1,0 +1,5 @@
+pub mod Counting
+pub mod KeyLaws
+pub mod RowLaws
+pub mod HandleLaws
+pub mod NodeLaws

@@ -1,0 +1,4 @@
+pub mod Strengths
+pub mod Rows
+pub mod Handles
+pub mod Nodes

@@ -1,0 +1,61 @@
+//! The references that a process holds by handle.
+
+ghost use Rattle.handle_ledger.specs.Handles.{HandleLedgerSums, GivesHandleRows};
+ghost use Rattle.std.specs.Prelude.{IfOk};
+ghost use Rattle.summary_law.specs.Fits.{IsShort, short_parts};
+
+use crate::handle_counts::HandleCounts;
+use crate::handle_row::HandleRow;
+use event_core::HandleItem;
+use std::alloc::{AllocError, Global};
+use summary_law::{ByKey, Summary};
+
+/// The counts of each handle that one process named. The caller separates the items of processes.
+#[derive(Drop)]
+pub struct HandleLedger {
+    handles: ByKey<u32, HandleCounts>,
+}
+
+impl HandleLedger {
+    /// A row for each handle that an item names, also where its counts are 0, handles rising. The
+    /// rows' memory comes from `alloc`.
+    pub fn rows(&self, alloc: Global) -> Result<Vec<HandleRow>, AllocError>
+        ensures { IfOk result (λ rows. GivesHandleRows self.now rows.items) }
+    {
+        let mut rows = Vec::new(alloc);
+        for (handle, counts) in &self.handles.entries {
+            rows.push(HandleRow {
+                handle: *handle,
+                strong: counts.strong,
+                weak: counts.weak,
+            })?;
+        }
+        Ok(rows)
+    }
+}
+
+/// An `add` takes at most two look-ups, and a `join` two for each handle of the later ledger.
+impl Summary for HandleLedger {
+    type Item = HandleItem;
+
+    ghost fits = { IsShort };
+
+    ghost sums = { HandleLedgerSums };
+
+    fn empty(alloc: Global) -> HandleLedger {
+        HandleLedger {
+            handles: ByKey::empty(alloc),
+        }
+    }
+
+    fn add(&mut self, item: HandleItem) -> Result<(), AllocError> {
+        self.handles.add((item.handle, item))
+    }
+
+    fn join(self, later: HandleLedger) -> Result<HandleLedger, AllocError> {
+        let handles = self.handles.join(later.handles)?;
+        Ok(HandleLedger { handles })
+    }
+
+    ghost fits_parts = { short_parts };
+}

@@ -1,0 +1,18 @@
+//! References to handles and to nodes, counted per process.
+#![tactic(auto)]
+
+mod handle_counts;
+mod handle_row;
+mod handles;
+pub mod laws;
+mod node_counts;
+mod node_row;
+mod nodes;
+
+pub use handle_row::HandleRow;
+pub use handles::HandleLedger;
+pub use node_row::NodeRow;
+pub use nodes::NodeLedger;
+
+#[cfg(test)]
+mod tests;

@@ -1,0 +1,18 @@
+//! What a ledger says of a node.
+
+use event_core::NodeKey;
+use summary_law::Count;
+
+/// A node of a process, and the counts of the references that the driver holds to it.
+#[derive(Clone, Copy, Debug, PartialEq, Eq)]
+pub struct NodeRow {
+    pub key: NodeKey,
+    /// BR_ACQUIRE raises it, and BR_RELEASE lowers it.
+    pub strong: Count,
+    /// BR_INCREFS raises it, and BR_DECREFS lowers it.
+    pub weak: Count,
+    /// How many BR_ACQUIRE more than BC_ACQUIRE_DONE.
+    pub strong_due: i64,
+    /// How many BR_INCREFS more than BC_INCREFS_DONE.
+    pub weak_due: i64,
+}

@@ -1,0 +1,64 @@
+//! The references that the driver holds to the nodes of a process.
+
+ghost use Rattle.handle_ledger.specs.Nodes.{NodeLedgerSums, GivesNodeRows};
+ghost use Rattle.std.specs.Prelude.{IfOk};
+ghost use Rattle.summary_law.specs.Fits.{IsShort, short_parts};
+
+use crate::node_counts::NodeCounts;
+use crate::node_row::NodeRow;
+use event_core::{NodeItem, NodeKey};
+use std::alloc::{AllocError, Global};
+use summary_law::{ByKey, Summary};
+
+/// The counts of each node of one process that an item names. The caller separates the items of
+/// processes.
+#[derive(Drop)]
+pub struct NodeLedger {
+    nodes: ByKey<NodeKey, NodeCounts>,
+}
+
+impl NodeLedger {
+    /// A row for each node that an item names, also where its counts are 0, by rising ptr and then
+    /// by rising cookie. The rows' memory comes from `alloc`.
+    pub fn rows(&self, alloc: Global) -> Result<Vec<NodeRow>, AllocError>
+        ensures { IfOk result (λ rows. GivesNodeRows self.now rows.items) }
+    {
+        let mut rows = Vec::new(alloc);
+        for (key, counts) in &self.nodes.entries {
+            rows.push(NodeRow {
+                key: *key,
+                strong: counts.strong,
+                weak: counts.weak,
+                strong_due: counts.strong_due,
+                weak_due: counts.weak_due,
+            })?;
+        }
+        Ok(rows)
+    }
+}
+
+/// An `add` takes at most two look-ups, and a `join` two for each node of the later ledger.
+impl Summary for NodeLedger {
+    type Item = NodeItem;
+
+    ghost fits = { IsShort };
+
+    ghost sums = { NodeLedgerSums };
+
+    fn empty(alloc: Global) -> NodeLedger {
+        NodeLedger {
+            nodes: ByKey::empty(alloc),
+        }
+    }
+
+    fn add(&mut self, item: NodeItem) -> Result<(), AllocError> {
+        self.nodes.add((item.node, item))
+    }
+
+    fn join(self, later: NodeLedger) -> Result<NodeLedger, AllocError> {
+        let nodes = self.nodes.join(later.nodes)?;
+        Ok(NodeLedger { nodes })
+    }
+
+    ghost fits_parts = { short_parts };
+}

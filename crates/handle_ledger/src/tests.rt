@@ -1,0 +1,5 @@
+//! Ledgers of items typed by hand, against rows typed by hand.
+
+mod handles;
+mod nodes;
+mod parts;
