@@ -21,12 +21,15 @@ opens_apart events rise =
     let parts = rising_parts event_place suffix.0 last (subst (PlacesRise event_place) suffix.1 rise) in
     apart (open_places events) (rising_map (λ n. n) event_place last parts.1)
 
-unmet_above : (P : ℕ → Type 0) (before : Option PendingChange) (events : List KeyEvent) → All (λ e. P (event_place e)) events → All P (unmet_places before events)
+unmet_above : (P : ℕ → Type 0) (before : Option PendingChange) (events : List KeyEvent) → All (λ e. P (event_place e)) events
+    → All P (unmet_places before events)
 unmet_above P before [] all = All-nil P
 unmet_above P before (event ∷ events) all =
     let here : P event.place = All-head (λ e. P (event_place e)) event events all in
-    let rest : All P (unmet_places (Some event.change) events) = unmet_above P (Some event.change) events (All-tail (λ e. P (event_place e)) event events all) in
-    elim (is_unmet before event.change) as (λ b. All P (cond b (event.place ∷ unmet_places (Some event.change) events) (unmet_places (Some event.change) events)))
+    let rest : All P (unmet_places (Some event.change) events)
+    = unmet_above P (Some event.change) events (All-tail (λ e. P (event_place e)) event events all) in
+    elim (is_unmet before event.change) as
+    (λ b. All P (cond b (event.place ∷ unmet_places (Some event.change) events) (unmet_places (Some event.change) events)))
     [ true ↦ All-cons P event.place (unmet_places (Some event.change) events) here rest | false ↦ rest ]
 
 unmet_rise : (before : Option PendingChange) (events : List KeyEvent) → PlacesRise event_place events → AllPairs (λ x y. x < y) (unmet_places before events)

@@ -1,5 +1,6 @@
 -- The places that the ledgers of a map have, gathered and sorted.
-use Rattle.std.proofs.Common.{◌≡◌, ◌≢◌, ℕ, ⊎_elim, Bool, true, false, cond, List, [], ◌∷◌, ◌++◌, All, AllPairs, Contains, Option, Some, None, eqb, refl, sym, ap, subst, ◌∙◌, arith}
+use Rattle.std.proofs.Common.{◌≡◌, ◌≢◌, ℕ, ⊎_elim, Bool, true, false, cond, List, [], ◌∷◌, ◌++◌, All, AllPairs, Contains, Option, Some, None, eqb, refl}
+use Rattle.std.proofs.Common.{sym, ap, subst, ◌∙◌, arith}
 use Rattle.std.proofs.Common.{IsPermutation, IsSorted, BTreeMap, nat_cmp, Ordering}
 use Rattle.std.proofs.lemmas.Bool.{true≢false}
 use Rattle.std.proofs.lemmas.Bool.Decides.{Decides-eqb}
@@ -125,7 +126,8 @@ module _ {K S I : Type 0} (cmp : K → K → Ordering) (laws : IsTotalOrder cmp)
       same.symm key other ∙ same.congr other y.0.0 key y.2 ∙ same.symm y.0.0 key ∙ under_key
 
   apart_from : (es : List (K × S)) → All (λ (e : K × S). Good e.1 (items_of (eq_by_cmp cmp) e.0 items)) es → IsDistinct (eq_by_cmp cmp) (keys_of es)
-      → ((key other : K) (p : ℕ) → Lists (items_of (eq_by_cmp cmp) key items) p → Lists (items_of (eq_by_cmp cmp) other items) p → eq_by_cmp cmp key other ≡ true)
+      → ((key other : K) (p : ℕ) → Lists (items_of (eq_by_cmp cmp) key items) p → Lists (items_of (eq_by_cmp cmp) other items) p
+      → eq_by_cmp cmp key other ≡ true)
       → All (λ (e : K × S). AllPairs (λ x y. x ≢ y) (places e.1)) es → AllPairs (λ x y. x ≢ y) (gather places es)
   apart_from [] all distinct one each = λ i j d below within. absurd (omega arith)
   apart_from (e ∷ es) all distinct one each =
@@ -140,7 +142,8 @@ module _ {K S I : Type 0} (cmp : K → K → Ordering) (laws : IsTotalOrder cmp)
       let f = found.0 in
       let there : Good f.1 (items_of eq f.0 items) = All-contains IsGood es f (All-tail IsGood e es all) found.1 in
       let listed_there : Lists (items_of eq f.0 items) y = gives f.1 (items_of eq f.0 items) there y found.2 in
-      let listed_here : Lists (items_of eq e.0 items) y = subst (λ (p : ℕ). Lists (items_of eq e.0 items) p) same (gives e.1 (items_of eq e.0 items) here x at_x) in
+      let listed_here : Lists (items_of eq e.0 items) y
+      = subst (λ (p : ℕ). Lists (items_of eq e.0 items) p) same (gives e.1 (items_of eq e.0 items) here x at_x) in
       let equal : eq e.0 f.0 ≡ true = one e.0 f.0 y listed_here listed_there in
       let differ : eq e.0 f.0 ≡ false = no_key_again eq e.0 es (IsDistinct-head eq e.0 (keys_of es) distinct) f found.1 in
       true≢false (sym equal ∙ differ))

@@ -45,7 +45,8 @@ open_at events place c =
     let suffix = behind_last-suffix is_closing events in
     let clear : list_any is_closing (found.0 ++ found.1 ∷ found.2) ≡ false
     = subst (λ (t : List KeyEvent). list_any is_closing t ≡ false) found.3 (behind_last-clear is_closing events) in
-    let parts = or_parts (list_any is_closing found.0) (list_any is_closing (found.1 ∷ found.2)) (sym (list_any-append is_closing found.0 (found.1 ∷ found.2)) ∙ clear) in
+    let parts
+    = or_parts (list_any is_closing found.0) (list_any is_closing (found.1 ∷ found.2)) (sym (list_any-append is_closing found.0 (found.1 ∷ found.2)) ∙ clear) in
     let behind = or_parts (is_closing found.1) (list_any is_closing found.2) parts.1 in
     record {
       at = record {
@@ -153,7 +154,8 @@ later_unmet before event events place found = record {
   unmet = found.unmet;
 }
 
-pub unmet_at_place : (before : Option PendingChange) (events : List KeyEvent) (place : ℕ) → Contains (unmet_places before events) place → UnmetAt before events place
+pub unmet_at_place : (before : Option PendingChange) (events : List KeyEvent) (place : ℕ) → Contains (unmet_places before events) place
+    → UnmetAt before events place
 unmet_at_place before [] place c = absurd (contains_none place c)
 unmet_at_place before (event ∷ events) place c =
     let rest = unmet_places (Some event.change) events in

@@ -19,7 +19,8 @@ module _ {X : Type 0} (test : X → Bool) where
   behind_last-append (x ∷ xs) ys none =
       let same : list_any test ((x ∷ xs) ++ ys) ≡ list_any test (x ∷ xs)
       = list_any-append test (x ∷ xs) ys ∙ ap (λ b. list_any test (x ∷ xs) || b) none ∙ or_false (list_any test (x ∷ xs)) in
-      let split : cond (list_any test (x ∷ xs)) (behind_last test (xs ++ ys)) (x ∷ (xs ++ ys)) ≡ cond (list_any test (x ∷ xs)) (behind_last test xs) (x ∷ xs) ++ ys
+      let split : cond (list_any test (x ∷ xs)) (behind_last test (xs ++ ys)) (x ∷ (xs ++ ys))
+      ≡ cond (list_any test (x ∷ xs)) (behind_last test xs) (x ∷ xs) ++ ys
       = elim (list_any test (x ∷ xs)) as (λ b. cond b (behind_last test (xs ++ ys)) (x ∷ (xs ++ ys)) ≡ cond b (behind_last test xs) (x ∷ xs) ++ ys)
       [ true ↦ behind_last-append xs ys none | false ↦ refl ] in
       ap (λ b. cond b (behind_last test (xs ++ ys)) (x ∷ (xs ++ ys))) same ∙ split

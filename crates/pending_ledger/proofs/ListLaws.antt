@@ -50,7 +50,8 @@ pub record ReadSplit {X Y : Type 0} (read : X → Option Y) (xs : List X) (front
   pub back_is : filter_map read after ≡ back
 
 module _ {X Y : Type 0} (read : X → Option Y) where
-  passed : (x : X) (xs : List X) (front : List Y) (y : Y) (back : List Y) → read x ≡ None → ReadSplit read xs front y back → ReadSplit read (x ∷ xs) front y back
+  passed : (x : X) (xs : List X) (front : List Y) (y : Y) (back : List Y) → read x ≡ None → ReadSplit read xs front y back
+      → ReadSplit read (x ∷ xs) front y back
   passed x xs front y back is r = record {
     before = x ∷ r.before;
     here = r.here;
@@ -118,7 +119,8 @@ pub read_twice : {X Y Z : Type 0} (first : X → Option Y) (second : Y → Optio
     → filter_map second (filter_map first xs) ≡ filter_map (λ x. option_and_then second (first x)) xs
 read_twice first second [] = refl
 read_twice first second (x ∷ xs) =
-    elim (first x) as (λ o. filter_map second (cons_option o (filter_map first xs)) ≡ cons_option (option_and_then second o) (filter_map (λ x. option_and_then second (first x)) xs))
+    elim (first x) as (λ o. filter_map second (cons_option o (filter_map first xs))
+    ≡ cons_option (option_and_then second o) (filter_map (λ x. option_and_then second (first x)) xs))
     [ None ↦ read_twice first second xs | Some y ↦ ap (λ t. cons_option (second y) t) (read_twice first second xs) ]
 
 pub read_alike : {X Y : Type 0} (read other : X → Option Y) → ((x : X) → read x ≡ other x) → (xs : List X) → filter_map read xs ≡ filter_map other xs

@@ -1,5 +1,6 @@
 -- What stands open under a key, and what is stray there, in the whole list.
-use Rattle.std.proofs.Common.{◌≡◌, ◌≢◌, ℕ, ◌&&◌, ◌||◌, Bool, true, false, cond, List, [], ◌∷◌, ◌++◌, map, All, AllPairs, Contains, Option, Some, None, filter_map}
+use Rattle.std.proofs.Common.{◌≡◌, ◌≢◌, ℕ, ◌&&◌, ◌||◌, Bool, true, false, cond, List, [], ◌∷◌, ◌++◌, map, All, AllPairs, Contains, Option, Some, None}
+use Rattle.std.proofs.Common.{filter_map}
 use Rattle.std.proofs.Common.{IsPermutation, IsSorted, nat_cmp, Ordering, refl, sym, ap, subst, ◌∙◌, arith}
 use Rattle.std.proofs.lemmas.Cmp.{eq_by_cmp_equiv}
 use Rattle.std.proofs.lemmas.List.{length-map, map-append}
@@ -45,7 +46,8 @@ keyed_more items item = keyed_both items (item ∷ [])
 pub buffers_both : (first second : List BufferItem) → map buffer_pending (first ++ second) ≡ map buffer_pending first ++ map buffer_pending second
 buffers_both first second = map-append buffer_pending first second
 
-pub buffers_more : (items : List BufferItem) (item : BufferItem) → map buffer_pending (items ++ item ∷ []) ≡ map buffer_pending items ++ buffer_pending item ∷ []
+pub buffers_more : (items : List BufferItem) (item : BufferItem)
+    → map buffer_pending (items ++ item ∷ []) ≡ map buffer_pending items ++ buffer_pending item ∷ []
 buffers_more items item = buffers_both items (item ∷ [])
 
 pub buffers_placed : (items : List BufferItem) → IsPlaced buffer_place items → IsPlaced place_of (map buffer_pending items)
@@ -78,14 +80,16 @@ module _ {K : Type 0} (eq : K → K → Bool) (laws : IsEquivalence eq) where
   closing_read key [] = refl
   closing_read key (item ∷ items) =
       elim (eq key item.key)
-      as (λ b. list_any is_closing (cons_option (cond b (Some (keyed item).1) None) (events_under key items)) ≡ ((b && is_close item.change) || list_any (closes eq key) items))
+      as (λ b. list_any is_closing (cons_option (cond b (Some (keyed item).1) None) (events_under key items))
+      ≡ ((b && is_close item.change) || list_any (closes eq key) items))
       [ true ↦ ap (λ b. is_close item.change || b) (closing_read key items) | false ↦ closing_read key items ]
 
   changes_read : (key : K) (items : List (PendingItem K)) → map event_change (events_under key items) ≡ changes_of eq key items
   changes_read key [] = refl
   changes_read key (item ∷ items) =
       elim (eq key item.key)
-      as (λ b. map event_change (cons_option (cond b (Some (keyed item).1) None) (events_under key items)) ≡ cons_option (cond b (Some item.change) None) (changes_of eq key items))
+      as (λ b. map event_change (cons_option (cond b (Some (keyed item).1) None) (events_under key items))
+      ≡ cons_option (cond b (Some item.change) None) (changes_of eq key items))
       [ true ↦ ap (λ t. item.change ∷ t) (changes_read key items) | false ↦ changes_read key items ]
 
   -- equal keys have the same closes and the same changes
@@ -98,7 +102,8 @@ module _ {K : Type 0} (eq : K → K → Bool) (laws : IsEquivalence eq) where
       read_alike (λ item. cond (eq key item.key) (Some item.change) None) (λ item. cond (eq other item.key) (Some item.change) None)
       (λ item. ap (λ b. cond b (Some item.change) None) (laws.congr key other item.key same)) items
 
-  pub outstanding_from : (items : List (PendingItem K)) (key : K) (p : ℕ) → Contains (open_places (items_of eq key (map keyed items))) p → IsOutstanding eq items p
+  pub outstanding_from : (items : List (PendingItem K)) (key : K) (p : ℕ) → Contains (open_places (items_of eq key (map keyed items))) p
+      → IsOutstanding eq items p
   outstanding_from items key p c =
       let found = open_at (items_of eq key (map keyed items)) p c in
       let at = found.at in
@@ -111,7 +116,8 @@ module _ {K : Type 0} (eq : K → K → Bool) (laws : IsEquivalence eq) where
         split = r.split;
         at_place = ap event_place is.1 ∙ at.here;
         is_open = open_change r.here.change (ap is_closing is.1 ∙ found.is_open);
-        never_closed = sym (same_closes key r.here.key is.0 r.after) ∙ sym (closing_read key r.after) ∙ ap (λ t. list_any is_closing t) r.back_is ∙ found.never_closed;
+        never_closed = sym (same_closes key r.here.key is.0 r.after) ∙ sym (closing_read key r.after) ∙ ap (λ t. list_any is_closing t) r.back_is
+            ∙ found.never_closed;
       }
 
   -- the items of a key, where one of them is in sight
@@ -123,7 +129,8 @@ module _ {K : Type 0} (eq : K → K → Bool) (laws : IsEquivalence eq) where
       events_read item.key (earlier ++ item ∷ later) ∙ filter_map-append (event_under item.key) earlier (item ∷ later)
       ∙ ap (λ t. events_under item.key earlier ++ t) here
 
-  pub outstanding_has : (items : List (PendingItem K)) (p : ℕ) (o : IsOutstanding eq items p) → Contains (open_places (items_of eq o.item.key (map keyed items))) p
+  pub outstanding_has : (items : List (PendingItem K)) (p : ℕ) (o : IsOutstanding eq items p)
+      → Contains (open_places (items_of eq o.item.key (map keyed items))) p
   outstanding_has items p o =
       let key = o.item.key in
       let whole : items_of eq key (map keyed items) ≡ events_under key o.earlier ++ (keyed o.item).1 ∷ events_under key o.later
@@ -204,7 +211,8 @@ module _ {K : Type 0} (cmp : K → K → Ordering) (laws : IsTotalOrder cmp) (pe
       let listed = gathered_listed cmp laws KeySums event_place opens_of Lists gives m (map keyed items) entries_good p c in
       outstanding_from eq same items listed.0 p listed.1)
       (λ p o.
-      listed_gathered cmp laws KeySums m (map keyed items) opens_of Lists (λ p c. contains_none p c) has sums.0 o.item.key p (outstanding_has eq same items p o))
+      listed_gathered cmp laws KeySums m (map keyed items) opens_of Lists (λ p c. contains_none p c) has sums.0 o.item.key p
+      (outstanding_has eq same items p o))
 
   -- the gathered strays, sorted
   pub strays_sorted : (places : List ℕ) → IsPermutation (gather strays_of pending.keys.entries.entries) places → IsSorted nat_cmp places

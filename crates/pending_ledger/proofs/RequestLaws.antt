@@ -1,6 +1,8 @@
 -- What stands of the requests of a cookie, in the whole list.
-use Rattle.std.proofs.Common.{◌≡◌, ◌≢◌, ◌==◌, ℕ, ◌&&◌, ◌||◌, Bool, true, false, cond, List, [], ◌∷◌, ◌++◌, map, All, AllPairs, Contains, Option, Some, None, filter_map, option_and_then}
-use Rattle.std.proofs.Common.{IsPermutation, IsSorted, nat_cmp, refl, sym, ap, subst, ◌∙◌, arith, append_assoc, eqb-true, eq-eqb, ne_eqb, ltb, ltb-true, is_eq, Less, Equal, Greater}
+use Rattle.std.proofs.Common.{◌≡◌, ◌≢◌, ◌==◌, ℕ, ◌&&◌, ◌||◌, Bool, true, false, cond, List, [], ◌∷◌, ◌++◌, map, All, AllPairs, Contains, Option, Some}
+use Rattle.std.proofs.Common.{None, filter_map, option_and_then}
+use Rattle.std.proofs.Common.{IsPermutation, IsSorted, nat_cmp, refl, sym, ap, subst, ◌∙◌, arith, append_assoc, eqb-true, eq-eqb, ne_eqb, ltb, ltb-true}
+use Rattle.std.proofs.Common.{is_eq, Less, Equal, Greater}
 use Rattle.std.proofs.lemmas.Bool.{or_parts, or_from, true≢false}
 use Rattle.std.proofs.lemmas.Cmp.{nat_cmp_total}
 use Rattle.std.proofs.lemmas.List.{length-map, map-append}
@@ -25,7 +27,8 @@ use Rattle.pending_ledger.specs.declared.opens.Opens.{Opens}
 use Rattle.pending_ledger.specs.declared.requests.Requests.{Requests}
 use Rattle.pending_ledger.specs.KeyEvents.{event_place, is_closing, behind_last, open_places}
 use Rattle.pending_ledger.specs.Requests.{change_ends, ends, IsStanding, AreStanding, request_place}
-use Rattle.pending_ledger.specs.Sums.{OpensSums, change_cookie, by_cookie, change_of_handle, handle_event, is_dead, is_death, handle_events, gather, opens_list, standing_places, CookieSums, RequestsSums}
+use Rattle.pending_ledger.specs.Sums.{OpensSums, change_cookie, by_cookie, change_of_handle, handle_event, is_dead, is_death, handle_events, gather}
+use Rattle.pending_ledger.specs.Sums.{opens_list, standing_places, CookieSums, RequestsSums}
 use Rattle.summary_law.proofs.ReadLaws.{each_short, rising_read}
 use Rattle.summary_law.specs.ByKey.{EachFits, items_of, under}
 use Rattle.summary_law.specs.Fits.{IsShort, IsPlaced, PlacesRise, rising_parts}
@@ -162,7 +165,8 @@ request_at handle place (Dead cookie) event is still = let no : ⊥ = cc in absu
 
 -- what stands under a cookie and a handle is a request that stands
 pub standing_from : (items : List RequestItem) (cookie handle p : ℕ)
-    → Contains (open_places (items_of (eq_by_cmp nat_cmp) handle (handle_events (items_of (eq_by_cmp nat_cmp) cookie (map by_cookie items))))) p → IsStanding items p
+    → Contains (open_places (items_of (eq_by_cmp nat_cmp) handle (handle_events (items_of (eq_by_cmp nat_cmp) cookie (map by_cookie items))))) p
+    → IsStanding items p
 standing_from items cookie handle p c =
     let last = behind_last is_death (cookie_items cookie items) in
     let read : items_of (eq_by_cmp nat_cmp) handle (handle_events (items_of (eq_by_cmp nat_cmp) cookie (map by_cookie items))) ≡ handle_items handle last
@@ -181,7 +185,8 @@ standing_from items cookie handle p c =
     let same_cookie : cookie ≡ key.cookie = is.0 ∙ ap change_cookie is_request in
     let clear : list_any is_death (r.before ++ r.here ∷ r.after) ≡ false
     = subst (λ (t : List RequestItem). list_any is_death t ≡ false) r.split (behind_last-clear is_death (cookie_items cookie items)) in
-    let behind = or_parts (list_any is_death r.before) (list_any is_death (r.here ∷ r.after)) (sym (list_any-append is_death r.before (r.here ∷ r.after)) ∙ clear) in
+    let behind
+    = or_parts (list_any is_death r.before) (list_any is_death (r.here ∷ r.after)) (sym (list_any-append is_death r.before (r.here ∷ r.after)) ∙ clear) in
     let no_death : list_any is_death r.after ≡ false = (or_parts (is_death r.here) (list_any is_death r.after) behind.1).1 in
     let no_close : list_any is_closing (handle_items handle r.after) ≡ false = ap (λ t. list_any is_closing t) r.back_is ∙ found.never_closed in
     let none : read_ends cookie handle q.after ≡ false
@@ -208,28 +213,31 @@ standing_has items p s =
     let handle = s.key.handle in
     let front = cookie_items cookie s.earlier in
     let back = cookie_items cookie s.later in
+    let opened = handle_items handle (behind_last is_death front) in
+    let rest = handle_items handle back in
     let none = or_parts (list_any is_death back) (list_any is_closing (handle_items handle back)) (sym (ends_read s.key s.later) ∙ s.never_ended) in
     let same_cookie : (cookie == change_cookie s.item.change) ≡ true = eq-eqb cookie (change_cookie s.item.change) (sym (ap change_cookie s.is_request)) in
     let of_the_cookie : items_of (eq_by_cmp nat_cmp) cookie (map by_cookie items) ≡ front ++ s.item ∷ back
     = cookies_read cookie items ∙ ap (cookie_items cookie) s.split ∙ filter_map-append (of_cookie cookie) s.earlier (s.item ∷ s.later)
     ∙ ap (λ b. front ++ cons_option (cond b (Some s.item) None) back) same_cookie in
     let still : list_any is_death (s.item ∷ back) ≡ false = or_from (is_death s.item) (list_any is_death back) (ap is_dead s.is_request) none.0 in
-    let last : behind_last is_death (front ++ s.item ∷ back) ≡ behind_last is_death front ++ s.item ∷ back = behind_last-append is_death front (s.item ∷ back) still in
+    let last : behind_last is_death (front ++ s.item ∷ back) ≡ behind_last is_death front ++ s.item ∷ back
+    = behind_last-append is_death front (s.item ∷ back) still in
     let event : of_handle handle s.item ≡ Some (opening s.item.place)
     = ap (λ ch. option_and_then (λ (e : ℕ × KeyEvent). cond (handle == e.0) (Some e.1) None) (change_of_handle s.item.place ch)) s.is_request
     ∙ ap (λ b. cond b (Some (opening s.item.place)) None) (eq-eqb handle handle refl) in
     let events : handle_items handle (behind_last is_death front ++ s.item ∷ back)
-    ≡ handle_items handle (behind_last is_death front) ++ opening s.item.place ∷ handle_items handle back
+    ≡ opened ++ opening s.item.place ∷ rest
     = filter_map-append (of_handle handle) (behind_last is_death front) (s.item ∷ back)
-    ∙ ap (λ o. handle_items handle (behind_last is_death front) ++ cons_option o (handle_items handle back)) event in
+    ∙ ap (λ o. opened ++ cons_option o rest) event in
     let whole : items_of (eq_by_cmp nat_cmp) handle (handle_events (items_of (eq_by_cmp nat_cmp) cookie (map by_cookie items)))
-    ≡ handle_items handle (behind_last is_death front) ++ opening s.item.place ∷ handle_items handle back
+    ≡ opened ++ opening s.item.place ∷ rest
     = ap (λ t. items_of (eq_by_cmp nat_cmp) handle (handle_events t)) of_the_cookie ∙ handles_read handle (behind_last is_death (front ++ s.item ∷ back))
     ∙ ap (handle_items handle) last ∙ events in
-    let there : Contains (open_places (handle_items handle (behind_last is_death front) ++ opening s.item.place ∷ handle_items handle back)) s.item.place
-    = open_from (handle_items handle (behind_last is_death front)) (opening s.item.place) (handle_items handle back) refl none.1 in
+    let there : Contains (open_places (opened ++ opening s.item.place ∷ rest)) s.item.place
+    = open_from opened (opening s.item.place) rest refl none.1 in
     subst (λ (t : List KeyEvent). Contains (open_places t) p) (sym whole)
-    (subst (λ (n : ℕ). Contains (open_places (handle_items handle (behind_last is_death front) ++ opening s.item.place ∷ handle_items handle back)) n) s.at_place there)
+    (subst (λ (n : ℕ). Contains (open_places (opened ++ opening s.item.place ∷ rest)) n) s.at_place there)
 
 -- the lists of one handle, and those of one cookie
 abbrev HandleLists : List KeyEvent → ℕ → Type 0
@@ -255,12 +263,14 @@ handles_good : (requests : CookieRequests) (items : List RequestItem) → GoodCo
     → All (λ (e : ℕ × Opens). OpensSums e.1 (items_of (eq_by_cmp nat_cmp) e.0 (handle_events items))) requests.handles.entries.entries
 handles_good requests items good = parts_sum nat_cmp nat_cmp_total OpensSums requests.handles.entries (handle_events items) good.1 good.0.handles
 
-cookie_gives : (requests : CookieRequests) (items : List RequestItem) → GoodCookie requests items → (p : ℕ) → Contains (standing_places requests) p → CookieLists items p
+cookie_gives : (requests : CookieRequests) (items : List RequestItem) → GoodCookie requests items → (p : ℕ) → Contains (standing_places requests) p
+    → CookieLists items p
 cookie_gives requests items good p c =
     gathered_listed nat_cmp nat_cmp_total OpensSums event_place opens_list HandleLists handle_gives requests.handles.entries (handle_events items)
     (handles_good requests items good) p c
 
-cookie_has : (requests : CookieRequests) (items : List RequestItem) → CookieSums requests items → (p : ℕ) → CookieLists items p → Contains (standing_places requests) p
+cookie_has : (requests : CookieRequests) (items : List RequestItem) → CookieSums requests items → (p : ℕ) → CookieLists items p
+    → Contains (standing_places requests) p
 cookie_has requests items sums p listed =
     listed_gathered nat_cmp nat_cmp_total OpensSums requests.handles.entries (handle_events items) opens_list HandleLists (λ p c. contains_none p c) handle_has
     sums.handles listed.0 p listed.1
@@ -287,9 +297,11 @@ cookie_apart requests items good rise =
     let suffix = behind_last-suffix is_death items in
     let parts = rising_parts request_place suffix.0 (behind_last is_death items) (subst (PlacesRise request_place) suffix.1 rise) in
     let events_rise : PlacesRise (λ (e : ℕ × KeyEvent). event_place e.1) (handle_events items)
-    = rising_read handle_event (λ (e : ℕ × KeyEvent). event_place e.1) request_place (λ i e is. event_stands i.place i.change e is) (behind_last is_death items) parts.1 in
+    = rising_read handle_event (λ (e : ℕ × KeyEvent). event_place e.1) request_place (λ i e is. event_stands i.place i.change e is)
+    (behind_last is_death items) parts.1 in
     let each : All (λ (e : ℕ × Opens). AllPairs (λ (x y : ℕ). x ≢ y) (opens_list e.1)) requests.handles.entries.entries
-    = All-weaker (λ (e : ℕ × Opens). OpensSums e.1 (items_of (eq_by_cmp nat_cmp) e.0 (handle_events items))) (λ e. AllPairs (λ (x y : ℕ). x ≢ y) (opens_list e.1))
+    = All-weaker (λ (e : ℕ × Opens). OpensSums e.1 (items_of (eq_by_cmp nat_cmp) e.0 (handle_events items)))
+    (λ e. AllPairs (λ (x y : ℕ). x ≢ y) (opens_list e.1))
     (λ e sums.
     subst (AllPairs (λ (x y : ℕ). x ≢ y)) (sym sums.places)
     (opens_apart (items_of (eq_by_cmp nat_cmp) e.0 (handle_events items)) (items_rise (eq_by_cmp nat_cmp) e.0 event_place (handle_events items) events_rise)))

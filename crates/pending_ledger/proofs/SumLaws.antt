@@ -1,5 +1,6 @@
 -- What a ledger of one key, or of one cookie, keeps through an `add` and a `join`.
-use Rattle.std.proofs.Common.{◌≡◌, ℕ, ◌+◌, ◌||◌, Bool, true, false, cond, List, [], ◌∷◌, ◌++◌, length, map, drop, Option, Some, None, filter_map, refl, sym, ap, ◌∙◌, arith, length-append}
+use Rattle.std.proofs.Common.{◌≡◌, ℕ, ◌+◌, ◌||◌, Bool, true, false, cond, List, [], ◌∷◌, ◌++◌, length, map, drop, Option, Some, None, filter_map, refl}
+use Rattle.std.proofs.Common.{sym, ap, ◌∙◌, arith, length-append, ◌-◌, take, take_all, length-drop}
 use Rattle.std.proofs.lemmas.Bool.{or_right}
 use Rattle.std.proofs.lemmas.List.{map-append}
 use Rattle.std.proofs.lemmas.List.Elements.{filter_map-append}
@@ -29,7 +30,8 @@ opened_sums old new events event opens pushed kept sums =
     let none : list_any is_closing (event ∷ []) ≡ false = ap (λ c. is_close c || false) opens in
     let alone : open_places (event ∷ []) ≡ event.place ∷ [] = ap (map event_place) (behind_last-none is_closing (event ∷ []) none) in
     record {
-      places = pushed ∙ ap (λ t. t ++ event.place ∷ []) sums.places ∙ ap (λ t. open_places events ++ t) (sym alone) ∙ sym (open_places-append events (event ∷ []) none);
+      places = pushed ∙ ap (λ t. t ++ event.place ∷ []) sums.places ∙ ap (λ t. open_places events ++ t) (sym alone)
+          ∙ sym (open_places-append events (event ∷ []) none);
       has_close = kept ∙ sums.has_close ∙ sym (or_false (list_any is_closing events)) ∙ ap (λ b. list_any is_closing events || b) (sym none)
           ∙ sym (list_any-append is_closing events (event ∷ []));
     }
@@ -42,7 +44,8 @@ closed_sums new events event closing emptied closed =
     let alone : open_places (event ∷ []) ≡ [] = ap (λ b. map event_place (cond b [] (event ∷ []))) some in
     record {
       places = emptied ∙ sym alone ∙ sym (open_places-anew events (event ∷ []) some);
-      has_close = closed ∙ sym (or_right (list_any is_closing events) (list_any is_closing (event ∷ [])) some) ∙ sym (list_any-append is_closing events (event ∷ []));
+      has_close = closed ∙ sym (or_right (list_any is_closing events) (list_any is_closing (event ∷ [])) some)
+          ∙ sym (list_any-append is_closing events (event ∷ []));
     }
 
 -- those of two lists, the later without a close
@@ -52,7 +55,8 @@ pub open_joined : (earlier later joined : Opens) (first second : List KeyEvent) 
 open_joined earlier later joined first second still both kept mine theirs =
     let none : list_any is_closing second ≡ false = sym theirs.has_close ∙ still in
     record {
-      places = both ∙ ap (λ t. t ++ later.places.items) mine.places ∙ ap (λ t. open_places first ++ t) theirs.places ∙ sym (open_places-append first second none);
+      places = both ∙ ap (λ t. t ++ later.places.items) mine.places ∙ ap (λ t. open_places first ++ t) theirs.places
+          ∙ sym (open_places-append first second none);
       has_close = kept ∙ mine.has_close ∙ sym (or_false (list_any is_closing first)) ∙ ap (λ b. list_any is_closing first || b) (sym none)
           ∙ sym (list_any-append is_closing first second);
     }
@@ -84,6 +88,12 @@ last_joined first second =
     ap (λ t. last_or None t) (map-append event_change first second) ∙ last_or-append None (map event_change first) (map event_change second)
     ∙ last_of_two (last_or None (map event_change first)) (map event_change second)
 
+-- the rest of a list from a place on
+pub rest_from : (n : ℕ) (xs : List ℕ) → take (length xs - n) (drop n xs) ≡ drop n xs
+rest_from n xs =
+    let shorter = length-drop n xs in
+    take_all (length xs - n) (drop n xs) (omega arith)
+
 -- a key's strays, with one more event
 pub stray_added : (old new : Strays) (events : List KeyEvent) (event : KeyEvent) → new.places.items ≡ old.places.items ++ unmet_places old.last (event ∷ [])
     → new.first ≡ option_or old.first (Some event.change) → new.last ≡ Some event.change → StraysSums old events → StraysSums new (events ++ event ∷ [])
@@ -109,7 +119,8 @@ strays_joined earlier later joined front back places first last mine theirs =
           ∙ ap (λ t. unmet_places None front ++ drop (met_count before (first_change back)) t) theirs.places
           ∙ ap (λ t. unmet_places None front ++ t) (sym (unmet_behind before back)) ∙ sym (unmet_places-append None front back);
       first = first ∙ ap (λ o. option_or o later.first) mine.first ∙ ap (λ o. option_or (first_change front) o) theirs.first ∙ sym (first_joined front back);
-      last = last ∙ ap (λ o. option_or o earlier.last) theirs.last ∙ ap (λ o. option_or (last_or None (map event_change back)) o) mine.last ∙ sym (last_joined front back);
+      last = last ∙ ap (λ o. option_or o earlier.last) theirs.last ∙ ap (λ o. option_or (last_or None (map event_change back)) o) mine.last
+          ∙ sym (last_joined front back);
     }
 
 -- an item that is an event of a handle is no death
@@ -130,7 +141,8 @@ pub is_gone : (item : RequestItem) → handle_event item ≡ None → list_any i
 is_gone item is = ap (λ b. b || false) (dead_at item.place item.change is)
 
 -- the events of handles in two lists, the later without a death
-pub handle_events-append : (first second : List RequestItem) → list_any is_death second ≡ false → handle_events (first ++ second) ≡ handle_events first ++ handle_events second
+pub handle_events-append : (first second : List RequestItem) → list_any is_death second ≡ false
+    → handle_events (first ++ second) ≡ handle_events first ++ handle_events second
 handle_events-append first second none =
     ap (filter_map handle_event) (behind_last-append is_death first second none)
     ∙ filter_map-append handle_event (behind_last is_death first) second

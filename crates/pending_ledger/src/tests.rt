@@ -385,9 +385,9 @@ fn many_deliveries_and_requests(rt: HostRuntime) -> Result<(), Fail> {
     assert!(rt; leaked(&rt, alloc, items.as_slice())? == 100_000);
     let items = deliveries_and_frees(alloc, 100_000, 100_000)?;
     assert!(rt; leaked(&rt, alloc, items.as_slice())? == 0);
-    let items = requests_and_death(alloc, 100_000)?;
-    let (requests, _death) = items.as_slice().split_at(100_000.min(items.len()));
-    assert!(rt; standing(&rt, alloc, requests)? == 100_000);
+    let items = requests_and_death(alloc, 1_000_000)?;
+    let (requests, _death) = items.as_slice().split_at(1_000_000.min(items.len()));
+    assert!(rt; standing(&rt, alloc, requests)? == 1_000_000);
     assert!(rt; standing(&rt, alloc, items.as_slice())? == 0);
     Ok(())
 }

@@ -26,6 +26,7 @@ returns c = λ items sums.
     let rest : c.loop-cookie._cookie-iterator ≡ [] = search rules in
     let each : All HasOrder entries.entries = c.loop-cookie.invariant.ordered (subst (All HasOrder) (sym rest) (All-nil HasOrder)) in
     let whole : c.loop-cookie.places.items ≡ gather standing_places entries.entries
-    = sym (append-nil c.loop-cookie.places.items) ∙ sym (ap (λ es. c.loop-cookie.places.items ++ gather standing_places es) rest) ∙ c.loop-cookie.invariant.places in
+    = sym (append-nil c.loop-cookie.places.items) ∙ sym (ap (λ es. c.loop-cookie.places.items ++ gather standing_places es) rest)
+    ∙ c.loop-cookie.invariant.places in
     standing_sorted c.args.self.now ordered each items sums c.sort_unstable.new.self.items
     (subst (λ ps. IsPermutation ps c.sort_unstable.new.self.items) whole c.sort_unstable.ensures.permutation) c.sort_unstable.ensures.sorted
