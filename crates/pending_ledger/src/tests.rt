@@ -207,13 +207,18 @@ fn buffers_of(alloc: Global, pairs: &Pairs) -> Result<Vec<BufferItem>, AllocErro
     Ok(items)
 }
 
-/// A delivery in a reply.
+/// A delivery, by turns in each of the three kinds that deliver.
 fn delivery(place: u64, address: u64) -> BufferItem {
+    let kind = match place % 3 {
+        0 => Kind::BrTransaction,
+        1 => Kind::BrTransactionSecCtx,
+        _ => Kind::BrReply,
+    };
     BufferItem::Delivery {
         place,
         address,
         data_size: 24,
-        kind: Kind::BrReply,
+        kind,
     }
 }
 
@@ -229,6 +234,7 @@ fn requests_of(alloc: Global, asked: &Asked) -> Result<Vec<RequestItem>, AllocEr
     Ok(items)
 }
 
+/// The deaths leave what is expected.
 fn expect_deaths(
     rt: &impl Abort,
     deaths: &Deaths,
@@ -242,6 +248,7 @@ fn expect_deaths(
     Ok(())
 }
 
+/// The buffers do.
 fn expect_buffers(
     rt: &impl Abort,
     buffers: &Buffers,
@@ -255,6 +262,7 @@ fn expect_buffers(
     Ok(())
 }
 
+/// The requests that stand are those that are expected.
 fn expect_requests(
     rt: &impl Abort,
     requests: &Requests,
@@ -278,6 +286,7 @@ fn expect_pairs(rt: &impl Abort, alloc: Global, pairs: &Pairs) -> Result<(), All
     expect_buffers(rt, &buffers, pairs, alloc)
 }
 
+/// The changes leave the requests that are expected.
 fn expect_asked(rt: &impl Abort, alloc: Global, asked: &Asked) -> Result<(), AllocError> {
     let items = requests_of(alloc, asked)?;
     assert!(rt; is_placed(items.as_slice()));
