@@ -1,0 +1,5 @@
+pub mod Pending
+pub mod Ledgers
+pub mod Requests
+pub mod KeyEvents
+pub mod Sums

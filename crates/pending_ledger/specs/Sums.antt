@@ -1,0 +1,131 @@
+-- What each ledger keeps of the list that it sums.
+use Rattle.std.specs.Prelude.{◌≡◌, ℕ, Bool, true, false, List, map, Option, Some, None, filter_map, flat_map}
+use Rattle.std.specs.List.{last_or, list_any}
+use Rattle.std.specs.Ordering.{eq_by_cmp, nat_cmp}
+use Rattle.std.specs.declared.cmp.Ordering.{Ordering}
+use Rattle.event_core.specs.Buffers.{buffer_pending}
+use Rattle.event_core.specs.declared.buffer.BufferItem.{BufferItem}
+use Rattle.event_core.specs.declared.pending.PendingChange.TheVariants.{Open, Close}
+use Rattle.event_core.specs.declared.pending.PendingItem.{PendingItem}
+use Rattle.event_core.specs.declared.request.RequestChange.{RequestChange}
+use Rattle.event_core.specs.declared.request.RequestChange.TheVariants.{Request, Clear, Dead}
+use Rattle.event_core.specs.declared.request.RequestItem.{RequestItem}
+use Rattle.pending_ledger.specs.declared.buffers.Buffers.{Buffers}
+use Rattle.pending_ledger.specs.declared.cookie.CookieRequests.{CookieRequests}
+use Rattle.pending_ledger.specs.declared.key.KeyLedger.{KeyLedger}
+use Rattle.pending_ledger.specs.declared.key_event.KeyEvent.{KeyEvent}
+use Rattle.pending_ledger.specs.declared.opens.Opens.{Opens}
+use Rattle.pending_ledger.specs.declared.pending.Pending.{Pending}
+use Rattle.pending_ledger.specs.declared.requests.Requests.{Requests}
+use Rattle.pending_ledger.specs.declared.strays.Strays.{Strays}
+use Rattle.pending_ledger.specs.KeyEvents.{event_change, is_closing, behind_last, open_places, unmet_places, first_change}
+use Rattle.pending_ledger.specs.Ledgers.{AreLeaked, AreStrayFrees}
+use Rattle.pending_ledger.specs.Pending.{AreOutstanding, AreStrays, place_of}
+use Rattle.pending_ledger.specs.Requests.{AreStanding, request_place}
+use Rattle.summary_law.specs.ByKey.{SumsByKey}
+use Rattle.summary_law.specs.Fits.{IsPlaced}
+
+-- the opens of a key that no close follows, and whether there is a close
+pub record OpensSums (opens : Opens) (events : List KeyEvent) : Type 0 where
+  pub places : opens.places.items ≡ open_places events
+  pub has_close : opens.has_close ≡ list_any is_closing events
+
+-- the closes of a key that come right behind no open, and what its first and its last event do
+pub record StraysSums (strays : Strays) (events : List KeyEvent) : Type 0 where
+  pub places : strays.places.items ≡ unmet_places None events
+  pub first : strays.first ≡ first_change events
+  pub last : strays.last ≡ last_or None (map event_change events)
+
+-- both
+abbrev pub KeySums : KeyLedger → List KeyEvent → Type 0
+KeySums ledger events = OpensSums ledger.opens events × StraysSums ledger.strays events
+
+-- an item as its key and an event of that key
+abbrev pub keyed : {K : Type 0} → PendingItem K → K × KeyEvent
+keyed item = (item.key, record { place = item.place; change = item.change })
+
+-- under each key the sums of its events, over a list whose places rise
+abbrev pub PendingSums : {K : Type 0} → (K → K → Ordering) → Pending K → List (PendingItem K) → Type 0
+PendingSums cmp pending items = SumsByKey cmp KeySums pending.keys.entries (map keyed items) × IsPlaced place_of items
+
+-- the outstanding opens of whatever items the value sums
+abbrev pub GivesOutstanding : {K : Type 0} → (K → K → Ordering) → Pending K → List ℕ → Type 0
+GivesOutstanding {K} cmp pending places =
+    (items : List (PendingItem K)) → PendingSums cmp pending items → AreOutstanding (eq_by_cmp cmp) items places
+
+-- the strays of whatever items the value sums
+abbrev pub GivesStrays : {K : Type 0} → (K → K → Ordering) → Pending K → List ℕ → Type 0
+GivesStrays {K} cmp pending places =
+    (items : List (PendingItem K)) → PendingSums cmp pending items → AreStrays (eq_by_cmp cmp) items places
+
+-- the sums of the opens and closes that the items are
+abbrev pub BuffersSums : Buffers → List BufferItem → Type 0
+BuffersSums buffers items = PendingSums nat_cmp buffers.pending (map buffer_pending items)
+
+-- the leaked deliveries of whatever items the value sums
+abbrev pub GivesLeaked : Buffers → List ℕ → Type 0
+GivesLeaked buffers places = (items : List BufferItem) → BuffersSums buffers items → AreLeaked items places
+
+-- the stray frees of whatever items the value sums
+abbrev pub GivesStrayFrees : Buffers → List ℕ → Type 0
+GivesStrayFrees buffers places = (items : List BufferItem) → BuffersSums buffers items → AreStrayFrees items places
+
+-- the cookie that a change is about
+abbrev pub change_cookie : RequestChange → ℕ
+change_cookie (Request key) = key.cookie
+change_cookie (Clear key) = key.cookie
+change_cookie (Dead cookie) = cookie
+
+-- an item under its cookie
+abbrev pub by_cookie : RequestItem → ℕ × RequestItem
+by_cookie item = (change_cookie item.change, item)
+
+-- a request opens its handle, and a clear closes it; a death is no event of one handle
+abbrev pub change_of_handle : ℕ → RequestChange → Option (ℕ × KeyEvent)
+change_of_handle place (Request key) = Some (key.handle, record { place = place; change = Open })
+change_of_handle place (Clear key) = Some (key.handle, record { place = place; change = Close })
+change_of_handle place (Dead cookie) = None
+
+-- the event of a handle that an item is
+abbrev pub handle_event : RequestItem → Option (ℕ × KeyEvent)
+handle_event item = change_of_handle item.place item.change
+
+-- whether a change is a death
+abbrev pub is_dead : RequestChange → Bool
+is_dead (Request key) = false
+is_dead (Clear key) = false
+is_dead (Dead cookie) = true
+
+-- whether an item is a death
+abbrev pub is_death : RequestItem → Bool
+is_death item = is_dead item.change
+
+-- the events of handles behind the last death
+abbrev pub handle_events : List RequestItem → List (ℕ × KeyEvent)
+handle_events items = filter_map handle_event (behind_last is_death items)
+
+-- the places that the lists of a map of ledgers have, one list followed by the next
+abbrev pub gather : {K S : Type 0} → (S → List ℕ) → List (K × S) → List ℕ
+gather places entries = flat_map (λ entry. places entry.1) entries
+
+-- the places of the opens
+abbrev pub opens_list : Opens → List ℕ
+opens_list opens = opens.places.items
+
+-- those of all handles
+abbrev pub standing_places : CookieRequests → List ℕ
+standing_places requests = gather opens_list requests.handles.entries.entries
+
+-- of the items of one cookie: whether there is a death, and the opens of each handle behind the last
+pub record CookieSums (requests : CookieRequests) (items : List RequestItem) : Type 0 where
+  pub dead : requests.dead ≡ list_any is_death items
+  pub handles : SumsByKey nat_cmp OpensSums requests.handles.entries (handle_events items)
+
+-- under each cookie the sums of its items, over a list whose places rise
+abbrev pub RequestsSums : Requests → List RequestItem → Type 0
+RequestsSums requests items =
+    SumsByKey nat_cmp CookieSums requests.cookies.entries (map by_cookie items) × IsPlaced request_place items
+
+-- the standing requests of whatever items the value sums
+abbrev pub GivesStanding : Requests → List ℕ → Type 0
+GivesStanding requests places = (items : List RequestItem) → RequestsSums requests items → AreStanding items places

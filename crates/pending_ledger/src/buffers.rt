@@ -1,0 +1,58 @@
+//! Buffers that are delivered and never freed, and frees of what was not delivered.
+
+ghost use Rattle.std.specs.Prelude.{IfOk};
+ghost use Rattle.pending_ledger.specs.Ledgers.{buffer_place};
+ghost use Rattle.pending_ledger.specs.Sums.{BuffersSums, GivesLeaked, GivesStrayFrees};
+ghost use Rattle.summary_law.specs.Fits.{IsPlaced, placed_parts};
+
+use crate::pending::Pending;
+use event_core::BufferItem;
+use std::alloc::{AllocError, Global};
+use summary_law::Summary;
+
+/// The buffers of one process by their address: a delivery opens it, and a free closes it.
+#[derive(Drop)]
+pub struct Buffers {
+    pending: Pending<u64>,
+}
+
+impl Buffers {
+    /// The places of the deliveries whose address no later free has, rising: these are leaked.
+    pub fn outstanding(&self, alloc: Global) -> Result<Vec<u64>, AllocError>
+        ensures { IfOk result (λ places. GivesLeaked self.now places.items) }
+    {
+        self.pending.outstanding(alloc)
+    }
+
+    /// The places of the frees of an address that is not delivered, rising.
+    pub fn strays(&self, alloc: Global) -> Result<Vec<u64>, AllocError>
+        ensures { IfOk result (λ places. GivesStrayFrees self.now places.items) }
+    {
+        self.pending.strays(alloc)
+    }
+}
+
+impl Summary for Buffers {
+    type Item = BufferItem;
+
+    ghost fits = { IsPlaced buffer_place };
+
+    ghost sums = { BuffersSums };
+
+    fn empty(alloc: Global) -> Buffers {
+        Buffers {
+            pending: Pending::empty(alloc),
+        }
+    }
+
+    fn add(&mut self, item: BufferItem) -> Result<(), AllocError> {
+        self.pending.add(item.pending())
+    }
+
+    fn join(self, later: Buffers) -> Result<Buffers, AllocError> {
+        let pending = self.pending.join(later.pending)?;
+        Ok(Buffers { pending })
+    }
+
+    ghost fits_parts = { placed_parts buffer_place };
+}

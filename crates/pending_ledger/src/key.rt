@@ -1,0 +1,45 @@
+//! The opens and closes of one key.
+
+ghost use Rattle.pending_ledger.specs.Sums.{KeySums};
+ghost use Rattle.summary_law.specs.Fits.{IsShort, short_parts};
+
+use crate::key_event::KeyEvent;
+use crate::opens::Opens;
+use crate::strays::Strays;
+use std::alloc::{AllocError, Global};
+use summary_law::Summary;
+
+/// The outstanding opens and the strays of one key.
+#[derive(Drop)]
+pub struct KeyLedger {
+    pub opens: Opens,
+    pub strays: Strays,
+}
+
+impl Summary for KeyLedger {
+    type Item = KeyEvent;
+
+    ghost fits = { IsShort };
+
+    ghost sums = { KeySums };
+
+    fn empty(alloc: Global) -> KeyLedger {
+        KeyLedger {
+            opens: Opens::empty(alloc),
+            strays: Strays::empty(alloc),
+        }
+    }
+
+    fn add(&mut self, item: KeyEvent) -> Result<(), AllocError> {
+        self.opens.add(item)?;
+        self.strays.add(item)
+    }
+
+    fn join(self, later: KeyLedger) -> Result<KeyLedger, AllocError> {
+        let opens = self.opens.join(later.opens)?;
+        let strays = self.strays.join(later.strays)?;
+        Ok(KeyLedger { opens, strays })
+    }
+
+    ghost fits_parts = { short_parts };
+}

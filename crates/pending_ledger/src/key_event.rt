@@ -1,0 +1,11 @@
+//! An open or a close of a key that is known.
+
+use event_core::PendingChange;
+
+/// An open or a close, where its key is known from elsewhere.
+#[derive(Clone, Copy, Debug, PartialEq, Eq)]
+pub struct KeyEvent {
+    /// Where the record begins in the capture, in bytes.
+    pub place: u64,
+    pub change: PendingChange,
+}

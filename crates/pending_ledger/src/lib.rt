@@ -1,0 +1,19 @@
+//! What is opened and never closed: buffers that are not freed, deaths that nobody acknowledges,
+//! clears that are not confirmed, and requests that still stand.
+#![tactic(auto)]
+
+mod buffers;
+mod cookie;
+mod key;
+mod key_event;
+mod opens;
+mod pending;
+mod requests;
+mod strays;
+
+pub use buffers::Buffers;
+pub use pending::{Clears, Deaths, Pending};
+pub use requests::Requests;
+
+#[cfg(test)]
+mod tests;

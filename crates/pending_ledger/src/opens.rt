@@ -1,0 +1,59 @@
+//! The opens of one key that no later close ends.
+
+ghost use Rattle.pending_ledger.specs.Sums.{OpensSums};
+ghost use Rattle.summary_law.specs.Fits.{IsShort, short_parts};
+
+use crate::key_event::KeyEvent;
+use event_core::PendingChange;
+use std::alloc::{AllocError, Global};
+use summary_law::Summary;
+
+/// The opens of one key that no later close ends. A close ends all before it, and leaves no list.
+#[derive(Drop)]
+pub struct Opens {
+    /// Their places, in order.
+    pub places: Vec<u64>,
+    /// Whether there is a close among the events.
+    pub has_close: bool,
+}
+
+/// A `join` takes a step for each open that it ends, and for each of the later value.
+impl Summary for Opens {
+    type Item = KeyEvent;
+
+    ghost fits = { IsShort };
+
+    ghost sums = { OpensSums };
+
+    fn empty(alloc: Global) -> Opens {
+        Opens {
+            places: Vec::new(alloc),
+            has_close: false,
+        }
+    }
+
+    fn add(&mut self, item: KeyEvent) -> Result<(), AllocError> {
+        match item.change {
+            PendingChange::Open => {
+                self.places.push(item.place)?;
+            }
+            PendingChange::Close => {
+                let alloc = *self.places.allocator();
+                self.places = Vec::new(alloc);
+                self.has_close = true;
+            }
+        }
+        Ok(())
+    }
+
+    fn join(self, later: Opens) -> Result<Opens, AllocError> {
+        if later.has_close {
+            return Ok(later);
+        }
+        let mut joined = self;
+        joined.places.extend_from_slice(later.places.as_slice())?;
+        Ok(joined)
+    }
+
+    ghost fits_parts = { short_parts };
+}

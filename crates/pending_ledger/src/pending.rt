@@ -1,0 +1,82 @@
+//! What was opened and never closed, and what was closed while it was not open, by key.
+
+ghost use Rattle.std.specs.Prelude.{IfOk};
+ghost use Rattle.pending_ledger.specs.Pending.{place_of};
+ghost use Rattle.pending_ledger.specs.Sums.{PendingSums, GivesOutstanding, GivesStrays};
+ghost use Rattle.summary_law.specs.Fits.{IsPlaced, placed_parts};
+
+use crate::key::KeyLedger;
+use crate::key_event::KeyEvent;
+use event_core::PendingItem;
+use std::alloc::{AllocError, Global};
+use summary_law::{ByKey, Summary};
+
+/// The outstanding opens and the stray closes of a list of opens and closes of keys, which all
+/// stand in one process.
+#[derive(Drop)]
+pub struct Pending<K: Ord + Copy> {
+    keys: ByKey<K, KeyLedger>,
+}
+
+/// Deaths that the driver tells of, by cookie: each is open until the process acknowledges it.
+pub type Deaths = Pending<u64>;
+
+/// Requests that a process takes back, by cookie: each is open until the driver confirms it.
+pub type Clears = Pending<u64>;
+
+impl<K: Ord + Copy> Pending<K> {
+    /// The places of the opens that no later close has the key of, rising.
+    pub fn outstanding(&self, alloc: Global) -> Result<Vec<u64>, AllocError>
+        ensures { IfOk result (λ places. GivesOutstanding K.cmp self.now places.items) }
+    {
+        let mut places = Vec::new(alloc);
+        for (_key, ledger) in &self.keys.entries {
+            places.extend_from_slice(ledger.opens.places.as_slice())?;
+        }
+        places.sort_unstable();
+        Ok(places)
+    }
+
+    /// The places of the closes of a key that is not open, rising.
+    pub fn strays(&self, alloc: Global) -> Result<Vec<u64>, AllocError>
+        ensures { IfOk result (λ places. GivesStrays K.cmp self.now places.items) }
+    {
+        let mut places = Vec::new(alloc);
+        for (_key, ledger) in &self.keys.entries {
+            places.extend_from_slice(ledger.strays.places.as_slice())?;
+        }
+        places.sort_unstable();
+        Ok(places)
+    }
+}
+
+impl<K: Ord + Copy> Summary for Pending<K> {
+    type Item = PendingItem<K>;
+
+    ghost fits = { IsPlaced place_of };
+
+    ghost sums = { PendingSums K.cmp };
+
+    fn empty(alloc: Global) -> Pending<K> {
+        Pending {
+            keys: ByKey::empty(alloc),
+        }
+    }
+
+    fn add(&mut self, item: PendingItem<K>) -> Result<(), AllocError> {
+        self.keys.add((
+            item.key,
+            KeyEvent {
+                place: item.place,
+                change: item.change,
+            },
+        ))
+    }
+
+    fn join(self, later: Pending<K>) -> Result<Pending<K>, AllocError> {
+        let keys = self.keys.join(later.keys)?;
+        Ok(Pending { keys })
+    }
+
+    ghost fits_parts = { placed_parts place_of };
+}
