@@ -1,10 +1,10 @@
 -- Matches by counting: the closer of an opener is where closers first outnumber the openers behind it.
-use Rattle.std.proofs.Common.{◌≡◌, ℕ, zero, suc, ◌+◌, ◌-◌, ◌<◌, ◌≤◌, ◌⊎◌, cond, Bool, Option, Some, None, refl, sym, ap, subst, ◌∙◌, inl, inr, ⊎_elim, arith}
-use Rattle.std.proofs.Common.{List, [], ◌∷◌, ◌++◌, map, take, drop, length, true, false}
-use Rattle.std.specs.Prelude.{slice_get, slice_range, count_by}
+use Rattle.std.proofs.Common.{◌≡◌, ℕ, zero, suc, ◌+◌, ◌-◌, ◌<◌, ◌≤◌, cond, Some, refl, sym, ap, subst, ◌∙◌, ⊎_elim, arith}
+use Rattle.std.proofs.Common.{List, [], ◌∷◌, ◌++◌, take, drop, length}
+use Rattle.std.specs.Prelude.{slice_get, slice_range}
 use Rattle.std.proofs.lemmas.Bool.{cases_lt}
 use Rattle.std.proofs.lemmas.List.Recursion.{is_count_by}
-use Rattle.call_stacks.specs.Matching.{Side, opener, closer, neither, is_opener, is_closer, opened, closed, Match, IsStray, IsUnmatched}
+use Rattle.call_stacks.specs.Matching.{Side, opener, closer, neither, is_opener, is_closer, opened, closed, Match, IsStray}
 
 -- how many calls one opens, and how many it closes
 abbrev pub opens : Side → ℕ
@@ -211,7 +211,8 @@ pub counted_to : (sides : List Side) (i k : ℕ) → i ≤ k
 counted_to sides i k le =
     let split = take_split sides i k le in (
       ap all_opens split ∙ all_opens-append (take i sides) (slice_range sides i k) ∙ ap (λ n. all_opens (take i sides) + n) (opened_is (slice_range sides i k)),
-      ap all_closes split ∙ all_closes-append (take i sides) (slice_range sides i k) ∙ ap (λ n. all_closes (take i sides) + n) (closed_is (slice_range sides i k)),
+      ap all_closes split ∙ all_closes-append (take i sides) (slice_range sides i k)
+          ∙ ap (λ n. all_closes (take i sides) + n) (closed_is (slice_range sides i k)),
     )
 
 -- two openers of one closer: none stands before the other

@@ -1,15 +1,15 @@
 -- The matches of a list followed by another.
-use Rattle.std.proofs.Common.{◌≡◌, ◌↔◌, ℕ, zero, suc, ◌+◌, ◌<◌, ◌≤◌, ◌⊎◌, Option, Some, None, refl, sym, ap, subst, ◌∙◌, inl, inr, arith}
+use Rattle.std.proofs.Common.{◌≡◌, ℕ, zero, suc, ◌+◌, ◌≤◌, ◌⊎◌, Option, Some, None, refl, sym, ap, subst, ◌∙◌, inl, inr, arith}
 use Rattle.std.proofs.Common.{List, [], ◌∷◌, ◌++◌, map, drop, length, reverse}
 use Rattle.std.proofs.lemmas.List.{drop-drop, map-id, map-append, reverse-append, length-reverse}
 use Rattle.std.specs.List.{enumerate_from}
 use Rattle.std.specs.Prelude.{slice_get}
 use Rattle.call_stacks.specs.Matching.{Side, opener, closer, neither, Match, IsUnmatched, IsStray, ListsInOrder, IsJoinedMatch, in_first, in_second, across, JoinedMatches}
-use Rattle.call_stacks.proofs.Counting.{get-drop, get_within}
-use Rattle.call_stacks.proofs.Lists.{strays_rise, openers_rise, openers_in}
-use Rattle.call_stacks.proofs.Members.{In, in-map, map-in, in_get, get_in, Rises, rises-map, listed}
+use Rattle.call_stacks.proofs.Counting.{get-drop}
+use Rattle.call_stacks.proofs.Lists.{strays_rise, openers_rise}
+use Rattle.call_stacks.proofs.Members.{In, in-map, map-in, Rises, rises-map, listed}
 use Rattle.call_stacks.proofs.Model.{same_some, some_is_some, first_of, put, entry, strays, openers}
-use Rattle.call_stacks.proofs.Numbered.{numbered, side_there, item_there, in_rest, match_of, has_match, unmatched_of, has_unmatched, stray_at, stray_of, stray_in, has_stray}
+use Rattle.call_stacks.proofs.Numbered.{numbered, in_rest, match_of, has_match, unmatched_of, has_unmatched, stray_at, stray_of, stray_in, has_stray}
 
 -- the openers without a closer
 abbrev left : {A : Type 0} → List (A × Option A) → List A
@@ -84,12 +84,14 @@ data InJoined {A : Type 0} (side : A → Side) (first second : List A) (x : A) (
   of_second : In (x, h) (openers side second) → InJoined side first second x h
   of_both : (k : ℕ) → slice_get (reverse (left (openers side first))) k ≡ Some x → h ≡ slice_get (strays side second) k → InJoined side first second x h
 
-joined_later : {A : Type 0} (side : A → Side) (y : A) (first second : List A) (x : A) (h : Option A) → InJoined side first second x h → InJoined side (y ∷ first) second x h
+joined_later : {A : Type 0} (side : A → Side) (y : A) (first second : List A) (x : A) (h : Option A) → InJoined side first second x h
+    → InJoined side (y ∷ first) second x h
 joined_later side y first second x h (of_first c e there) = of_first c e (in_rest (side y) y (strays side first) (openers side first) (x, Some c) there)
 joined_later side y first second x h (of_second there) = of_second there
 joined_later side y first second x h (of_both k there e) = of_both k (kept_place (side y) y x (strays side first) (openers side first) k there) e
 
-joined_here : {A : Type 0} (side : A → Side) (y : A) (first second : List A) (x : A) (h : Option A) (mine : List A) → side y ≡ opener → strays side first ≡ mine → x ≡ y
+joined_here : {A : Type 0} (side : A → Side) (y : A) (first second : List A) (x : A) (h : Option A) (mine : List A) → side y ≡ opener
+    → strays side first ≡ mine → x ≡ y
     → h ≡ first_of (mine ++ drop (length (left (openers side first))) (strays side second)) → InJoined side (y ∷ first) second x h
 joined_here side y first second x h [] opens mine here e =
     let n = length (left (openers side first)) in
@@ -97,7 +99,8 @@ joined_here side y first second x h [] opens mine here e =
     let calls : openers side (y ∷ first) ≡ (y, None) ∷ openers side first
     = ap (λ (s : Side). entry s y (strays side first) (openers side first)) opens ∙ ap (λ l. (y, first_of l) ∷ openers side first) mine in
     let last : slice_get (reverse (left (openers side first)) ++ y ∷ []) n ≡ Some y
-    = ap (slice_get (reverse (left (openers side first)) ++ y ∷ [])) (sym (length-reverse (left (openers side first)))) ∙ get_last (reverse (left (openers side first))) y in
+    = ap (slice_get (reverse (left (openers side first)) ++ y ∷ [])) (sym (length-reverse (left (openers side first))))
+    ∙ get_last (reverse (left (openers side first))) y in
     of_both n
     (ap (λ l. slice_get (reverse (left l)) n) calls ∙ ap (λ l. slice_get l n) (reverse_cons y (left (openers side first))) ∙ last ∙ ap Some (sym here))
     (e ∙ get-drop (strays side second) n 0 ∙ ap (slice_get (strays side second)) number)
@@ -116,7 +119,8 @@ joined_step side y first second x h opener e ih (inr there) = joined_later side 
 joined_step side y first second x h closer e ih there = joined_later side y first second x h (ih there)
 joined_step side y first second x h neither e ih there = joined_later side y first second x h (ih there)
 
-in_joined : {A : Type 0} (side : A → Side) (first second : List A) (x : A) (h : Option A) → In (x, h) (openers side (first ++ second)) → InJoined side first second x h
+in_joined : {A : Type 0} (side : A → Side) (first second : List A) (x : A) (h : Option A) → In (x, h) (openers side (first ++ second))
+    → InJoined side first second x h
 in_joined side [] second x h there = of_second there
 in_joined side (y ∷ first) second x h there =
     joined_step side y first second x h (side y) refl (λ here. in_joined side first second x h here) there
@@ -136,11 +140,13 @@ first_step opener y mine more rest calls x c ih (inr there) = inr (ih there)
 first_step closer y mine more rest calls x c ih there = ih there
 first_step neither y mine more rest calls x c ih there = ih there
 
-first_in : {A : Type 0} (side : A → Side) (first second : List A) (x c : A) → In (x, Some c) (openers side first) → In (x, Some c) (openers side (first ++ second))
+first_in : {A : Type 0} (side : A → Side) (first second : List A) (x c : A) → In (x, Some c) (openers side first)
+    → In (x, Some c) (openers side (first ++ second))
 first_in side [] second x c there = absurd there
 first_in side (y ∷ first) second x c there =
     subst (λ (l : List _). In (x, Some c) (entry (side y) y l (openers side (first ++ second)))) (sym (joined_strays side first second))
-    (first_step (side y) y (strays side first) (drop (length (left (openers side first))) (strays side second)) (openers side first) (openers side (first ++ second)) x c
+    (first_step (side y) y (strays side first) (drop (length (left (openers side first))) (strays side second)) (openers side first)
+    (openers side (first ++ second)) x c
     (λ here. first_in side first second x c here) there)
 
 both_step : {A : Type 0} (s : Side) (y : A) (mine theirs : List A) (rest calls : List (A × Option A)) (k : ℕ) (x : A)
@@ -166,7 +172,8 @@ both_in : {A : Type 0} (side : A → Side) (first second : List A) (k : ℕ) (x 
     → In (x, slice_get (strays side second) k) (openers side (first ++ second))
 both_in side [] second k x there = absurd (some_is_some x (sym there))
 both_in side (y ∷ first) second k x there =
-    subst (λ (l : List _). In (x, slice_get (strays side second) k) (entry (side y) y l (openers side (first ++ second)))) (sym (joined_strays side first second))
+    subst (λ (l : List _). In (x, slice_get (strays side second) k) (entry (side y) y l (openers side (first ++ second))))
+    (sym (joined_strays side first second))
     (both_step (side y) y (strays side first) (strays side second) (openers side first) (openers side (first ++ second)) k x
     (λ here. both_in side first second k x here) there)
 
@@ -189,7 +196,8 @@ positions-append n (s ∷ first) second =
 
 both_positions : (first second : List Side) → at_positions 0 (first ++ second) ≡ at_positions 0 first ++ at_positions (length first) second
 both_positions first second =
-    positions-append 0 first second ∙ ap (λ k. at_positions 0 first ++ at_positions k second) (let number : 0 + length first ≡ length first = omega arith in number)
+    positions-append 0 first second
+    ∙ ap (λ k. at_positions 0 first ++ at_positions k second) (let number : 0 + length first ≡ length first = omega arith in number)
 
 abbrev position_of : ℕ × Side → ℕ
 position_of x = x.0
@@ -336,7 +344,8 @@ same_stray second n k y e =
 
 -- ---- both ways
 
-joined_from : (first second : List Side) (i j : ℕ) → IsJoinedMatch first second (unmatched_positions first) (stray_positions second) i j → Match (first ++ second) i j
+joined_from : (first second : List Side) (i j : ℕ) → IsJoinedMatch first second (unmatched_positions first) (stray_positions second) i j
+    → Match (first ++ second) i j
 unfolding unmatched_positions stray_positions
 joined_from first second i j (in_first found) =
     let has = entry_of 0 first i j found in
@@ -392,7 +401,8 @@ joined_case first second i j x y from_is to_is (of_both k there e) =
     (at_item position_of (strays (numbered itself) (at_positions 0 second)) k z.0 z.2)
     (omega arith)
 
-joined_to : (first second : List Side) (i j : ℕ) → Match (first ++ second) i j → IsJoinedMatch first second (unmatched_positions first) (stray_positions second) i j
+joined_to : (first second : List Side) (i j : ℕ) → Match (first ++ second) i j
+    → IsJoinedMatch first second (unmatched_positions first) (stray_positions second) i j
 joined_to first second i j found =
     let has = entry_of 0 (first ++ second) i j found in
     let a = has.from_is in

@@ -1,16 +1,16 @@
 -- What a value holds after a join, and what it comes to at the end.
-use Rattle.std.proofs.Common.{◌≡◌, ℕ, zero, suc, ◌+◌, ◌<◌, ◌≤◌, ◌^◌, ◌⊎◌, Bool, true, false, cond, Option, Some, None, refl, sym, ap, subst, ◌∙◌, inl, inr, arith}
-use Rattle.std.proofs.Common.{List, [], ◌∷◌, ◌++◌, map, drop, length, append_assoc, length-append, get_or}
+use Rattle.std.proofs.Common.{◌≡◌, ℕ, suc, ◌+◌, ◌<◌, ◌≤◌, ◌^◌, ◌⊎◌, Bool, true, false, cond, Option, Some, None, refl, sym, ap, subst, ◌∙◌, inl, inr, arith}
+use Rattle.std.proofs.Common.{List, [], ◌∷◌, ◌++◌, map, length, append_assoc, length-append, get_or}
 use Rattle.std.proofs.lemmas.List.{append-nil, map-append, length-map}
 use Rattle.std.proofs.lemmas.List.Sums.{fold-append}
 use Rattle.std.proofs.lemmas.List.Elements.{All-contains}
 use Rattle.std.proofs.lemmas.List.Quantifiers.{all_pairs_push}
-use Rattle.std.specs.List.{fold, find}
+use Rattle.std.specs.List.{find}
 use Rattle.std.specs.Option.{option_or, option_to_list, option_and_then}
-use Rattle.std.specs.Prelude.{slice_get, All}
+use Rattle.std.specs.Prelude.{All}
 use Rattle.event_core.specs.declared.event.Event.{Event}
 use Rattle.event_core.specs.declared.marks.Bracket.{Bracket}
-use Rattle.event_core.specs.declared.marks.Bracket.TheVariants.{Error, Refused, Neither}
+use Rattle.event_core.specs.declared.marks.Bracket.TheVariants.{Neither}
 use Rattle.event_core.specs.declared.marks.Mark.{Mark}
 use Rattle.summary_law.specs.Fits.{IsPlaced, rising_parts, rising_apart}
 use Rattle.summary_law.specs.Summary.{Adds}
@@ -18,8 +18,8 @@ use Rattle.call_stacks.specs.declared.findings.CallFindings.{CallFindings}
 use Rattle.call_stacks.specs.declared.findings.RefusedSend.{RefusedSend}
 use Rattle.call_stacks.specs.declared.opener.Opener.{Opener}
 use Rattle.call_stacks.specs.declared.thread_calls.ThreadCalls.{ThreadCalls}
-use Rattle.call_stacks.specs.Calls.{Judged, judged_by, judged, judged_part, event_place, opener_place, bracket_by, bracket_in_part, mark_behind, last_mark, is_error, is_refused, if_error_reply, undecided_of, refused_of, IsOpener, IsStrayEvent, ThreadCallsSum, AreFindings}
-use Rattle.call_stacks.specs.Content.{Content, content_of, Closes, ClosesAll, appended}
+use Rattle.call_stacks.specs.Calls.{judged_by, judged, judged_part, event_place, opener_place, bracket_by, bracket_in_part, mark_behind, last_mark, is_error, is_refused, if_error_reply, undecided_of, refused_of, IsOpener, IsStrayEvent, ThreadCallsSum, AreFindings}
+use Rattle.call_stacks.specs.Content.{Content, content_of, ClosesAll, appended}
 use Rattle.call_stacks.specs.Matching.{Side, opener, closer, neither, ListsInOrder}
 use Rattle.call_stacks.specs.Verdicts.{side_of}
 use Rattle.call_stacks.proofs.MarkLaws.{error_bracket, none_refused}
@@ -200,28 +200,32 @@ together closed later first second placed closed_models later_models =
     let few = placed.0 in
     let a = ap length closed_models.openers_are ∙ length-map (openers side (with_closers first second)) found in
     let b = ap length later_models.openers_are ∙ length-map (openers side (paired bracket_in_part None second)) found in
-    let c = ap length (joined_openers first second) ∙ length-append (openers side (with_closers first second)) (openers side (paired bracket_in_part None second)) in
+    let c = ap length (joined_openers first second)
+    ∙ length-append (openers side (with_closers first second)) (openers side (paired bracket_in_part None second)) in
     let short = openers_short side (paired bracket_in_part None (first ++ second)) in
     let long = length-map (judged_part (first ++ second)) pair ∙ judged_length bracket_in_part None (first ++ second) in
     omega arith
 
 -- ---- the join
 
-closes_all_keeps : (old new : Content) (events : List Event) → ClosesAll old events new → (new.last ≡ old.last) × (new.undecided ≡ old.undecided) × (new.refused ≡ old.refused)
+closes_all_keeps : (old new : Content) (events : List Event) → ClosesAll old events new
+    → (new.last ≡ old.last) × (new.undecided ≡ old.undecided) × (new.refused ≡ old.refused)
 closes_all_keeps old new [] is = (ap (λ (c : Content). c.last) is, ap (λ (c : Content). c.undecided) is, ap (λ (c : Content). c.refused) is)
 closes_all_keeps old new (e ∷ events) step =
     let first = closes_keeps old step.0 e step.1 in
     let rest = closes_all_keeps step.0 new events step.2 in
     (rest.0 ∙ first.0, rest.1 ∙ first.1, rest.2 ∙ first.2)
 
-pub closed_models : (joined later closed : Content) (first second : List Event) → Holds joined (first ++ option_to_list (undecided_of second)) → Holds later second
+pub closed_models : (joined later closed : Content) (first second : List Event) → Holds joined (first ++ option_to_list (undecided_of second))
+    → Holds later second
     → ClosesAll joined later.strays closed → Models closed (with_closers first second)
 closed_models joined later closed first second front back closes =
     closes_all_models joined closed (paired bracket_in_part None (first ++ option_to_list (undecided_of second)))
     (map event_of (strays side (paired bracket_in_part None second))) front.models
     (subst (λ (l : List Event). ClosesAll joined l closed) back.models.strays_are closes)
 
-joined_models : (later closed new : Content) (first second : List Event) → Models closed (with_closers first second) → Models later (paired bracket_in_part None second)
+joined_models : (later closed new : Content) (first second : List Event) → Models closed (with_closers first second)
+    → Models later (paired bracket_in_part None second)
     → new.openers ≡ closed.openers ++ later.openers → new.unmatched ≡ closed.unmatched ++ map (λ index. length closed.openers + index) later.unmatched
     → new.strays ≡ closed.strays → Models new (paired bracket_in_part None (first ++ second))
 joined_models later closed new first second front back openers_are unmatched_are strays_are =
@@ -324,8 +328,10 @@ finished calls findings events holds openers_same strays_same refused_same =
     ∙ ap (map event_of) (sym settled.strays_are)
     in
     record {
-      openers = subst (λ (l : List Opener). ListsInOrder opener_place (IsOpener (judged events)) l) (sym openers_are) (openers_listed bracket_by None events rises);
-      strays = subst (λ (l : List Event). ListsInOrder event_place (IsStrayEvent (judged events)) l) (sym strays_are) (strays_listed bracket_by None events rises);
+      openers = subst (λ (l : List Opener). ListsInOrder opener_place (IsOpener (judged events)) l) (sym openers_are)
+          (openers_listed bracket_by None events rises);
+      strays = subst (λ (l : List Event). ListsInOrder event_place (IsStrayEvent (judged events)) l) (sym strays_are)
+          (strays_listed bracket_by None events rises);
       refused = refused_same ∙ holds.refused
           ∙ ap (λ l. l ++ refused_of (judged_part events)) (sym (whole_refused (undecided_of events) (is_error_of events)))
           ∙ sym settled.refused_are;

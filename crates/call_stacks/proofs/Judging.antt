@@ -1,17 +1,17 @@
 -- The events of a thread, judged in one piece and in parts.
-use Rattle.std.proofs.Common.{◌≡◌, ℕ, Bool, true, false, cond, Option, Some, None, ◌⊎◌, inl, inr, refl, sym, ap, subst, ◌∙◌}
-use Rattle.std.proofs.Common.{List, [], ◌∷◌, ◌++◌, map, append_assoc}
-use Rattle.std.specs.List.{fold, find, filter_map, cons_option}
+use Rattle.std.proofs.Common.{◌≡◌, Bool, true, false, cond, Option, Some, None, ◌⊎◌, inl, inr, refl, sym, ap, ◌∙◌}
+use Rattle.std.proofs.Common.{List, [], ◌∷◌, ◌++◌, map}
+use Rattle.std.specs.List.{fold, find, cons_option}
 use Rattle.std.specs.Option.{option_or, option_to_list, option_and_then, is_some}
 use Rattle.event_core.specs.declared.event.Event.{Event}
 use Rattle.event_core.specs.declared.marks.Bracket.{Bracket}
-use Rattle.event_core.specs.declared.marks.Bracket.TheVariants.{Error, Refused, Neither}
+use Rattle.event_core.specs.declared.marks.Bracket.TheVariants.{Neither}
 use Rattle.event_core.specs.Brackets.{error_reply}
 use Rattle.event_core.specs.declared.marks.Mark.{Mark}
 use Rattle.event_core.specs.declared.marks.Mark.TheVariants.{Oneway, SentReply, Other}
 use Rattle.call_stacks.specs.declared.findings.RefusedSend.{RefusedSend}
-use Rattle.call_stacks.specs.Calls.{Judged, judged_by, judged_part, event_mark, bracket_by, bracket_in_part, mark_behind, last_mark, is_error, if_error_reply, undecided_of, refused_send, refused_of, is_refused, is_oneway}
-use Rattle.call_stacks.specs.Matching.{Side, opener, closer, neither}
+use Rattle.call_stacks.specs.Calls.{Judged, judged_by, judged_part, event_mark, bracket_by, bracket_in_part, mark_behind, is_error, if_error_reply, undecided_of, refused_send, refused_of, is_refused, is_oneway}
+use Rattle.call_stacks.specs.Matching.{Side}
 use Rattle.call_stacks.specs.Verdicts.{side_of}
 use Rattle.call_stacks.proofs.MarkLaws.{no_mark, same_bracket, error_bracket, none_refused}
 use Rattle.call_stacks.proofs.Model.{strays, openers, put, entry, strays-strays}
@@ -72,9 +72,11 @@ record DecidedAt (before : Option Mark) (e : Event) (later : List Event) (mark :
       (strays side (paired bracket_by (option_or mark before) later)) (openers side (paired bracket_by (option_or mark before) later))
       ≡ entry (side_of (bracket_in_part None e)) (e, side_of (bracket_in_part None e))
       (strays side (paired bracket_in_part (option_or mark None) later)) (openers side (paired bracket_in_part (option_or mark None) later))
-  refused_are : cons_option (refused_send (record { event = e; before = before; bracket = bracket_by before e })) (refused_of (judged_by bracket_by (option_or mark before) later))
+  refused_are : cons_option (refused_send (record { event = e; before = before; bracket = bracket_by before e })) (refused_of (judged_by bracket_by
+      (option_or mark before) later))
       ≡ decided_refused before (undecided_from e later mark)
-      ++ cons_option (refused_send (record { event = e; before = None; bracket = bracket_in_part None e })) (refused_of (judged_by bracket_in_part (option_or mark None) later))
+      ++ cons_option (refused_send (record { event = e; before = None; bracket = bracket_in_part None e })) (refused_of (judged_by bracket_in_part
+      (option_or mark None) later))
 
 -- an event that is no bracket
 part_neither : (e : Event) → bracket_by None e ≡ Neither → bracket_in_part None e ≡ Neither
@@ -93,9 +95,11 @@ no_mark_step before e later none decided =
       openers_are = ap (λ (b : Bracket). entry (side_of b) (e, side_of b) (strays side whole_later) (openers side whole_later)) whole
           ∙ decided.openers_are
           ∙ ap (λ (b : Bracket). entry (side_of b) (e, side_of b) (strays side part_later) (openers side part_later)) (sym part);
-      refused_are = ap (λ (b : Bracket). cons_option (refused_send (record { event = e; before = before; bracket = b })) (refused_of (judged_by bracket_by before later))) whole
+      refused_are = ap (λ (b : Bracket). cons_option (refused_send (record { event = e; before = before; bracket = b })) (refused_of
+          (judged_by bracket_by before later))) whole
           ∙ decided.refused_are
-          ∙ ap (λ (b : Bracket). decided_refused before (undecided_of later) ++ cons_option (refused_send (record { event = e; before = None; bracket = b })) (refused_of (judged_part later))) (sym part);
+          ∙ ap (λ (b : Bracket). decided_refused before (undecided_of later) ++ cons_option (refused_send (record { event = e; before = None; bracket = b }))
+          (refused_of (judged_part later))) (sym part);
     }
 
 -- an event that is no error reply
@@ -141,7 +145,8 @@ cons_option_in_front : {X : Type 0} (o : Option X) (xs : List X) → cons_option
 cons_option_in_front None xs = refl
 cons_option_in_front (Some x) xs = refl
 
-no_opener : (before : Option Mark) (p : Event × Side) (tail : List (Event × Side)) → entry (side_of (error_reply before)) p (strays side tail) (openers side tail) ≡ openers side tail
+no_opener : (before : Option Mark) (p : Event × Side) (tail : List (Event × Side))
+    → entry (side_of (error_reply before)) p (strays side tail) (openers side tail) ≡ openers side tail
 no_opener None p tail = refl
 no_opener (Some Oneway) p tail = refl
 no_opener (Some SentReply) p tail = refl
@@ -180,7 +185,8 @@ error_step before e later mark error =
           ∙ sym (cons_option_in_front (refused_send whole_found) (refused_of (judged_by bracket_in_part (Some mark) later)))
           ∙ ap (λ o. cons_option (refused_send whole_found) [] ++ cons_option o (refused_of (judged_by bracket_in_part (Some mark) later)))
           (sym (not_sent part_found (ap is_refused part)))
-          ∙ ap (λ u. decided_refused before u ++ cons_option (refused_send part_found) (refused_of (judged_by bracket_in_part (Some mark) later))) (sym undecided);
+          ∙ ap (λ u. decided_refused before u ++ cons_option (refused_send part_found) (refused_of (judged_by bracket_in_part (Some mark) later)))
+          (sym undecided);
     }
 
 true_or_false : (b : Bool) → (b ≡ true) ⊎ (b ≡ false)
@@ -194,7 +200,8 @@ mark_step before e later mark =
       | inr sure ↦ sure_step before e later mark sure
     ]
 
-decided_step : (before : Option Mark) (e : Event) (later : List Event) (mark : Option Mark) → event_mark e ≡ mark → Decided before later → DecidedAt before e later mark
+decided_step : (before : Option Mark) (e : Event) (later : List Event) (mark : Option Mark) → event_mark e ≡ mark → Decided before later
+    → DecidedAt before e later mark
 decided_step before e later None is decided = no_mark_step before e later is decided
 decided_step before e later (Some mark) is decided = mark_step before e later mark
 

@@ -1,20 +1,20 @@
 -- What a value holds, read from the end of the events' sides; and that these are the lists of the definitions.
-use Rattle.std.proofs.Common.{◌≡◌, ℕ, zero, suc, ◌+◌, ◌<◌, ◌≤◌, ◌⊎◌, Option, Some, None, refl, sym, ap, subst, ◌∙◌, inl, inr, arith}
-use Rattle.std.proofs.Common.{List, [], ◌∷◌, ◌++◌, map, drop, length, length-append}
-use Rattle.std.specs.List.{enumerate_from, fold}
-use Rattle.std.specs.Prelude.{slice_get, option_map, AllPairs}
+use Rattle.std.proofs.Common.{◌≡◌, ℕ, ◌+◌, ◌<◌, ◌⊎◌, Option, Some, None, refl, sym, ap, subst, ◌∙◌, inl, inr}
+use Rattle.std.proofs.Common.{List, [], ◌∷◌, map}
+use Rattle.std.specs.List.{enumerate_from}
+use Rattle.std.specs.Prelude.{slice_get, option_map}
 use Rattle.event_core.specs.declared.event.Event.{Event}
 use Rattle.event_core.specs.declared.marks.Bracket.{Bracket}
 use Rattle.event_core.specs.declared.marks.Mark.{Mark}
 use Rattle.call_stacks.specs.declared.opener.Opener.{Opener}
 use Rattle.call_stacks.specs.declared.verdict.Verdict.{Verdict}
 use Rattle.call_stacks.specs.declared.verdict.Verdict.TheVariants.{Open}
-use Rattle.call_stacks.specs.Calls.{Judged, judged_by, event_place, opener_place, mark_behind, sides_of, verdict_by, IsOpener, IsStrayEvent, IsLeftOpen, HasVerdict, closed_by, left_open}
-use Rattle.call_stacks.specs.Matching.{Side, opener, closer, neither, Match, IsStray, ListsInOrder}
+use Rattle.call_stacks.specs.Calls.{Judged, judged_by, event_place, opener_place, mark_behind, sides_of, verdict_by, IsOpener, IsStrayEvent, HasVerdict, closed_by, left_open}
+use Rattle.call_stacks.specs.Matching.{Side, opener, closer, neither, ListsInOrder}
 use Rattle.call_stacks.specs.Verdicts.{side_of}
 use Rattle.call_stacks.proofs.Judging.{pair, side}
-use Rattle.call_stacks.proofs.Members.{In, in-map, map-in, in_get, get_in, Rises, rises-map, map-rises, listed}
-use Rattle.call_stacks.proofs.Model.{strays, openers, put, entry, first_of, both, strays-map, openers-map, some_is_some}
+use Rattle.call_stacks.proofs.Members.{In, in-map, map-in, Rises, rises-map, map-rises, listed}
+use Rattle.call_stacks.proofs.Model.{strays, openers, put, entry, both, strays-map, openers-map}
 use Rattle.call_stacks.proofs.Numbered.{numbered, match_of, has_match, unmatched_of, has_unmatched, stray_in, has_stray, side_there}
 
 -- ---- an opener with its closer, as it is found
@@ -144,7 +144,8 @@ opener_listed : (items : List Judged) (call : Opener) (x : ℕ × Judged) (h : O
     → found (item_pair x, option_map item_pair h) ≡ call → In call (openers_found items)
 opener_listed items call x h there same =
     let listed_there = map-in (both item_pair) (openers_numbered items) (x, h) there in
-    let in_pairs = subst (λ (l : List ((Event × Side) × Option (Event × Side))). In (item_pair x, option_map item_pair h) l) (sym (openers_are items)) listed_there in
+    let in_pairs = subst (λ (l : List ((Event × Side) × Option (Event × Side))). In (item_pair x, option_map item_pair h) l) (sym
+    (openers_are items)) listed_there in
     subst (λ (o : Opener). In o (openers_found items)) same
     (map-in found (openers side (map pair items)) (item_pair x, option_map item_pair h) in_pairs)
 
@@ -181,7 +182,8 @@ strays_in side [] y there = absurd there
 strays_in side (x ∷ items) y there =
     elim (put_in (side x) x y (strays side items) there) [ inl here ↦ inl here | inr later ↦ inr (strays_in side items y later) ]
 
-put_rises : {A : Type 0} (rank : A → ℕ) (s : Side) (x : A) (later : List A) → ((y : A) → In y later → rank x < rank y) → Rises rank later → Rises rank (put s x later)
+put_rises : {A : Type 0} (rank : A → ℕ) (s : Side) (x : A) (later : List A) → ((y : A) → In y later → rank x < rank y) → Rises rank later
+    → Rises rank (put s x later)
 put_rises rank opener x [] below rises = tt
 put_rises rank opener x (z ∷ later) below rises = rises.1
 put_rises rank closer x later below rises = (below, rises)
@@ -192,7 +194,8 @@ strays_rise side rank [] rises = tt
 strays_rise side rank (x ∷ items) rises =
     put_rises rank (side x) x (strays side items) (λ y there. rises.0 y (strays_in side items y there)) (strays_rise side rank items rises.1)
 
-entry_in : {A : Type 0} (s : Side) (x : A) (later : List A) (rest : List (A × Option A)) (p : A × Option A) → In p (entry s x later rest) → (p.0 ≡ x) ⊎ In p rest
+entry_in : {A : Type 0} (s : Side) (x : A) (later : List A) (rest : List (A × Option A)) (p : A × Option A) → In p (entry s x later rest)
+    → (p.0 ≡ x) ⊎ In p rest
 entry_in opener x later rest p (inl here) = inl (ap (λ q. q.0) here)
 entry_in opener x later rest p (inr there) = inr there
 entry_in closer x later rest p there = inr there
@@ -203,7 +206,8 @@ openers_in side [] p there = absurd there
 openers_in side (x ∷ items) p there =
     elim (entry_in (side x) x (strays side items) (openers side items) p there) [ inl here ↦ inl here | inr later ↦ inr (openers_in side items p later) ]
 
-entry_rises : {A : Type 0} (rank : A → ℕ) (s : Side) (x : A) (later : List A) (rest : List (A × Option A)) → ((p : A × Option A) → In p rest → rank x < rank p.0)
+entry_rises : {A : Type 0} (rank : A → ℕ) (s : Side) (x : A) (later : List A) (rest : List (A × Option A)) → ((p : A × Option A) → In p rest
+    → rank x < rank p.0)
     → Rises (λ p. rank p.0) rest → Rises (λ p. rank p.0) (entry s x later rest)
 entry_rises rank opener x later rest below rises = (below, rises)
 entry_rises rank closer x later rest below rises = rises
@@ -212,9 +216,11 @@ entry_rises rank neither x later rest below rises = rises
 pub openers_rise : {A : Type 0} (side : A → Side) (rank : A → ℕ) (items : List A) → Rises rank items → Rises (λ p. rank p.0) (openers side items)
 openers_rise side rank [] rises = tt
 openers_rise side rank (x ∷ items) rises =
-    entry_rises rank (side x) x (strays side items) (openers side items) (λ p there. rises.0 p.0 (openers_in side items p there)) (openers_rise side rank items rises.1)
+    entry_rises rank (side x) x (strays side items) (openers side items) (λ p there. rises.0 p.0 (openers_in side items p there))
+    (openers_rise side rank items rises.1)
 
-judged_events : (judge : Option Mark → Event → Bracket) (before : Option Mark) (events : List Event) → map (λ (j : Judged). j.event) (judged_by judge before events) ≡ events
+judged_events : (judge : Option Mark → Event → Bracket) (before : Option Mark) (events : List Event)
+    → map (λ (j : Judged). j.event) (judged_by judge before events) ≡ events
 judged_events judge before [] = refl
 judged_events judge before (e ∷ events) = ap (λ rest. e ∷ rest) (judged_events judge (mark_behind before e) events)
 
@@ -232,7 +238,8 @@ pub strays_listed : (judge : Option Mark → Event → Bracket) (before : Option
 strays_listed judge before events rises =
     let items = judged_by judge before events in
     listed event_place (IsStrayEvent items) (strays_found items)
-    (rises-map event_of event_place (strays side (map pair items)) (strays_rise side (λ p. event_place p.0) (map pair items) (pairs_rise judge before events rises)))
+    (rises-map event_of event_place (strays side (map pair items)) (strays_rise side (λ p. event_place p.0) (map pair items)
+    (pairs_rise judge before events rises)))
     (stray_sound items) (stray_whole items)
 
 pub openers_listed : (judge : Option Mark → Event → Bracket) (before : Option Mark) (events : List Event) → Rises event_place events
@@ -240,5 +247,6 @@ pub openers_listed : (judge : Option Mark → Event → Bracket) (before : Optio
 openers_listed judge before events rises =
     let items = judged_by judge before events in
     listed opener_place (IsOpener items) (openers_found items)
-    (rises-map found opener_place (openers side (map pair items)) (openers_rise side (λ p. event_place p.0) (map pair items) (pairs_rise judge before events rises)))
+    (rises-map found opener_place (openers side (map pair items)) (openers_rise side (λ p. event_place p.0) (map pair items)
+    (pairs_rise judge before events rises)))
     (opener_sound items) (opener_whole items)

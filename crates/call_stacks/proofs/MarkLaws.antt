@@ -1,16 +1,15 @@
 -- What an event is by the marks before it: only of an error reply does that depend on them.
-use Rattle.std.proofs.Common.{◌≡◌, ℕ, Bool, true, false, cond, Option, Some, None, refl, sym, ap, ◌∙◌, List}
+use Rattle.std.proofs.Common.{◌≡◌, ℕ, Bool, true, false, cond, Option, Some, None, refl, List}
 use Rattle.binder_code.specs.declared.record_kind.Kind.{Kind}
 use Rattle.binder_code.specs.declared.record_kind.Kind.TheVariants.{BcTransaction, BcReply, BcTransactionSg, BcReplySg, BrTransaction, BrTransactionSecCtx, BrReply, BrDeadReply, BrTransactionComplete, BrFailedReply, BrFrozenReply, BrOnewaySpamSuspect, BrTransactionPendingFrozen}
 use Rattle.std.specs.Option.{is_some}
-use Rattle.event_core.specs.Brackets.{mark_of, bracket_of, opener, error_reply, received_mark}
+use Rattle.event_core.specs.Brackets.{mark_of, bracket_of, error_reply}
 use Rattle.event_core.specs.Oneway.{has_one_way}
-use Rattle.event_core.specs.declared.event.Event.{Event}
 use Rattle.event_core.specs.declared.marks.Bracket.{Bracket}
-use Rattle.event_core.specs.declared.marks.Bracket.TheVariants.{Call, Served, Reply, Sent, Error, Refused, Neither}
+use Rattle.event_core.specs.declared.marks.Bracket.TheVariants.{Call, Served, Neither}
 use Rattle.event_core.specs.declared.marks.Mark.{Mark}
-use Rattle.event_core.specs.declared.marks.Mark.TheVariants.{Oneway, SentReply, Other}
-use Rattle.call_stacks.specs.Calls.{event_mark, bracket_by, bracket_in_part, is_error, is_refused}
+use Rattle.event_core.specs.declared.marks.Mark.TheVariants.{Other}
+use Rattle.call_stacks.specs.Calls.{is_error, is_refused}
 
 received : (b : Bool) → cond b None (Some Other) ≡ None → cond b Neither Served ≡ Neither
 received true e = refl

@@ -1,8 +1,7 @@
 -- What a list has, and lists in rising order.
-use Rattle.std.proofs.Common.{◌≡◌, ◌↔◌, ℕ, zero, suc, ◌+◌, ◌<◌, ◌≤◌, ◌⊎◌, Option, Some, None, refl, sym, ap, subst, ◌∙◌, inl, inr, ⊎_elim, arith}
-use Rattle.std.proofs.Common.{List, [], ◌∷◌, ◌++◌, map, drop, length, get_or}
+use Rattle.std.proofs.Common.{◌≡◌, ℕ, zero, suc, ◌<◌, ◌⊎◌, Some, refl, sym, ap, subst, ◌∙◌, inl, inr, arith}
+use Rattle.std.proofs.Common.{List, [], ◌∷◌, map, length, get_or}
 use Rattle.std.specs.Prelude.{Contains, AllPairs, slice_get}
-use Rattle.std.proofs.lemmas.Bool.{cases_lt}
 use Rattle.call_stacks.specs.Matching.{ListsInOrder}
 
 abbrev pub In : {X : Type 0} → X → List X → Type 0

@@ -1,7 +1,7 @@
 -- The unmatched closers of a list and its openers with their closers, from the end of the list: an opener takes the
 -- first closer behind it that is unmatched there.
-use Rattle.std.proofs.Common.{◌≡◌, ℕ, zero, suc, ◌+◌, Option, Some, None, refl, sym, ap, subst, ◌∙◌, arith}
-use Rattle.std.proofs.Common.{List, [], ◌∷◌, ◌++◌, map, drop, length}
+use Rattle.std.proofs.Common.{◌≡◌, Option, Some, None, refl, sym, ap, subst, ◌∙◌}
+use Rattle.std.proofs.Common.{List, [], ◌∷◌, ◌++◌, map, drop}
 use Rattle.std.specs.Prelude.{slice_get, option_map}
 use Rattle.call_stacks.specs.Matching.{Side, opener, closer, neither}
 

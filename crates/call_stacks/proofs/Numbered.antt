@@ -1,12 +1,12 @@
 -- Lists read from their end, with each item's position: what matches there is what matches by counting.
-use Rattle.std.proofs.Common.{◌≡◌, ℕ, zero, suc, ◌+◌, ◌<◌, ◌≤◌, ◌⊎◌, Option, Some, None, refl, sym, ap, subst, ◌∙◌, inl, inr, ⊎_elim, arith}
-use Rattle.std.proofs.Common.{List, [], ◌∷◌, ◌++◌, map, drop, length}
+use Rattle.std.proofs.Common.{◌≡◌, ℕ, zero, suc, ◌+◌, Option, Some, None, refl, sym, ap, subst, ◌∙◌, inl, inr, arith}
+use Rattle.std.proofs.Common.{List, [], ◌∷◌, map, drop}
 use Rattle.std.specs.List.{enumerate_from}
 use Rattle.std.specs.Prelude.{slice_get}
 use Rattle.std.proofs.lemmas.List.{drop-map}
 use Rattle.call_stacks.specs.Matching.{Side, opener, closer, neither, Match, IsStray, IsUnmatched}
-use Rattle.call_stacks.proofs.Counting.{Reaches, reaches_later, reaches_back, reaches_here, opens, closes, match_reaches, reaches_match, reached_strays, all_closes, all_opens, get-drop}
-use Rattle.call_stacks.proofs.Members.{In, in_get, get_in}
+use Rattle.call_stacks.proofs.Counting.{Reaches, reaches_later, reaches_back, reaches_here, opens, closes, match_reaches, reaches_match, reached_strays, get-drop}
+use Rattle.call_stacks.proofs.Members.{In, in_get}
 use Rattle.call_stacks.proofs.Model.{strays, openers, put, entry, first_of, some_is_some}
 
 -- a numbered item's side
@@ -178,7 +178,8 @@ opener_behind side n b items x h found =
       closed_by = found.closed_by;
     }
 
-opener_step : {B : Type 0} (side : B → Side) (n : ℕ) (b : B) (items : List B) (rest : List ((ℕ × B) × Option (ℕ × B))) (s : Side) (x : ℕ × B) (h : Option (ℕ × B))
+opener_step : {B : Type 0} (side : B
+    → Side) (n : ℕ) (b : B) (items : List B) (rest : List ((ℕ × B) × Option (ℕ × B))) (s : Side) (x : ℕ × B) (h : Option (ℕ × B))
     → side b ≡ s → (In (x, h) rest → OpenerAt side (n + 1) items x h)
     → In (x, h) (entry s (n, b) (strays (numbered side) (enumerate_from (n + 1) items)) rest) → OpenerAt side n (b ∷ items) x h
 opener_step side n b items rest opener x h e ih (inl here) =

@@ -11,6 +11,7 @@ whole events front back index first second =
     ap (λ l. l ++ back) first ∙ ap (λ l. take index events ++ l) second ∙ take-append-drop index events
 
 -- and both are placed
-pub parts_placed : (events front back : List Event) → front ++ back ≡ events → IsPlaced event_place events → IsPlaced event_place front × IsPlaced event_place back
+pub parts_placed : (events front back : List Event) → front ++ back ≡ events → IsPlaced event_place events
+    → IsPlaced event_place front × IsPlaced event_place back
 parts_placed events front back same placed =
     placed_parts event_place front back (subst (λ (l : List Event). IsPlaced event_place l) (sym same) placed)

@@ -1,6 +1,6 @@
 -- What a value holds, step by step.
-use Rattle.std.proofs.Common.{◌≡◌, ℕ, zero, suc, ◌+◌, ◌<◌, ◌≤◌, ◌⊎◌, Bool, true, false, cond, Option, Some, None, refl, sym, ap, subst, ◌∙◌, inl, inr, arith}
-use Rattle.std.proofs.Common.{List, [], ◌∷◌, ◌++◌, map, drop, length, set, append_assoc, length-append}
+use Rattle.std.proofs.Common.{◌≡◌, ℕ, zero, suc, ◌+◌, ◌<◌, Option, Some, None, refl, sym, ap, subst, ◌∙◌, arith}
+use Rattle.std.proofs.Common.{List, [], ◌∷◌, ◌++◌, map, drop, length, append_assoc}
 use Rattle.std.proofs.lemmas.List.{append-nil, map-append, length-map, length-set, set_at}
 use Rattle.std.proofs.lemmas.List.Elements.{All-pop}
 use Rattle.std.specs.Prelude.{slice_get, slice_set, All}
@@ -8,13 +8,11 @@ use Rattle.event_core.specs.declared.event.Event.{Event}
 use Rattle.event_core.specs.declared.marks.Bracket.{Bracket}
 use Rattle.event_core.specs.declared.marks.Bracket.TheVariants.{Call, Served, Reply, Sent, Error, Refused, Neither}
 use Rattle.call_stacks.specs.declared.opener.Opener.{Opener}
-use Rattle.call_stacks.specs.Calls.{IsLeftOpen}
-use Rattle.call_stacks.specs.Content.{Content, left_open, closed_with, begun, refused_too, Closes, closes_last, closes_none, ClosesAll, Enters, appended}
-use Rattle.call_stacks.specs.Matching.{Side, opener, closer, neither, ListsInOrder}
+use Rattle.call_stacks.specs.Content.{Content, left_open, closed_with, begun, refused_too, Closes, closes_last, closes_none, ClosesAll, Enters}
+use Rattle.call_stacks.specs.Matching.{Side, opener, closer, neither}
 use Rattle.call_stacks.specs.Verdicts.{side_of}
-use Rattle.call_stacks.proofs.Judging.{pair, side}
-use Rattle.call_stacks.proofs.Lists.{found, closer_found, event_of}
-use Rattle.call_stacks.proofs.Members.{In, in_get, get_in, Rises, listed}
+use Rattle.call_stacks.proofs.Judging.{side}
+use Rattle.call_stacks.proofs.Lists.{found, event_of}
 use Rattle.call_stacks.proofs.Model as model
 use Rattle.call_stacks.proofs.Model.{strays, openers, strays-append, openers-append, AllClosed, AllClosers, first_is, nil_is_nil}
 
@@ -72,7 +70,8 @@ push_is_nil : {X : Type 0} (xs : List X) (x : X) → xs ++ x ∷ [] ≡ [] → �
 push_is_nil [] x e = nil_is_nil x [] (sym e)
 push_is_nil (y ∷ xs) x e = nil_is_nil y (xs ++ x ∷ []) (sym e)
 
-last_open : {A : Type 0} (n : ℕ) (items : List (A × Option A)) (front : List ℕ) (index : ℕ) → unmatched_at n items ≡ front ++ index ∷ [] → LastOpen n items front index
+last_open : {A : Type 0} (n : ℕ) (items : List (A × Option A)) (front : List ℕ) (index : ℕ) → unmatched_at n items ≡ front ++ index ∷ []
+    → LastOpen n items front index
 last_open n [] front index e = absurd (push_is_nil front index (sym e))
 last_open n ((x, Some c) ∷ later) front index e =
     let rest = last_open (n + 1) later front index e in
@@ -154,7 +153,8 @@ begun_models old pairs event models =
     let more : openers side (pairs ++ (event, opener) ∷ []) ≡ openers side pairs ++ ((event, opener), None) ∷ []
     = push_openers pairs (event, opener) refl in
     let count : length old.openers ≡ 0 + length (openers side pairs)
-    = ap length models.openers_are ∙ length-map (openers side pairs) found ∙ (let n : length (openers side pairs) ≡ 0 + length (openers side pairs) = omega arith in n) in
+    = ap length models.openers_are ∙ length-map (openers side pairs) found
+    ∙ (let n : length (openers side pairs) ≡ 0 + length (openers side pairs) = omega arith in n) in
     record {
       openers_are = ap (λ t. t ++ left_open event ∷ []) models.openers_are
           ∙ sym (map-append found (openers side pairs) (((event, opener), None) ∷ []))
@@ -173,7 +173,8 @@ at_split [] behind x y (suc n) e there = absurd (omega arith)
 at_split (b ∷ before) behind x y zero e there = absurd (omega arith)
 at_split (b ∷ before) behind x y (suc n) e there = at_split before behind x y n (omega arith) there
 
-pub closes_models : (old new : Content) (pairs : List (Event × Side)) (event : Event) → Models old pairs → Closes old event new → Models new (pairs ++ (event, closer) ∷ [])
+pub closes_models : (old new : Content) (pairs : List (Event × Side)) (event : Event) → Models old pairs → Closes old event new
+    → Models new (pairs ++ (event, closer) ∷ [])
 closes_models old new pairs event models (closes_none none is) =
     let all = all_closed 0 (openers side pairs) (sym models.unmatched_are ∙ none) in
     let step = model.closes_none side pairs (event, closer) refl all in

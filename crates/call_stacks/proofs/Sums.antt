@@ -1,33 +1,29 @@
 -- What a value holds where it sums a list of events.
-use Rattle.std.proofs.Common.{◌≡◌, ℕ, zero, suc, ◌+◌, ◌<◌, ◌≤◌, ◌⊎◌, Bool, true, false, cond, Option, Some, None, refl, sym, ap, subst, ◌∙◌, inl, inr, arith}
-use Rattle.std.proofs.Common.{List, [], ◌∷◌, ◌++◌, map, drop, length, append_assoc, length-append}
-use Rattle.std.proofs.lemmas.List.{append-nil, map-append, length-map}
+use Rattle.std.proofs.Common.{◌≡◌, ℕ, zero, suc, ◌+◌, ◌≤◌, Bool, true, false, cond, Option, Some, None, refl, sym, ap, subst, ◌∙◌, inl, inr, arith}
+use Rattle.std.proofs.Common.{List, [], ◌∷◌, ◌++◌, map}
+use Rattle.std.proofs.lemmas.List.{append-nil, map-append}
 use Rattle.std.proofs.lemmas.List.Elements.{filter_map-append}
 use Rattle.std.proofs.lemmas.List.Folds.{find-append}
 use Rattle.std.proofs.lemmas.List.Sums.{fold-append}
 use Rattle.std.specs.List.{fold, find, cons_option}
-use Rattle.std.specs.Option.{option_or, option_to_list, option_and_then, is_some}
-use Rattle.std.specs.Prelude.{slice_get, All}
-use Rattle.event_core.specs.Brackets.{error_reply}
+use Rattle.std.specs.Option.{option_or, option_and_then, is_some}
 use Rattle.event_core.specs.declared.event.Event.{Event}
 use Rattle.event_core.specs.declared.marks.Bracket.{Bracket}
 use Rattle.event_core.specs.declared.marks.Bracket.TheVariants.{Call, Served, Reply, Sent, Error, Refused, Neither}
 use Rattle.event_core.specs.declared.marks.Mark.{Mark}
-use Rattle.event_core.specs.declared.marks.Mark.TheVariants.{Oneway, SentReply, Other}
 use Rattle.summary_law.specs.Fits.{IsPlaced}
-use Rattle.call_stacks.specs.declared.findings.CallFindings.{CallFindings}
 use Rattle.call_stacks.specs.declared.opener.Opener.{Opener}
 use Rattle.call_stacks.specs.declared.thread_calls.ThreadCalls.{ThreadCalls}
-use Rattle.call_stacks.specs.Calls.{Judged, judged_by, judged, judged_part, event_place, opener_place, event_mark, bracket_by, bracket_in_part, mark_behind, last_mark, is_error, is_refused, if_error_reply, undecided_of, refused_of, refused_send, IsOpener, IsStrayEvent, IsLeftOpen, ThreadCallsSum, AreFindings, GivesFindings}
-use Rattle.call_stacks.specs.Content.{Content, content_of, Closes, closes_last, closes_none, ClosesAll, Enters, appended, refused_too}
-use Rattle.call_stacks.specs.Matching.{Side, opener, closer, neither, ListsInOrder}
+use Rattle.call_stacks.specs.Calls.{Judged, judged_by, judged, judged_part, event_place, opener_place, event_mark, bracket_by, bracket_in_part, mark_behind, last_mark, is_error, is_refused, if_error_reply, undecided_of, refused_of, refused_send, IsOpener, IsStrayEvent, IsLeftOpen, ThreadCallsSum}
+use Rattle.call_stacks.specs.Content.{Content, content_of, Closes, closes_last, closes_none, Enters}
+use Rattle.call_stacks.specs.Matching.{Side, ListsInOrder}
 use Rattle.call_stacks.specs.Verdicts.{side_of}
-use Rattle.call_stacks.proofs.MarkLaws.{no_mark, same_bracket, error_bracket, none_refused, error_marks}
-use Rattle.call_stacks.proofs.Judging.{pair, side, paired, judged-append, same_judging, decided, not_sent}
-use Rattle.call_stacks.proofs.Lists.{found, closer_found, event_of, openers_found, strays_found, strays_listed, openers_listed}
-use Rattle.call_stacks.proofs.Members.{In, in-map, in_get, get_in, Rises, rises_from_pairs, listed, only_list}
-use Rattle.call_stacks.proofs.Model.{same_some, some_is_some, strays, openers, put, entry, strays-append, openers-append, strays-strays, AllClosers, strays_closers, strays_of_closers, openers_of_closers}
-use Rattle.call_stacks.proofs.Steps.{unmatched_at, unmatched-append, unmatched_shift, Models, models_same, passes_models, enters_models, closes_all_models, as_closers}
+use Rattle.call_stacks.proofs.MarkLaws.{error_marks}
+use Rattle.call_stacks.proofs.Judging.{pair, side, paired, judged-append, not_sent}
+use Rattle.call_stacks.proofs.Lists.{found, openers_found, strays_found, strays_listed, openers_listed}
+use Rattle.call_stacks.proofs.Members.{In, Rises, rises_from_pairs, listed, only_list}
+use Rattle.call_stacks.proofs.Model.{same_some, some_is_some, openers}
+use Rattle.call_stacks.proofs.Steps.{unmatched_at, Models, models_same, passes_models, enters_models}
 
 -- what a value holds where it sums these events
 pub record Holds (content : Content) (events : List Event) : Type 0 where
@@ -69,7 +65,8 @@ unmatched_sound n ((x, Some c) ∷ later) index there =
     let number = rest.number in
     record { position = suc rest.position; number = omega arith; left_open = rest.left_open }
 
-unmatched_whole : (n : ℕ) (items : List ((Event × Side) × Option (Event × Side))) (position : ℕ) → IsLeftOpen (map found items) position → In (n + position) (unmatched_at n items)
+unmatched_whole : (n : ℕ) (items : List ((Event × Side) × Option (Event × Side))) (position : ℕ) → IsLeftOpen (map found items) position
+    → In (n + position) (unmatched_at n items)
 unmatched_whole n [] position is = absurd (some_is_some is.0 (sym is.1))
 unmatched_whole n ((x, None) ∷ later) zero is = inl (omega arith)
 unmatched_whole n ((x, Some c) ∷ later) zero is =
@@ -127,11 +124,13 @@ sums calls events holds =
       placed = holds.placed;
       last = holds.last;
       undecided = holds.undecided;
-      openers = subst (λ (l : List Opener). ListsInOrder opener_place (IsOpener (judged_part events)) l) (sym models.openers_are) (openers_listed bracket_in_part None events rises);
+      openers = subst (λ (l : List Opener). ListsInOrder opener_place (IsOpener (judged_part events)) l) (sym models.openers_are)
+          (openers_listed bracket_in_part None events rises);
       unmatched = subst (λ (l : List Opener). ListsInOrder (λ index. index) (IsLeftOpen l) calls.unmatched.items) (sym models.openers_are)
           (subst (λ (l : List ℕ). ListsInOrder (λ index. index) (IsLeftOpen (map found (openers side pairs))) l) (sym models.unmatched_are)
           (unmatched_listed (openers side pairs)));
-      strays = subst (λ (l : List Event). ListsInOrder event_place (IsStrayEvent (judged_part events)) l) (sym models.strays_are) (strays_listed bracket_in_part None events rises);
+      strays = subst (λ (l : List Event). ListsInOrder event_place (IsStrayEvent (judged_part events)) l) (sym models.strays_are)
+          (strays_listed bracket_in_part None events rises);
       refused = holds.refused;
     }
 
@@ -159,7 +158,8 @@ no_mark_found (x ∷ events) e =
 mark_found : (mark : Mark) (events : List Event) → last_mark events ≡ Some mark → (x : Event) × (find marked events ≡ Some x)
 mark_found mark [] e = absurd (some_is_some mark (sym e))
 mark_found mark (x ∷ events) e =
-    elim (event_mark x) as (λ o. fold mark_behind (option_or o None) events ≡ Some mark → (y : Event) × (cond (is_some o) (Some x) (find marked events) ≡ Some y)) [
+    elim (event_mark x) as (λ o. fold mark_behind (option_or o None) events ≡ Some mark
+    → (y : Event) × (cond (is_some o) (Some x) (find marked events) ≡ Some y)) [
       | None ↦ mark_found mark events
       | Some first ↦ λ found. (x, refl)
     ] e
@@ -177,7 +177,8 @@ undecided_later first second e =
 pub no_mark_undecided : (events : List Event) → last_mark events ≡ None → undecided_of events ≡ None
 no_mark_undecided events e = ap (option_and_then if_error_reply) (no_mark_found events e)
 
-stays_same : (mark : Mark) (events : List Event) (before : Option Mark) → fold mark_behind (Some mark) events ≡ option_or (fold mark_behind (Some mark) events) before
+stays_same : (mark : Mark) (events : List Event) (before : Option Mark)
+    → fold mark_behind (Some mark) events ≡ option_or (fold mark_behind (Some mark) events) before
 stays_same mark [] before = refl
 stays_same mark (x ∷ events) before =
     elim (event_mark x) as (λ o. fold mark_behind (option_or o (Some mark)) events ≡ option_or (fold mark_behind (option_or o (Some mark)) events) before) [
@@ -198,10 +199,12 @@ fold_mark before (x ∷ events) =
 pub paired-append : (judge : Option Mark → Event → Bracket) (before : Option Mark) (first second : List Event)
     → paired judge before (first ++ second) ≡ paired judge before first ++ paired judge (fold mark_behind before first) second
 paired-append judge before first second =
-    ap (map pair) (judged-append judge before first second) ∙ map-append pair (judged_by judge before first) (judged_by judge (fold mark_behind before first) second)
+    ap (map pair) (judged-append judge before first second)
+    ∙ map-append pair (judged_by judge before first) (judged_by judge (fold mark_behind before first) second)
 
 pub refused-append : (judge : Option Mark → Event → Bracket) (before : Option Mark) (first second : List Event)
-    → refused_of (judged_by judge before (first ++ second)) ≡ refused_of (judged_by judge before first) ++ refused_of (judged_by judge (fold mark_behind before first) second)
+    → refused_of (judged_by judge before (first ++ second)) ≡ refused_of (judged_by judge before first) ++ refused_of (judged_by judge
+    (fold mark_behind before first) second)
 refused-append judge before first second =
     ap refused_of (judged-append judge before first second)
     ∙ filter_map-append refused_send (judged_by judge before first) (judged_by judge (fold mark_behind before first) second)

@@ -49,8 +49,7 @@ pub record ListsInOrder {X : Type 0} (rank : X → ℕ) (Is : X → Type 0) (thi
   pub exact : (x : X) → Contains things x ↔ Is x
 
 -- A match of a list followed by another, by the unmatched openers of the first and the unmatched closers of the second:
--- one of the first list, one of the second, or an unmatched opener with the unmatched closer that stands as far from the
--- front as the opener from the end.
+-- one of the first list, one of the second, or the k-th of those openers from the end with the k-th of those closers.
 pub data IsJoinedMatch (first second : List Side) (unmatched strays : List ℕ) (i j : ℕ) : Type 0 where
   in_first : Match first i j → IsJoinedMatch first second unmatched strays i j
   in_second : (m n : ℕ) → Match second m n → i ≡ length first + m → j ≡ length first + n

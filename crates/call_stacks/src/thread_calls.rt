@@ -3,7 +3,8 @@
 ghost use Rattle.std.specs.Prelude.{◌≡◌, ◌+◌, ◌<◌, ◌^◌, length, All, IfOk, OnOk};
 ghost use Rattle.summary_law.specs.Fits.{IsPlaced, placed_parts};
 ghost use Rattle.call_stacks.specs.Calls.{event_place, ThreadCallsSum, GivesFindings};
-ghost use Rattle.call_stacks.specs.Content.{content_of, begun, refused_too, Enters, Closes, ClosesAll, appended};
+ghost use Rattle.call_stacks.specs.Content.{content_of, begun, refused_too, appended};
+ghost use Rattle.call_stacks.specs.Content.{Enters, Closes, ClosesAll};
 
 use crate::findings::{CallFindings, RefusedSend};
 use crate::opener::Opener;

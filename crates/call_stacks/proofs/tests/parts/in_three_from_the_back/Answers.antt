@@ -1,10 +1,9 @@
-use Rattle.std.proofs.Common.{◌≡◌, List, ◌++◌, sym, subst}
+use Rattle.std.proofs.Common.{List, sym, subst}
 use Rattle.std.proofs.lemmas.Result.{IfOk-weaker}
 use Rattle.event_core.specs.declared.event.Event.{Event}
 use Rattle.summary_law.specs.Fits.{IsPlaced}
 use Rattle.summary_law.specs.Summary.{Joins}
 use Rattle.call_stacks.specs.Calls.{event_place, ThreadCallsSum}
-use Rattle.call_stacks.specs.declared.thread_calls.ThreadCalls.{ThreadCalls}
 use Rattle.call_stacks.proofs.PartLaws.{whole, parts_placed}
 use Rattle.call_stacks.proofs.tests.parts.in_three_from_the_back.Goals as goal
 

@@ -1,8 +1,8 @@
-use Rattle.std.proofs.Common.{◌≡◌, ◌<◌, ◌++◌, ◌∷◌, [], List, ap, length, Some, refl, rules}
+use Rattle.std.proofs.Common.{◌<◌, ap, length, Some}
 use Rattle.std.proofs.lemmas.List.Elements.{All-pop}
 use Rattle.std.specs.Prelude.{slice_set}
 use Rattle.call_stacks.specs.declared.opener.Opener.{Opener}
-use Rattle.call_stacks.specs.Content.{Content, content_of, closes_last, closed_with}
+use Rattle.call_stacks.specs.Content.{content_of, closes_last}
 use Rattle.call_stacks.proofs.Members.{get_read}
 use Rattle.call_stacks.proofs.thread_calls.ThreadCalls.close.Goals as goal
 

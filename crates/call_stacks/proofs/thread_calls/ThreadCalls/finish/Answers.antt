@@ -1,6 +1,5 @@
-use Rattle.std.proofs.Common.{◌≡◌, ◌++◌, List, refl, ap, sym, ◌∙◌, rules}
+use Rattle.std.proofs.Common.{◌≡◌, ◌++◌, refl, ap, sym, ◌∙◌}
 use Rattle.std.specs.Option.{option_to_list}
-use Rattle.event_core.specs.declared.event.Event.{Event}
 use Rattle.call_stacks.proofs.Joins.{finished}
 use Rattle.call_stacks.proofs.Sums.{holds}
 use Rattle.call_stacks.proofs.thread_calls.ThreadCalls.finish.Goals as goal

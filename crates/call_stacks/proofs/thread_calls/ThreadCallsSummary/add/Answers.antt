@@ -1,11 +1,11 @@
-use Rattle.std.proofs.Common.{◌≡◌, ◌<◌, ◌++◌, ◌∷◌, [], List, Bool, true, false, Option, Some, None, refl, ap, sym, ◌∙◌}
+use Rattle.std.proofs.Common.{◌≡◌, ◌++◌, ◌∷◌, [], true, false, Option, Some, None, refl, ap, sym, ◌∙◌}
 use Rattle.std.specs.Option.{is_some, option_or}
 use Rattle.event_core.specs.contracts.marks.Bracket.{the_type}
 use Rattle.event_core.specs.declared.marks.Bracket.{Bracket}
 use Rattle.event_core.specs.declared.marks.Bracket.TheVariants.{Call, Served, Reply, Sent, Error, Refused, Neither}
 use Rattle.event_core.specs.declared.marks.Mark.{Mark}
 use Rattle.call_stacks.specs.declared.thread_calls.ThreadCalls.{ThreadCalls}
-use Rattle.call_stacks.specs.Calls.{bracket_in_part, bracket_by, is_error, mark_behind, event_mark}
+use Rattle.call_stacks.specs.Calls.{bracket_in_part, bracket_by, is_error, event_mark}
 use Rattle.call_stacks.specs.Content.{Content, content_of}
 use Rattle.call_stacks.proofs.Joins.{within}
 use Rattle.call_stacks.proofs.Judging.{paired}

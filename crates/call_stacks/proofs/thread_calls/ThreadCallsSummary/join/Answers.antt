@@ -1,7 +1,6 @@
-use Rattle.std.proofs.Common.{◌≡◌, ℕ, ◌+◌, ◌<◌, ◌≤◌, ◌^◌, ◌++◌, ◌∷◌, [], List, length, All, Option, Some, None, refl, ap, sym, subst, inl, inr, ◌∙◌, arith}
+use Rattle.std.proofs.Common.{◌≡◌, ℕ, ◌+◌, ◌<◌, ◌^◌, ◌++◌, List, length, All, Some, None, ap, sym, subst, inl, inr, ◌∙◌, arith}
 use Rattle.std.specs.Option.{option_to_list, option_or}
 use Rattle.event_core.specs.declared.event.Event.{Event}
-use Rattle.event_core.specs.declared.marks.Mark.{Mark}
 use Rattle.call_stacks.specs.declared.thread_calls.ThreadCalls.{ThreadCalls}
 use Rattle.summary_law.specs.Fits.{IsPlaced}
 use Rattle.summary_law.specs.Summary.{Adds}
@@ -9,7 +8,7 @@ use Rattle.call_stacks.specs.Calls.{bracket_in_part, undecided_of, event_place, 
 use Rattle.call_stacks.specs.Content.{Content, content_of, ClosesAll, appended}
 use Rattle.call_stacks.proofs.Joins.{within, together, closed_models, joined, placed_undecided, front_holds, AddsUndecided}
 use Rattle.call_stacks.proofs.Judging.{paired}
-use Rattle.call_stacks.proofs.Sums.{Holds, holds, sums}
+use Rattle.call_stacks.proofs.Sums.{holds, sums}
 use Rattle.call_stacks.proofs.thread_calls.ThreadCallsSummary.join.Goals as goal
 use Rattle.call_stacks.proofs.thread_calls.ThreadCallsSummary.join.Goals.{in-Some+in_ok-add, in_default}
 
