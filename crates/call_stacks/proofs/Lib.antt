@@ -1,0 +1,12 @@
+pub mod Model
+pub mod Members
+pub mod Counting
+pub mod Numbered
+pub mod MarkLaws
+pub mod Judging
+pub mod Lists
+pub mod Steps
+pub mod Sums
+pub mod Joins
+pub mod JoinedMatch
+pub mod PartLaws

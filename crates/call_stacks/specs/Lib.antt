@@ -1,0 +1,4 @@
+pub mod Matching
+pub mod Verdicts
+pub mod Calls
+pub mod Content

@@ -1,0 +1,18 @@
+//! Laws of the definitions, as contracts of functions that do nothing.
+
+ghost use Rattle.std.specs.Prelude.{◌≡◌, ℕ, List};
+ghost use Rattle.call_stacks.specs.Matching.{Side, Match, JoinedMatches};
+
+/// An opener matches at most one closer, and a closer at most one opener.
+pub fn one_match()
+    ensures one_closer { (sides : List Side) (i j k : ℕ) →
+        Match sides i j → Match sides i k → j ≡ k }
+    ensures one_opener { (sides : List Side) (i j k : ℕ) →
+        Match sides i k → Match sides j k → i ≡ j }
+{}
+
+/// The matches of a list followed by another: those of the first, those of the second, and the
+/// unmatched openers of the first, from its end, with the unmatched closers of the second.
+pub fn joined_match()
+    ensures { (first second : List Side) → JoinedMatches first second }
+{}

@@ -1,0 +1,44 @@
+//! What becomes of a call.
+
+ghost use Rattle.std.specs.Prelude.{◌≡◌};
+ghost use Rattle.call_stacks.specs.Verdicts.{verdict_of};
+
+use event_core::Bracket;
+
+/// What becomes of a call that a thread makes, or of one that it gets to serve.
+#[derive(Clone, Copy, Debug, PartialEq, Eq)]
+pub enum Verdict {
+    /// The thread got a reply to the call that it made.
+    Answered,
+    /// The thread got an error in place of a reply.
+    Failed,
+    /// The thread sent a reply to the call that it served.
+    Replied,
+    /// What closes it is not an answer to it: a reply sent where one was to come, or a reply or
+    /// an error got where one was to be sent.
+    Crossed,
+    /// Nothing closes it.
+    Open,
+}
+
+/// The verdict of an opener by the closer that matches it.
+pub(crate) fn verdict_between(opener: Bracket, closer: Bracket) -> Verdict
+    ensures { result ≡ verdict_of opener closer }
+{
+    match opener {
+        Bracket::Call => verdict_of_call(closer),
+        Bracket::Served if closer == Bracket::Sent => Verdict::Replied,
+        _ => Verdict::Crossed,
+    }
+}
+
+/// The verdict of a call that the thread made.
+fn verdict_of_call(closer: Bracket) -> Verdict
+    ensures { result ≡ verdict_of Bracket.Call closer }
+{
+    match closer {
+        Bracket::Reply => Verdict::Answered,
+        Bracket::Error => Verdict::Failed,
+        _ => Verdict::Crossed,
+    }
+}
