@@ -70,7 +70,8 @@ impl<'c> Findings<'c> {
 
     /// The numbers and the rows of the sections.
     pub fn sections(&self) -> &Sections
-        ensures { result.now ≡ self.now.sections }
+        ensures value { result.now ≡ self.now.sections }
+        ensures told { AreOfFrames self.now.frames self.now.sections }
     {
         &self.sections
     }
