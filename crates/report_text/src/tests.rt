@@ -2,7 +2,7 @@
 
 use crate::codes::{self, CodeRows};
 use crate::shown::push_rows;
-use crate::{fault_text, objects, rows, text};
+use crate::{Row, fault_text, objects, rows, text};
 use audit_join::{CodeRow, SortCounts, audit_one};
 use capture_frame::{Fault, FaultKind};
 use object_view::Cause;
@@ -204,13 +204,14 @@ const REPORT: &str = "BINDER AUDIT 1\n\
 #[test]
 fn reports_a_capture(rt: HostRuntime) -> Result<(), Fail> {
     let found = audit_one(&rt, rt.alloc(), CAPTURE)?;
-    let report = text(&rt, rt.alloc(), &found)?;
-    assert_eq!(rt; report.as_str(), REPORT);
-    let mut joined = String::new(rt.alloc());
-    for row in &rows(&rt, rt.alloc(), &found)? {
-        joined.push_str(row.as_str())?;
-        joined.push_str("\n")?;
-    }
-    assert_eq!(rt; joined.as_str(), REPORT);
+    check_lines(&rt, rows(&rt, rt.alloc(), &found)?.as_slice());
+    assert_eq!(rt; text(&rt, rt.alloc(), &found)?.as_str(), REPORT);
     Ok(())
+}
+
+fn check_lines<R: Abort>(rt: &R, rows: &[Row]) {
+    assert_eq!(rt; rows.len(), 10);
+    for (row, line) in rows.iter().zip(REPORT.lines()) {
+        assert_eq!(rt; row.as_str(), line);
+    }
 }
