@@ -1,25 +1,25 @@
 -- How many events frames have, and how large their lists of offsets are.
-use Rattle.std.proofs.Common.{◌≡◌, ℕ, ◌+◌, ◌*◌, ◌<◌, ◌≤◌, ◌^◌, inl, inr, List, [], ◌∷◌, ◌++◌, length, map, All, Option, Some, None, refl, sym, ap, subst, ◌∙◌, length-append, arith}
+use Rattle.std.proofs.Common.{◌≡◌, ℕ, ◌+◌, ◌*◌, ◌<◌, ◌≤◌, ◌^◌, inl, inr, List, [], ◌∷◌, length, map, All, Option, Some, None, refl, sym, ap, subst, ◌∙◌, length-append, arith}
 use Rattle.std.specs.Prelude.{find}
-use Rattle.std.specs.List.{flat_map, sum_by}
+use Rattle.std.specs.List.{sum_by}
 use Rattle.std.specs.Option.{option_map, option_map_or}
 use Rattle.std.proofs.lemmas.Bool.{cases_eq}
 use Rattle.std.proofs.lemmas.List.{length-map}
 use Rattle.std.proofs.lemmas.List.Concat.{flat_map-cons}
 use Rattle.std.proofs.lemmas.List.Sums.{sum_by-append}
-use Rattle.std.proofs.lemmas.List.Elements.{All-append, All-cons, All-head, All-nil, All-tail}
+use Rattle.std.proofs.lemmas.List.Elements.{All-append, All-cons, All-nil}
 use Rattle.capture_frame.specs.declared.fault.FaultKind.{FaultKind}
 use Rattle.capture_frame.specs.declared.frame.Frame.{Frame}
-use Rattle.capture_frame.specs.Envelope.{FrameText, frame_text, placed_frame, commands_place, attachments_place}
-use Rattle.capture_frame.specs.Units.{Placed, placed_at, placed, Format, AllStand, spelling_of}
+use Rattle.capture_frame.specs.Envelope.{FrameText, placed_frame, commands_place, attachments_place}
+use Rattle.capture_frame.specs.Units.{Placed, placed, Format, AllStand, spelling_of}
 use Rattle.record_view.specs.Records.{RecordText, record_bytes, record_format, HasRecords, protocol_of}
 use Rattle.record_view.proofs.RecordLaws.{length-record_bytes}
 use Rattle.transaction_view.specs.Attachments.{EntryText, entry_bytes, entry_format, HasEntries}
 use Rattle.transaction_view.specs.Grammar.{WholeFrame}
-use Rattle.event_core.specs.Events.{AttachmentText, EventText, attachment_text, belongs_to, attachment_of, event_of, events_of, events_of_whole, placed_records}
+use Rattle.event_core.specs.Events.{AttachmentText, attachment_text, belongs_to, event_of, events_of_whole, placed_records}
 use Rattle.event_core.proofs.EntryPlaces.{find-here, find-other}
 use Rattle.audit_join.specs.Frames.{Show, IsWhole, placed_text, events_of_wholes, AreGoodFrames, span_of}
-use Rattle.audit_join.specs.Ledgers.{AreFewEvents, AreFewFrames, offset_bytes_of}
+use Rattle.audit_join.specs.Ledgers.{AreFewFrames}
 use Rattle.audit_join.proofs.FewLaws.{HasSmall}
 use Rattle.audit_join.proofs.FrameLaws.{shown_first, shown_none}
 

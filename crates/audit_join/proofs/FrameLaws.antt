@@ -1,9 +1,7 @@
 -- Views of frames, and the whole frames that they show.
-use Rattle.std.proofs.Common.{◌≡◌, ℕ, ◌+◌, ◌*◌, ◌<◌, ◌≤◌, ◌^◌, List, [], ◌∷◌, ◌++◌, length, map, take, drop, All, Option, Some, None, refl, sym, ap, ap₂, subst, ◌∙◌, append_assoc, arith}
-use Rattle.std.specs.List.{flat_map, sum_by}
+use Rattle.std.proofs.Common.{◌≡◌, ℕ, ◌+◌, List, [], ◌∷◌, ◌++◌, length, map, take, drop, All, Some, None, refl, sym, ap, ap₂, subst, ◌∙◌, append_assoc, arith}
 use Rattle.std.proofs.lemmas.Grind.{flat_map-append}
 use Rattle.std.proofs.lemmas.List.{append-nil, map-append, take-append-drop}
-use Rattle.std.proofs.lemmas.List.Concat.{flat_map-cons}
 use Rattle.std.proofs.lemmas.List.Elements.{All-append, All-cons, All-head, All-nil, All-tail}
 use Rattle.capture_frame.specs.declared.frame.Frame.{Frame}
 use Rattle.capture_frame.specs.Envelope.{FrameText, frame_text, placed_frame}
@@ -20,7 +18,7 @@ use Rattle.summary_law.specs.Fits.{short_parts}
 use Rattle.audit_join.specs.declared.ledgers.Ledgers.{Ledgers}
 use Rattle.audit_join.specs.Ledgers.{AreFewEvents, AreFewFrames, SumsLedgers, Takes, CanTake}
 use Rattle.audit_join.proofs.FewLaws.{few_parts}
-use Rattle.audit_join.specs.Frames.{Show, IsWhole, placed_text, events_of_wholes, AreGoodFrames, span_of}
+use Rattle.audit_join.specs.Frames.{Show, IsWhole, placed_text, events_of_wholes}
 
 pub events-append : (wholes others : List (Placed WholeFrame)) → events_of_wholes (wholes ++ others) ≡ events_of_wholes wholes ++ events_of_wholes others
 events-append wholes others = flat_map-append events_of_whole wholes others

@@ -10,3 +10,4 @@ pub mod PieceLaws
 pub mod CaptureLaws
 pub mod LookupLaws
 pub mod RecordsThere
+pub mod PlacesRise

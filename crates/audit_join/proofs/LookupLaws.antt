@@ -1,16 +1,16 @@
 -- Frames that stand apart, and which of them holds a place.
-use Rattle.std.proofs.Common.{◌≡◌, ◌≢◌, ℕ, ◌+◌, ◌-◌, ◌<◌, ◌≤◌, ◌⊎◌, inl, inr, List, [], ◌∷◌, length, map, take, All, Option, Some, None, refl, sym, ap, subst, ◌∙◌, arith}
+use Rattle.std.proofs.Common.{◌≡◌, ℕ, ◌+◌, ◌-◌, ◌<◌, ◌≤◌, inl, inr, List, [], ◌∷◌, length, All, Option, Some, None, refl, sym, ap, subst, ◌∙◌, arith}
 use Rattle.std.specs.Prelude.{AllPairs, Contains, IsSome, slice_index_or}
 use Rattle.std.proofs.lemmas.Bool.{cases_eq, cases_lt}
 use Rattle.std.proofs.lemmas.List.{get_or_default}
 use Rattle.std.proofs.lemmas.List.Elements.{All-cons, All-contains, All-nil, All-weaker}
 use Rattle.std.proofs.lemmas.List.Kept.{AllPairs-cons}
 use Rattle.capture_frame.specs.declared.frame.Frame.{Frame}
-use Rattle.capture_frame.specs.Envelope.{FrameText, placed_frame, frame_text, frame_bytes}
+use Rattle.capture_frame.specs.Envelope.{FrameText, frame_text, frame_bytes}
 use Rattle.capture_frame.specs.Units.{Placed, placed, placed_at}
 use Rattle.capture_frame.proofs.FrameLaws.{length-frame_bytes}
 use Rattle.transaction_view.specs.Grammar.{WholeFrame}
-use Rattle.audit_join.specs.Frames.{Show, placed_text, wholes_of, span_of}
+use Rattle.audit_join.specs.Frames.{Show, wholes_of, span_of}
 use Rattle.audit_join.specs.Lookup.{Holds, IsFrameAt, IsSplitAt, StandApart}
 use Rattle.audit_join.proofs.FrameLaws.{shown_first, first_same}
 

@@ -1,16 +1,15 @@
 -- The summary of some frames: those in ledgers, and those that are kept as they are.
-use Rattle.std.proofs.Common.{◌≡◌, ℕ, List, [], ◌∷◌, ◌++◌, Option, Some, None, Box, Global, refl, sym, ap, subst, ◌∙◌, append_assoc, length, arith}
+use Rattle.std.proofs.Common.{◌≡◌, List, [], ◌∷◌, ◌++◌, Option, Some, None, Box, Global, refl, sym, ap, subst, ◌∙◌, append_assoc, length, arith}
 use Rattle.std.proofs.lemmas.List.{append-nil}
 use Rattle.capture_frame.specs.declared.frame.Frame.{Frame}
 use Rattle.capture_frame.specs.Units.{Placed}
 use Rattle.transaction_view.specs.Grammar.{WholeFrame}
-use Rattle.audit_join.specs.declared.findings.Sections.{Sections}
 use Rattle.audit_join.specs.declared.ledgers.Ledgers.{Ledgers}
 use Rattle.audit_join.specs.declared.piece_summary.PieceSummary.{PieceSummary}
 use Rattle.audit_join.specs.Frames.{Show, AreGoodFrames, good_frames_parts}
-use Rattle.audit_join.specs.Ledgers.{SumsLedgers, AreFewFrames, GiveSections}
-use Rattle.audit_join.specs.Summary.{SumsPut, SumsPiece, CanSettle, CanPut, Puts, SumsViews, CanFollow, GiveSectionsOf}
-use Rattle.audit_join.proofs.FrameLaws.{good_shown, shown_both, shown_parts}
+use Rattle.audit_join.specs.Ledgers.{SumsLedgers, AreFewFrames}
+use Rattle.audit_join.specs.Summary.{SumsPut, SumsPiece, CanSettle, CanPut, Puts, SumsViews}
+use Rattle.audit_join.proofs.FrameLaws.{good_shown, shown_parts}
 use Rattle.audit_join.proofs.EventSizes.{few_frames}
 
 -- the kept frames can be put into the ledgers

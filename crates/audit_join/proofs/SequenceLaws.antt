@@ -1,6 +1,5 @@
 -- The sequences of frames, and of frames behind them.
-use Rattle.std.proofs.Common.{◌≡◌, ◌≢◌, ℕ, ◌+◌, ◌-◌, List, [], ◌∷◌, ◌++◌, length, refl, sym, ap, ◌∙◌, length-append, arith}
-use Rattle.std.proofs.lemmas.List.{append-nil}
+use Rattle.std.proofs.Common.{◌≡◌, ◌≢◌, ◌+◌, ◌-◌, List, [], ◌∷◌, ◌++◌, length, refl, sym, ap, ◌∙◌, length-append, arith}
 use Rattle.capture_frame.specs.Units.{Placed}
 use Rattle.transaction_view.specs.Grammar.{WholeFrame}
 use Rattle.audit_join.specs.declared.sequences.Sequences.{Sequences}

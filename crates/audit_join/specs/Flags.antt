@@ -1,6 +1,5 @@
 -- The section `flags`: transactions and replies with flag bits that the header does not name (docs/REPORT.md).
 use Rattle.std.specs.Prelude.{ℕ, ◌==◌, if◌then◌else◌, Bool, true, false, List, filter}
-use Rattle.binder_code.specs.declared.record_kind.Kind.{Kind}
 use Rattle.binder_code.specs.Flags.{unknown_of}
 use Rattle.transaction_view.specs.Transaction.{has_transaction_data, flags}
 use Rattle.event_core.specs.Events.{EventText}

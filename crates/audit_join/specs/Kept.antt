@@ -1,5 +1,5 @@
 -- What the findings keep of what the report says: of a listed event its place, and what its record does not hold.
-use Rattle.std.specs.Prelude.{◌≡◌, List, length, map}
+use Rattle.std.specs.Prelude.{◌≡◌, List, map}
 use Rattle.capture_frame.specs.declared.frame.Frame.{Frame}
 use Rattle.transaction_view.specs.Grammar.{WholeFrame}
 use Rattle.audit_join.specs.declared.objects.BadRow.{BadRow}

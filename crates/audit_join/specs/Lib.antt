@@ -7,4 +7,5 @@ pub mod Kept
 pub mod Ledgers
 pub mod Summary
 pub mod Lookup
+pub mod Laws
 pub mod Audit

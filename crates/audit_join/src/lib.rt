@@ -7,6 +7,7 @@ mod codes;
 mod event_ledgers;
 mod findings;
 mod flags;
+pub mod laws;
 mod ledgers;
 mod limits;
 mod lookup;

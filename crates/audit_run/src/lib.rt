@@ -4,7 +4,6 @@
 
 #[cfg(test)]
 mod devices;
-pub mod laws;
 mod limits;
 #[cfg(test)]
 mod memory_tests;

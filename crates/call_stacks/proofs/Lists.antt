@@ -144,8 +144,8 @@ opener_listed : (items : List Judged) (call : Opener) (x : ℕ × Judged) (h : O
     → found (item_pair x, option_map item_pair h) ≡ call → In call (openers_found items)
 opener_listed items call x h there same =
     let listed_there = map-in (both item_pair) (openers_numbered items) (x, h) there in
-    let in_pairs = subst (λ (l : List ((Event × Side) × Option (Event × Side))). In (item_pair x, option_map item_pair h) l) (sym
-    (openers_are items)) listed_there in
+    let in_pairs = subst (λ (l : List ((Event × Side) × Option (Event × Side))). In (item_pair x, option_map item_pair h) l)
+    (sym (openers_are items)) listed_there in
     subst (λ (o : Opener). In o (openers_found items)) same
     (map-in found (openers side (map pair items)) (item_pair x, option_map item_pair h) in_pairs)
 

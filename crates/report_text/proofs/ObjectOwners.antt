@@ -1,5 +1,5 @@
 -- The owners of bad objects are events.
-use Rattle.std.proofs.Common.{◌≡◌, ℕ, ◌<◌, List, [], ◌∷◌, length, get_or, map, Option, Some, None, sym, subst, arith}
+use Rattle.std.proofs.Common.{List, [], ◌∷◌, get_or, Option, Some, None, sym, subst}
 use Rattle.std.specs.Prelude.{All, Contains, IfSome}
 use Rattle.std.specs.List.{filter_map, cons_option}
 use Rattle.std.specs.Option.{option_map}

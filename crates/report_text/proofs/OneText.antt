@@ -4,7 +4,7 @@ use Rattle.std.specs.Prelude.{All, Option}
 use Rattle.capture_frame.specs.declared.fault.Fault.{Fault}
 use Rattle.capture_frame.specs.Units.{Placed}
 use Rattle.capture_frame.proofs.CaptureLaws.{capture_one_reading, capture_one_fault, capture_never_both}
-use Rattle.transaction_view.specs.Grammar.{WholeFrame, IsReadable, HasFirstFault, whole_format}
+use Rattle.transaction_view.specs.Grammar.{WholeFrame, HasFirstFault, whole_format}
 use Rattle.transaction_view.proofs.GrammarLaws.{whole_decided}
 use Rattle.object_view.specs.declared.bad_object.BadObject.{BadObject}
 use Rattle.object_view.specs.declared.sort.Sort.{Sort}
@@ -18,7 +18,7 @@ use Rattle.audit_join.specs.Findings.{FindingsText, AreFindings}
 use Rattle.audit_join.specs.Frames.{wholes_of}
 use Rattle.audit_join.specs.Objects.{Attached, Outcome, IsOutcome, AreOutcomes, BadOwned, AreObjectFindings, count_of, times_of, good_objects, bad_objects}
 use Rattle.report_text.specs.Answers.{IsTextOf, report, malformed, IsLineOn, none, named}
-use Rattle.report_text.specs.Fault.{fault_line, no_fault_line}
+use Rattle.report_text.specs.Fault.{fault_line}
 use Rattle.report_text.specs.Text.{IsReportOn, report_text}
 use Rattle.report_text.proofs.SameRows.{one_list_of_rows}
 

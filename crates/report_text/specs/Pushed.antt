@@ -1,5 +1,5 @@
 -- What is pushed while a report is made.
-use Rattle.std.specs.Prelude.{◌≡◌, ℕ, List, All, Contains}
+use Rattle.std.specs.Prelude.{◌≡◌, ℕ, List, Contains}
 use Rattle.std.specs.List.{AllZip, FoldsTo}
 use Rattle.capture_frame.specs.declared.frame.Frame.{Frame}
 use Rattle.capture_frame.specs.Units.{Placed}

@@ -26,6 +26,7 @@ impl Lines for Vec<Row> {
         (map (λ row. row.bytes) new.items ≡ map (λ row. row.bytes) old.items ++ line ∷ []) };
 
     fn push_line(&mut self, line: &Row) -> Result<(), AllocError> {
+        // A row has no room for more.
         prove!(line.len() <= 256);
         self.push(*line)?;
         Ok(())

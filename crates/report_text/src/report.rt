@@ -16,7 +16,8 @@ use audit_join::Findings;
 use std::alloc::{AllocError, Global};
 use std::thread::Threads;
 
-/// The lines of the report, without their line feeds.
+/// The lines of the report, without their line feeds. Listed records are read again from the capture,
+/// by several threads where there are many.
 pub fn rows<T: Threads + Sync>(
     rt: &T,
     alloc: Global,
@@ -32,7 +33,7 @@ pub fn rows<T: Threads + Sync>(
     Ok(rows)
 }
 
-/// The report, each line with its line feed.
+/// The report, each line with its line feed. Beside the text it holds a bounded number of lines.
 pub fn text<T: Threads + Sync>(
     rt: &T,
     alloc: Global,

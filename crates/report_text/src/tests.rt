@@ -2,8 +2,8 @@
 
 use crate::codes::{self, CodeRows};
 use crate::shown::push_rows;
-use crate::{fault_text, objects};
-use audit_join::{CodeRow, SortCounts};
+use crate::{fault_text, objects, rows, text};
+use audit_join::{CodeRow, SortCounts, audit_one};
 use capture_frame::{Fault, FaultKind};
 use object_view::Cause;
 use std::process::Abort;
@@ -168,5 +168,49 @@ fn pushes_more_rows_than_it_holds(rt: HostRuntime) -> Result<(), Fail> {
         text.as_str()
             .ends_with("  0xffffffff  165535\n  0xffffffff  165536\n")
     );
+    Ok(())
+}
+
+/// A read of thread 101 of process 100 with a transaction at 48 whose one object is misaligned. Two
+/// sequences behind it a write of thread 8 of process 7, with a transaction at 196 whose flags are
+/// 0x82, and an opaque record.
+const CAPTURE: &[u8] = b"BNDRCAP1\x08\0\0\0\0\0\0\0\
+    \x01\0\0\0\0\0\0\0\x64\0\0\0\x65\0\0\0\
+    \x02\0\0\0\x44\0\0\0\x30\0\0\0\0\0\0\0\
+    \x02\x72\x40\x80\0\0\0\0\0\0\0\0\0\0\0\0\0\0\0\0\0\0\0\0\
+    \x01\0\0\0\0\0\0\0\0\0\0\0\x1c\0\0\0\0\0\0\0\
+    \x08\0\0\0\0\0\0\0\0\x90\0\0\0\0\0\0\0\0\0\0\0\0\0\0\
+    \0\0\0\0\x1c\0\0\0\x08\0\0\0\
+    \0\0\x85\x2a\x68\x73\0\0\0\0\0\0\0\0\0\0\0\0\0\0\0\0\0\0\0\0\0\0\
+    \x02\0\0\0\0\0\0\0\
+    \x03\0\0\0\0\0\0\0\x07\0\0\0\x08\0\0\0\
+    \x01\0\0\0\x54\0\0\0\0\0\0\0\0\0\0\0\
+    \0\x63\x40\x40\x01\0\0\0\0\0\0\0\0\0\0\0\0\0\0\0\0\0\0\0\
+    \x82\0\0\0\0\0\0\0\0\0\0\0\0\0\0\0\0\0\0\0\
+    \0\0\0\0\0\0\0\0\0\0\0\0\0\0\0\0\0\0\0\0\0\0\0\0\
+    \x13\x63\x0c\x40\0\0\0\0\0\0\0\0\0\0\0\0";
+
+const REPORT: &str = "BINDER AUDIT 1\n\
+    frames 2 records 3 opaque 1 missing 1\n\
+    codes 3\n\
+    \x20\x200x400c6313 OPAQUE 1\n\
+    \x20\x200x40406300 BC_TRANSACTION 1\n\
+    \x20\x200x80407202 BR_TRANSACTION 1\n\
+    objects binder 0 weak_binder 0 handle 0 weak_handle 0 fd 0 fda 0 ptr 0 bad 1\n\
+    \x20\x2048 100 0 2 Misaligned\n\
+    flags 1\n\
+    \x20\x20196 7 0x00000082\n";
+
+#[test]
+fn reports_a_capture(rt: HostRuntime) -> Result<(), Fail> {
+    let found = audit_one(&rt, rt.alloc(), CAPTURE)?;
+    let report = text(&rt, rt.alloc(), &found)?;
+    assert_eq!(rt; report.as_str(), REPORT);
+    let mut joined = String::new(rt.alloc());
+    for row in &rows(&rt, rt.alloc(), &found)? {
+        joined.push_str(row.as_str())?;
+        joined.push_str("\n")?;
+    }
+    assert_eq!(rt; joined.as_str(), REPORT);
     Ok(())
 }

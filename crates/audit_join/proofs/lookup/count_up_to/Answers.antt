@@ -1,5 +1,5 @@
-use Rattle.std.proofs.Common.{◌≤◌, ◌+◌, ◌-◌, ◌/◌, ap, subst, sym, ◌∙◌, arith}
-use Rattle.audit_join.proofs.LookupLaws.{split_at_start, split_above, split_below, split_done}
+use Rattle.std.proofs.Common.{◌+◌, ◌-◌, ◌/◌, ap, arith}
+use Rattle.audit_join.proofs.LookupLaws.{split_above, split_below}
 use Rattle.audit_join.proofs.lookup.count_up_to.Goals as goal
 
 pub loop-low-preserved-then-frames-middle : goal.loop-low-preserved-then-frames-middle

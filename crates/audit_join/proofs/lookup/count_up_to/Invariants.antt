@@ -1,4 +1,4 @@
-use Rattle.std.proofs.Common.{◌≤◌, ◌-◌}
+use Rattle.std.proofs.Common.{◌-◌}
 use Rattle.audit_join.proofs.LookupLaws.{IsSplitBetween}
 use Rattle.audit_join.proofs.lookup.count_up_to.Given as goal
 

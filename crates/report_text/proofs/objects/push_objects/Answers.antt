@@ -1,8 +1,7 @@
-use Rattle.std.proofs.Common.{◌≡◌, ℕ, List, ◌∷◌, length, refl, sym, ap, ap₂, subst, ◌∙◌}
+use Rattle.std.proofs.Common.{ℕ, List, ◌∷◌, length, refl, sym, ap, ap₂, subst, ◌∙◌}
 use Rattle.std.specs.Prelude.{All}
 use Rattle.std.proofs.lemmas.List.{length-map}
 use Rattle.std.proofs.lemmas.Result.{on_ok_weaker}
-use Rattle.event_core.specs.Events.{EventText}
 use Rattle.audit_join.specs.declared.objects.BadRow.{BadRow}
 use Rattle.audit_join.specs.declared.findings.Sections.{Sections}
 use Rattle.audit_join.specs.Frames.{wholes_of, events_of_wholes}
@@ -42,7 +41,8 @@ returns g c =
       (c.push_line.new.self, c.in_ok-push_line.ensures, rows.2),
       λ wholes said tell.
           let count = ap length (is ∙ tell.keep.bad_objects) ∙ length-map said.bad_objects kept_bad in
-          ap₂ (λ (l : List ℕ) (ls : List (List ℕ)). l ∷ ls) (c.head_line.ensures ∙ ap₂ objects_head (ap (λ (s : Sections). s.objects) c.sections-sections.ensures.value ∙ tell.keep.objects) count)
+          let counts = ap (λ (s : Sections). s.objects) c.sections-sections.ensures.value ∙ tell.keep.objects in
+          ap₂ (λ (l : List ℕ) (ls : List (List ℕ)). l ∷ ls) (c.head_line.ensures ∙ ap₂ objects_head counts count)
           (event_lines object_rows c.args.found.now (λ (row : BadRow) e. objects_row (record { owner = e; bad = row.bad })) objects_row (λ b. refl) rows.0
           (rw is at rows.1) wholes said tell),
     ))

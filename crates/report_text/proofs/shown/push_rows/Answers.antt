@@ -1,5 +1,5 @@
-use Rattle.std.proofs.Common.{◌≡◌, ℕ, List, [], ◌∷◌, ◌++◌, map, refl, sym, ap, ◌∙◌, append_assoc}
-use Rattle.std.specs.List.{AllZip, FoldsTo}
+use Rattle.std.proofs.Common.{◌≡◌, ℕ, List, [], ◌++◌, map, refl, sym, ap, ◌∙◌, append_assoc}
+use Rattle.std.specs.List.{FoldsTo}
 use Rattle.arrayvec.specs.ArrayString.{ArrayString}
 use Rattle.rayon.proofs.ListFacts.{AllZip-append}
 use Rattle.report_text.proofs.Pushes.{FoldsTo-append, AllZip-mapped}

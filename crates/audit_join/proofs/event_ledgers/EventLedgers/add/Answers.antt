@@ -1,5 +1,5 @@
 use Rattle.std.proofs.lemmas.Result.{on_ok_weaker}
-use Rattle.std.proofs.Common.{[], ◌∷◌, ◌++◌, ◌+◌, map, sym, subst, length-append, arith}
+use Rattle.std.proofs.Common.{[], ◌∷◌, ◌++◌, map, sym, subst, length-append, arith}
 use Rattle.std.proofs.lemmas.List.{map-append}
 use Rattle.std.specs.Ordering.{nat_cmp}
 use Rattle.event_core.specs.Reading.{event_text}

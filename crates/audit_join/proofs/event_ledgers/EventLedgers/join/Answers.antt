@@ -1,9 +1,7 @@
-use Rattle.std.proofs.Common.{◌+◌, map, sym, subst, length-append, arith}
+use Rattle.std.proofs.Common.{map, sym, subst, length-append, arith}
 use Rattle.std.proofs.lemmas.List.{map-append}
-use Rattle.std.proofs.lemmas.List.Sums.{sum_by-append}
 use Rattle.std.specs.Ordering.{nat_cmp}
 use Rattle.summary_law.specs.Tally.{TallySums}
-use Rattle.audit_join.specs.Codes.{is_opaque}
 use Rattle.audit_join.specs.Ledgers.{code_item}
 use Rattle.audit_join.proofs.FewLaws.{weighted_parts, opaque-append}
 use Rattle.audit_join.proofs.event_ledgers.EventLedgers.join.Goals as goal

@@ -1,9 +1,9 @@
-use Rattle.std.proofs.Common.{◌≡◌, Some, None, sym, ap, subst, ◌∙◌}
+use Rattle.std.proofs.Common.{sym, ap, subst, ◌∙◌}
 use Rattle.std.proofs.lemmas.List.Elements.{All-contains}
 use Rattle.capture_frame.specs.declared.frame.Frame.{Frame}
-use Rattle.capture_frame.specs.Envelope.{FrameText, frame_text, placed_frame}
+use Rattle.capture_frame.specs.Envelope.{frame_text, placed_frame}
 use Rattle.capture_frame.specs.Units.{placed_at}
-use Rattle.event_core.specs.Events.{EventText, RecordStandsAt, HasRecordAt, bare_event}
+use Rattle.event_core.specs.Events.{RecordStandsAt, HasRecordAt, bare_event}
 use Rattle.audit_join.specs.Frames.{events_of_wholes}
 use Rattle.audit_join.specs.Lookup.{IsFrameAt}
 use Rattle.audit_join.proofs.LookupLaws.{one_held, some_held}

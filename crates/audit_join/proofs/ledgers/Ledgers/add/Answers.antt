@@ -1,6 +1,5 @@
-use Rattle.std.proofs.Common.{◌≡◌, ℕ, List, [], ◌∷◌, ◌++◌, map, refl, sym, ap, subst, ◌∙◌, length-append, arith}
+use Rattle.std.proofs.Common.{[], ◌∷◌, ◌++◌, map, refl, sym, subst, length-append, arith}
 use Rattle.std.proofs.lemmas.List.{append-nil}
-use Rattle.capture_frame.specs.Envelope.{placed_frame}
 use Rattle.event_core.specs.Reading.{event_text}
 use Rattle.event_core.proofs.EventsGiven.{none_yet}
 use Rattle.event_core.proofs.EventPlaces.{step_falls}

@@ -4,7 +4,7 @@ use Rattle.std.proofs.lemmas.List.{take_all}
 use Rattle.capture_frame.specs.declared.frame.Frame.{Frame}
 use Rattle.audit_join.specs.Frames.{Show}
 use Rattle.audit_join.specs.Ledgers.{SumsLedgers, Takes}
-use Rattle.audit_join.proofs.FrameLaws.{shown_none, shown_parts, one_behind, takes_next, takes_first}
+use Rattle.audit_join.proofs.FrameLaws.{shown_none, one_behind, takes_next, takes_first}
 use Rattle.audit_join.proofs.ledgers.Ledgers.add_all.Goals as goal
 
 pub loop-frame-init : goal.loop-frame-init

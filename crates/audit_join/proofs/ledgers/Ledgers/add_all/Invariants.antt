@@ -1,4 +1,4 @@
-use Rattle.std.proofs.Common.{List, ◌++◌, take}
+use Rattle.std.proofs.Common.{take}
 use Rattle.audit_join.specs.Ledgers.{Takes}
 use Rattle.audit_join.proofs.ledgers.Ledgers.add_all.Given as goal
 

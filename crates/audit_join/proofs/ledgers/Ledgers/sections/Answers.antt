@@ -1,5 +1,5 @@
-use Rattle.std.proofs.Common.{refl, sym, ◌∙◌, length}
-use Rattle.audit_join.specs.Findings.{FindingsText, missing_count}
+use Rattle.std.proofs.Common.{refl, ◌∙◌, length}
+use Rattle.audit_join.specs.Findings.{FindingsText}
 use Rattle.audit_join.specs.Flags.{flagged}
 use Rattle.audit_join.specs.Frames.{events_of_wholes}
 use Rattle.audit_join.proofs.ledgers.Ledgers.sections.Goals as goal

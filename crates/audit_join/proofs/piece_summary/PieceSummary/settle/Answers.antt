@@ -1,5 +1,4 @@
-use Rattle.std.proofs.Common.{sym, ap, ◌∙◌, refl, subst}
-use Rattle.audit_join.specs.Summary.{SumsViews}
+use Rattle.std.proofs.Common.{refl}
 use Rattle.audit_join.proofs.PieceLaws.{can_put, all_put, all_in_ledgers}
 use Rattle.audit_join.proofs.piece_summary.PieceSummary.settle.Goals as goal
 

@@ -1,4 +1,4 @@
-use Rattle.std.proofs.Common.{◌++◌, refl, sym, ap, ◌∙◌}
+use Rattle.std.proofs.Common.{◌++◌, refl, ap, ◌∙◌}
 use Rattle.audit_join.proofs.PieceLaws.{more_kept}
 use Rattle.audit_join.proofs.piece_summary.PieceSummary.with_kept.Goals.{then-len-joined+in_ok-settle, else-len-joined}
 use Rattle.audit_join.proofs.piece_summary.PieceSummary.with_kept.Goals as goal

@@ -1,8 +1,5 @@
-use Rattle.std.proofs.Common.{◌++◌, List, sym, refl, subst, append_assoc}
-use Rattle.capture_frame.specs.declared.frame.Frame.{Frame}
-use Rattle.audit_join.specs.Frames.{AreGoodFrames, good_frames_parts}
-use Rattle.audit_join.specs.Ledgers.{SumsLedgers}
-use Rattle.audit_join.specs.Summary.{SumsViews}
+use Rattle.std.proofs.Common.{◌++◌, refl}
+use Rattle.audit_join.specs.Frames.{good_frames_parts}
 use Rattle.audit_join.proofs.PieceLaws.{can_put, all_put, views_joined, can_join_views, put_and_kept}
 use Rattle.audit_join.proofs.piece_summary.PieceSummary.with_ledgers.Goals as goal
 

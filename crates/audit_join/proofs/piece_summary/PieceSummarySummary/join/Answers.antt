@@ -1,4 +1,4 @@
-use Rattle.std.proofs.Common.{◌++◌, List, sym, ap, subst}
+use Rattle.std.proofs.Common.{◌++◌, List, sym, subst}
 use Rattle.std.proofs.lemmas.Result.{IfOk-weaker}
 use Rattle.capture_frame.specs.declared.frame.Frame.{Frame}
 use Rattle.summary_law.specs.Summary.{Joins}
