@@ -1,6 +1,10 @@
 //! Threads that are written out record by record, in one piece and in every two and three parts:
 //! against answers from outside, and against matching pair by pair.
 
+ghost use Rattle.std.specs.Prelude.{◌≤◌, length};
+ghost use Rattle.summary_law.specs.Fits.{IsPlaced};
+ghost use Rattle.call_stacks.specs.Calls.{event_place};
+
 mod captures;
 mod found;
 mod parts;
@@ -297,6 +301,44 @@ const EIGHT: [Record; 8] = [
     Record::Complete,
 ];
 
+/// The calls of the events in three parts, joined from either end.
+fn expect_in_three(
+    rt: &impl Abort,
+    alloc: Global,
+    events: &[Event<'_>],
+    found: Found<'_>,
+    index: usize,
+    next: usize,
+) -> Result<(), Fail>
+    requires placed { IsPlaced event_place events.now }
+    requires order { index ≤ next }
+    requires inside { next ≤ length events.now }
+{
+    let front = in_three_from_the_front(alloc, events, index, next)?;
+    expect_found(rt, events, found, &front.finish()?);
+    let back = in_three_from_the_back(alloc, events, index, next)?;
+    expect_found(rt, events, found, &back.finish()?);
+    Ok(())
+}
+
+/// The calls of the events in two parts, and in three of which the first is the same.
+fn expect_cut(
+    rt: &impl Abort,
+    alloc: Global,
+    events: &[Event<'_>],
+    found: Found<'_>,
+    index: usize,
+) -> Result<(), Fail>
+    requires placed { IsPlaced event_place events.now }
+    requires inside { index ≤ length events.now }
+{
+    expect_found(rt, events, found, &in_two(alloc, events, index)?.finish()?);
+    for next in index..=events.len() {
+        expect_in_three(rt, alloc, events, found, index, next)?;
+    }
+    Ok(())
+}
+
 /// The calls of the events in one piece, and in all pairs and triples of parts.
 fn expect_in_parts(
     rt: &impl Abort,
@@ -308,13 +350,7 @@ fn expect_in_parts(
     let whole: ThreadCalls<'_> = summary_of(alloc, events)?;
     expect_found(rt, events, found, &whole.finish()?);
     for index in 0..=events.len() {
-        expect_found(rt, events, found, &in_two(alloc, events, index)?.finish()?);
-        for next in index..=events.len() {
-            let front = in_three_from_the_front(alloc, events, index, next)?;
-            expect_found(rt, events, found, &front.finish()?);
-            let back = in_three_from_the_back(alloc, events, index, next)?;
-            expect_found(rt, events, found, &back.finish()?);
-        }
+        expect_cut(rt, alloc, events, found, index)?;
     }
     Ok(())
 }
