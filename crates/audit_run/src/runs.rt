@@ -33,7 +33,7 @@ pub enum Written {
 }
 
 /// Reads a capture to its end, and writes its report, or the line that names its first fault. One
-/// thread does all the work, whatever the number of workers and the size of a piece.
+/// thread makes the findings, whatever the number of workers and the size of a piece.
 pub fn run<T: Threads + Sync, R: Read, W: Write>(
     rt: &T,
     alloc: Global,

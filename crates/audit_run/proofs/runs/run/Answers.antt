@@ -1,5 +1,5 @@
 use Rattle.std.proofs.Common.{arith}
-use Rattle.audit_run.specs.Run.{Reports, IsRead}
+use Rattle.audit_run.specs.Run.{Reports}
 use Rattle.report_text.specs.Answers.{IsTextOf}
 use Rattle.audit_run.proofs.RunLaws.{answer_known, answer_read, failure_read}
 use Rattle.audit_run.proofs.runs.run.Goals as goal

@@ -1,5 +1,5 @@
 use Rattle.std.proofs.Common.{arith}
-use Rattle.audit_run.specs.Run.{NamesFirstFault, IsRead}
+use Rattle.audit_run.specs.Run.{NamesFirstFault}
 use Rattle.report_text.specs.Answers.{IsLineOn}
 use Rattle.audit_run.proofs.RunLaws.{answer_known, answer_read, failure_read}
 use Rattle.audit_run.proofs.runs.run_first_fault.Goals as goal
