@@ -11,3 +11,5 @@ pub mod CaptureLaws
 pub mod LookupLaws
 pub mod RecordsThere
 pub mod PlacesRise
+pub mod PartLaws
+pub mod ListedThere

@@ -26,3 +26,6 @@ pub use objects::BadRow;
 pub use piece_summary::PieceSummary;
 pub use rows::Rows;
 pub use sort_counts::SortCounts;
+
+#[cfg(test)]
+mod tests;

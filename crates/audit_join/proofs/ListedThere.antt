@@ -1,0 +1,20 @@
+-- A record begins at each place that the findings list.
+use Rattle.std.proofs.Common.{map, sym, subst, ap, ◌∙◌}
+use Rattle.std.specs.Prelude.{All, Contains}
+use Rattle.std.proofs.lemmas.List.Elements.{All-map, All-filter, All-contains_itself, All-weaker}
+use Rattle.event_core.specs.Events.{EventText}
+use Rattle.audit_join.specs.Flags.{has_unknown_flags, flagged}
+use Rattle.audit_join.specs.Frames.{wholes_of, events_of_wholes}
+use Rattle.audit_join.specs.Kept.{KeptFindings, AreOfFrames}
+use Rattle.audit_join.specs.Lookup.{HasRecordIn}
+use Rattle.audit_join.proofs.RecordsThere.{has_record_in}
+
+-- at those of the section `flags`
+pub flags_there : (found : KeptFindings) → AreOfFrames found.frames found.sections → All (HasRecordIn found.frames) found.sections.flags
+flags_there found (wholes, said, tell) =
+    let events = events_of_wholes (wholes_of wholes) in
+    let listed = All-filter has_unknown_flags (Contains events) events (All-contains_itself events) in
+    subst (All (HasRecordIn found.frames)) (sym (tell.keep.flags ∙ ap (map (λ (e : EventText). e.place)) tell.are.flags))
+    (All-map (HasRecordIn found.frames) (λ (e : EventText). e.place) (flagged events)
+    (All-weaker (Contains events) (λ (e : EventText). HasRecordIn found.frames e.place)
+    (λ e there. has_record_in found.frames (wholes_of wholes) e tell.show there) (flagged events) listed))
