@@ -13,3 +13,4 @@ pub mod RecordsThere
 pub mod PlacesRise
 pub mod PartLaws
 pub mod ListedThere
+pub mod StandLaws

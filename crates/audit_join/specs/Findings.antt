@@ -4,11 +4,22 @@ use Rattle.transaction_view.specs.Grammar.{WholeFrame}
 use Rattle.capture_frame.specs.Units.{Placed}
 use Rattle.event_core.specs.Events.{EventText}
 use Rattle.audit_join.specs.declared.codes.CodeRow.{CodeRow}
+use Rattle.audit_join.specs.declared.handles.ProcessHandle.{ProcessHandle}
+use Rattle.audit_join.specs.declared.nodes.ProcessNode.{ProcessNode}
+use Rattle.audit_join.specs.declared.record_counts.RecordCounts.{RecordCounts}
 use Rattle.audit_join.specs.declared.sort_counts.SortCounts.{SortCounts}
+use Rattle.audit_join.specs.Buffers.{AreLeaked, AreStrayFrees}
+use Rattle.audit_join.specs.Clears.{AreClearFindings}
 use Rattle.audit_join.specs.Codes.{is_opaque, code_words, AreCodeRows}
+use Rattle.audit_join.specs.Deaths.{AreDeathFindings}
 use Rattle.audit_join.specs.Flags.{flagged}
 use Rattle.audit_join.specs.Frames.{events_of_wholes}
+use Rattle.audit_join.specs.Handles.{AreHandleFindings}
+use Rattle.audit_join.specs.Nodes.{AreNodeFindings}
 use Rattle.audit_join.specs.Objects.{BadOwned, attachments_of, AreObjectFindings}
+use Rattle.audit_join.specs.Places.{UnpairedText}
+use Rattle.audit_join.specs.RecordCounts.{AreRecordCounts}
+use Rattle.audit_join.specs.Requests.{AreStandingRequests}
 
 -- the sequence of the last of these frames
 abbrev pub last_sequence : Placed WholeFrame → List (Placed WholeFrame) → ℕ
@@ -27,6 +38,14 @@ pub record FindingsText : Type 0 where
   pub opaque : ℕ
   pub missing : ℕ
   pub codes : List CodeRow
+  pub counts : RecordCounts
+  pub handles : List ProcessHandle
+  pub nodes : List ProcessNode
+  pub leaked : List EventText
+  pub stray_frees : List EventText
+  pub standing : List EventText
+  pub deaths : UnpairedText
+  pub clears : UnpairedText
   pub objects : SortCounts
   pub bad_objects : List BadOwned
   pub flags : List EventText
@@ -38,5 +57,13 @@ pub record AreFindings (wholes : List (Placed WholeFrame)) (said : FindingsText)
   pub opaque : said.opaque ≡ count_by is_opaque (events_of_wholes wholes)
   pub missing : said.missing ≡ missing_count wholes
   pub codes : AreCodeRows (code_words (events_of_wholes wholes)) said.codes
+  pub counts : AreRecordCounts (code_words (events_of_wholes wholes)) said.counts
+  pub handles : AreHandleFindings wholes said.handles
+  pub nodes : AreNodeFindings wholes said.nodes
+  pub leaked : AreLeaked (events_of_wholes wholes) said.leaked
+  pub stray_frees : AreStrayFrees (events_of_wholes wholes) said.stray_frees
+  pub standing : AreStandingRequests (events_of_wholes wholes) said.standing
+  pub deaths : AreDeathFindings (events_of_wholes wholes) said.deaths
+  pub clears : AreClearFindings (events_of_wholes wholes) said.clears
   pub objects : AreObjectFindings (attachments_of (events_of_wholes wholes)) said.objects said.bad_objects
   pub flags : said.flags ≡ flagged (events_of_wholes wholes)

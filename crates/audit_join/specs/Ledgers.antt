@@ -21,6 +21,7 @@ use Rattle.audit_join.specs.Flags.{flagged}
 use Rattle.audit_join.specs.Frames.{Show, events_of_wholes}
 use Rattle.audit_join.specs.Kept.{Keep, kept_bad}
 use Rattle.audit_join.specs.Objects.{BadOwned, AreObjectFindings, attachments_of}
+use Rattle.audit_join.specs.ProcessLedgers.{SumsProcesses}
 
 -- how many bytes of a list of offsets an event has
 abbrev pub offset_bytes_of : EventText → ℕ
@@ -63,6 +64,7 @@ SumsFrames sequences (first ∷ others) =
 pub record SumsLedgers (ledgers : Ledgers) (wholes : List (Placed WholeFrame)) : Type 0 where
   pub sequences : SumsFrames ledgers.sequences wholes
   pub events : SumsEvents ledgers.events (events_of_wholes wholes)
+  pub processes : SumsProcesses ledgers.processes.entries.entries wholes
 
 -- few frames, with few events
 abbrev pub AreFewFrames : List (Placed WholeFrame) → Type 0

@@ -3,10 +3,14 @@
 ghost use Rattle.std.specs.Prelude.{◌≡◌};
 
 use crate::codes::CodeRow;
+use crate::handles::ProcessHandle;
 use crate::lookup::{count_up_to, end_of};
+use crate::nodes::ProcessNode;
 use crate::objects::BadRow;
+use crate::record_counts::RecordCounts;
 use crate::rows::Rows;
 use crate::sort_counts::SortCounts;
+use crate::unpaired::Unpaired;
 use capture_frame::Frame;
 use event_core::{Event, bare_event_at};
 use std::marker::Model;
@@ -22,6 +26,22 @@ pub struct Sections {
     pub missing: u64,
     /// How often each code word stands there, the words rising.
     pub codes: Rows<CodeRow>,
+    /// How many records of some kinds there are.
+    pub counts: RecordCounts,
+    /// The references by handle of each process in the order of first frames, handles rising.
+    pub handles: Rows<ProcessHandle>,
+    /// The references to the nodes of each process in that order, by rising ptr and then cookie.
+    pub nodes: Rows<ProcessNode>,
+    /// The places of the deliveries that are never freed, rising.
+    pub leaked: Rows<u64>,
+    /// The places of the frees of what was not delivered, rising.
+    pub stray_frees: Rows<u64>,
+    /// The places of the requests that still stand, rising.
+    pub standing: Rows<u64>,
+    /// Deaths that nobody acknowledges, and acknowledgements of none.
+    pub deaths: Unpaired,
+    /// Clears that nobody confirms, and confirmations of none.
+    pub clears: Unpaired,
     /// How many good objects of each sort there are.
     pub objects: SortCounts,
     /// The bad objects, in rising place of their records.

@@ -4,20 +4,35 @@ ghost use Rattle.std.specs.Prelude.{◌≡◌, [], ◌∷◌, IfOk, OnOk};
 ghost use Rattle.summary_law.specs.Summary.{CanJoin, Joins};
 ghost use Rattle.audit_join.specs.Ledgers.{SumsLedgers, AreFewFrames, CanTake, Takes, GiveSections};
 
+use crate::buffers::{Leaked, StrayFrees};
+use crate::clears::{StrayConfirmations, Unconfirmed};
 use crate::codes::code_rows;
+use crate::deaths::{StrayAcknowledgements, Unacknowledged};
 use crate::event_ledgers::EventLedgers;
 use crate::findings::Sections;
+use crate::handles::handle_rows;
+use crate::in_order::InOrder;
+use crate::nodes::node_rows;
+use crate::places::places_of;
+use crate::process::Process;
+use crate::process_items::ProcessItems;
+use crate::process_summary::ProcessSummary;
+use crate::record_counts::record_counts;
+use crate::requests::Standing;
 use crate::rows::Rows;
 use crate::sequences::Sequences;
+use crate::unpaired::unpaired_of;
 use capture_frame::Frame;
 use event_core::Events;
 use std::alloc::{AllocError, Global};
+use summary_law::Summary;
 
 /// The sequences of frames, and what their events come to.
 #[derive(Drop)]
 pub(crate) struct Ledgers {
     pub sequences: Sequences,
     pub events: EventLedgers,
+    pub processes: InOrder<Process, ProcessSummary>,
 }
 
 impl Ledgers {
@@ -27,6 +42,7 @@ impl Ledgers {
         Ledgers {
             sequences: Sequences::NONE,
             events: EventLedgers::empty(alloc),
+            processes: InOrder::empty(alloc),
         }
     }
 
@@ -47,9 +63,14 @@ impl Ledgers {
         ensures { OnOk result (Takes self.old (frame.entry ∷ []) self.new) }
     {
         self.sequences = self.sequences.with(frame.sequence);
+        let process = Process {
+            number: frame.process,
+        };
+        self.processes.add((process, ProcessItems::NONE))?;
         let mut events = Events::of(frame);
         while let Some(event) = events.next_event() {
             self.events.add(event)?;
+            self.processes.add((process, ProcessItems::of(event)))?;
         }
         Ok(())
     }
@@ -62,6 +83,7 @@ impl Ledgers {
         Ok(Ledgers {
             sequences: self.sequences.then(later.sequences),
             events: self.events.join(later.events)?,
+            processes: self.processes.join(later.processes)?,
         })
     }
 
@@ -76,11 +98,20 @@ impl Ledgers {
             objects,
             flags,
         } = self.events;
+        let processes = &self.processes;
         Ok(Sections {
             records,
             opaque,
             missing: self.sequences.missing(),
             codes: code_rows(alloc, &codes)?,
+            counts: record_counts(&codes),
+            handles: handle_rows(alloc, processes)?,
+            nodes: node_rows(alloc, processes)?,
+            leaked: Rows::of(places_of::<Leaked>(alloc, processes)?),
+            stray_frees: Rows::of(places_of::<StrayFrees>(alloc, processes)?),
+            standing: Rows::of(places_of::<Standing>(alloc, processes)?),
+            deaths: unpaired_of::<Unacknowledged, StrayAcknowledgements>(alloc, processes)?,
+            clears: unpaired_of::<Unconfirmed, StrayConfirmations>(alloc, processes)?,
             objects: objects.counts,
             bad_objects: Rows::of(objects.bad),
             flags: Rows::of(flags.into_places()),
