@@ -9,3 +9,4 @@ pub mod Summary
 pub mod Lookup
 pub mod Laws
 pub mod Audit
+pub mod InOrder
