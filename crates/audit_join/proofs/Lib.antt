@@ -13,3 +13,5 @@ pub mod RecordsThere
 pub mod PlacesRise
 pub mod PartLaws
 pub mod ListedThere
+mod FirstLaws
+pub mod InOrderLaws

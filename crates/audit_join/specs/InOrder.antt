@@ -1,6 +1,6 @@
 -- The keys of a list of pairs in the order in which they first come, and a map in that order that has, for each key, a
 -- summary of the items that stand under it.
-use Rattle.std.specs.Prelude.{◌≡◌, Bool, List, [], ◌∷◌, filter, map, not}
+use Rattle.std.specs.Prelude.{◌≡◌, Bool, List, [], ◌∷◌, filter, not}
 use Rattle.std.specs.Map.{lookup, keys_of}
 use Rattle.summary_law.specs.ByKey.{items_of, IsPart}
 
@@ -13,5 +13,5 @@ firsts eq (key ∷ keys) = key ∷ filter (λ other. not (eq other key)) (firsts
 -- their first items
 pub record SumsInOrder {K S I : Type 0} (eq : K → K → Bool) (Sums : S → List I → Type 0) (entries : List (K × S))
     (items : List (K × I)) : Type 0 where
-  pub order : keys_of entries ≡ firsts eq (map (λ item. item.0) items)
+  pub order : keys_of entries ≡ firsts eq (keys_of items)
   pub parts : (key : K) → IsPart Sums (lookup (eq key) entries) (items_of eq key items)
