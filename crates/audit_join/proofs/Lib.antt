@@ -14,3 +14,5 @@ pub mod PlacesRise
 pub mod PartLaws
 pub mod ListedThere
 pub mod StandLaws
+mod FirstLaws
+pub mod InOrderLaws
