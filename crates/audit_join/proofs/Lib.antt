@@ -16,3 +16,4 @@ pub mod ListedThere
 pub mod StandLaws
 mod FirstLaws
 pub mod InOrderLaws
+pub mod FedLaws
