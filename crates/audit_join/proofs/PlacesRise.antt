@@ -1,5 +1,5 @@
 -- The events of frames that stand apart rise strictly in place, and so do the rows that are made of them.
-use Rattle.std.proofs.Common.{◌≡◌, ℕ, ◌+◌, ◌<◌, ◌≤◌, List, [], ◌∷◌, length, map, All, Option, Some, None, refl, sym, ap, subst, ◌∙◌, length-append, arith, get_or}
+use Rattle.std.proofs.Common.{◌≡◌, ℕ, ◌+◌, ◌<◌, ◌≤◌, List, [], ◌∷◌, length, map, All, Option, Some, None, sym, ap, subst, ◌∙◌, length-append, arith, get_or}
 use Rattle.std.specs.Prelude.{AllPairs}
 use Rattle.std.specs.List.{flat_map}
 use Rattle.std.specs.List.Sorted.{IsStrictlyIncreasing}
@@ -13,7 +13,7 @@ use Rattle.capture_frame.specs.Units.{AllStand, placed, Placed}
 use Rattle.capture_frame.specs.Envelope.{FrameText, placed_frame, frame_bytes, frame_header_length}
 use Rattle.capture_frame.proofs.FrameLaws.{length-frame_bytes}
 use Rattle.object_view.specs.declared.bad_object.BadObject.{BadObject}
-use Rattle.record_view.specs.Records.{RecordText, record_bytes}
+use Rattle.record_view.specs.Records.{record_bytes}
 use Rattle.record_view.proofs.RecordLaws.{length-record_bytes}
 use Rattle.transaction_view.specs.Grammar.{WholeFrame, whole_format, IsInGrammar}
 use Rattle.event_core.specs.Events.{AttachmentText, EventText, event_of, events_of_whole, placed_records}
@@ -21,8 +21,8 @@ use Rattle.summary_law.specs.Fits.{PlacesRise}
 use Rattle.audit_join.specs.Findings.{FindingsText, AreFindings}
 use Rattle.audit_join.specs.Flags.{has_unknown_flags, flagged}
 use Rattle.audit_join.specs.Frames.{Show, IsWhole, placed_text, wholes_of, events_of_wholes, StandApart}
-use Rattle.audit_join.specs.Objects.{Attached, attached_to, attachments_of, Outcome, BadOwned, bad_of, bad_objects}
-use Rattle.audit_join.proofs.Rising.{Between, pairs_nil, pairs_map, pairs_unmap, pairs_flat, rising_made, rising_kept, increasing_places}
+use Rattle.audit_join.specs.Objects.{Attached, attached_to, Outcome, BadOwned, bad_of, bad_objects}
+use Rattle.audit_join.proofs.Rising.{pairs_nil, pairs_map, pairs_unmap, pairs_flat, rising_made, rising_kept, increasing_places}
 
 -- ---- units, one behind another
 
@@ -95,8 +95,8 @@ whole_rises w =
     let base = w.place + 32 in
     pairs_map (λ (a b : EventText). a.place < b.place) (event_of (placed_text w) w.unit.entries) (placed_records (placed_text w) w.unit.records)
     (λ i j d below within.
-        let apart = placed_apart record_bytes base w.unit.records i j d below within in
-        omega (arith, apart, length-record_bytes (get_or (placed record_bytes base w.unit.records) i d).unit))
+    let apart = placed_apart record_bytes base w.unit.records i j d below within in
+    omega (arith, apart, length-record_bytes (get_or (placed record_bytes base w.unit.records) i d).unit))
 
 -- and stand within it
 StandsWithin : Placed WholeFrame → EventText → Type 0
@@ -109,10 +109,10 @@ whole_within w whole =
     let bytes : length w.unit.frame.commands ≡ length (flat_map record_bytes w.unit.records) = ap length (whole.0.joined ∙ append-nil _) in
     All-map (StandsWithin w) (event_of (placed_text w) w.unit.entries) (placed_records (placed_text w) w.unit.records)
     (λ i d within.
-        let from = placed_from record_bytes base w.unit.records i d within in
-        let to = placed_to record_bytes base w.unit.records i d within in
-        let long = length-record_bytes (get_or (placed record_bytes base w.unit.records) i d).unit in
-        (omega (arith, from), omega (arith, to, long, bytes)))
+    let from = placed_from record_bytes base w.unit.records i d within in
+    let to = placed_to record_bytes base w.unit.records i d within in
+    let long = length-record_bytes (get_or (placed record_bytes base w.unit.records) i d).unit in
+    (omega (arith, from), omega (arith, to, long, bytes)))
 
 -- those of whole frames that stand apart rise
 pub wholes_rise : (wholes : List (Placed WholeFrame)) → All IsWhole wholes → WholesApart wholes
@@ -122,12 +122,12 @@ wholes_rise wholes are apart =
     let Rises : EventText → EventText → Type 0 = λ a b. a.place < b.place in
     pairs_flat Rises events_of_whole wholes (λ i d within. whole_rises (get_or wholes i d))
     (λ i j d below within k e inside l f there.
-        let far = apart i j d below within in
-        let first = whole_within (get_or wholes i d) (are i d (omega (arith, below, within))) k e inside in
-        let second = whole_within (get_or wholes j d) (are j d within) l f there in
-        let to = first.1 in
-        let from = second.0 in
-        omega (arith, far, to, from))
+    let far = apart i j d below within in
+    let first = whole_within (get_or wholes i d) (are i d (omega (arith, below, within))) k e inside in
+    let second = whole_within (get_or wholes j d) (are j d within) l f there in
+    let to = first.1 in
+    let from = second.0 in
+    omega (arith, far, to, from))
 
 -- the frames of a capture are whole
 all_whole : (base : ℕ) (before : Option ℕ) (wholes : List WholeFrame) → AllStand whole_format before wholes
