@@ -18,6 +18,7 @@ use Rattle.transaction_view.specs.Grammar.{WholeFrame, whole_format}
 use Rattle.transaction_view.proofs.CaptureWalk.{StandsBehind, steps_from, whole_of}
 use Rattle.audit_join.specs.Frames.{Show, IsWhole, placed_text, wholes_of, AreGoodFrames, span_of}
 use Rattle.audit_join.proofs.FrameLaws.{none_shown, first_same, shown_parts, shown_first, shown_good}
+use Rattle.audit_join.proofs.LookupLaws.{stand_apart}
 
 spelled : WholeFrame → List ℕ
 spelled whole = frame_bytes whole.frame
@@ -89,7 +90,7 @@ pub shown_are_good : (frames : List Frame) (done : List WholeFrame) → Show fra
     → AreGoodFrames frames
 shown_are_good frames done show short =
     let spans = spans_are frames 16 done show in
-    record { few = omega (arith, spans, short); good = all_good frames (wholes_of done) show }
+    record { few = omega (arith, spans, short); good = all_good frames (wholes_of done) show; apart = stand_apart frames done show }
 
 pub within_limit : (capture : List ℕ) (reading : Reading) (done : List WholeFrame) (stands : StandsBehind capture reading done) → length capture ≤ 2 ^ 30
     → length (spelling_of whole_format done) ≤ 2 ^ 32

@@ -22,6 +22,7 @@ use Rattle.audit_join.specs.Frames.{Show, IsWhole, placed_text, events_of_wholes
 use Rattle.audit_join.specs.Ledgers.{AreFewFrames}
 use Rattle.audit_join.proofs.FewLaws.{HasSmall}
 use Rattle.audit_join.proofs.FrameLaws.{shown_first, shown_none}
+use Rattle.audit_join.proofs.PlacesRise.{shown_apart, wholes_rise}
 
 -- ---- the events of a frame are no more than its command bytes
 
@@ -63,7 +64,7 @@ events_small frame entries (r ∷ records) has =
     (found_small frame.unit (commands_place frame.place) r.place (attachments_place frame.unit frame.place) entries None has.stand)
     (events_small frame entries records has)
 
--- ---- those of views of good frames are few
+-- ---- those of views of good frames are few, and rise
 
 whole_short : (frame : Frame) (w : Placed WholeFrame) → placed_frame frame ≡ placed_text w → IsWhole w
     → length (events_of_whole w) + 32 ≤ span_of frame
@@ -99,4 +100,5 @@ few_frames frames wholes good show =
     let all = all_short frames wholes show in
     let short = all.0 in
     let few = good.few in
-    (omega (arith, short, few), (omega (arith, short, few), all.1))
+    let rise = wholes_rise wholes show.are_whole (shown_apart frames wholes show good.apart) in
+    (omega (arith, short, few), ((omega (arith, short, few), rise), all.1))

@@ -6,7 +6,7 @@ use Rattle.std.proofs.lemmas.List.Sums.{sum_by-append, count_by-le-length}
 use Rattle.audit_join.specs.Codes.{is_opaque}
 use Rattle.std.proofs.lemmas.List.Elements.{All-head}
 use Rattle.event_core.specs.Events.{EventText}
-use Rattle.summary_law.specs.Fits.{short_parts, all_parts}
+use Rattle.summary_law.specs.Fits.{all_parts, placed_parts}
 use Rattle.summary_law.specs.Summary.{FitsInParts}
 use Rattle.summary_law.specs.Tally.{AreWeighted}
 use Rattle.summary_law.proofs.TallyLaws.{weighted_map}
@@ -18,9 +18,9 @@ HasSmall e = offset_bytes_of e < 2 ^ 32
 -- both parts of few events are few
 pub few_parts : FitsInParts AreFewEvents
 few_parts first second few =
-    let short = short_parts first second few.0 in
+    let placed = placed_parts (λ (e : EventText). e.place) first second few.0 in
     let small = all_parts HasSmall first second few.1 in
-    ((short.0, small.0), (short.1, small.1))
+    ((placed.0, small.0), (placed.1, small.1))
 
 -- the list of offsets of the last of them is small
 pub last_small : (events : List EventText) (e : EventText) → AreFewEvents (events ++ e ∷ []) → offset_bytes_of e < 2 ^ 32
@@ -28,7 +28,7 @@ last_small events e few = All-head HasSmall e [] (few_parts events (e ∷ []) fe
 
 -- their code words are few weights
 weighted_codes : (events : List EventText) → AreFewEvents events → AreWeighted (map code_item events)
-weighted_codes events few = weighted_map code_item (λ e. omega arith) events few.0
+weighted_codes events few = weighted_map code_item (λ e. omega arith) events few.0.0
 
 pub weighted_parts : (events more : List EventText) → AreFewEvents (events ++ more) → AreWeighted (map code_item events ++ map code_item more)
 weighted_parts events more few = subst AreWeighted (map-append code_item events more) (weighted_codes (events ++ more) few)

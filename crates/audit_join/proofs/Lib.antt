@@ -10,6 +10,7 @@ pub mod PieceLaws
 pub mod CaptureLaws
 pub mod LookupLaws
 pub mod RecordsThere
+pub mod Rising
 pub mod PlacesRise
 pub mod PartLaws
 pub mod ListedThere

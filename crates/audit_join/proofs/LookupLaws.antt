@@ -1,45 +1,19 @@
 -- Frames that stand apart, and which of them holds a place.
-use Rattle.std.proofs.Common.{◌≡◌, ℕ, ◌+◌, ◌-◌, ◌<◌, ◌≤◌, inl, inr, List, [], ◌∷◌, length, All, Option, Some, None, refl, sym, ap, subst, ◌∙◌, arith}
+use Rattle.std.proofs.Common.{◌≡◌, ℕ, ◌+◌, ◌-◌, ◌<◌, ◌≤◌, inl, inr, List, length, Option, Some, None, refl, sym, ap, ◌∙◌, arith}
 use Rattle.std.specs.Prelude.{AllPairs, Contains, IsSome, slice_index_or}
 use Rattle.std.proofs.lemmas.Bool.{cases_eq, cases_lt}
 use Rattle.std.proofs.lemmas.List.{get_or_default}
-use Rattle.std.proofs.lemmas.List.Elements.{All-cons, All-contains, All-nil, All-weaker}
-use Rattle.std.proofs.lemmas.List.Kept.{AllPairs-cons}
+use Rattle.std.proofs.lemmas.List.Elements.{All-contains}
 use Rattle.capture_frame.specs.declared.frame.Frame.{Frame}
-use Rattle.capture_frame.specs.Envelope.{FrameText, frame_text, frame_bytes}
-use Rattle.capture_frame.specs.Units.{Placed, placed, placed_at}
-use Rattle.capture_frame.proofs.FrameLaws.{length-frame_bytes}
 use Rattle.transaction_view.specs.Grammar.{WholeFrame}
-use Rattle.audit_join.specs.Frames.{Show, wholes_of, span_of}
-use Rattle.audit_join.specs.Lookup.{Holds, IsFrameAt, IsSplitAt, StandApart}
-use Rattle.audit_join.proofs.FrameLaws.{shown_first, first_same}
+use Rattle.audit_join.specs.Frames.{Show, wholes_of, span_of, StandApart}
+use Rattle.audit_join.specs.Lookup.{Holds, IsFrameAt, IsSplitAt}
+use Rattle.audit_join.proofs.PlacesRise.{views_apart, wholes_apart}
 
 -- ---- the frames of a capture stand apart
 
-abbrev BeginsBehind : ℕ → Frame → Type 0
-BeginsBehind base frame = base ≤ frame.place
-
-stand_apart_from : (frames : List Frame) (base : ℕ) (done : List WholeFrame) → Show frames (placed (λ whole. frame_bytes whole.frame) base done)
-    → All (BeginsBehind base) frames × AllPairs StandApart frames
-stand_apart_from [] base done show = (All-nil (BeginsBehind base), λ i j d less within. absurd (omega (arith, within)))
-stand_apart_from (f ∷ frames) base [] show = let wrong = ap length show.stand in absurd (omega (arith, wrong))
-stand_apart_from (f ∷ frames) base (w ∷ done) show =
-    let one = shown_first f frames (placed (λ whole. frame_bytes whole.frame) base (w ∷ done)) show in
-    let behind = base + length (frame_bytes w.frame) in
-    let same = first_same (placed_at base w) one.0 (placed (λ whole. frame_bytes whole.frame) behind done) one.1 one.2 in
-    let others = stand_apart_from frames behind done (subst (Show frames) (sym same.1) one.5) in
-    let place = ap (λ (p : Placed FrameText). p.place) one.3 ∙ ap (λ (x : Placed WholeFrame). x.place) (sym same.0) in
-    let text : frame_text f ≡ w.frame = ap (λ (p : Placed FrameText). p.unit) one.3 ∙ ap (λ (x : Placed WholeFrame). x.unit.frame) (sym same.0) in
-    let commands = ap (λ (t : FrameText). length t.commands) text in
-    let attachments = ap (λ (t : FrameText). length t.attachments) text in
-    let width = length-frame_bytes w.frame in
-    let here : BeginsBehind base f = omega (arith, place) in
-    let further = All-weaker (BeginsBehind behind) (BeginsBehind base) (λ x from. omega (arith, from)) frames others.0 in
-    let apart = All-weaker (BeginsBehind behind) (StandApart f) (λ x from. omega (arith, from, place, commands, attachments, width)) frames others.0 in
-    (All-cons (BeginsBehind base) f frames here further, AllPairs-cons StandApart f frames apart others.1)
-
 pub stand_apart : (frames : List Frame) (done : List WholeFrame) → Show frames (wholes_of done) → AllPairs StandApart frames
-stand_apart frames done show = (stand_apart_from frames 16 done show).1
+stand_apart frames done show = views_apart frames (wholes_of done) show (wholes_apart done)
 
 -- ---- halving
 

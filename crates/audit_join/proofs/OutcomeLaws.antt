@@ -141,7 +141,7 @@ counts_short ledger events sums fits sort =
     let short = outcomes_short outcomes sums.are.are.are_objects (subst (All IsSmall) (sym same) small.0) in
     let long = sym (length-map outcomes (λ (o : Outcome). o.of)) ∙ ap length same in
     let less = small.1 in
-    let all_short = fits.0 in
+    let all_short = fits.0.0 in
     omega (arith, counted, few, short, long, less, all_short)
 
 -- ---- one attachment

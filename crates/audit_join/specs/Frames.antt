@@ -1,5 +1,5 @@
 -- Views of frames, the whole frames that they show, and their events.
-use Rattle.std.specs.Prelude.{◌≡◌, ℕ, ◌+◌, ◌≤◌, ◌^◌, List, length, map, All}
+use Rattle.std.specs.Prelude.{◌≡◌, ℕ, ◌+◌, ◌≤◌, ◌^◌, List, length, map, All, AllPairs}
 use Rattle.std.specs.List.{flat_map, sum_by}
 use Rattle.capture_frame.specs.declared.frame.Frame.{Frame}
 use Rattle.capture_frame.specs.Units.{Placed, placed_at, placed}
@@ -9,7 +9,7 @@ use Rattle.transaction_view.specs.Attachments.{HasEntries}
 use Rattle.transaction_view.specs.FirstFault.{HasGoodContent}
 use Rattle.transaction_view.specs.Grammar.{WholeFrame}
 use Rattle.event_core.specs.Events.{EventText, events_of_whole}
-use Rattle.summary_law.specs.Fits.{all_parts}
+use Rattle.summary_law.specs.Fits.{all_parts, pairs_parts}
 use Rattle.summary_law.specs.Summary.{FitsInParts}
 use Rattle.std.proofs.Common.{arith}
 use Rattle.std.proofs.lemmas.List.Sums.{sum_by-append}
@@ -39,16 +39,23 @@ events_of_wholes wholes = flat_map events_of_whole wholes
 abbrev pub span_of : Frame → ℕ
 span_of frame = frame_header_length + length frame.commands.now + length frame.attachments.now
 
--- frames whose records and entries have no fault, of at most 2^32 bytes
+-- the earlier frame ends before the later one begins
+abbrev pub StandApart : Frame → Frame → Type 0
+StandApart earlier later = earlier.place + span_of earlier ≤ later.place
+
+-- frames whose records and entries have no fault, of at most 2^32 bytes together, each of which ends before every later
+-- one begins
 pub record AreGoodFrames (frames : List Frame) : Type 0 where
   pub few : sum_by span_of frames ≤ 2 ^ 32
   pub good : All (λ frame. HasGoodContent (frame_text frame)) frames
+  pub apart : AllPairs StandApart frames
 
 pub good_frames_parts : FitsInParts AreGoodFrames
 good_frames_parts first second fit =
     let good = all_parts (λ (frame : Frame). HasGoodContent (frame_text frame)) first second fit.good in
+    let apart = pairs_parts StandApart first second fit.apart in
     let parts = sum_by-append span_of first second in
     let few = fit.few in (
-      record { few = omega (arith, parts, few); good = good.0 },
-      record { few = omega (arith, parts, few); good = good.1 },
+      record { few = omega (arith, parts, few); good = good.0; apart = apart.0 },
+      record { few = omega (arith, parts, few); good = good.1; apart = apart.1 },
     )

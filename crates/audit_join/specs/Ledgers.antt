@@ -6,7 +6,7 @@ use Rattle.capture_frame.specs.declared.frame.Frame.{Frame}
 use Rattle.capture_frame.specs.Units.{Placed}
 use Rattle.transaction_view.specs.Grammar.{WholeFrame}
 use Rattle.event_core.specs.Events.{AttachmentText, EventText}
-use Rattle.summary_law.specs.Fits.{IsShort}
+use Rattle.summary_law.specs.Fits.{IsShort, IsPlaced}
 use Rattle.summary_law.specs.Tally.{TallySums}
 use Rattle.audit_join.specs.declared.codes.CodeRow.{CodeRow}
 use Rattle.audit_join.specs.declared.event_ledgers.EventLedgers.{EventLedgers}
@@ -27,9 +27,9 @@ use Rattle.audit_join.specs.ProcessLedgers.{SumsProcesses}
 abbrev pub offset_bytes_of : EventText → ℕ
 offset_bytes_of e = option_map_or (λ (a : AttachmentText). length a.offset_bytes) e.entry 0
 
--- at most 2^32 events, none with a list of offsets of 2^32 bytes
+-- at most 2^32 events, whose places rise, none with a list of offsets of 2^32 bytes
 abbrev pub AreFewEvents : List EventText → Type 0
-AreFewEvents events = IsShort events × All (λ e. offset_bytes_of e < 2 ^ 32) events
+AreFewEvents events = IsPlaced (λ e. e.place) events × All (λ e. offset_bytes_of e < 2 ^ 32) events
 
 -- an event in the tally of code words: its code word, with weight 0
 abbrev pub code_item : EventText → ℕ × ℕ

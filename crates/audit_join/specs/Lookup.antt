@@ -34,7 +34,3 @@ pub record IsSplitAt (frames : List Frame) (place n : ℕ) : Type 0 where
   pub within : n ≤ length frames
   pub before : (i : ℕ) (d : Frame) → i < n → (slice_index_or frames i d).place ≤ place
   pub behind : (i : ℕ) (d : Frame) → n ≤ i → i < length frames → place < (slice_index_or frames i d).place
-
--- each of these frames ends before every later one begins
-abbrev pub StandApart : Frame → Frame → Type 0
-StandApart earlier later = earlier.place + span_of earlier ≤ later.place

@@ -1,8 +1,8 @@
 //! Which of the frames of a capture stand before a place.
 
 ghost use Rattle.std.specs.Prelude.{◌≡◌, ◌+◌, length, AllPairs};
-ghost use Rattle.audit_join.specs.Frames.{span_of};
-ghost use Rattle.audit_join.specs.Lookup.{IsSplitAt, StandApart};
+ghost use Rattle.audit_join.specs.Frames.{span_of, StandApart};
+ghost use Rattle.audit_join.specs.Lookup.{IsSplitAt};
 
 use capture_frame::Frame;
 

@@ -30,22 +30,27 @@ all_parts {I} P first second all =
       λ i d within. subst P (get_or-append-add first second i d) (all (length first + i) d (omega arith)),
     )
 
--- in both parts of a list whose places rise they rise
-pub rising_parts : {I : Type 0} (place : I → ℕ) (first second : List I)
-    → PlacesRise place (first ++ second) → PlacesRise place first × PlacesRise place second
-rising_parts {I} place first second rise =
+-- where each element of a list stands in a relation to every later one, so it does in both parts
+pub pairs_parts : {I : Type 0} (R : I → I → Type 0) (first second : List I)
+    → AllPairs R (first ++ second) → AllPairs R first × AllPairs R second
+pairs_parts {I} R first second all =
     let long = length-append first second in (
       λ i j d below within.
           let inside : i < length first = omega arith in
-          subst (λ (x : I). place (get_or first i d) < place x) (get_or_append_left first second d j within)
-          (subst (λ (x : I). place x < place (get_or (first ++ second) j d))
-          (get_or_append_left first second d i inside) (rise i j d below (omega arith))),
+          subst (λ (y : I). R (get_or first i d) y) (get_or_append_left first second d j within)
+          (subst (λ (x : I). R x (get_or (first ++ second) j d))
+          (get_or_append_left first second d i inside) (all i j d below (omega arith))),
       λ i j d below within.
-          subst (λ (x : I). place (get_or second i d) < place x) (get_or-append-add first second j d)
-          (subst (λ (x : I). place x < place (get_or (first ++ second) (length first + j) d))
+          subst (λ (y : I). R (get_or second i d) y) (get_or-append-add first second j d)
+          (subst (λ (x : I). R x (get_or (first ++ second) (length first + j) d))
           (get_or-append-add first second i d)
-          (rise (length first + i) (length first + j) d (omega arith) (omega arith))),
+          (all (length first + i) (length first + j) d (omega arith) (omega arith))),
     )
+
+-- in both parts of a list whose places rise they rise
+pub rising_parts : {I : Type 0} (place : I → ℕ) (first second : List I)
+    → PlacesRise place (first ++ second) → PlacesRise place first × PlacesRise place second
+rising_parts place first second rise = pairs_parts (λ a b. place a < place b) first second rise
 
 -- where the places of a list rise, those of its first part are below those of its second
 pub rising_apart : {I : Type 0} (place : I → ℕ) (first second : List I)

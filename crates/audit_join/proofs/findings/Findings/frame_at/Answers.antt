@@ -1,7 +1,8 @@
 use Rattle.std.proofs.Common.{◌-◌, List, Some, None, ap, subst, sym, arith}
 use Rattle.std.specs.Prelude.{AllPairs}
 use Rattle.capture_frame.specs.declared.frame.Frame.{Frame}
-use Rattle.audit_join.specs.Lookup.{IsFrameAt, IsSplitAt, StandApart}
+use Rattle.audit_join.specs.Frames.{StandApart}
+use Rattle.audit_join.specs.Lookup.{IsFrameAt, IsSplitAt}
 use Rattle.audit_join.proofs.LookupLaws.{stand_apart, element_is, none_before, none_at, one_at}
 use Rattle.audit_join.proofs.findings.Findings.frame_at.Goals as goal
 

@@ -1,0 +1,101 @@
+-- Lists whose places rise: what is read from them, what is kept of them, and lists that are joined of such.
+use Rattle.std.proofs.Common.{◌≡◌, ℕ, suc, ◌+◌, ◌<◌, Bool, List, [], ◌∷◌, ◌++◌, length, map, Option, Some, sym, subst, get_or, arith}
+use Rattle.std.specs.Prelude.{All, AllPairs, filter}
+use Rattle.std.specs.List.{flat_map, filter_map}
+use Rattle.std.specs.List.Sorted.{IsStrictlyIncreasing}
+use Rattle.std.proofs.lemmas.List.{get_or-map, length-map}
+use Rattle.std.proofs.lemmas.List.Concat.{flat_map-cons}
+use Rattle.std.proofs.lemmas.List.Elements.{All-append, All-head, All-map, All-nil, All-tail}
+use Rattle.std.proofs.lemmas.List.Kept.{AllPairs-cons, AllPairs-filter, AllPairs-from_increasing}
+use Rattle.std.proofs.lemmas.List.Sums.{length-filter, count_by-le-length}
+use Rattle.summary_law.specs.Fits.{IsPlaced, PlacesRise}
+use Rattle.summary_law.proofs.ReadLaws.{length-read, rising_read}
+
+-- ---- each element, and every later one
+
+module _ {X : Type 0} (R : X → X → Type 0) where
+  -- the empty list has none
+  pub pairs_nil : AllPairs R []
+  pairs_nil i j d below within = absurd (omega (arith, within))
+
+  -- the first element, and every later one
+  pub pairs_head : (x : X) (xs : List X) → AllPairs R (x ∷ xs) → All (R x) xs
+  pairs_head x xs all j d within = all 0 (suc j) d (omega arith) (omega (arith, within))
+
+  pub pairs_tail : (x : X) (xs : List X) → AllPairs R (x ∷ xs) → AllPairs R xs
+  pairs_tail x xs all i j d below within = all (suc i) (suc j) d (omega (arith, below)) (omega (arith, within))
+
+  -- lists one behind the other
+  pub pairs_append : (xs ys : List X) → AllPairs R xs → AllPairs R ys → All (λ x. All (R x) ys) xs → AllPairs R (xs ++ ys)
+  pairs_append [] ys first second between = second
+  pairs_append (x ∷ xs) ys first second between =
+      AllPairs-cons R x (xs ++ ys) (All-append (R x) xs ys (pairs_head x xs first) (All-head (λ a. All (R a) ys) x xs between))
+      (pairs_append xs ys (pairs_tail x xs first) second (All-tail (λ a. All (R a) ys) x xs between))
+
+-- what is made of each element
+pub pairs_map : {X Y : Type 0} (R : Y → Y → Type 0) (f : X → Y) (xs : List X) → AllPairs (λ a b. R (f a) (f b)) xs → AllPairs R (map f xs)
+pairs_map R f [] all = pairs_nil R
+pairs_map R f (x ∷ xs) all =
+    AllPairs-cons R (f x) (map f xs) (All-map (R (f x)) f xs (pairs_head (λ a b. R (f a) (f b)) x xs all))
+    (pairs_map R f xs (pairs_tail (λ a b. R (f a) (f b)) x xs all))
+
+pub pairs_unmap : {X Y : Type 0} (R : Y → Y → Type 0) (f : X → Y) (xs : List X) → AllPairs R (map f xs) → AllPairs (λ a b. R (f a) (f b)) xs
+pairs_unmap {X} {Y} R f xs all i j d below within =
+    let long = length-map xs f in
+    let inside : i < length xs = omega (arith, below, within) in
+    subst (λ (y : Y). R (f (get_or xs i d)) y) (get_or-map f xs j d (f d) within)
+    (subst (λ (x : Y). R x (get_or (map f xs) j (f d))) (get_or-map f xs i d (f d) inside) (all i j (f d) below (omega (arith, long, within))))
+
+-- what holds of each list holds in all of them
+pub all_flat : {X Y : Type 0} (P : Y → Type 0) (of : X → List Y) (xs : List X) → All (λ x. All P (of x)) xs → All P (flat_map of xs)
+all_flat P of [] all = All-nil P
+all_flat P of (x ∷ xs) all =
+    subst (All P) (sym (flat_map-cons of x xs))
+    (All-append P (of x) (flat_map of xs) (All-head (λ a. All P (of a)) x xs all) (all_flat P of xs (All-tail (λ a. All P (of a)) x xs all)))
+
+-- each element of the one list, and each of the other
+abbrev pub Between : {X Y : Type 0} → (Y → Y → Type 0) → (X → List Y) → X → X → Type 0
+Between R of a b = All (λ x. All (R x) (of b)) (of a)
+
+-- lists one behind the other, where it holds within each and between each and every later one
+pub pairs_flat : {X Y : Type 0} (R : Y → Y → Type 0) (of : X → List Y) (xs : List X) → All (λ x. AllPairs R (of x)) xs → AllPairs (Between R of) xs
+    → AllPairs R (flat_map of xs)
+pairs_flat R of [] each between = pairs_nil R
+pairs_flat R of (x ∷ xs) each between =
+    let later = pairs_head (Between R of) x xs between in
+    let rest = pairs_flat R of xs (All-tail (λ a. AllPairs R (of a)) x xs each) (pairs_tail (Between R of) x xs between) in
+    subst (AllPairs R) (sym (flat_map-cons of x xs))
+    (pairs_append R (of x) (flat_map of xs) (All-head (λ a. AllPairs R (of a)) x xs each) rest
+    (λ i d inside. all_flat (R (get_or (of x) i d)) of xs (λ k e within. later k e within i d inside)))
+
+-- ---- places
+
+-- of things whose places rise those that are read rise, where each keeps its thing's place
+pub rising_made : {E I : Type 0} (place : E → ℕ) (place_of : I → ℕ) (read : E → Option I) → ((e : E) (i : I) → read e ≡ Some i → place_of i ≡ place e)
+    → (things : List E) → PlacesRise place things → PlacesRise place_of (filter_map read things)
+rising_made place place_of read keeps things rise = rising_read read place_of place keeps things rise
+
+pub placed_made : {E I : Type 0} (place : E → ℕ) (place_of : I → ℕ) (read : E → Option I) → ((e : E) (i : I) → read e ≡ Some i → place_of i ≡ place e)
+    → (things : List E) → IsPlaced place things → IsPlaced place_of (filter_map read things)
+placed_made place place_of read keeps things placed =
+    let fewer = length-read read things in
+    let short = placed.0 in
+    (omega (arith, fewer, short), rising_made place place_of read keeps things placed.1)
+
+-- and so do those that pass a test
+pub rising_kept : {E : Type 0} (place : E → ℕ) (test : E → Bool) (things : List E) → PlacesRise place things → PlacesRise place (filter test things)
+rising_kept place test things rise = AllPairs-filter (λ a b. place a < place b) test things rise
+
+pub placed_kept : {E : Type 0} (place : E → ℕ) (test : E → Bool) (things : List E) → IsPlaced place things → IsPlaced place (filter test things)
+placed_kept place test things placed =
+    let counted = length-filter test things in
+    let fewer = count_by-le-length test things in
+    let short = placed.0 in
+    (omega (arith, counted, fewer, short), rising_kept place test things placed.1)
+
+-- places that rise are a list that increases strictly
+pub increasing_places : {E : Type 0} (place : E → ℕ) (things : List E) → PlacesRise place things → IsStrictlyIncreasing (map place things)
+increasing_places place things rise k within = pairs_map (λ a b. a < b) place things rise k (k + 1) 0 (omega arith) within
+
+pub rising_places : {E : Type 0} (place : E → ℕ) (things : List E) → IsStrictlyIncreasing (map place things) → PlacesRise place things
+rising_places place things increase = pairs_unmap (λ a b. a < b) place things (AllPairs-from_increasing (map place things) increase)
