@@ -41,7 +41,7 @@ fed-append wholes others = flat_map-append fed_by wholes others
 module _ {I : Type 0} (part : ProcessItems → Option I) (read : EventText → Option I) (none : part no_items ≡ None)
     (of : (e : EventText) → part (items_of_event e) ≡ read e) where
   -- what is read from what is fed under a key
-  under_key : Process → List (Process × ProcessItems) → List I
+  abbrev under_key : Process → List (Process × ProcessItems) → List I
   under_key q fed = filter_map part (items_of same_process q fed)
 
   under_key-append : (q : Process) (first second : List (Process × ProcessItems)) → under_key q (first ++ second) ≡ under_key q first ++ under_key q second

@@ -18,3 +18,5 @@ pub mod StandLaws
 mod FirstLaws
 pub mod InOrderLaws
 pub mod FedLaws
+pub mod ItemPlaces
+pub mod FitLaws
