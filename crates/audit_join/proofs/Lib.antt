@@ -15,3 +15,4 @@ pub mod PartLaws
 pub mod ListedThere
 mod FirstLaws
 pub mod InOrderLaws
+pub mod KeyLaws

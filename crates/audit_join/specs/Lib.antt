@@ -10,3 +10,4 @@ pub mod Lookup
 pub mod Laws
 pub mod Audit
 pub mod InOrder
+pub mod Keys
