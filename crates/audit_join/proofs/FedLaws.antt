@@ -1,7 +1,5 @@
 -- What frames feed to the ledgers of their processes: of each process, what is read from its events.
 use Rattle.std.proofs.Common.{◌≡◌, ℕ, Bool, true, false, cond, eqb, List, [], ◌∷◌, ◌++◌, map, All, Option, Some, None, refl, sym, ap, ap₂, subst, ◌∙◌}
-use Rattle.std.specs.Cmp.{IsEquivalence}
-use Rattle.std.proofs.lemmas.Cmp.{nat_eq_equiv}
 use Rattle.std.specs.List.{filter_map, flat_map, cons_option}
 use Rattle.std.specs.Map.{keys_of}
 use Rattle.std.specs.Prelude.{nat_eq}
@@ -22,14 +20,8 @@ use Rattle.audit_join.specs.Frames.{events_of_wholes, placed_text}
 use Rattle.audit_join.specs.InOrder.{firsts}
 use Rattle.audit_join.specs.ProcessItems.{no_items, items_of_event, key_of, fed_by, fed_by_all}
 use Rattle.audit_join.specs.Processes.{same_process, process_of, processes_of, read_of, items_of_process}
-use Rattle.audit_join.proofs.InOrderLaws.{firsts-map, firsts-blocks}
-
-pub process_laws : IsEquivalence same_process
-process_laws = record {
-  refl = λ a. nat_eq_equiv.refl a.number;
-  symm = λ a b. nat_eq_equiv.symm a.number b.number;
-  congr = λ a b c. nat_eq_equiv.congr a.number b.number c.number;
-}
+use Rattle.audit_join.proofs.InOrderLaws.{firsts-map, firsts-fed}
+use Rattle.audit_join.proofs.KeyLaws.{same_process_equiv}
 
 -- what an event feeds
 abbrev pub fed_event : Placed WholeFrame → EventText → Process × ProcessItems
@@ -84,21 +76,10 @@ module _ {I : Type 0} (part : ProcessItems → Option I) (read : EventText → O
       ∙ ap (items_of_process read q.number) (sym (flat_map-cons events_of_whole w wholes))
 
 -- the keys that frames feed, in the order in which they first come, are the frames' processes in that order
-keys_fed : (wholes : List (Placed WholeFrame))
-    → keys_of (fed_by_all wholes) ≡ flat_map (λ w. key_of w ∷ map (λ (e : EventText). key_of w) (events_of_whole w)) wholes
-keys_fed [] = refl
-keys_fed (w ∷ wholes) =
-    let fed = map (fed_event w) (events_of_whole w) in
-    ap keys_of (flat_map-cons fed_by w wholes)
-    ∙ map-append (λ (x : Process × ProcessItems). x.0) (fed_by w) (fed_by_all wholes)
-    ∙ ap₂ (λ (a b : List Process). (key_of w ∷ a) ++ b) (map-map (λ (x : Process × ProcessItems). x.0) (fed_event w) (events_of_whole w)) (keys_fed wholes)
-    ∙ sym (flat_map-cons (λ v. key_of v ∷ map (λ (e : EventText). key_of v) (events_of_whole v)) w wholes)
-
--- their numbers are the processes of the frames
 pub processes_fed : (wholes : List (Placed WholeFrame))
     → map (λ (q : Process). q.number) (firsts same_process (keys_of (fed_by_all wholes))) ≡ processes_of wholes
 processes_fed wholes =
-    ap (λ (keys : List Process). map (λ (q : Process). q.number) (firsts same_process keys)) (keys_fed wholes)
-    ∙ ap (map (λ (q : Process). q.number)) (firsts-blocks process_laws key_of events_of_whole wholes)
+    ap (map (λ (q : Process). q.number))
+    (firsts-fed same_process_equiv key_of (λ w. no_items) events_of_whole (λ w (e : EventText). items_of_event e) wholes)
     ∙ firsts-map same_process nat_eq (λ (q : Process). q.number) (λ a b. refl) (map key_of wholes)
     ∙ ap (firsts nat_eq) (map-map (λ (q : Process). q.number) key_of wholes)

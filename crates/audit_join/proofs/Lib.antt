@@ -20,3 +20,4 @@ pub mod InOrderLaws
 pub mod FedLaws
 pub mod ItemPlaces
 pub mod FitLaws
+pub mod KeyLaws

@@ -1,6 +1,7 @@
 //! What no clause says: the sections of a capture, typed by hand, of however many parts.
 
 mod captures;
+mod in_order;
 mod lookup;
 mod splits;
 
