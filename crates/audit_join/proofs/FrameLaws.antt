@@ -104,7 +104,7 @@ AreFewWith before frame =
     × AreFewEvents (before ++ events_of (placed_frame frame) records entries)
 
 -- the whole frame that a view shows has its records and its entries
-whole_events : (frame : Frame) (w : Placed WholeFrame) → placed_frame frame ≡ placed_text w → IsWhole w
+pub whole_events : (frame : Frame) (w : Placed WholeFrame) → placed_frame frame ≡ placed_text w → IsWhole w
     → (records : List RecordText) × (entries : List EntryText) × HasRecords (frame_text frame) records × HasEntries (frame_text frame) entries
     × (events_of_wholes (w ∷ []) ≡ events_of (placed_frame frame) records entries)
 whole_events frame w same whole =

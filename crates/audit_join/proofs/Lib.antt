@@ -21,3 +21,4 @@ pub mod FedLaws
 pub mod ItemPlaces
 pub mod FitLaws
 pub mod KeyLaws
+pub mod OfProcesses

@@ -82,10 +82,14 @@ Takes old frames new =
     (wholes others : List (Placed WholeFrame)) → SumsLedgers old wholes → Show frames others
     → AreFewFrames (wholes ++ others) → SumsLedgers new (wholes ++ others)
 
--- whatever frames the ledgers are those of, the sections keep their findings
+-- the ledgers are those of some frames that are few
+abbrev pub AreOfFew : Ledgers → Type 0
+AreOfFew ledgers = (wholes : List (Placed WholeFrame)) × SumsLedgers ledgers wholes × AreFewFrames wholes
+
+-- whatever few frames the ledgers are those of, the sections keep their findings
 abbrev pub GiveSections : Ledgers → Sections → Type 0
 GiveSections ledgers sections =
-    (wholes : List (Placed WholeFrame)) → SumsLedgers ledgers wholes
+    (wholes : List (Placed WholeFrame)) → SumsLedgers ledgers wholes → AreFewFrames wholes
     → (said : FindingsText) × AreFindings wholes said × Keep sections said
 
 -- the key and the count of a tally's row

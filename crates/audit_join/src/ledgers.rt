@@ -2,7 +2,7 @@
 
 ghost use Rattle.std.specs.Prelude.{◌≡◌, [], ◌∷◌, IfOk, OnOk};
 ghost use Rattle.summary_law.specs.Summary.{CanJoin, Joins};
-ghost use Rattle.audit_join.specs.Ledgers.{SumsLedgers, AreFewFrames, CanTake, Takes, GiveSections};
+ghost use Rattle.audit_join.specs.Ledgers.{SumsLedgers, AreFewFrames, CanTake, Takes, AreOfFew, GiveSections};
 
 use crate::buffers::{Leaked, StrayFrees};
 use crate::clears::{StrayConfirmations, Unconfirmed};
@@ -89,6 +89,7 @@ impl Ledgers {
 
     /// What the findings keep of the frames.
     pub fn sections(self, alloc: Global) -> Result<Sections, AllocError>
+        requires { AreOfFew self }
         ensures { IfOk result (GiveSections self) }
     {
         let EventLedgers {
