@@ -22,3 +22,4 @@ pub mod ItemPlaces
 pub mod FitLaws
 pub mod KeyLaws
 pub mod OfProcesses
+pub mod EventsAt
