@@ -1,4 +1,4 @@
-use Rattle.std.proofs.Common.{List, ◌∷◌, ◌++◌, ◌≡◌, [], Some, None, Option, sym, subst, ap, ◌∙◌, rules}
+use Rattle.std.proofs.Common.{List, ◌∷◌, ◌++◌, ◌≡◌, [], Some, None, sym, subst, ap, ◌∙◌, rules}
 use Rattle.std.proofs.lemmas.List.{append-nil, map-append}
 use Rattle.std.proofs.lemmas.Map.Keys.{IsDistinct-head, IsDistinct-tail}
 use Rattle.std.specs.HashMap.Eq.{lookup_congr}
