@@ -1,5 +1,5 @@
 -- The keys of a list, each once and in the order in which they first come, where one more key or a second list follows.
-use Rattle.std.proofs.Common.{◌≡◌, Bool, true, false, cond, not, ◌||◌, ◌&&◌, List, [], ◌∷◌, ◌++◌, map, filter, Option, Some, None, is_some, refl, sym, ap, subst, ◌∙◌, ⊎_elim, append_assoc}
+use Rattle.std.proofs.Common.{◌≡◌, Bool, true, false, cond, not, ◌||◌, ◌&&◌, List, [], ◌∷◌, ◌++◌, filter, Some, None, is_some, refl, sym, ap, ◌∙◌, ⊎_elim, append_assoc}
 use Rattle.std.proofs.lemmas.Bool.{cases_Bool}
 use Rattle.std.proofs.lemmas.List.{append-nil, map-append}
 use Rattle.std.proofs.lemmas.List.Elements.{filter-append, filter_agree}
@@ -46,7 +46,8 @@ module _ {K : Type 0} (eq : K → K → Bool) where
       ap (λ t. key ∷ filter apart t) (firsts-append front back)
       ∙ ap (λ t. key ∷ t) (filter-append apart (firsts eq front) (unseen front (firsts eq back)))
       ∙ ap (λ t. key ∷ (filter apart (firsts eq front) ++ t))
-      (filter_twice apart (λ k. not (list_any (eq k) front)) (λ k. not (list_any (eq k) (key ∷ front))) (λ k. not_or (eq k key) (list_any (eq k) front)) (firsts eq back))
+      (filter_twice apart (λ k. not (list_any (eq k) front)) (λ k. not (list_any (eq k) (key ∷ front)))
+      (λ k. not_or (eq k key) (list_any (eq k) front)) (firsts eq back))
 
   -- one more key, which came before
   firsts-old : (keys : List K) (key : K) → list_any (eq key) keys ≡ true → firsts eq (keys ++ key ∷ []) ≡ firsts eq keys
@@ -82,7 +83,8 @@ module _ {K : Type 0} (eq : K → K → Bool) where
     pub firsts-joined : (front back : List K) → firsts eq front ++ unseen (firsts eq front) (firsts eq back) ≡ firsts eq (front ++ back)
     firsts-joined front back =
         ap (λ t. firsts eq front ++ t)
-        (filter_agree (λ k. not (list_any (eq k) (firsts eq front))) (λ k. not (list_any (eq k) front)) (λ k. ap not (list_any-firsts k front)) (firsts eq back))
+        (filter_agree (λ k. not (list_any (eq k) (firsts eq front))) (λ k. not (list_any (eq k) front))
+        (λ k. ap not (list_any-firsts k front)) (firsts eq back))
         ∙ sym (firsts-append front back)
 
     unseen_apart : (seen rest : List K) (key : K) → AllByRecursion (λ other. eq key other ≡ false) rest → unseen (seen ++ key ∷ []) rest ≡ unseen seen rest
@@ -120,7 +122,8 @@ module _ {K : Type 0} (eq : K → K → Bool) where
           ap (λ (t : List K). t ++ key ∷ []) are ∙ sym (ap (firsts eq) one_more ∙ firsts-new (keys_of items) key (sym among ∙ missing))
 
     -- the keys of two lists of items, joined
-    pub firsts_join : {I : Type 0} (earlier later : List K) (first second : List (K × I)) → earlier ≡ firsts eq (keys_of first) → later ≡ firsts eq (keys_of second)
+    pub firsts_join : {I : Type 0} (earlier later : List K) (first second : List (K × I))
+        → earlier ≡ firsts eq (keys_of first) → later ≡ firsts eq (keys_of second)
         → earlier ++ unseen earlier later ≡ firsts eq (keys_of (first ++ second))
     firsts_join {I} earlier later first second mine theirs =
         ap (λ (t : List K). t ++ unseen t later) mine

@@ -9,8 +9,8 @@ abbrev pub firsts : {K : Type 0} → (K → K → Bool) → List K → List K
 firsts eq [] = []
 firsts eq (key ∷ keys) = key ∷ filter (λ other. not (eq other key)) (firsts eq keys)
 
--- the entries have, for each key that items stand under and no other, a summary of those items, the keys in the order of
--- their first items
+-- the entries have, for each key that items stand under and no other, a summary of those items, the keys in the order
+-- of their first items
 pub record SumsInOrder {K S I : Type 0} (eq : K → K → Bool) (Sums : S → List I → Type 0) (entries : List (K × S))
     (items : List (K × I)) : Type 0 where
   pub order : keys_of entries ≡ firsts eq (keys_of items)

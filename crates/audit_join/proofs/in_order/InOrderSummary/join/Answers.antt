@@ -1,4 +1,4 @@
-use Rattle.std.proofs.Common.{List, ◌∷◌, ◌++◌, ◌≡◌, [], Some, None, Option, sym, subst, ap, ◌∙◌, rules}
+use Rattle.std.proofs.Common.{List, ◌∷◌, ◌++◌, ◌≡◌, [], Some, None, sym, subst, ap, ◌∙◌, rules}
 use Rattle.std.proofs.lemmas.List.{append-nil, map-append}
 use Rattle.std.proofs.lemmas.Map.Keys.{IsDistinct-head, IsDistinct-tail}
 use Rattle.std.specs.HashMap.Eq.{lookup_congr}
@@ -59,7 +59,8 @@ loop-key-preserved-in-Some-get_mut g c =
       distinct = IsDistinct-tail eq key (keys_of c.next.new.self) distinct;
       order =
           ap (λ (ks : List _). ks ++ unseen eq ks (keys_of c.next.new.self)) written.1
-          ∙ ap (λ (ks : List _). keys old ++ ks) (sym (old_passed eq (keys old) (keys_of c.next.new.self) key (key_there eq key c.in-Some-get_mut.slot.now old.entries found)))
+          ∙ ap (λ (ks : List _). keys old ++ ks)
+          (sym (old_passed eq (keys old) (keys_of c.next.new.self) key (key_there eq key c.in-Some-get_mut.slot.now old.entries found)))
           ∙ sym (ap (λ (es : List _). keys old ++ unseen eq (keys old) (keys_of es)) rest) ∙ c.loop-key.invariant.order;
       merging =
           merging_goes_on eq laws sums fits earlier later now (get eq (c.get_mut.follows.lender merged)) key c.in-Some.part merged c.next.new.self
@@ -96,7 +97,8 @@ loop-key-preserved g c =
       distinct = IsDistinct-tail eq key (keys_of c.next.new.self) distinct;
       order =
           ap (λ (ks : List _). ks ++ unseen eq ks (keys_of c.next.new.self)) (ap keys_of entries ∙ map-append _ old.entries ((key, c.in-Some.part) ∷ []))
-          ∙ new_passed eq laws (keys old) (keys_of c.next.new.self) key (key_missing eq key old.entries found) (IsDistinct-head eq key (keys_of c.next.new.self) distinct)
+          ∙ new_passed eq laws (keys old) (keys_of c.next.new.self) key (key_missing eq key old.entries found)
+          (IsDistinct-head eq key (keys_of c.next.new.self) distinct)
           ∙ sym (ap (λ (es : List _). keys old ++ unseen eq (keys old) (keys_of es)) rest) ∙ c.loop-key.invariant.order;
       merging =
           merging_goes_on eq laws sums fits earlier later now (get eq c.insert.new.self) key c.in-Some.part c.in-Some.part c.next.new.self

@@ -26,7 +26,8 @@ all_of eq P key (item ∷ items) all =
     (cases_Bool (eq key item.0))
 
 -- where all items are few and small, those of each key are
-each_weighted : {K L : Type 0} (eq : K → K → Bool) (items : List (K × (L × ℕ))) → AreWeighted (values_of {K = K} {X = L × ℕ} items) → EachFits {K = K} {I = L × ℕ} eq AreWeighted items
+each_weighted : {K L : Type 0} (eq : K → K → Bool) (items : List (K × (L × ℕ))) → AreWeighted (values_of {K = K} {X = L × ℕ} items)
+    → EachFits {K = K} {I = L × ℕ} eq AreWeighted items
 each_weighted eq items weighted key =
     let few = no_more eq key items in
     (omega (arith, weighted.0), all_of eq (λ item. item.1 < 2 ^ 64) key items weighted.1)
