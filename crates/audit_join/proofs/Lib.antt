@@ -23,3 +23,5 @@ pub mod FitLaws
 pub mod KeyLaws
 pub mod OfProcesses
 pub mod EventsAt
+pub mod TurnLaws
+pub mod ReferenceLaws
