@@ -16,3 +16,5 @@ pub mod ListedThere
 pub mod StandLaws
 mod FirstLaws
 pub mod InOrderLaws
+pub mod ProcessLaws
+mod RecordCountLaws
