@@ -54,7 +54,7 @@ one_more key e events false found is others =
     let item : count_of nat_cmp key (map code_item (e ∷ events)) ≡ count_of nat_cmp key (map code_item events) = rw found refl in
     omega (arith, split, first, item, others)
 
-items_of_word : (key : ℕ) (events : List EventText) → count_of nat_cmp key (map code_item events) ≡ count_by (λ word. eqb word key) (code_words events)
+pub items_of_word : (key : ℕ) (events : List EventText) → count_of nat_cmp key (map code_item events) ≡ count_by (λ word. eqb word key) (code_words events)
 items_of_word key [] = refl
 items_of_word key (e ∷ events) = one_more key e events (eqb e.code key) (same_key key e.code) refl (items_of_word key events)
 

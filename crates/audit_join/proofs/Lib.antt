@@ -25,3 +25,5 @@ pub mod OfProcesses
 pub mod EventsAt
 pub mod TurnLaws
 pub mod ReferenceLaws
+pub mod ProcessLaws
+mod RecordCountLaws
