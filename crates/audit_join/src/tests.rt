@@ -11,7 +11,8 @@ ghost use Rattle.audit_join.specs.Frames.{AreGoodFrames};
 ghost use Rattle.audit_join.specs.declared.limits.TheConstants.{CAPTURE_LIMIT};
 
 use crate::{
-    AuditError, BadRow, CAPTURE_LIMIT, CodeRow, Findings, Sections, SortCounts, audit_one,
+    AuditError, BadRow, CAPTURE_LIMIT, CodeRow, Findings, ProcessHandle, RecordCounts, Sections,
+    SortCounts, audit_one,
 };
 use capture_frame::{Fault, FaultKind, Frame};
 use captures::{EIGHT_FRAMES, RETURN_IN_A_WRITE};
@@ -67,6 +68,28 @@ const CODES: &[CodeRow] = &[
     },
 ];
 
+/// How many records of some kinds the eight frames have.
+const COUNTS: RecordCounts = RecordCounts {
+    deliveries: 2,
+    frees: 0,
+    requests: 0,
+    deaths: 0,
+    clears: 0,
+};
+
+/// The handle that process 100 took a reference to.
+const HANDLES: &[ProcessHandle] = &[ProcessHandle {
+    process: 100,
+    handle: 1,
+    strong: 1,
+    strong_low: 0,
+    weak: 0,
+    weak_low: 0,
+}];
+
+/// Where buffers are delivered that nobody frees: one to process 200, and one to process 100.
+const LEAKED: &[u64] = &[272, 540];
+
 /// The good objects of the eight frames.
 const OBJECTS: SortCounts = SortCounts {
     binder: 1,
@@ -107,6 +130,14 @@ fn expect_sections(rt: &impl Abort, sections: &Sections) {
     assert_eq!(rt; sections.opaque, 2);
     assert_eq!(rt; sections.missing, 9);
     assert_eq!(rt; sections.codes.as_slice(), CODES);
+    assert_eq!(rt; sections.counts, COUNTS);
+    assert_eq!(rt; sections.handles.as_slice(), HANDLES);
+    assert_eq!(rt; sections.nodes.len(), 0);
+    assert_eq!(rt; sections.leaked.as_slice(), LEAKED);
+    assert_eq!(rt; sections.stray_frees.len(), 0);
+    assert_eq!(rt; sections.standing.len(), 0);
+    assert_eq!(rt; sections.deaths.rows.len(), 0);
+    assert_eq!(rt; sections.clears.rows.len(), 0);
     assert_eq!(rt; sections.objects, OBJECTS);
     assert_eq!(rt; sections.bad_objects.as_slice(), BAD_OBJECTS);
     assert_eq!(rt; sections.flags.as_slice(), FLAGS);

@@ -4,7 +4,7 @@ ghost use Rattle.std.specs.Map.{values_of};
 ghost use Rattle.std.specs.Prelude.{◌++◌};
 ghost use Rattle.summary_law.specs.Tally.{AreWeighted};
 
-use crate::Process;
+use crate::process::Process;
 use crate::in_order::InOrder;
 use std::alloc::{AllocError, Global};
 use std::process::Abort;
