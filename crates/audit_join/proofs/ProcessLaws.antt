@@ -110,27 +110,27 @@ none_read read reads (i ∷ items) all =
 
 -- ledgers of a list are those of another from which each of them reads the same
 same_sums : (ledgers : ProcessLedgers) (items others : List ProcessItems)
-    → ({J : Type 0} (read : ProcessItems → Option J) → ReadsNone read → filter_map read items ≡ filter_map read others)
+    → ((J : Type 0) (read : ProcessItems → Option J) → ReadsNone read → filter_map read items ≡ filter_map read others)
     → SumsProcess ledgers items → SumsProcess ledgers others
 same_sums ledgers items others same sums = record {
-  handles = subst (HandleLedgerSums ledgers.handles) (same (λ (i : ProcessItems). i.handle) (λ i is. (nothing i is).handle)) sums.handles;
-  nodes = subst (NodeLedgerSums ledgers.nodes) (same (λ (i : ProcessItems). i.node) (λ i is. (nothing i is).node)) sums.nodes;
-  buffers = subst (BuffersSums ledgers.buffers) (same (λ (i : ProcessItems). i.buffer) (λ i is. (nothing i is).buffer)) sums.buffers;
-  requests = subst (RequestsSums ledgers.requests) (same (λ (i : ProcessItems). i.request) (λ i is. (nothing i is).request)) sums.requests;
-  deaths = subst (PendingSums nat_cmp ledgers.deaths) (same (λ (i : ProcessItems). i.death) (λ i is. (nothing i is).death)) sums.deaths;
-  clears = subst (PendingSums nat_cmp ledgers.clears) (same (λ (i : ProcessItems). i.clear) (λ i is. (nothing i is).clear)) sums.clears;
+  handles = subst (HandleLedgerSums ledgers.handles) (same _ (λ (i : ProcessItems). i.handle) (λ i is. (nothing i is).handle)) sums.handles;
+  nodes = subst (NodeLedgerSums ledgers.nodes) (same _ (λ (i : ProcessItems). i.node) (λ i is. (nothing i is).node)) sums.nodes;
+  buffers = subst (BuffersSums ledgers.buffers) (same _ (λ (i : ProcessItems). i.buffer) (λ i is. (nothing i is).buffer)) sums.buffers;
+  requests = subst (RequestsSums ledgers.requests) (same _ (λ (i : ProcessItems). i.request) (λ i is. (nothing i is).request)) sums.requests;
+  deaths = subst (PendingSums nat_cmp ledgers.deaths) (same _ (λ (i : ProcessItems). i.death) (λ i is. (nothing i is).death)) sums.deaths;
+  clears = subst (PendingSums nat_cmp ledgers.clears) (same _ (λ (i : ProcessItems). i.clear) (λ i is. (nothing i is).clear)) sums.clears;
 }
 
 -- ledgers of no item are those of a list of no items
 pub none_summed : (ledgers : ProcessLedgers) (items : List ProcessItems) → AreNone items → SumsProcess ledgers [] → SumsProcess ledgers items
-none_summed ledgers items none sums = same_sums ledgers [] items (λ {J} read reads. sym (none_read read reads items none)) sums
+none_summed ledgers items none sums = same_sums ledgers [] items (λ J read reads. sym (none_read read reads items none)) sums
 
 -- and no items in front of a list, or behind it, leave its ledgers as they are
 pub none_before : (ledgers : ProcessLedgers) (first second : List ProcessItems) → AreNone first → SumsProcess ledgers second
     → SumsProcess ledgers (first ++ second)
 none_before ledgers first second none sums =
     same_sums ledgers second (first ++ second)
-    (λ {J} read reads.
+    (λ J read reads.
     sym (filter_map-append read first second ∙ ap (λ (t : List J). t ++ filter_map read second) (none_read read reads first none)))
     sums
 
@@ -138,7 +138,7 @@ pub none_behind : (ledgers : ProcessLedgers) (first second : List ProcessItems) 
     → SumsProcess ledgers (first ++ second)
 none_behind ledgers first second none sums =
     same_sums ledgers first (first ++ second)
-    (λ {J} read reads.
+    (λ J read reads.
     sym
     (filter_map-append read first second ∙ ap (λ (t : List J). filter_map read first ++ t) (none_read read reads second none)
     ∙ append-nil (filter_map read first)))
@@ -160,6 +160,12 @@ pub one_none : (item : ProcessItems) → is_no_items item ≡ true → AreNone (
 one_none item is =
     let P = λ (i : ProcessItems). is_no_items i ≡ true in
     All-cons P item [] is (All-nil P)
+
+-- what a box of ledgers holds is those of the list
+pub held : (own : Option (Box ProcessLedgers Global)) (b : Box ProcessLedgers Global) (ledgers : ProcessLedgers) (items : List ProcessItems)
+    → own ≡ Some b → ledgers ≡ b.value → SumsIfAny own items → SumsProcess ledgers items
+held own b ledgers items is same sums =
+    subst (λ (l : ProcessLedgers). SumsProcess l items) (sym same) (subst (λ (o : Option (Box ProcessLedgers Global)). SumsIfAny o items) is sums)
 
 -- ---- the ledgers of a process
 
