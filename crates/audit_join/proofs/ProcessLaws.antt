@@ -1,7 +1,6 @@
 -- What the items of each ledger come to where a process has an item more, or two lists of them.
-use Rattle.std.proofs.Common.{◌≡◌, ℕ, Bool, true, false, ◌&&◌, is_none, List, [], ◌∷◌, ◌++◌, Option, Some, None, All, IsSomeAnd, refl, sym, ap, subst, ◌∙◌, append-nil, filter_map, Global}
+use Rattle.std.proofs.Common.{◌≡◌, ℕ, Bool, true, false, ◌&&◌, is_none, List, [], ◌∷◌, ◌++◌, Option, Some, None, All, IsSomeAnd, refl, sym, ap, subst, ◌∙◌, append-nil, filter_map, Box, Global}
 use mathlib.Core.Bool.{true≢false}
-use Rattle.std.proofs.Common.{Box}
 use Rattle.std.specs.Ordering.{nat_cmp}
 use Rattle.std.proofs.lemmas.List.Elements.{filter_map-append, All-append, All-cons, All-nil, All-head, All-tail}
 use Rattle.event_core.specs.Events.{EventText}

@@ -1,8 +1,7 @@
 -- Counts of different words of one list.
-use Rattle.std.proofs.Common.{◌≡◌, ◌≢◌, ℕ, ◌+◌, ◌<◌, ◌≤◌, inl, inr, cond, eqb, List, [], ◌∷◌, length, count_by, sum_by, ap, arith}
+use Rattle.std.proofs.Common.{◌≡◌, ◌≢◌, ℕ, ◌+◌, ◌<◌, ◌≤◌, inl, inr, cond, eqb, List, [], ◌∷◌, length, map, count_by, ap, ◌∙◌, arith}
 use Rattle.std.proofs.lemmas.Bool.{cases_eq, eq-eqb, ne_eqb}
 use Rattle.std.proofs.lemmas.List.Sums.{sum_by-cons}
-use Rattle.std.proofs.Common.{map, ◌∙◌}
 use Rattle.std.specs.Ordering.{nat_cmp}
 use Rattle.event_core.specs.Events.{EventText}
 use Rattle.summary_law.specs.declared.amount.Amount.{Amount}
@@ -31,10 +30,10 @@ module _ (a b d : ℕ) (low : a < b) (high : b < d) where
   at_most_one : (word : ℕ) → one_if a word + one_if b word + one_if d word ≤ 1
   at_most_one word = elim (cases_eq word a) [
     | inl is ↦ (
-          let first = is_one a word is in
-          let second = is_zero b word (λ (e : word ≡ b). omega (arith, e, is, low)) in
-          let third = is_zero d word (λ (e : word ≡ d). omega (arith, e, is, low, high)) in
-          omega (arith, first, second, third))
+        let first = is_one a word is in
+        let second = is_zero b word (λ (e : word ≡ b). omega (arith, e, is, low)) in
+        let third = is_zero d word (λ (e : word ≡ d). omega (arith, e, is, low, high)) in
+        omega (arith, first, second, third))
     | inr not_a ↦ elim (cases_eq word b) [
       | inl is ↦ (
           let first = is_zero a word not_a in
