@@ -1,5 +1,5 @@
--- The header's names are ASCII.
-use Rattle.std.proofs.Common.{◌≡◌, ℕ, List, true, nat_lt, slice_index_or, IsAscii, refl, ltb-true}
+-- The header's names are short, and ASCII.
+use Rattle.std.proofs.Common.{◌≡◌, ℕ, ◌<◌, ◌≤◌, List, length, true, nat_lt, slice_index_or, IsAscii, refl, ltb-true, arith}
 use Rattle.std.specs.List.{list_all}
 use Rattle.std.proofs.lemmas.List.Sums.{AllPass-from_list_all}
 use Rattle.std.proofs.lemmas.Str.Ascii.{IsAscii-from_all}
@@ -20,3 +20,13 @@ name_of-passes _ = refl
 
 pub IsAscii-name_of : (kind : Kind) → IsAscii (name_of kind)
 IsAscii-name_of kind = IsAscii-from_test (name_of kind) (name_of-passes kind)
+
+-- the length of each name passes the test
+name_of-fits : (kind : Kind) → nat_lt (length (name_of kind)) 33 ≡ true
+name_of-fits Opaque = refl
+name_of-fits _ = refl
+
+pub length-name_of : (kind : Kind) → length (name_of kind) ≤ 32
+length-name_of kind =
+    let below : length (name_of kind) < 33 = ltb-true (length (name_of kind)) 33 (name_of-fits kind) in
+    omega (arith, below)

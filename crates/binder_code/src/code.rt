@@ -2,7 +2,7 @@ ghost use Rattle.std.specs.Prelude.{◌≡◌};
 ghost use Rattle.binder_code.specs.Code.{number, letter, size, direction};
 
 /// A code word, in the layout of `asm-generic/ioctl.h`.
-#[derive(Clone, Copy, Debug, PartialEq, Eq, Hash, PartialOrd, Ord)]
+#[derive(Clone, Copy, Debug, PartialEq, Eq)]
 pub struct Code(pub u32);
 
 impl Code {
@@ -36,7 +36,7 @@ impl Code {
 }
 
 /// Why a code cannot stand in a frame of its protocol.
-#[derive(Clone, Copy, Debug, PartialEq, Eq, Hash)]
+#[derive(Clone, Copy, Debug, PartialEq, Eq)]
 pub enum CodeFault {
     /// The letter is not the protocol's, or the direction bits do not go with the size.
     Direction,

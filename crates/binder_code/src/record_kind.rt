@@ -2,7 +2,7 @@ ghost use Rattle.std.specs.Prelude.{◌≡◌, ◌≤◌, length, IsAscii};
 
 /// What a record is: one of the 41 commands that the header `linux/android/binder.h` lists
 /// (protocol 8), in its order, or a record whose number it does not list.
-#[derive(Clone, Copy, Debug, PartialEq, Eq, Hash)]
+#[derive(Clone, Copy, Debug, PartialEq, Eq)]
 pub enum Kind {
     BcTransaction,
     BcReply,
@@ -58,6 +58,13 @@ impl Kind {
         ensures exact { result.now ≡ name_of self }
         ensures short { length result.now ≤ 32 }
         ensures ascii { IsAscii result.now }
+    {
+        self.table_name()
+    }
+
+    // The name alone: what else is known of names is shown once, and not at each of them.
+    fn table_name(self) -> &'static str
+        ensures { result.now ≡ name_of self }
     {
         match self {
             Kind::BcTransaction => "BC_TRANSACTION",

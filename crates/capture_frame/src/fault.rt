@@ -2,7 +2,7 @@
 
 /// The kinds of malformed units, in the order of their numbers: at one place the first that applies
 /// is the one that is named. The names are those that the program prints.
-#[derive(Clone, Copy, Debug, PartialEq, Eq, Hash)]
+#[derive(Clone, Copy, Debug, PartialEq, Eq)]
 pub enum FaultKind {
     /// The file has fewer than 16 bytes.
     HeaderShort,
@@ -37,7 +37,7 @@ pub enum FaultKind {
 }
 
 /// A malformed unit.
-#[derive(Clone, Copy, Debug, PartialEq, Eq, Hash)]
+#[derive(Clone, Copy, Debug, PartialEq, Eq)]
 pub struct Fault {
     /// What is wrong.
     pub kind: FaultKind,

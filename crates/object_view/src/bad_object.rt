@@ -1,5 +1,5 @@
 /// Why what stands at an offset is no good object, in the order in which it is judged.
-#[derive(Clone, Copy, Debug, PartialEq, Eq, Hash)]
+#[derive(Clone, Copy, Debug, PartialEq, Eq)]
 pub enum Cause {
     /// The length of the list of offsets is no multiple of 8.
     ListLength,
@@ -14,7 +14,7 @@ pub enum Cause {
 }
 
 /// The first bad object of an attachment. The objects behind it are not read.
-#[derive(Clone, Copy, Debug, PartialEq, Eq, Hash)]
+#[derive(Clone, Copy, Debug, PartialEq, Eq)]
 pub struct BadObject {
     /// Its number in the list of offsets, from 0; 0 where the list's length is wrong.
     pub index: u64,

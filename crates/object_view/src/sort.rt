@@ -3,7 +3,7 @@ ghost use Rattle.object_view.specs.Fields.{sort_number, sort_length};
 ghost use Rattle.object_view.specs.Objects.{IsUnknown};
 
 /// The sorts of objects, `BINDER_TYPE_..` of `linux/android/binder.h`.
-#[derive(Clone, Copy, Debug, PartialEq, Eq, Hash)]
+#[derive(Clone, Copy, Debug, PartialEq, Eq)]
 pub enum Sort {
     /// `BINDER_TYPE_BINDER`: a node of the sender.
     Binder,

@@ -47,8 +47,8 @@ const HANDLES: &[u8] = b"\x85\x2a\x68\x73\x85\x2a\x68\x73\x85\x2a\x68\x73\x85\x2
 /// Offset 0.
 const FIRST: &[u8] = b"\0\0\0\0\0\0\0\0";
 
-/// Data and a list of offsets; how many good objects they have, and the cause and the offset of a bad
-/// one behind them.
+/// Data and a list of offsets; how many good objects they have, and the cause and the offset of a
+/// bad one behind them.
 type Row = (&'static [u8], &'static [u8], u64, Option<(Cause, u64)>);
 
 const ROWS: &[Row] = &[
@@ -139,7 +139,8 @@ fn reader_of<'c>(rt: &impl Abort, body: &'c [u8], offsets: &'c [u8]) -> Objects<
     })
 }
 
-/// The reader gives so many objects, then the bad one if there is one, and then nothing at each call.
+/// The reader gives so many objects, then the bad one if there is one, and then nothing at each
+/// call.
 fn expect(rt: &impl Abort, body: &[u8], offsets: &[u8], good: u64, bad: Option<BadObject>) {
     let mut reader = reader_of(rt, body, offsets);
     for _ in 0..good {

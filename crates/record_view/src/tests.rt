@@ -6,8 +6,8 @@ use capture_frame::{Direction, Fault, FaultKind, Frame};
 use std::process::Abort;
 use std::test::Fail;
 
-/// `BC_ACQUIRE` of the handle 5, `BC_ENTER_LOOPER`, and a command whose number, 255, the header does
-/// not list.
+/// `BC_ACQUIRE` of the handle 5, `BC_ENTER_LOOPER`, and a command whose number, 255, the header
+/// does not list.
 const COMMANDS: &[u8] = b"\x05\x63\x04\x40\x05\0\0\0\x0c\x63\0\0\xff\x63\x03\x40end";
 
 const PLACES: &[(u64, Kind, u32, &[u8])] = &[

@@ -18,8 +18,8 @@ const NUMBERED: &[u8] = b"\x11\x63\x48\x40\
     \xb0\xb1\xb2\xb3\xb4\xb5\xb6\xb7\xb8\xb9\xba\xbb\xbc\xbd\xbe\xbf\
     \xc0\xc1\xc2\xc3\xc4\xc5\xc6\xc7";
 
-/// Two transactions of four body bytes and eight offset bytes, at 0 and 76, and behind each a record
-/// that is none: 152 bytes.
+/// Two transactions of four body bytes and eight offset bytes, at 0 and 76, and behind each a
+/// record that is none: 152 bytes.
 const TRANSACTIONS: &[u8] = b"\
     \0\x63\x40\x40\0\0\0\0\0\0\0\0\0\0\0\0\0\0\0\0\0\0\0\0\0\0\0\0\0\0\0\0\0\0\0\0\
     \x04\0\0\0\0\0\0\0\x08\0\0\0\0\0\0\0\0\0\0\0\0\0\0\0\0\0\0\0\0\0\0\0\
@@ -92,7 +92,8 @@ fn tells_transactions_from_others(rt: HostRuntime) {
 const ENTRIES: &[u8] = b"\0\0\0\0\x04\0\0\0\x08\0\0\0body\0\0\0\0\0\0\0\0\
     \x4c\0\0\0\x04\0\0\0\x08\0\0\0text\x01\0\0\0\0\0\0\0";
 
-/// Commands and attachments, how many good entries of 24 bytes there are, and the fault behind them.
+/// Commands and attachments, how many good entries of 24 bytes there are, and the fault behind
+/// them.
 type Row = (&'static [u8], &'static [u8], u64, FaultKind);
 
 const ROWS: &[Row] = &[
@@ -105,7 +106,8 @@ const ROWS: &[Row] = &[
         1,
         FaultKind::AttachShort,
     ),
-    // Lengths that tell of more than follows; their sum would be 12 in 32 bits. The record is wrong too.
+    // Lengths that tell of more than follows; their sum would be 12 in 32 bits. The record is wrong
+    // too.
     (
         TRANSACTIONS,
         b"\x00\0\0\0\x04\0\0\0\x09\0\0\0body\0\0\0\0\0\0\0\0",

@@ -1,4 +1,4 @@
-use Rattle.std.proofs.Common.{◌≡◌, ℕ, List, length, take, drop, refl, sym, ap, ◌∙◌, arith}
+use Rattle.std.proofs.Common.{◌≡◌, ℕ, List, length, take, drop, refl, sym, ap, ◌∙◌, arith, rules}
 use Rattle.std.proofs.lemmas.List.{take_rest, length-drop}
 use Rattle.binder_code.specs.Code.{size}
 use Rattle.binder_code.proofs.WordLaws.{kind_of-by_word}
@@ -8,6 +8,15 @@ use Rattle.record_view.proofs.records.record_at.Goals as goal
 
 pub invariant_of-result-clause-by_code : goal.invariant_of-result-clause-by_code
 invariant_of-result-clause-by_code c = kind_of-by_word c.args.protocol c.u32_at.result c.in-Ok.kind (sym c.kind.ensures.exact ∙ c.in-Ok.is)
+
+pub returns-in-Err-Direction-clause-fails : goal.returns-in-Err-Direction-clause-fails
+returns-in-Err-Direction-clause-fails c = search rules
+
+pub returns-in-Err-Size-clause-fails : goal.returns-in-Err-Size-clause-fails
+returns-in-Err-Size-clause-fails c = search rules
+
+pub returns-then-rest-size-clause-fails : goal.returns-then-rest-size-clause-fails
+returns-then-rest-size-clause-fails c = search rules
 
 pub returns-clause-found : goal.returns-clause-found
 returns-clause-found c =

@@ -1,15 +1,9 @@
-use Rattle.binder_code.specs.declared.record_kind.Kind.TheVariants.{BcRequestDeathNotification, BcClearDeathNotification, BrClearDeathNotificationDone, BrTransactionPendingFrozen}
-use Rattle.binder_code.proofs.Names.{IsAscii-name_of}
+use Rattle.std.proofs.Common.{ℕ, ◌≤◌, List, length, IsAscii, sym, subst}
+use Rattle.binder_code.proofs.Names.{IsAscii-name_of, length-name_of}
 use Rattle.binder_code.proofs.record_kind.Kind.name.Goals as goal
 
-pub returns-in-BcRequestDeathNotification-clause-ascii : goal.returns-in-BcRequestDeathNotification-clause-ascii
-returns-in-BcRequestDeathNotification-clause-ascii c = IsAscii-name_of BcRequestDeathNotification
+pub returns-clause-short : goal.returns-clause-short
+returns-clause-short c = subst (λ (t : List ℕ). length t ≤ 32) (sym c.table_name.ensures) (length-name_of c.args.self)
 
-pub returns-in-BcClearDeathNotification-clause-ascii : goal.returns-in-BcClearDeathNotification-clause-ascii
-returns-in-BcClearDeathNotification-clause-ascii c = IsAscii-name_of BcClearDeathNotification
-
-pub returns-in-BrClearDeathNotificationDone-clause-ascii : goal.returns-in-BrClearDeathNotificationDone-clause-ascii
-returns-in-BrClearDeathNotificationDone-clause-ascii c = IsAscii-name_of BrClearDeathNotificationDone
-
-pub returns-in-BrTransactionPendingFrozen-clause-ascii : goal.returns-in-BrTransactionPendingFrozen-clause-ascii
-returns-in-BrTransactionPendingFrozen-clause-ascii c = IsAscii-name_of BrTransactionPendingFrozen
+pub returns-clause-ascii : goal.returns-clause-ascii
+returns-clause-ascii c = subst IsAscii (sym c.table_name.ensures) (IsAscii-name_of c.args.self)
