@@ -6,8 +6,8 @@ use Rattle.std.specs.declared.result.Result.{Result}
 use Rattle.std.specs.Borrow.{Bor}
 use Rattle.clap.specs.Words.{ReadsOne, Row, Text, first_of, one_of}
 use Rattle.audit_program.specs.CommandLine.{AsksFirstFault, AsksReport, ReadsNumber}
-use Rattle.audit_program.specs.declared.command_line.Request.{Request}
-use Rattle.audit_program.specs.declared.command_line.Request.TheVariants.{Report, FirstFault}
+use Rattle.audit_run.specs.declared.answers.Request.{Request}
+use Rattle.audit_run.specs.declared.answers.Request.TheVariants.{Report, FirstFault}
 
 pub IfNone-always : {T : Type 0} {P : Type 0} (o : Option T) → P → IfNone o P
 IfNone-always None p = p

@@ -4,8 +4,8 @@ use Rattle.std.specs.Str.Parse.{IsNumeral, digits_value, without_leading_plus}
 use Rattle.clap.specs.Words.{App, Row, Rule, Text, fault_of, first_of, new_app, new_rule, one_of, subcommand_of, with_rule, with_subcommand}
 use Rattle.clap.specs.declared.builder.action.ArgAction.TheVariants.{Set}
 use Rattle.clap.specs.declared.builder.value_parser.ValueParser.TheVariants.{Unsigned}
-use Rattle.audit_program.specs.declared.command_line.Request.{Request}
-use Rattle.audit_program.specs.declared.command_line.Request.TheVariants.{Report, FirstFault}
+use Rattle.audit_run.specs.declared.answers.Request.{Request}
+use Rattle.audit_run.specs.declared.answers.Request.TheVariants.{Report, FirstFault}
 
 -- an option with a number from 1 to `most`
 abbrev pub number_rule : Text → ℕ → Text → Rule

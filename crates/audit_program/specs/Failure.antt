@@ -1,12 +1,11 @@
--- What ends the program without an answer.
-use Rattle.std.specs.Prelude.{ℕ, List, [], ◌∷◌, ◌++◌, codes}
+-- Which failure it is that the words of a command line end in.
 use Rattle.std.specs.declared.io.ErrorKind.{ErrorKind}
 use Rattle.std.specs.declared.io.ErrorKind.TheVariants.{OutOfMemory}
-use Rattle.audit_run.specs.declared.run_error.RunError.TheVariants.{Memory, TooLarge, Read, Write, Open}
+use Rattle.audit_streams.specs.declared.failure.Failure.{Failure}
+use Rattle.audit_streams.specs.declared.failure.Failure.TheVariants.{Usage, Run}
+use Rattle.audit_streams.specs.declared.run_error.RunError.TheVariants.{Memory}
 use Rattle.audit_program.specs.declared.command_line.WordsError.{WordsError}
 use Rattle.audit_program.specs.declared.command_line.WordsError.TheVariants as words
-use Rattle.audit_program.specs.declared.failure.Failure.{Failure}
-use Rattle.audit_program.specs.declared.failure.Failure.TheVariants.{Usage, Run}
 
 -- the failure of a command line that asks for nothing
 abbrev pub failure_of : WordsError → Failure
@@ -17,25 +16,3 @@ failure_of words.Usage = Usage
 abbrev pub failure_of_words : ErrorKind → Failure
 failure_of_words OutOfMemory = Run Memory
 failure_of_words _ = Usage
-
--- the status that a failure ends the process with
-abbrev pub status_of : Failure → ℕ
-status_of Usage = 64
-status_of (Run Memory) = 3
-status_of (Run TooLarge) = 4
-status_of (Run Read) = 4
-status_of (Run Write) = 4
-status_of (Run Open) = 4
-
--- what standard error says of a failure
-abbrev pub message_of : Failure → List ℕ
-message_of Usage = codes "usage: binder_audit report [--workers N] [--piece N] FILE or first-fault FILE"
-message_of (Run Memory) = codes "fault Memory"
-message_of (Run TooLarge) = codes "fault TooLarge"
-message_of (Run Read) = codes "fault Read"
-message_of (Run Write) = codes "fault Write"
-message_of (Run Open) = codes "fault Open"
-
--- that message as a line, with its line feed
-abbrev pub line_of : Failure → List ℕ
-line_of failure = message_of failure ++ 10 ∷ []

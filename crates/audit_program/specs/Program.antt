@@ -8,41 +8,17 @@ use Rattle.std.specs.declared.string.String.{String}
 use Rattle.std.specs.declared.vec.IntoIter.{IntoIter}
 use Rattle.std.specs.Io.KnownBytes.{Keeps}
 use Rattle.clap.specs.Words.{Text}
-use Rattle.capture_frame.specs.declared.fault.Fault.{Fault}
-use Rattle.audit_run.specs.declared.run_error.RunError.{RunError}
-use Rattle.audit_run.specs.declared.run_error.RunError.TheVariants.{Memory, TooLarge, Read, Write, Open}
-use Rattle.audit_run.specs.declared.runs.Written.{Written}
-use Rattle.audit_run.specs.declared.runs.Written.TheVariants.{Report, Malformed}
-use Rattle.audit_run.specs.KnownBytes.{AppendsPrefix}
-use Rattle.audit_run.specs.Answers.{IsTextOf, IsLineOn}
-use Rattle.audit_run.specs.Run.{Reports, NamesFirstFault, IsRead, IsOfRead}
-use Rattle.audit_program.specs.declared.command_line.Request.{Request}
-use Rattle.audit_program.specs.declared.command_line.Request.TheVariants as request
-use Rattle.audit_program.specs.declared.failure.Failure.{Failure}
-use Rattle.audit_program.specs.declared.failure.Failure.TheVariants.{Usage, Run}
+use Rattle.audit_streams.specs.declared.run_error.RunError.{RunError}
+use Rattle.audit_streams.specs.declared.run_error.RunError.TheVariants.{Memory, TooLarge, Read, Write, Open}
+use Rattle.audit_streams.specs.KnownBytes.{AppendsPrefix}
+use Rattle.audit_run.specs.Request.{Answers, IsAnswer}
+use Rattle.audit_run.specs.Run.{IsRead, IsOfRead}
+use Rattle.audit_run.specs.declared.answers.Request.{Request}
+use Rattle.audit_streams.specs.declared.failure.Failure.{Failure}
+use Rattle.audit_streams.specs.declared.failure.Failure.TheVariants.{Usage, Run}
 use Rattle.audit_program.specs.CommandLine.{AreTaken, WordsAskFor}
-use Rattle.audit_program.specs.Failure.{failure_of_words, line_of, status_of}
-
--- the status that goes with what was written for a report, and with the fault that was named
-abbrev pub report_status : Written → ℕ
-report_status Report = 0
-report_status (Malformed fault) = 2
-
-abbrev pub fault_status : Option Fault → ℕ
-fault_status None = 0
-fault_status (Some fault) = 2
-
--- the whole answer to a request about a capture was written, and the status goes with it
-abbrev pub Answers : Request → List ℕ → Option (List ℕ) → Option (List ℕ) → ℕ → Type 0
-Answers (request.Report workers piece file) capture old new status =
-    (written : Written) × Reports capture old new written × (status ≡ report_status written)
-Answers (request.FirstFault file) capture old new status =
-    (fault : Option Fault) × NamesFirstFault capture old new fault × (status ≡ fault_status fault)
-
--- the text is the answer to a request about a capture
-abbrev pub IsAnswer : Request → List ℕ → List ℕ → Type 0
-IsAnswer (request.Report workers piece file) capture text = IsTextOf capture text
-IsAnswer (request.FirstFault file) capture text = IsLineOn capture text
+use Rattle.audit_streams.specs.Failure.{line_of, status_of}
+use Rattle.audit_program.specs.Failure.{failure_of_words}
 
 -- clap takes the words, and they ask for this
 abbrev pub Ask : List Text → Request → Type 0

@@ -2,40 +2,32 @@
 ghost use Rattle.std.specs.Prelude.{◌≡◌, ◌≢◌, ◌≤◌, ◌^◌, ◌↔◌, ℕ, OnOk, IfOk, IfSome, IfNone, IsErrOf, codes, false, map, string_bytes, Some, None};
 ghost use Rattle.clap.specs.Words.{app_of, first_of, found_of, kind_of, rows_of, rule_of, subcommand_of, subcommand_rows_of};
 ghost use Rattle.audit_program.specs.CommandLine.{AreTaken, AsksFirstFault, AsksFor, AsksReport, ReadsNumber, WordsAskFor, audit_app, file_rule, number_rule};
-ghost use Rattle.audit_program.specs.declared.command_line.Request.{Request};
+ghost use Rattle.audit_run.specs.declared.answers.Request.{Request};
 
-use audit_run::{Piece, Workers};
+use audit_run::{Piece, Request, RunError, Workers};
+use audit_streams::Failure;
 use clap::error::ErrorKind;
 use clap::{Arg, ArgAction, ArgMatches, Command, Error, value_parser};
 use std::alloc::{AllocError, Global};
-
-/// What a command line asks for.
-#[derive(Clone, Copy, Debug, PartialEq)]
-pub(crate) enum Request<'a> {
-    Report {
-        workers: Workers,
-        piece: Piece,
-        file: &'a str,
-    },
-    FirstFault {
-        file: &'a str,
-    },
-}
-
-impl<'a> Request<'a> {
-    /// The name of the file that it is about.
-    pub(crate) fn file(self) -> &'a str {
-        match self {
-            Request::Report { file, .. } | Request::FirstFault { file } => file,
-        }
-    }
-}
 
 /// Why a command line asks for nothing.
 #[derive(Clone, Copy, Debug, PartialEq, Eq)]
 pub(crate) enum WordsError {
     Memory,
     Usage,
+}
+
+impl From<WordsError> for Failure {
+    ghost use Rattle.audit_program.specs.Failure.{failure_of};
+
+    ghost from_gives = { λ error failure. failure ≡ failure_of error };
+
+    fn from(error: WordsError) -> Failure {
+        match error {
+            WordsError::Memory => Failure::Run(RunError::Memory),
+            WordsError::Usage => Failure::Usage,
+        }
+    }
 }
 
 // An option with a number from 1 to 64.

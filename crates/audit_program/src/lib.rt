@@ -3,10 +3,6 @@
 
 mod answers;
 mod command_line;
-mod failure;
 mod status;
-#[cfg(test)]
-mod tests;
 
-pub use crate::failure::Failure;
 pub use crate::status::{ended, program};

@@ -2,18 +2,18 @@
 ghost use Rattle.std.specs.Prelude.{◌≡◌, map, string_bytes};
 ghost use Rattle.std.specs.Process.{exit_status};
 ghost use Rattle.std.specs.Vec.Iter.{into_iter_items};
-ghost use Rattle.audit_run.specs.KnownBytes.{AppendsPrefix};
-ghost use Rattle.audit_program.specs.Failure.{line_of, status_of};
+ghost use Rattle.audit_streams.specs.KnownBytes.{AppendsPrefix};
+ghost use Rattle.audit_streams.specs.Failure.{line_of, status_of};
+ghost use Rattle.audit_program.specs.Failure.{failure_of_words};
 ghost use Rattle.audit_program.specs.Program.{Ends, EndsOn};
 
 use crate::answers::answer_words;
-use crate::failure::Failure;
-use audit_run::RunError;
+use audit_streams::{Failure, RunError};
 use std::alloc::Global;
 use std::env::Args;
 use std::fs::Files;
 use std::io;
-use std::io::Write;
+use std::io::{ErrorKind, Write};
 use std::process::ExitCode;
 use std::thread::Threads;
 
@@ -57,7 +57,17 @@ pub fn ended<T: Files + Threads + Sync, W: Write, E: Write>(
 {
     match words {
         Ok(words) => ExitCode::from(program_on(rt, alloc, words, out, err)),
-        Err(error) => ExitCode::from(ended_by(Failure::of_words(error.kind()), err)),
+        Err(error) => ExitCode::from(ended_by(words_failure(error.kind()), err)),
+    }
+}
+
+/// The failure of a process whose words could not be had.
+fn words_failure(kind: ErrorKind) -> Failure
+    ensures { result ≡ failure_of_words kind }
+{
+    match kind {
+        ErrorKind::OutOfMemory => Failure::Run(RunError::Memory),
+        _ => Failure::Usage,
     }
 }
 

@@ -2,9 +2,9 @@
 use Rattle.std.proofs.Common.{◌≡◌, ℕ, List, Option, Some, None, Result, Ok, Err, sym, subst}
 use Rattle.std.specs.Prelude.{IfOk, IfErr, IfSome}
 use Rattle.capture_frame.specs.declared.fault.Fault.{Fault}
-use Rattle.audit_run.specs.declared.run_error.RunError.{RunError}
-use Rattle.audit_run.specs.declared.run_error.RunError.TheVariants.{Memory, TooLarge, Read, Write, Open}
-use Rattle.audit_run.specs.KnownBytes.{AppendsPrefix}
+use Rattle.audit_streams.specs.declared.run_error.RunError.{RunError}
+use Rattle.audit_streams.specs.declared.run_error.RunError.TheVariants.{Memory, TooLarge, Read, Write, Open}
+use Rattle.audit_streams.specs.KnownBytes.{AppendsPrefix}
 use Rattle.audit_run.specs.Run.{IsRead, IsOfRead, StaysOrBegins}
 use Rattle.report_text.specs.Fault.{fault_line}
 

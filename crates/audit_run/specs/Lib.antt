@@ -1,4 +1,5 @@
-pub mod KnownBytes
+pub mod Request
 pub mod Run
-pub mod RunError
+pub use Rattle.audit_streams.specs.KnownBytes
+pub use Rattle.audit_streams.specs.RunError
 pub use Rattle.report_text.specs.Answers

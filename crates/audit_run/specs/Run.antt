@@ -5,10 +5,10 @@ use Rattle.capture_frame.specs.declared.fault.Fault.{Fault}
 use Rattle.audit_join.specs.declared.limits.TheConstants.{CAPTURE_LIMIT}
 use Rattle.audit_run.specs.declared.runs.Written.{Written}
 use Rattle.audit_run.specs.declared.runs.Written.TheVariants.{Report, Malformed}
-use Rattle.audit_run.specs.declared.run_error.RunError.{RunError}
-use Rattle.audit_run.specs.declared.run_error.RunError.TheVariants.{Memory, Write, Open}
+use Rattle.audit_streams.specs.declared.run_error.RunError.{RunError}
+use Rattle.audit_streams.specs.declared.run_error.RunError.TheVariants.{Memory, Write, Open}
 use Rattle.transaction_view.specs.Grammar.{IsReadable, HasFirstFault}
-use Rattle.audit_run.specs.KnownBytes.{AppendsPrefix}
+use Rattle.audit_streams.specs.KnownBytes.{AppendsPrefix}
 use Rattle.report_text.specs.Fault.{fault_line, no_fault_line}
 use Rattle.report_text.specs.Text.{IsReportOn}
 

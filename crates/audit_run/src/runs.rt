@@ -2,7 +2,7 @@
 
 ghost use Rattle.std.specs.Prelude.{◌<◌, ◌≤◌, ℕ, List, length, IfOk, IfErr, IfSome, OnOk, OnErr, IsErrOf, IsOkUnless, string_bytes};
 ghost use Rattle.std.specs.Io.KnownBytes.{Appends};
-ghost use Rattle.audit_run.specs.KnownBytes.{AppendsPrefix};
+ghost use Rattle.audit_streams.specs.KnownBytes.{AppendsPrefix};
 ghost use Rattle.report_text.specs.Fault.{fault_line};
 ghost use Rattle.audit_run.specs.Run.{Reports, NamesFirstFault, IsRead, IsOfRead, StaysOrBegins, IsRunFault, IsAnswerFault};
 ghost use Rattle.report_text.specs.Answers.{IsTextOf, IsLineOn};
@@ -11,10 +11,8 @@ ghost use Rattle.audit_join.specs.Audit.{IsMalformed};
 ghost use Rattle.audit_join.specs.declared.limits.TheConstants.{CAPTURE_LIMIT};
 
 use crate::limits::Piece;
-use crate::reading::read_capture;
-use crate::run_error::RunError;
-use crate::writing::write_text;
 use audit_join::{AuditError, CAPTURE_LIMIT, audit_one};
+use audit_streams::{RunError, read_capture, write_text};
 use capture_frame::Fault;
 use claim_board::Workers;
 use report_text::{fault_text, text};

@@ -8,5 +8,5 @@ returns-in-Ok g c = rw (c.in-Ok.is, c.from.ensures) c.program_on.ensures
 
 pub returns-in-Err : goal.returns-in-Err
 returns-in-Err g c =
-    let failure = c.of_words.ensures ∙ ap failure_of_words c.kind.ensures in
+    let failure = c.words_failure.ensures ∙ ap failure_of_words c.kind.ensures in
     rw (c.in-Err.is, c.from-in-Err.ensures) (rw (← failure) (Keeps-refl _, c.ended_by.ensures.line, c.ended_by.ensures.status))

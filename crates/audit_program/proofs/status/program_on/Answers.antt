@@ -3,8 +3,8 @@ use Rattle.std.specs.Vec.Iter.{into_iter_items}
 use Rattle.std.proofs.KnownBytes.{Keeps-refl}
 use Rattle.std.proofs.lemmas.Iterator.{items_from_collect}
 use Rattle.std.proofs.lemmas.Iterator.Adapters.{YieldsList-from_vec}
-use Rattle.audit_run.specs.declared.run_error.RunError.TheVariants.{Memory}
-use Rattle.audit_program.specs.declared.failure.Failure.TheVariants.{Run}
+use Rattle.audit_streams.specs.declared.run_error.RunError.TheVariants.{Memory}
+use Rattle.audit_streams.specs.declared.failure.Failure.TheVariants.{Run}
 use Rattle.audit_program.specs.Program.{failed}
 use Rattle.audit_program.proofs.status.program_on.Goals as goal
 

@@ -1,6 +1,6 @@
 use Rattle.std.proofs.Common.{◌-◌, ◌≤◌, length, take}
 use Rattle.std.specs.Io.KnownBytes.{Appends}
-use Rattle.audit_run.proofs.writing.write_text.Given as goal
+use Rattle.audit_streams.proofs.writing.write_text.Given as goal
 
 -- the writer holds what it held, and the text as far as it is written
 abbrev pub invariant-loop-written : goal.invariant-loop-written

@@ -1,6 +1,6 @@
 use Rattle.std.proofs.Common.{◌++◌, take, arith}
 use Rattle.std.proofs.KnownBytes.{Consumes-trans}
-use Rattle.audit_run.proofs.reading.read_through.Goals as goal
+use Rattle.audit_streams.proofs.reading.read_through.Goals as goal
 
 -- the last read took its bytes too
 pub returns-in_err-append_within-clause-left : goal.returns-in_err-append_within-clause-left

@@ -1,6 +1,6 @@
 use Rattle.std.proofs.Common.{◌≤◌, vec_len}
 use Rattle.std.specs.Io.KnownBytes.{Consumes}
-use Rattle.audit_run.proofs.reading.read_through.Given as goal
+use Rattle.audit_streams.proofs.reading.read_through.Given as goal
 
 -- the reader lost what the capture holds, at least a byte a read, and no more than the limit
 abbrev pub invariant-loop : goal.invariant-loop

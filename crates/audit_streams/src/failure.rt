@@ -1,12 +1,12 @@
 //! What ends the program without an answer: a status, and a line on standard error.
-ghost use Rattle.std.specs.Prelude.{◌≡◌, OnOk, OnErr};
+ghost use Rattle.std.specs.Prelude.{◌≡◌, OnOk, OnErr, IsOkUnless};
 ghost use Rattle.std.specs.Io.KnownBytes.{Appends};
-ghost use Rattle.audit_run.specs.KnownBytes.{AppendsPrefix};
-ghost use Rattle.audit_program.specs.Failure.{failure_of_words, line_of, status_of};
+ghost use Rattle.audit_streams.specs.KnownBytes.{AppendsPrefix};
+ghost use Rattle.audit_streams.specs.Failure.{line_of, status_of};
 
-use crate::command_line::WordsError;
-use audit_run::{RunError, write_text};
-use std::io::{ErrorKind, Write};
+use crate::run_error::RunError;
+use crate::writing::write_text;
+use std::io::Write;
 
 /// What ended the program with a line on standard error.
 #[derive(Clone, Copy, Debug, PartialEq, Eq)]
@@ -50,40 +50,18 @@ impl Failure {
             (Appends (E.contents err.old) (E.contents err.new) (line_of self)) }
         ensures err { OnErr result
             (AppendsPrefix (E.contents err.old) (E.contents err.new) (line_of self)) }
+        ensures fault { IsOkUnless result RunError.Write }
     {
         write_text(err, self.line().as_bytes())
-    }
-
-    /// The failure of a process whose words could not be had.
-    pub(crate) fn of_words(kind: ErrorKind) -> Failure
-        ensures { result ≡ failure_of_words kind }
-    {
-        match kind {
-            ErrorKind::OutOfMemory => Failure::Run(RunError::Memory),
-            _ => Failure::Usage,
-        }
     }
 }
 
 impl From<RunError> for Failure {
-    ghost use Rattle.audit_program.specs.declared.failure.Failure.TheVariants.{Run};
+    ghost use Rattle.audit_streams.specs.declared.failure.Failure.TheVariants.{Run};
 
     ghost from_gives = { λ error failure. failure ≡ Run error };
 
     fn from(error: RunError) -> Failure {
         Failure::Run(error)
-    }
-}
-
-impl From<WordsError> for Failure {
-    ghost use Rattle.audit_program.specs.Failure.{failure_of};
-
-    ghost from_gives = { λ error failure. failure ≡ failure_of error };
-
-    fn from(error: WordsError) -> Failure {
-        match error {
-            WordsError::Memory => Failure::Run(RunError::Memory),
-            WordsError::Usage => Failure::Usage,
-        }
     }
 }

@@ -2,7 +2,7 @@ use Rattle.std.proofs.Common.{ℕ, ◌-◌, ◌≤◌, length, arith, length-dro
 use Rattle.std.proofs.lemmas.List.{take-take}
 use Rattle.std.proofs.Math.Seq.{take-add}
 use Rattle.std.proofs.KnownBytes.{Appends-trans}
-use Rattle.audit_run.proofs.writing.write_text.Goals as goal
+use Rattle.audit_streams.proofs.writing.write_text.Goals as goal
 
 -- what the write took follows what was written before
 pub loop-written-preserved : goal.loop-written-preserved

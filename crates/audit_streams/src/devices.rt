@@ -1,5 +1,4 @@
 //! Readers and writers that are slow, that fail, and that count how often they were called.
-use std::alloc::Global;
 use std::io;
 use std::io::{ErrorKind, Read, Write};
 
@@ -14,15 +13,6 @@ pub(crate) struct Drip {
 }
 
 impl Drip {
-    pub(crate) fn new(bytes: u64) -> Drip {
-        Drip {
-            bytes,
-            fails_at: 0,
-            kind: ErrorKind::Other,
-            reads: 0,
-        }
-    }
-
     pub(crate) fn failing(bytes: u64, fails_at: u64, kind: ErrorKind) -> Drip {
         Drip {
             bytes,
@@ -58,24 +48,39 @@ pub(crate) enum WriteFault {
 /// Takes one byte a write, and fails at one write, or at each flush.
 #[derive(Drop)]
 pub(crate) struct Sink {
-    pub(crate) taken: Vec<u8>,
     /// The number of the write that fails, from 1; 0 for none.
-    pub(crate) fails_at: u64,
-    pub(crate) fault: WriteFault,
-    pub(crate) flush_fails: bool,
+    fails_at: u64,
+    fault: WriteFault,
+    flush_fails: bool,
     pub(crate) writes: u64,
     pub(crate) flushes: u64,
 }
 
 impl Sink {
-    pub(crate) fn new(alloc: Global) -> Sink {
+    pub(crate) fn new() -> Sink {
         Sink {
-            taken: Vec::new(alloc),
             fails_at: 0,
             fault: WriteFault::TakesNothing,
             flush_fails: false,
             writes: 0,
             flushes: 0,
+        }
+    }
+
+    /// Fails at this write.
+    pub(crate) fn failing(fails_at: u64, fault: WriteFault) -> Sink {
+        Sink {
+            fails_at,
+            fault,
+            ..Sink::new()
+        }
+    }
+
+    /// Takes all, and fails at each flush.
+    pub(crate) fn unflushed() -> Sink {
+        Sink {
+            flush_fails: true,
+            ..Sink::new()
         }
     }
 }
@@ -89,13 +94,7 @@ impl Write for Sink {
                 WriteFault::TakesNothing => Ok(0),
             };
         }
-        match buf.first() {
-            Some(byte) => {
-                self.taken.push(*byte)?;
-                Ok(1)
-            }
-            None => Ok(0),
-        }
+        Ok(buf.len().min(1))
     }
 
     fn flush(&mut self) -> io::Result<()> {

@@ -1,8 +1,8 @@
 //! Reads a capture whole.
 ghost use Rattle.std.specs.Prelude.{◌≡◌, ◌+◌, ◌<◌, ◌≤◌, ◌↔◌, ◌++◌, length, vec_len, IfSome, IfOk, IfErr, OnOk, OnErr, IsErrOf};
 ghost use Rattle.std.specs.Io.KnownBytes.{IsAtEnd};
-ghost use Rattle.audit_run.specs.KnownBytes.{ConsumesSome};
-ghost use Rattle.audit_run.specs.RunError.{IsReadingFault};
+ghost use Rattle.audit_streams.specs.KnownBytes.{ConsumesSome};
+ghost use Rattle.audit_streams.specs.RunError.{IsReadingFault};
 
 use crate::run_error::RunError;
 use std::alloc::Global;

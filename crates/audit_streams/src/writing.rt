@@ -1,7 +1,7 @@
 //! Writes a text whole.
 ghost use Rattle.std.specs.Prelude.{OnOk, OnErr, IsOkUnless};
 ghost use Rattle.std.specs.Io.KnownBytes.{Appends};
-ghost use Rattle.audit_run.specs.KnownBytes.{AppendsPrefix};
+ghost use Rattle.audit_streams.specs.KnownBytes.{AppendsPrefix};
 
 use crate::run_error::RunError;
 use std::io::Write;

@@ -1,0 +1,17 @@
+//! The two ends of a run: a reader read whole, a text written whole, and what ends the program
+//! without an answer.
+#![tactic(auto)]
+
+#[cfg(test)]
+mod devices;
+mod failure;
+mod reading;
+mod run_error;
+#[cfg(test)]
+mod tests;
+mod writing;
+
+pub use crate::failure::Failure;
+pub use crate::reading::read_capture;
+pub use crate::run_error::RunError;
+pub use crate::writing::write_text;
