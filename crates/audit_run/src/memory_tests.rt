@@ -29,6 +29,14 @@ BINDER AUDIT 1
 frames 1 records 1 opaque 0 missing 0
 codes 1
   0x80407202 BR_TRANSACTION 1
+handles 0 unbalanced 0
+nodes 0 unbalanced 0
+buffers 1 leaked 1
+  48 100 0x9000 24 BR_TRANSACTION
+frees 0 stray 0
+requests 0 standing 0
+deaths 0 unacknowledged 0 stray 0
+clears 0 unconfirmed 0 stray 0
 objects binder 0 weak_binder 0 handle 0 weak_handle 0 fd 0 fda 0 ptr 0 bad 1
   48 100 0 2 Misaligned
 flags 1
