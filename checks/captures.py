@@ -55,6 +55,25 @@ def transaction(kind, target=0, code=0, flags=0, sender=0, sizes=(0, 0), buffer=
                   u64(sizes[0]), u64(sizes[1]), u64(buffer))
 
 
+def each(code, *numbers):
+    """Records of this code, one for each u32: references to handles."""
+    return [record(code, u32(number)) for number in numbers]
+
+
+def each_long(code, *numbers):
+    """Records of this code, one for each u64: freed buffers, cookies."""
+    return [record(code, u64(number)) for number in numbers]
+
+
+def node(code, ptr, cookie):
+    return record(code, u64(ptr), u64(cookie))
+
+
+def watch(code, handle, cookie):
+    """A request to be told of a death, or its clear."""
+    return record(code, u32(handle), u64(cookie))
+
+
 def entry(offset, body, listed):
     """An attachment entry for the record at this offset of the command bytes."""
     return u32(offset) + u32(len(body)) + u32(len(listed)) + body + listed
@@ -78,6 +97,7 @@ def changed(capture, *changes):
 
 
 HEADER = b"BNDRCAP1" + u32(8) + u32(0)
+MAX_32, MAX_64 = 2**32 - 1, 2**64 - 1
 
 COMMANDS = (
     BC_TRANSACTION, BC_REPLY, BC_ACQUIRE_RESULT, BC_FREE_BUFFER, BC_INCREFS,
@@ -183,6 +203,156 @@ def flags_of_all_kinds():
     return HEADER + write(1, 200, 201, *sent) + read(2, 100, 101, *returned)
 
 
+def handles():
+    """Two processes, whose frames alternate. In the one each command alone names a handle, 1 to 4;
+    of 5 strong and weak go apart, 6 falls below 0 and comes back above it, 7 and 8 end at 0, and
+    9 stands in a transaction alone. The other refers to 5 and 6 too."""
+    return HEADER + write(
+        1, 200, 201, *each(BC_ACQUIRE, 5), *each(BC_RELEASE, 6), *each(BC_DECREFS, 5),
+    ) + write(
+        2, 100, 101, *each(BC_INCREFS, 1), *each(BC_ACQUIRE, 2), *each(BC_RELEASE, 3),
+        *each(BC_DECREFS, 4), *each(BC_RELEASE, 6, 6), *each(BC_ACQUIRE, 5, MAX_32),
+    ) + write(
+        3, 200, 202, *each(BC_RELEASE, 5, 5),
+    ) + write(
+        4, 100, 102, *each(BC_ACQUIRE, 6, 6, 6, 5), *each(BC_DECREFS, 5), *each(BC_INCREFS, 0),
+        *each(BC_DECREFS, 7), *each(BC_INCREFS, 7), transaction(BC_TRANSACTION, target=9),
+    ) + write(
+        5, 100, 101, *each(BC_ACQUIRE, 8), *each(BC_RELEASE, 8, 8), *each(BC_ACQUIRE, 8),
+    )
+
+
+def nodes():
+    """In the first process each of the six records alone names a node, ptr 1 to 6. Two nodes have
+    one ptr; one falls below 0 and comes back, and is still due. The second process has a node of
+    the same ptr and cookie, which ends at 0, and one that is let go without having been asked."""
+    return HEADER + read(
+        1, 100, 101, node(BR_INCREFS, 1, 1), node(BR_ACQUIRE, 2, 1), node(BR_RELEASE, 3, 1),
+        node(BR_DECREFS, 4, 1), node(BR_ACQUIRE, 0x20, 0x30), node(BR_ACQUIRE, 0x20, 0x31),
+        node(BR_DECREFS, 0, 0), node(BR_INCREFS, 0, 0),
+    ) + write(
+        2, 100, 102, node(BC_INCREFS_DONE, 5, 1), node(BC_ACQUIRE_DONE, 6, 1),
+        node(BC_ACQUIRE_DONE, 0x20, 0x31), node(BC_INCREFS_DONE, 0, 0),
+    ) + read(
+        3, 50, 51, node(BR_RELEASE, MAX_64, MAX_64), node(BR_ACQUIRE, 0x20, 0x30),
+        node(BR_RELEASE, 0x20, 0x30), node(BR_INCREFS, 0x1F, MAX_64),
+    ) + write(
+        4, 50, 51, node(BC_ACQUIRE_DONE, 0x20, 0x30),
+    ) + read(
+        5, 100, 101, node(BR_RELEASE, 0x20, 0x31), node(BR_DECREFS, 0, 0), node(BR_INCREFS, 0, 0),
+        node(BR_ACQUIRE, MAX_64, MAX_64), node(BR_ACQUIRE, MAX_64, 0),
+    )
+
+
+def buffers():
+    """0x10 is freed before its delivery and after it, by another thread. 0x20 comes twice and is
+    freed once; 0x30 comes twice and is freed three times; 0x40 comes again behind its free. 0x50
+    is freed by another process alone, once before and once after. Of replies 0x60 is freed and
+    0x70 not, with a security context 0x80 and not 0x90, of oneway ones 0xb0 and not 0xa0. The
+    other process has 0x20 too."""
+    def deliver(address, kind=BR_TRANSACTION, **fields):
+        return transaction(kind, buffer=address, **fields)
+    return HEADER + write(
+        1, 100, 101, *each_long(BC_FREE_BUFFER, 0x10),
+    ) + read(
+        2, 100, 101, *map(deliver, (0x10, 0x20, 0x20, 0x30, 0x30)), deliver(0x60, BR_REPLY),
+        deliver(0x70, BR_REPLY, sizes=(24, 8)), deliver(0x80, BR_TRANSACTION_SEC_CTX),
+        deliver(0x90, BR_TRANSACTION_SEC_CTX, sizes=(1, 0)),
+    ) + write(
+        3, 200, 201, *each_long(BC_FREE_BUFFER, 0x50, MAX_64, MAX_64),
+    ) + read(
+        4, 200, 201, deliver(0x20),
+    ) + read(
+        5, 100, 102, *map(deliver, (0x50, 0x40)), deliver(0xA0, flags=1, sizes=(MAX_64, MAX_64)),
+        deliver(0xB0, flags=1), *map(deliver, (0, MAX_64)),
+    ) + write(
+        6, 100, 102,
+        *each_long(BC_FREE_BUFFER, 0x10, 0x20, 0x30, 0x30, 0x40, 0x60, 0x80, 0xB0, 0x30),
+    ) + write(
+        7, 200, 201, *each_long(BC_FREE_BUFFER, 0x50),
+    ) + read(
+        8, 100, 101, deliver(0x40),
+    )
+
+
+def requests():
+    """What ends a request: a clear with its handle and cookie, or a death with its cookie. What
+    does not: a clear with one of the two, one that stands before it or in another process, an
+    acknowledgement, a confirmation."""
+    def request(*which):
+        return watch(BC_REQUEST_DEATH_NOTIFICATION, *which)
+
+    def clear(*which):
+        return watch(BC_CLEAR_DEATH_NOTIFICATION, *which)
+    return HEADER + write(
+        1, 100, 101, clear(1, 0xA1), request(1, 0xA1), request(2, 0xA2), request(3, 0xA3),
+        request(4, 0xA4), request(5, 0xA5), request(6, 0xA5), request(7, 0xA7), request(7, 0xA7),
+    ) + read(
+        2, 100, 101, *each_long(BR_DEAD_BINDER, 0xA8),
+    ) + write(
+        3, 100, 102, request(8, 0xA8), request(9, 0xA9), request(10, 0xAA), request(11, 0xAB),
+        request(0, 0), request(MAX_32, MAX_64), clear(2, 0xA2), clear(3, 0xA4), clear(4, 0xA3),
+        clear(7, 0xA7),
+    ) + write(
+        4, 200, 201, request(5, 0xA5), clear(9, 0xA9),
+    ) + read(
+        5, 200, 201, *each_long(BR_DEAD_BINDER, 0xA9),
+    ) + read(
+        6, 100, 101, *each_long(BR_DEAD_BINDER, 0xA5),
+        *each_long(BR_CLEAR_DEATH_NOTIFICATION_DONE, 0xAA),
+    ) + write(
+        7, 100, 101, *each_long(BC_DEAD_BINDER_DONE, 0xAB), request(2, 0xA2),
+    )
+
+
+def deaths_and_clears():
+    """The same of deaths and of clears, by the same cookies: 1 is answered by another thread, 2
+    before it, 3 comes twice and is answered once, 4 is answered twice, 5 by another process; 0 and
+    the greatest are not answered. The clears with cookie 3 have two handles."""
+    clears = [watch(BC_CLEAR_DEATH_NOTIFICATION, *which) for which in (
+        (7, 1), (7, 3), (8, 3), (7, 4), (7, 5), (7, 0), (MAX_32, MAX_64))]
+    return HEADER + write(
+        1, 100, 101, *each_long(BC_DEAD_BINDER_DONE, 2), *clears,
+    ) + read(
+        2, 100, 101, *each_long(BR_DEAD_BINDER, 1, 2, 3, 3, 4, 5, 0, MAX_64),
+        *each_long(BR_CLEAR_DEATH_NOTIFICATION_DONE, 2),
+    ) + write(
+        3, 200, 201, *each_long(BC_DEAD_BINDER_DONE, 5),
+    ) + read(
+        4, 200, 201, *each_long(BR_CLEAR_DEATH_NOTIFICATION_DONE, 5),
+    ) + write(
+        5, 100, 102, *each_long(BC_DEAD_BINDER_DONE, 1, 3, 4, 4),
+        watch(BC_CLEAR_DEATH_NOTIFICATION, 7, 2),
+    ) + read(
+        6, 100, 103, *each_long(BR_CLEAR_DEATH_NOTIFICATION_DONE, 1, 3, 4, 4),
+    )
+
+
+def processes():
+    """Processes in falling number, of which some have an empty first frame. Their references come
+    later, in another order. The greatest number is first, and 0 last; 35 does nothing at all."""
+    falling = MAX_32, 40, 35, 30, 20
+    return HEADER + b"".join(
+        write(at, number, 1) for at, number in enumerate(falling, 1)
+    ) + write(
+        6, 10, 1, *each(BC_ACQUIRE, 2, 1),
+    ) + read(
+        7, 0, 0, node(BR_ACQUIRE, 1, 1),
+    ) + write(
+        8, 20, 2, *each(BC_INCREFS, 1),
+    ) + read(
+        9, 40, 2, node(BR_ACQUIRE, 2, 1), node(BR_ACQUIRE, 1, 2),
+    ) + write(
+        10, 30, 1, *each(BC_ACQUIRE, 1), node(BC_ACQUIRE_DONE, 1, 1),
+    ) + write(
+        11, 0, 0, *each(BC_ACQUIRE, 1),
+    ) + write(
+        12, MAX_32, 1, *each(BC_ACQUIRE, 1),
+    ) + write(
+        13, 40, 1, *each(BC_ACQUIRE, 1),
+    )
+
+
 # ---- the captures
 
 CAPTURES = {
@@ -235,6 +405,22 @@ CAPTURES = {
     + read(2, 100, 101, *2 * [record(BR_CLEAR_DEATH_NOTIFICATION_DONE, u64(1))]),
     # one frame more than a piece has
     "many-frames.cap": loopers(257),
+
+    # -- what is counted and paired in each process
+    # counts of handles and their lows
+    "handles.cap": handles(),
+    # counts of nodes, their lows, and what is due
+    "nodes.cap": nodes(),
+    # deliveries and frees, in all orders
+    "buffers.cap": buffers(),
+    # what ends a request, and what does not
+    "requests.cap": requests(),
+    # deaths and clears, and their answers
+    "deaths-and-clears.cap": deaths_and_clears(),
+    # the order of processes is that of their first frames
+    "processes.cap": processes(),
+
+    # -- each record of the tables, and names
     # each command and each return of the tables, once
     "every-command.cap": HEADER + write(1, 100, 101, *map(record, COMMANDS))
     + read(2, 100, 101, *map(record, RETURNS)),

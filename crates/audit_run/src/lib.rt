@@ -4,6 +4,8 @@
 
 mod answers;
 mod limits;
+#[cfg(test)]
+mod memory_tests;
 mod runs;
 
 pub use crate::answers::{Request, answer, answer_file};
