@@ -1,7 +1,8 @@
 -- What a map of summaries in the order of first items tells, and what the keys of a list in that order are.
-use Rattle.std.proofs.Common.{◌≡◌, ◌≢◌, Bool, true, false, cond, not, ◌&&◌, List, [], ◌∷◌, ◌++◌, map, filter, Option, Some, None, is_some, All, Contains, refl, sym, ap, subst, ◌∙◌, ⊎_elim}
-use Rattle.std.proofs.lemmas.Bool.{cases_Bool}
-use Rattle.std.proofs.lemmas.List.Elements.{All-cons, All-head, All-tail, All-nil, All-filter, All-contains, All-contains_itself, All-weaker, Contains-get_or}
+use Rattle.std.proofs.Common.{◌≡◌, ◌≢◌, Bool, true, false, not, ◌&&◌, List, [], ◌∷◌, ◌++◌, map, filter, Option, Some, None, is_some, All, Contains, slice_index_or, refl, sym, ap, subst, ◌∙◌, ⊎_elim}
+use Rattle.std.proofs.lemmas.Bool.{cases_Bool, true≢false}
+use Rattle.std.proofs.lemmas.List.{map-append}
+use Rattle.std.proofs.lemmas.List.Elements.{All-cons, All-head, All-tail, All-filter, All-contains, All-contains_itself, All-weaker, Contains-get_or}
 use Rattle.std.proofs.lemmas.Map.Made.{is_some-lookup, All-is_member}
 use Rattle.std.proofs.lemmas.Map.Views.{lookup-from_Contains}
 use Rattle.std.specs.Cmp.{IsEquivalence}
@@ -26,6 +27,7 @@ still_apart eq p key (other ∷ keys) apart =
     (cases_Bool (p other))
 
 IsDistinct-filter : {K : Type 0} (eq : K → K → Bool) (p : K → Bool) (keys : List K) → IsDistinct eq keys → IsDistinct eq (filter p keys)
+unfolding IsDistinct
 IsDistinct-filter eq p [] distinct = tt
 IsDistinct-filter eq p (key ∷ keys) distinct =
     ⊎_elim
@@ -77,6 +79,7 @@ module _ {K : Type 0} {eq : K → K → Bool} (laws : IsEquivalence eq) where
 
   -- no two of the firsts are equal
   pub firsts_distinct : (keys : List K) → IsDistinct eq (firsts eq keys)
+  unfolding IsDistinct
   firsts_distinct [] = tt
   firsts_distinct (key ∷ keys) =
       (none_equal key (firsts eq keys), IsDistinct-filter eq (λ other. not (eq other key)) (firsts eq keys) (firsts_distinct keys))
@@ -97,3 +100,41 @@ module _ {K : Type 0} {eq : K → K → Bool} (laws : IsEquivalence eq) where
   firsts-blocks key rest (b ∷ blocks) =
       ap (λ t. key b ∷ t) (copies_past (key b) (rest b) (flat_map (λ b. key b ∷ map (λ x. key b) (rest b)) blocks))
       ∙ ap (λ t. key b ∷ filter (λ other. not (eq other (key b))) t) (firsts-blocks key rest blocks)
+
+  copied_key : {X I : Type 0} (key : K) (item : X → I) (xs : List X) → keys_of (map {B = K × I} (λ x. (key, item x)) xs) ≡ map (λ x. key) xs
+  copied_key key item [] = refl
+  copied_key key item (x ∷ xs) = ap (λ t. key ∷ t) (copied_key key item xs)
+
+  -- items that come in blocks, each block a first item and then others under one key, have the firsts of the blocks' keys
+  pub firsts-fed : {B X I : Type 0} (key : B → K) (first : B → I) (rest : B → List X) (item : B → X → I) (blocks : List B)
+      → firsts eq (keys_of (flat_map {A = K × I} (λ b. (key b, first b) ∷ map (λ x. (key b, item b x)) (rest b)) blocks)) ≡ firsts eq (map key blocks)
+  firsts-fed {B} {X} {I} key first rest item blocks = ap (firsts eq) (keys_fed blocks) ∙ firsts-blocks key rest blocks
+    where
+      block : B → List (K × I)
+      block b = (key b, first b) ∷ map (λ x. (key b, item b x)) (rest b)
+
+      keys_fed : (bs : List B) → keys_of (flat_map block bs) ≡ flat_map (λ b. key b ∷ map (λ x. key b) (rest b)) bs
+      keys_fed [] = refl
+      keys_fed (b ∷ bs) =
+          map-append (λ (e : K × I). e.0) (block b) (flat_map block bs)
+          ∙ (λ j. key b ∷ (copied_key (key b) (item b) (rest b) j ++ keys_fed bs j))
+
+  module _ {S I : Type 0} (Sums : S → List I → Type 0) (entries : List (K × S)) (items : List (K × I)) (sums : SumsInOrder eq Sums entries items) where
+    -- no two entries have equal keys
+    pub entries_distinct : IsDistinct eq (keys_of entries)
+    entries_distinct = subst (λ (t : List K). IsDistinct eq t) (sym sums.order) (firsts_distinct (keys_of items))
+
+    -- each entry sums the items of its own key, and there are some
+    pub each_sums : All (λ e. (items_of eq e.0 items ≢ []) × Sums e.1 (items_of eq e.0 items)) entries
+    each_sums k d within =
+        let e = slice_index_or entries k d in
+        let found : lookup (eq e.0) entries ≡ Some e.1 = lookup-from_Contains laws e.0 e.1 entries entries_distinct (Contains-get_or entries k d within) in
+        subst (λ (o : Option S). IsPart Sums o (items_of eq e.0 items)) found (sums.parts e.0)
+
+    no_part : (part : Option S) (own : List I) → IsPart Sums part own → is_some part ≡ false → own ≡ []
+    no_part None own is none = is
+    no_part (Some part) own is none = absurd (true≢false none)
+
+    -- a key that no entry has has no items
+    pub none_else : (key : K) → list_any (eq key) (keys_of entries) ≡ false → items_of eq key items ≡ []
+    none_else key missing = no_part (lookup (eq key) entries) (items_of eq key items) (sums.parts key) (is_some-lookup (eq key) entries ∙ missing)

@@ -14,5 +14,6 @@ pub mod PlacesRise
 pub mod PartLaws
 pub mod ListedThere
 pub mod StandLaws
+pub mod PlaceLaws
 mod FirstLaws
 pub mod InOrderLaws

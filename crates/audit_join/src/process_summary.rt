@@ -1,5 +1,6 @@
 //! The summary of one process.
 
+ghost use Rattle.std.specs.Prelude.{◌≡◌, None, IfSome, IfNone, IsSomeAnd};
 ghost use Rattle.audit_join.specs.ProcessLedgers.{FitProcess, SumsProcessItems, process_parts};
 
 use crate::process_items::ProcessItems;
@@ -16,7 +17,11 @@ pub(crate) struct ProcessSummary {
 
 impl ProcessSummary {
     /// The ledgers; None where none of them has an item.
-    pub fn ledgers(&self) -> Option<&ProcessLedgers> {
+    pub fn ledgers(&self) -> Option<&ProcessLedgers>
+        ensures some { IfSome result (λ ledgers.
+            IsSomeAnd self.now.ledgers (λ own. ledgers.now ≡ own.value)) }
+        ensures none { IfNone result (self.now.ledgers ≡ None) }
+    {
         self.ledgers.as_deref()
     }
 }
