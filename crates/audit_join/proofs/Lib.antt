@@ -15,6 +15,7 @@ pub mod PlacesRise
 pub mod PartLaws
 pub mod ListedThere
 pub mod StandLaws
+pub mod PlaceLaws
 mod FirstLaws
 pub mod InOrderLaws
 pub mod FedLaws

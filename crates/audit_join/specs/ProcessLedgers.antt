@@ -153,6 +153,11 @@ abbrev pub IsOfProcess : Option (Box ProcessLedgers Global) → List EventText �
 IsOfProcess None events process = HasNoItems events process
 IsOfProcess (Some ledgers) events process = AreLedgersOf ledgers.value events process
 
+-- where it is so of a process at some place, some event of the process is an item of a ledger
+abbrev pub NeedsItems : (List EventText → ℕ → ℕ → Type 0) → Type 0
+NeedsItems IsSo =
+    (events : List EventText) (process place : ℕ) → HasNoItems events process → IsSo events process place → ⊥
+
 -- they are those of the processes of these frames, in the order of their first frames
 pub record AreOfProcesses (processes : List (Process × ProcessSummary)) (wholes : List (Placed WholeFrame)) : Type 0 where
   pub order : map (λ (e : Process × ProcessSummary). e.0.number) processes ≡ processes_of wholes

@@ -6,7 +6,7 @@ ghost use Rattle.transaction_view.specs.Grammar.{WholeFrame};
 ghost use Rattle.pending_ledger.specs.Pending.{ArePlacesOf};
 ghost use Rattle.audit_join.specs.Frames.{events_of_wholes};
 ghost use Rattle.audit_join.specs.Places.{RiseInPlace, StandsInProcess};
-ghost use Rattle.audit_join.specs.ProcessLedgers.{AreOfProcesses};
+ghost use Rattle.audit_join.specs.ProcessLedgers.{AreOfProcesses, NeedsItems};
 
 use crate::in_order::InOrder;
 use crate::process::Process;
@@ -36,7 +36,7 @@ pub(crate) fn places_of<L: Listed>(
     alloc: Global,
     processes: &InOrder<Process, ProcessSummary>,
 ) -> Result<Vec<u64>, AllocError>
-    ensures { IfOk result (λ places. StandsInProcess L.is_so →
+    ensures { IfOk result (λ places. StandsInProcess L.is_so → NeedsItems L.is_so →
         (wholes : List (Placed WholeFrame)) → AreOfProcesses processes.now.entries.entries wholes →
         RiseInPlace (events_of_wholes wholes) →
         ArePlacesOf (λ place. (process : ℕ) × L.is_so (events_of_wholes wholes) process place)

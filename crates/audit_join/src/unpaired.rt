@@ -6,7 +6,7 @@ ghost use Rattle.transaction_view.specs.Grammar.{WholeFrame};
 ghost use Rattle.audit_join.specs.Frames.{events_of_wholes};
 ghost use Rattle.audit_join.specs.Kept.{KeepsUnpaired};
 ghost use Rattle.audit_join.specs.Places.{RiseInPlace, StandsInProcess, ExcludeEachOther, UnpairedText, AreUnpaired};
-ghost use Rattle.audit_join.specs.ProcessLedgers.{AreOfProcesses};
+ghost use Rattle.audit_join.specs.ProcessLedgers.{AreOfProcesses, NeedsItems};
 
 use crate::in_order::InOrder;
 use crate::places::{Listed, places_of};
@@ -32,6 +32,7 @@ pub(crate) fn unpaired_of<O: Listed, C: Listed>(
     processes: &InOrder<Process, ProcessSummary>,
 ) -> Result<Unpaired, AllocError>
     ensures { IfOk result (λ found. StandsInProcess O.is_so → StandsInProcess C.is_so →
+        NeedsItems O.is_so → NeedsItems C.is_so →
         ExcludeEachOther O.is_so C.is_so → (wholes : List (Placed WholeFrame)) →
         AreOfProcesses processes.now.entries.entries wholes → RiseInPlace (events_of_wholes wholes) →
         (said : UnpairedText) × KeepsUnpaired found said
