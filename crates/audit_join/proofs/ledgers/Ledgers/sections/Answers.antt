@@ -6,6 +6,7 @@ use Rattle.audit_join.specs.Frames.{events_of_wholes}
 use Rattle.audit_join.specs.Places.{StandsInProcess}
 use Rattle.audit_join.proofs.EventsAt.{events_at, stands_somewhere}
 use Rattle.audit_join.proofs.OfProcesses.{are_of_processes}
+use Rattle.audit_join.proofs.StandLaws.{leaked_needs, stray_free_needs, request_needs, open_death_needs, stray_acknowledgement_needs, open_clear_needs, stray_confirmation_needs}
 use Rattle.audit_join.proofs.StandLaws.{leaked_stands, stray_free_stands, request_stands, open_death_stands, stray_acknowledgement_stands, deaths_apart, open_clear_stands, stray_confirmation_stands, clears_apart}
 use Rattle.audit_join.proofs.ledgers.Ledgers.sections.Goals as goal
 
@@ -20,11 +21,11 @@ returns c wholes sums few =
     let events = events_of_wholes wholes in
     let of = are_of_processes c.args.self.processes.entries.entries wholes sums.processes in
     let rise = few.1.0.1 in
-    let leaked = events_at _ events (stands_somewhere _ leaked_stands events) _ (c.in_ok-places_of.ensures leaked_stands wholes of rise) in
-    let strays = events_at _ events (stands_somewhere _ stray_free_stands events) _ (c.in_ok-places_of-2.ensures stray_free_stands wholes of rise) in
-    let standing = events_at _ events (stands_somewhere _ request_stands events) _ (c.in_ok-places_of-3.ensures request_stands wholes of rise) in
-    let deaths = c.in_ok-unpaired_of.ensures open_death_stands stray_acknowledgement_stands deaths_apart wholes of rise in
-    let clears = c.in_ok-unpaired_of-2.ensures open_clear_stands stray_confirmation_stands clears_apart wholes of rise in
+    let leaked = events_at _ events (stands_somewhere _ leaked_stands events) _ (c.in_ok-places_of.ensures leaked_stands leaked_needs wholes of rise) in
+    let strays = events_at _ events (stands_somewhere _ stray_free_stands events) _ (c.in_ok-places_of-2.ensures stray_free_stands stray_free_needs wholes of rise) in
+    let standing = events_at _ events (stands_somewhere _ request_stands events) _ (c.in_ok-places_of-3.ensures request_stands request_needs wholes of rise) in
+    let deaths = c.in_ok-unpaired_of.ensures open_death_stands stray_acknowledgement_stands open_death_needs stray_acknowledgement_needs deaths_apart wholes of rise in
+    let clears = c.in_ok-unpaired_of-2.ensures open_clear_stands stray_confirmation_stands open_clear_needs stray_confirmation_needs clears_apart wholes of rise in
     let said : FindingsText = record {
       frames = length wholes;
       records = c.args.self.events.records;
