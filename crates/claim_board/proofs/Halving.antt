@@ -1,16 +1,18 @@
 -- Two halves of a crew, and what they did, put together.
-use Rattle.std.proofs.Common.{◌≡◌, ℕ, ◌/◌, ◌<◌, true, List, [], ◌∷◌, ◌++◌, map, length, take, sym, refl, ap, ◌∙◌, subst, arith, append_assoc, length-take}
+use Rattle.std.proofs.Common.{◌≡◌, ◌≢◌, ℕ, ◌-◌, ◌/◌, ◌<◌, true, false, List, [], ◌∷◌, ◌++◌, map, length, take, drop, sym, refl, ap, ◌∙◌, subst, arith, append_assoc, length-take, length-drop, All}
 use mathlib.Core.List.{map-append}
 use Rattle.std.proofs.lemmas.List.{take-append-drop}
-use Rattle.std.proofs.lemmas.List.Elements.{All-append}
+use Rattle.std.proofs.lemmas.List.Elements.{All-append, All-take, All-drop}
+use Rattle.atomic_table.specs.Seated.{TableId}
 use Rattle.atomic_table.specs.declared.shared.Seat.{Seat}
+use Rattle.claim_board.specs.declared.job.Job.{Job}
 use Rattle.claim_board.specs.declared.job.JobState.{JobState}
 use Rattle.claim_board.specs.declared.job.JobState.TheVariants.{Untouched, Held, Faulty, Done, Skipped, Lowered}
 use Rattle.claim_board.specs.declared.view.ClaimedJob.{ClaimedJob}
 use Rattle.claim_board.specs.declared.view.SeatWorker.{SeatWorker}
 use Rattle.claim_board.specs.declared.view.View.{View}
 use Rattle.claim_board.specs.Steps.{left_view, right_view, joined_view}
-use Rattle.claim_board.specs.Work.{with_done, done_jobs, AreResults, IsSameCrew, StandsForSame, HaveStopped}
+use Rattle.claim_board.specs.Work.{with_done, done_jobs, AreResults, IsSameCrew, IsFresh, MayShare, StandsForSame, HaveStopped}
 
 with_done-append : (i : ℕ) (s : JobState) (a b : List ℕ) → with_done i s (a ++ b) ≡ a ++ with_done i s b
 with_done-append i Untouched a b = refl
@@ -73,3 +75,35 @@ same_again old cut other l r new s low high j = (
   (j.0 ∙ (low.0.0 ∙ s.0), j.1 ∙ (low.0.1 ∙ s.1), ap (λ x. x.1) j.2 ∙ (low.0.2 ∙ ap (λ x. x.1) s.2)),
   crew_again old.me.0 cut.me.0 other.me.0 l.me.0 r.me.0 new.me.0 (ap (λ x. x.0) s.2) (ap (λ x. x.0) s.4) low.1 high.1 (ap (λ x. x.0) j.2),
 )
+
+fresh_part : (v u : View) (crew : List SeatWorker) → u ≡ record v { crew = crew } → v.claimed ≡ [] → All (λ m. m.stopped ≡ false) crew → IsFresh u
+fresh_part v u crew e none some = record {
+  claimed = ap (λ x. x.claimed) e ∙ none;
+  crew = subst (λ x. All (λ m. m.stopped ≡ false) x.crew) (sym e) some;
+}
+
+-- each half of a seat whose workers have made no step may share the jobs in its turn
+module _ (table : TableId) (jobs : List Job) (n : ℕ) (old half : Seat (Unit {0}) View) (m : MayShare table jobs n old) (more : n ≢ 1)
+    (same : half.table_id ≡ old.table_id) where
+  abbrev v : View
+  v = old.me.0
+
+  pub front_may_share : half.me.0 ≡ left_view old.me.0 → MayShare table jobs (n / 2) half
+  front_may_share e = record {
+    place = (m.place.0, same ∙ m.place.1);
+    over = ap (λ x. x.jobs) e ∙ m.over;
+    fresh = fresh_part v half.me.0 (take (length v.crew / 2) v.crew) e m.fresh.claimed
+        (All-take (λ m. m.stopped ≡ false) (length v.crew / 2) v.crew m.fresh.crew);
+    crew = ap (λ x. length x.crew) e ∙ (let t = length-take (length v.crew / 2) v.crew in let c = m.crew in omega arith);
+    at_least_one = let k = m.at_least_one in omega arith;
+  }
+
+  pub back_may_share : half.me.0 ≡ right_view old.me.0 → MayShare table jobs (n - n / 2) half
+  back_may_share e = record {
+    place = (m.place.0, same ∙ m.place.1);
+    over = ap (λ x. x.jobs) e ∙ m.over;
+    fresh = fresh_part v half.me.0 (drop (length v.crew / 2) v.crew) e m.fresh.claimed
+        (All-drop (λ m. m.stopped ≡ false) (length v.crew / 2) v.crew m.fresh.crew);
+    crew = ap (λ x. length x.crew) e ∙ (let t = length-drop (length v.crew / 2) v.crew in let c = m.crew in omega arith);
+    at_least_one = let k = m.at_least_one in omega arith;
+  }

@@ -144,8 +144,8 @@ pub record IsKey (jobs : List Job) (workers : ℕ) : Type 0 where
   pub at_most_64 : workers ≤ 64
 
 -- The jobs of all views are the numbers below the claim word that are jobs, each once, and no other: they weigh the
--- same, however numbers are weighed. (Each weighing 1: there are as many. x weighing 1, every other 0: x stands there as
--- often.)
+-- same, however numbers are weighed. (Each weighing 1: there are as many. x weighing 1, every other 0: x stands there
+-- as often.)
 -- In the same way the workers of all views are the table's, each once.
 -- The claim word is the number of jobs in all views and of workers that have stopped.
 -- The fault word is the mark for none or the fault of a job that is Lowered.

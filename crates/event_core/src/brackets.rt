@@ -1,33 +1,21 @@
 //! The marks and the brackets of a thread.
 
-ghost use Rattle.std.specs.Prelude.{◌≡◌, IsTrue};
-ghost use Rattle.transaction_view.specs.Transaction.{has_transaction_data};
-ghost use Rattle.event_core.specs.Brackets.{mark_of, bracket_of, opener, error_reply};
+ghost use Rattle.std.specs.Prelude.{◌≡◌};
+ghost use Rattle.event_core.specs.Brackets.{mark_of, bracket_of, sent_mark, received_mark, opener, error_reply};
 
 use crate::event::Event;
 use crate::marks::{Bracket, Mark};
 use crate::oneway::has_one_way;
 use binder_code::Kind;
+use transaction_view::Transaction;
 
 /// The mark that an event leaves in its thread; None for an event that is no mark.
 pub fn mark(event: Event<'_>) -> Option<Mark>
     ensures { result ≡ mark_of event.entry.kind event.entry.payload.now }
 {
     match event.kind {
-        Kind::BcTransaction | Kind::BcTransactionSg => {
-            if has_one_way(event.transaction?) {
-                Some(Mark::Oneway)
-            } else {
-                Some(Mark::Other)
-            }
-        }
-        Kind::BrTransaction | Kind::BrTransactionSecCtx => {
-            if has_one_way(event.transaction?) {
-                None
-            } else {
-                Some(Mark::Other)
-            }
-        }
+        Kind::BcTransaction | Kind::BcTransactionSg => sent_mark(event.fields()),
+        Kind::BrTransaction | Kind::BrTransactionSecCtx => received_mark(event.fields()),
         Kind::BcReply | Kind::BcReplySg => Some(Mark::SentReply),
         Kind::BrReply
         | Kind::BrTransactionComplete
@@ -40,13 +28,35 @@ pub fn mark(event: Event<'_>) -> Option<Mark>
     }
 }
 
+/// The mark of a transaction that its thread sends.
+fn sent_mark(transaction: Transaction<'_>) -> Option<Mark>
+    ensures { result ≡ sent_mark transaction.entry.carrier.payload.now }
+{
+    if has_one_way(transaction) {
+        Some(Mark::Oneway)
+    } else {
+        Some(Mark::Other)
+    }
+}
+
+/// The mark of a transaction that its thread gets.
+fn received_mark(transaction: Transaction<'_>) -> Option<Mark>
+    ensures { result ≡ received_mark transaction.entry.carrier.payload.now }
+{
+    if has_one_way(transaction) {
+        None
+    } else {
+        Some(Mark::Other)
+    }
+}
+
 /// What an event is, where `last` is the mark of its thread's latest earlier event that left one.
 pub fn bracket(last: Option<Mark>, event: Event<'_>) -> Bracket
     ensures { result ≡ bracket_of last event.entry.kind event.entry.payload.now }
 {
     match event.kind {
-        Kind::BcTransaction | Kind::BcTransactionSg => opener(event, Bracket::Call),
-        Kind::BrTransaction | Kind::BrTransactionSecCtx => opener(event, Bracket::Served),
+        Kind::BcTransaction | Kind::BcTransactionSg => opener(event.fields(), Bracket::Call),
+        Kind::BrTransaction | Kind::BrTransactionSecCtx => opener(event.fields(), Bracket::Served),
         Kind::BrReply => Bracket::Reply,
         Kind::BcReply | Kind::BcReplySg => Bracket::Sent,
         Kind::BrDeadReply | Kind::BrFailedReply | Kind::BrFrozenReply => error_reply(last),
@@ -55,13 +65,13 @@ pub fn bracket(last: Option<Mark>, event: Event<'_>) -> Bracket
 }
 
 /// The opener that a transaction is, unless it is a oneway one.
-fn opener(event: Event<'_>, bracket: Bracket) -> Bracket
-    requires { IsTrue (has_transaction_data event.kind) }
-    ensures { result ≡ opener bracket event.entry.payload.now }
+fn opener(transaction: Transaction<'_>, bracket: Bracket) -> Bracket
+    ensures { result ≡ opener bracket transaction.entry.carrier.payload.now }
 {
-    match event.transaction {
-        Some(transaction) if !has_one_way(transaction) => bracket,
-        _ => Bracket::Neither,
+    if has_one_way(transaction) {
+        Bracket::Neither
+    } else {
+        bracket
     }
 }
 

@@ -55,7 +55,7 @@ pub fn buffer_step(event: Event<'_>) -> Option<BufferItem>
 {
     match event.kind {
         Kind::BrTransaction | Kind::BrTransactionSecCtx | Kind::BrReply => {
-            let transaction = event.transaction?;
+            let transaction = event.fields();
             Some(BufferItem::Delivery {
                 place: event.place,
                 address: transaction.buffer(),

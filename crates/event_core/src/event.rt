@@ -40,3 +40,13 @@ pub struct Event<'c> {
     // An attachment belongs to this very record.
     ghost owned: { ForSome entry (λ found. found.owner ≡ place) },
 }
+
+impl<'c> Event<'c> {
+    /// The fields that a transaction or a reply has.
+    pub(crate) fn fields(self) -> Transaction<'c>
+        requires { IsTrue (has_transaction_data self.kind) }
+        ensures { result.carrier.payload.now ≡ self.entry.payload.now }
+    {
+        self.transaction.unwrap()
+    }
+}

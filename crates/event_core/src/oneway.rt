@@ -52,11 +52,11 @@ pub fn oneway_step(event: Event<'_>) -> Option<OnewayItem>
 {
     match event.kind {
         Kind::BcTransaction | Kind::BcTransactionSg => {
-            let transaction = event.transaction?;
+            let transaction = event.fields();
             item_of(transaction, OnewayKey::Sent(transaction.target_handle()))
         }
         Kind::BrTransaction | Kind::BrTransactionSecCtx => {
-            item_of(event.transaction?, OnewayKey::Received)
+            item_of(event.fields(), OnewayKey::Received)
         }
         _ => None,
     }

@@ -28,11 +28,13 @@ module _ {S I : Type 0} (Sums : S → List I → Type 0) where
     fits_both : (n : ℕ) (lists : List (List I)) → Fits (all_items lists) → Fits (all_items (take n lists)) × Fits (all_items (drop n lists))
     fits_both n lists fits = fits_parts _ _ (subst Fits (halves n lists) fits)
 
-    pub front_can : (n : ℕ) (parts : List S) → CanJoinAll Sums Fits parts → CanJoinAll Sums Fits (take n parts)
-    front_can n parts can = (take n can.0, front_sums n parts can.0 can.1, (fits_both n can.0 can.2).0)
+    pub front_can : (n : ℕ) (parts front : List S) → front ≡ take n parts → CanJoinAll Sums Fits parts → CanJoinAll Sums Fits front
+    front_can n parts front is can =
+        subst (CanJoinAll Sums Fits) (sym is) (take n can.0, front_sums n parts can.0 can.1, (fits_both n can.0 can.2).0)
 
-    pub back_can : (n : ℕ) (parts : List S) → CanJoinAll Sums Fits parts → CanJoinAll Sums Fits (drop n parts)
-    back_can n parts can = (drop n can.0, back_sums n parts can.0 can.1, (fits_both n can.0 can.2).1)
+    pub back_can : (n : ℕ) (parts back : List S) → back ≡ drop n parts → CanJoinAll Sums Fits parts → CanJoinAll Sums Fits back
+    back_can n parts back is can =
+        subst (CanJoinAll Sums Fits) (sym is) (drop n can.0, back_sums n parts can.0 can.1, (fits_both n can.0 can.2).1)
 
     -- what joining the two halves asks, and what it gives
     pub halves_can : (n : ℕ) (parts : List S) (first second : S) → CanJoinAll Sums Fits parts

@@ -3,7 +3,7 @@ use Rattle.std.proofs.lemmas.Result.{IfOk-at_ok}
 use Rattle.claim_board.specs.Steps.{joined_view}
 use Rattle.claim_board.specs.Work.{HaveStopped, AreResults, AreAllResults, MayShare}
 use Rattle.claim_board.proofs.Seats.{splits_allowed, joins_allowed}
-use Rattle.claim_board.proofs.Halving.{left_some, results_joined, have_stopped_joined, same_again}
+use Rattle.claim_board.proofs.Halving.{left_some, results_joined, have_stopped_joined, same_again, front_may_share, back_may_share}
 use Rattle.claim_board.proofs.share.+halves.Goals as goal
 
 pub share-work_alone-requires : goal.share-work_alone-requires
@@ -17,6 +17,41 @@ share-split_seat-other-requires g t c =
     let n = m.crew in
     let k = m.at_least_one in
     (m.place.1, (let b = m.place.0.0 in omega arith), splits_allowed _ _ _ _ (omega arith) m.fresh.claimed)
+
+pub share-share_halves-front-requires : goal.share-share_halves-front-requires
+share-share_halves-front-requires g t c κs within = (
+  search rules,
+  (
+    search rules,
+    (
+      search rules,
+      (
+        search rules,
+        (
+          search rules,
+          (
+            search rules,
+            (
+              search rules,
+              (
+                search rules,
+                (
+                  search rules,
+                  (
+                    front_may_share c.args.table.now.table_id (g.W.Work.listed c.args.work.now) c.args.workers c.args.seat.now c.split_seat-other.new.seat c.requires
+                        c.if-workers-eq1.false c.split_seat-other.ensures.0 (ap (λ x. x.0) c.split_seat-other.ensures.2),
+                    back_may_share c.args.table.now.table_id (g.W.Work.listed c.args.work.now) c.args.workers c.args.seat.now c.split_seat-other.result c.requires
+                        c.if-workers-eq1.false c.split_seat-other.ensures.3 (ap (λ x. x.0) c.split_seat-other.ensures.4),
+                  ),
+                ),
+              ),
+            ),
+          ),
+        ),
+      ),
+    ),
+  ),
+)
 
 pub share-join_seat-requires : goal.share-join_seat-requires
 share-join_seat-requires g t c =

@@ -5,28 +5,34 @@ use Rattle.summary_law.proofs.PartLaws.{front_can, back_can, halves_can, halves_
 use Rattle.summary_law.proofs.halves.+fn-join_halves-join+arg2+fn-join_halves-join+arg3+join_halves.Goals as goal
 use Rattle.summary_law.proofs.halves.+fn-join_halves-join+arg2+fn-join_halves-join+arg3+join_halves.Goals.{then-workers-lt2, else-workers-lt2}
 
+-- (what is found of either half is a variable to the search, and not the long term that it stands for)
+with_both : {A B C : Type 0} → A → B → (A → B → C) → C
+with_both a b f = f a b
+
 pub join_halves-requires-after_bounds : goal.join_halves-requires-after_bounds
 join_halves-requires-after_bounds g t c κs within =
     let laws = g.met.S.Summary g.world.𝓛 g.world.𝓜 g.world.𝓡 ((λ s x. x), (λ x. x), (λ x. x), λ x. x) in
-    subst (CanJoinAll g.S.Summary.sums g.S.Summary.fits) (sym c.split_at_mut-front.ensures.front)
-    (front_can g.S.Summary.sums g.S.Summary.fits laws.fits_parts _ _ c.requires)
+    let parts = c.args.parts.now in
+    let halves = c.split_at_mut-front in
+    front_can g.S.Summary.sums g.S.Summary.fits laws.fits_parts (length parts / 2) parts halves.result.0.now halves.ensures.front c.requires
 
 pub join_halves-requires-then-workers-lt2-after_bounds : goal.join_halves-requires-then-workers-lt2-after_bounds
 join_halves-requires-then-workers-lt2-after_bounds g t c κs within =
     let laws = g.met.S.Summary g.world.𝓛 g.world.𝓜 g.world.𝓡 ((λ s x. x), (λ x. x), (λ x. x), λ x. x) in
-    subst (CanJoinAll g.S.Summary.sums g.S.Summary.fits) (sym c.split_at_mut-front.ensures.back)
-    (back_can g.S.Summary.sums g.S.Summary.fits laws.fits_parts _ _ c.requires)
+    let parts = c.args.parts.now in
+    let halves = c.split_at_mut-front in
+    back_can g.S.Summary.sums g.S.Summary.fits laws.fits_parts (length parts / 2) parts halves.result.1.now halves.ensures.back c.requires
 
 pub join-requires-after_bounds : goal.join-requires-after_bounds
 join-requires-after_bounds g t c κs within =
-    let laws = g.met.S.Summary g.world.𝓛 g.world.𝓜 g.world.𝓡 ((λ s x. x), (λ x. x), (λ x. x), λ x. x) in
-    let halves = c.split_at_mut-front in
-    let can = CanJoinAll g.S.Summary.sums g.S.Summary.fits in
-    let front : CanJoinAll g.S.Summary.sums g.S.Summary.fits c.split_at_mut-front.result.0.now
-    = subst can (sym halves.ensures.front) (front_can g.S.Summary.sums g.S.Summary.fits laws.fits_parts _ _ c.requires) in
-    let back : CanJoinAll g.S.Summary.sums g.S.Summary.fits c.split_at_mut-front.result.1.now
-    = subst can (sym halves.ensures.back) (back_can g.S.Summary.sums g.S.Summary.fits laws.fits_parts _ _ c.requires) in
-    search (rules, front, back)
+    with_both
+    (front_can g.S.Summary.sums g.S.Summary.fits
+    (g.met.S.Summary g.world.𝓛 g.world.𝓜 g.world.𝓡 ((λ s x. x), (λ x. x), (λ x. x), λ x. x)).fits_parts
+    (length c.args.parts.now / 2) c.args.parts.now c.split_at_mut-front.result.0.now c.split_at_mut-front.ensures.front c.requires)
+    (back_can g.S.Summary.sums g.S.Summary.fits
+    (g.met.S.Summary g.world.𝓛 g.world.𝓜 g.world.𝓡 ((λ s x. x), (λ x. x), (λ x. x), λ x. x)).fits_parts
+    (length c.args.parts.now / 2) c.args.parts.now c.split_at_mut-front.result.1.now c.split_at_mut-front.ensures.back c.requires)
+    (λ front back. search (rules, front, back))
 
 pub join-requires-2 : goal.join-requires-2
 join-requires-2 g t c =
