@@ -10,7 +10,20 @@ loop-process-init g c = λ behind are.
     (subst (λ (t : List ℕ). AreGathered IsSo iterator.result (t ++ behind)) (sym c.new-places.ensures.items) are)
 
 pub loop-process-preserved-in-Some-ledgers : goal.loop-process-preserved-in-Some-ledgers
-loop-process-preserved-in-Some-ledgers g c = ?
+loop-process-preserved-in-Some-ledgers g c = λ behind are.
+    let IsSo = g.L.Listed.is_so in
+    let summary = c.in-Some.summary.now in
+    let places = c.loop-process.places.items in
+    let own = c.in_ok-own.own.items in
+    let rest : c.loop-process._process-iterator ≡ (c.in-Some._process.now, summary) ∷ c.next.new.self = search rules in
+    let gives : GivesOwn IsSo summary.ledgers own
+    = given_own IsSo c.in-Some-ledgers.ledgers.now own (λ events process of. c.in_ok-own.ensures events process of) summary.ledgers
+    c.in-Some-ledgers.ensures.some in
+    let longer : c.extend_from_slice.new.self.items ≡ places ++ own
+    = c.in_ok-extend_from_slice.ensures.items ∙ ap (λ (t : List ℕ). places ++ t) c.as_slice.ensures.value in
+    subst (λ (t : List ℕ). AreGathered IsSo c.args.processes.now.entries.entries t)
+    (sym (ap (λ (t : List ℕ). t ++ behind) longer ∙ append_assoc places own behind))
+    (c.loop-process.invariant (own ++ behind) (subst (λ (es : List _). AreGathered IsSo es (own ++ behind)) (sym rest) (own, behind, refl, gives, are)))
 
 pub loop-process-preserved : goal.loop-process-preserved
 loop-process-preserved g c = λ behind are.
