@@ -1,5 +1,5 @@
 -- The places that the ledgers of all processes list, gathered and sorted, and the events that stand at them.
-use Rattle.std.proofs.Common.{◌≡◌, ◌≢◌, ℕ, suc, ◌<◌, ◌⊎◌, ⊎_elim, inl, inr, true, eqb, List, [], ◌∷◌, ◌++◌, length, map, All, AllPairs, Contains, Option, Some, None, refl, sym, ap, subst, ◌∙◌, arith}
+use Rattle.std.proofs.Common.{◌≡◌, ◌≢◌, ℕ, suc, ◌⊎◌, ⊎_elim, inl, inr, true, eqb, List, [], ◌∷◌, ◌++◌, length, map, All, AllPairs, Contains, Option, Some, None, refl, sym, ap, subst, ◌∙◌, arith}
 use Rattle.std.proofs.Common.{IsPermutation, IsSorted, nat_cmp, Box, Global}
 use Rattle.std.specs.List.Sorted.{IsStrictlyIncreasing}
 use Rattle.std.proofs.lemmas.Bool.{eqb-true}
@@ -10,7 +10,7 @@ use Rattle.std.proofs.lemmas.List.Elements.{All-append, All-cons, All-contains, 
 use Rattle.std.proofs.lemmas.List.Kept.{AllPairs-from_increasing}
 use Rattle.std.proofs.lemmas.Map.Made.{AllPairs-from_IsDistinct}
 use Rattle.std.proofs.lemmas.Map.Views.{Contains-from_any}
-use Rattle.std.specs.List.{flat_map, list_any}
+use Rattle.std.specs.List.{list_any}
 use Rattle.std.specs.Option.{IsSomeAnd}
 use Rattle.capture_frame.specs.Units.{Placed, placed_at}
 use Rattle.transaction_view.specs.Grammar.{WholeFrame}
@@ -26,7 +26,7 @@ use Rattle.audit_join.specs.Frames.{events_of_wholes}
 use Rattle.audit_join.specs.Kept.{KeepsUnpaired}
 use Rattle.audit_join.specs.Places.{AreEventsAt, RiseInPlace, StandsInProcess, ExcludeEachOther, UnpairedText, AreUnpaired}
 use Rattle.audit_join.specs.Processes.{process_of, processes_of}
-use Rattle.audit_join.specs.ProcessLedgers.{HasNoItems, NeedsItems, AreLedgersOf, IsOfProcess, AreOfProcesses}
+use Rattle.audit_join.specs.ProcessLedgers.{NeedsItems, AreLedgersOf, IsOfProcess, AreOfProcesses}
 use Rattle.audit_join.proofs.InOrderLaws.{each_among_firsts, firsts_distinct}
 
 -- numbers that rise differ
