@@ -13,6 +13,7 @@ pub mod RecordsThere
 pub mod Rising
 pub mod PlacesRise
 pub mod PartLaws
+pub mod OneFindings
 pub mod ListedThere
 pub mod StandLaws
 pub mod PlaceLaws
