@@ -1,3 +1,4 @@
+pub mod Hexadecimal
 pub mod Pushes
 pub mod Sections
 pub mod Listed

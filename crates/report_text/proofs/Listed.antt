@@ -1,7 +1,8 @@
 -- Rows that are kept as the places of their records, and read again.
-use Rattle.std.proofs.Common.{◌≡◌, ℕ, List, map, sym, subst, ◌∙◌}
+use Rattle.std.proofs.Common.{◌≡◌, ℕ, List, ◌∷◌, length, map, refl, sym, ap, ap₂, subst, ◌∙◌}
 use Rattle.std.specs.Prelude.{All, Contains}
 use Rattle.std.specs.List.{AllZip}
+use Rattle.std.proofs.lemmas.List.{length-map, map-id}
 use Rattle.std.proofs.lemmas.List.Elements.{All-map}
 use Rattle.transaction_view.specs.Grammar.{WholeFrame}
 use Rattle.event_core.specs.Events.{EventText}
@@ -10,7 +11,7 @@ use Rattle.audit_join.specs.Frames.{wholes_of, events_of_wholes}
 use Rattle.audit_join.specs.Kept.{KeptFindings, AreOfFrames, Tell}
 use Rattle.audit_join.specs.Lookup.{HasRecordIn}
 use Rattle.audit_join.proofs.RecordsThere.{has_record_in}
-use Rattle.report_text.specs.Pushed.{ShowsEvent}
+use Rattle.report_text.specs.Pushed.{ShowsEvent, TakesLines, TakesRows}
 use Rattle.report_text.proofs.Sections.{shown_lines}
 
 -- how a section's rows are kept: each row of the report has an event, and what is kept of it has that event's place
@@ -47,3 +48,57 @@ module _ {K S : Type 0} (section : EventRows K S) (found : KeptFindings) where
       (section.keeps found wholes said tell)
       (λ j s inside line here.
       here (wholes_of wholes) _ tell.show (section.are_events found wholes said tell j s inside) (sym (section.same_place _)) ∙ makes _) shows
+
+-- rows that are events, kept as the places of their records
+module _ (kept : KeptFindings → List ℕ) (rows : FindingsText → List EventText)
+    (keeps : (found : KeptFindings) (wholes : List WholeFrame) (said : FindingsText) → Tell wholes said found.frames found.sections
+    → kept found ≡ map (λ e. e.place) (rows said))
+    (stand : (found : KeptFindings) (wholes : List WholeFrame) (said : FindingsText) → Tell wholes said found.frames found.sections
+    → All (λ e. Contains (events_of_wholes (wholes_of wholes)) e) (rows said)) where
+  abbrev pub listed_events : EventRows ℕ EventText
+  listed_events = record {
+    kept = kept;
+    place = λ place. place;
+    rows = rows;
+    keep = λ e. e.place;
+    owner = λ e. e;
+    same_place = λ e. refl;
+    keeps = keeps;
+    are_events = stand;
+  }
+
+  -- there are as many places as rows
+  pub as_many : (found : KeptFindings) (wholes : List WholeFrame) (said : FindingsText) → Tell wholes said found.frames found.sections
+      → length (kept found) ≡ length (rows said)
+  as_many found wholes said tell = ap length (keeps found wholes said tell) ∙ length-map (rows said) (λ (e : EventText). e.place)
+
+  -- a head, and then the lines of the rows
+  pub event_section : {L : Type 0} (takes : L → List ℕ → L → Type 0) (found : KeptFindings) (row_of : EventText → List ℕ)
+      (head : FindingsText → List ℕ) (line : List ℕ) (places : List ℕ) (old middle new : L)
+      → ((wholes : List WholeFrame) (said : FindingsText) → Tell wholes said found.frames found.sections → line ≡ head said)
+      → takes old line middle → places ≡ kept found → TakesRows takes (λ place row. ShowsEvent row_of found.frames place row) places middle new
+      → TakesLines takes (λ said. head said ∷ map row_of (rows said)) found old new
+  event_section takes found row_of head line places old middle new is first same pushed =
+      let shown = subst (λ (ps : List ℕ). AllZip (λ place row. ShowsEvent row_of found.frames place row) ps pushed.0) same pushed.1 in (
+        line ∷ pushed.0,
+        (middle, first, pushed.2),
+        λ wholes said tell.
+            ap₂ (λ (l : List ℕ) (ls : List (List ℕ)). l ∷ ls) (is wholes said tell)
+            (event_lines listed_events found (λ place. row_of) row_of (λ e. refl) pushed.0 shown wholes said tell),
+      )
+
+-- a head, and then the lines of rows that are kept as they are
+pub whole_section : {L R : Type 0} (takes : L → List ℕ → L → Type 0) (found : KeptFindings) (rows : FindingsText → List R) (row_of : R → List ℕ)
+    (head : FindingsText → List ℕ) (line : List ℕ) (kept : List R) (old middle new : L)
+    → ((wholes : List WholeFrame) (said : FindingsText) → Tell wholes said found.frames found.sections → line ≡ head said)
+    → ((wholes : List WholeFrame) (said : FindingsText) → Tell wholes said found.frames found.sections → kept ≡ rows said)
+    → takes old line middle → TakesRows takes (λ row shown. shown ≡ row_of row) kept middle new
+    → TakesLines takes (λ said. head said ∷ map row_of (rows said)) found old new
+whole_section {R = R} takes found rows row_of head line kept old middle new is keeps first pushed = (
+  line ∷ pushed.0,
+  (middle, first, pushed.2),
+  λ wholes said tell.
+      ap₂ (λ (l : List ℕ) (ls : List (List ℕ)). l ∷ ls) (is wholes said tell)
+      (shown_lines (λ (row : R) shown. shown ≡ row_of row) (λ row. row) row_of kept (rows said) pushed.0
+      (keeps wholes said tell ∙ sym (map-id (rows said))) (λ k d within row here. here) pushed.1),
+)

@@ -4,7 +4,7 @@ use Rattle.std.specs.Prelude.{All, Option}
 use Rattle.capture_frame.specs.declared.fault.Fault.{Fault}
 use Rattle.capture_frame.specs.Units.{Placed}
 use Rattle.capture_frame.proofs.CaptureLaws.{capture_one_reading, capture_one_fault, capture_never_both}
-use Rattle.transaction_view.specs.Grammar.{WholeFrame, HasFirstFault, whole_format}
+use Rattle.transaction_view.specs.Grammar.{WholeFrame, IsInGrammar, HasFirstFault, whole_format}
 use Rattle.transaction_view.proofs.GrammarLaws.{whole_decided}
 use Rattle.object_view.specs.declared.bad_object.BadObject.{BadObject}
 use Rattle.object_view.specs.declared.sort.Sort.{Sort}
@@ -15,8 +15,10 @@ use Rattle.event_core.specs.Events.{EventText}
 use Rattle.audit_join.specs.declared.codes.CodeRow.{CodeRow}
 use Rattle.audit_join.specs.declared.sort_counts.SortCounts.{SortCounts}
 use Rattle.audit_join.specs.Findings.{FindingsText, AreFindings}
-use Rattle.audit_join.specs.Frames.{wholes_of}
+use Rattle.audit_join.specs.Frames.{wholes_of, events_of_wholes}
 use Rattle.audit_join.specs.Objects.{Attached, Outcome, IsOutcome, AreOutcomes, BadOwned, AreObjectFindings, count_of, times_of, good_objects, bad_objects}
+use Rattle.audit_join.proofs.OneFindings.{one_counts, one_list_of_events, one_list_of_handles, one_list_of_nodes, one_unpaired}
+use Rattle.audit_join.proofs.PlacesRise.{events_rise}
 use Rattle.report_text.specs.Answers.{IsTextOf, report, malformed, IsLineOn, none, named}
 use Rattle.report_text.specs.Fault.{fault_line}
 use Rattle.report_text.specs.Text.{IsReportOn, report_text}
@@ -67,11 +69,19 @@ one_of_objects attachments counts others bad other_bad a b =
       a.bad_are ∙ ap bad_objects same ∙ sym b.bad_are,
     )
 
-one_findings : (wholes : List (Placed WholeFrame)) (said other : FindingsText) → AreFindings wholes said → AreFindings wholes other
-    → report_text said ≡ report_text other
-one_findings wholes said other a b =
-    let make : ℕ → ℕ → ℕ → ℕ → List CodeRow → SortCounts → List BadOwned → List EventText → FindingsText =
-    λ f r o m c s w g. record { frames = f; records = r; opaque = o; missing = m; codes = c; objects = s; bad_objects = w; flags = g } in
+one_findings : (capture : List ℕ) (wholes : List WholeFrame) (said other : FindingsText) → IsInGrammar capture wholes → AreFindings (wholes_of wholes) said
+    → AreFindings (wholes_of wholes) other → report_text said ≡ report_text other
+one_findings capture wholes said other is a b =
+    let events = events_of_wholes (wholes_of wholes) in
+    let rise = events_rise capture wholes is in
+    let counts = one_counts _ said.counts other.counts a.counts b.counts in
+    let handles = one_list_of_handles (wholes_of wholes) said.handles other.handles a.handles b.handles in
+    let nodes = one_list_of_nodes (wholes_of wholes) said.nodes other.nodes a.nodes b.nodes in
+    let leaked = one_list_of_events _ events said.leaked other.leaked rise a.leaked b.leaked in
+    let stray_frees = one_list_of_events _ events said.stray_frees other.stray_frees rise a.stray_frees b.stray_frees in
+    let standing = one_list_of_events _ events said.standing other.standing rise a.standing b.standing in
+    let deaths = one_unpaired _ _ events said.deaths other.deaths rise a.deaths b.deaths in
+    let clears = one_unpaired _ _ events said.clears other.clears rise a.clears b.clears in
     let objects = one_of_objects _ said.objects other.objects said.bad_objects other.bad_objects a.objects b.objects in
     let codes = one_list_of_rows _ said.codes other.codes a.codes b.codes in
     let frames : said.frames ≡ other.frames = a.frames ∙ sym b.frames in
@@ -79,18 +89,32 @@ one_findings wholes said other a b =
     let opaque : said.opaque ≡ other.opaque = a.opaque ∙ sym b.opaque in
     let missing : said.missing ≡ other.missing = a.missing ∙ sym b.missing in
     let flags : said.flags ≡ other.flags = a.flags ∙ sym b.flags in
-    ap report_text
-    (ap₂ (λ (f r : ℕ). make f r said.opaque said.missing said.codes said.objects said.bad_objects said.flags) frames records
-    ∙ ap₂ (λ (o m : ℕ). make other.frames other.records o m said.codes said.objects said.bad_objects said.flags) opaque missing
-    ∙ ap₂ (λ (c : List CodeRow) (g : List EventText). make other.frames other.records other.opaque other.missing c said.objects said.bad_objects g) codes flags
-    ∙ ap₂ (λ (s : SortCounts) (w : List BadOwned). make other.frames other.records other.opaque other.missing other.codes s w other.flags) objects.0 objects.1)
+    let same : said ≡ other = λ i. record {
+      frames = frames i;
+      records = records i;
+      opaque = opaque i;
+      missing = missing i;
+      codes = codes i;
+      counts = counts i;
+      handles = handles i;
+      nodes = nodes i;
+      leaked = leaked i;
+      stray_frees = stray_frees i;
+      standing = standing i;
+      deaths = deaths i;
+      clears = clears i;
+      objects = objects.0 i;
+      bad_objects = objects.1 i;
+      flags = flags i;
+    } in
+    ap report_text same
 
 -- ---- so the text is one
 
 pub one_report : (capture text other : List ℕ) → IsReportOn capture text → IsReportOn capture other → text ≡ other
 one_report capture text other a b =
     let same = capture_one_reading whole_format whole_decided capture a.0 b.0 a.2 b.2 in
-    a.4 ∙ one_findings (wholes_of b.0) a.1 b.1 (subst (λ (wholes : List WholeFrame). AreFindings (wholes_of wholes) a.1) same a.3) b.3 ∙ sym b.4
+    a.4 ∙ one_findings capture b.0 a.1 b.1 b.2 (subst (λ (wholes : List WholeFrame). AreFindings (wholes_of wholes) a.1) same a.3) b.3 ∙ sym b.4
 
 pub report_or_fault : (capture text : List ℕ) (fault : Fault) → IsReportOn capture text → HasFirstFault capture fault → ⊥
 report_or_fault capture text fault a faulty = capture_never_both whole_format whole_decided capture a.0 fault a.2 faulty

@@ -24,6 +24,14 @@ nothing = record {
   opaque = 0;
   missing = 0;
   codes = [];
+  counts = record { deliveries = 0; frees = 0; requests = 0; deaths = 0; clears = 0 };
+  handles = [];
+  nodes = [];
+  leaked = [];
+  stray_frees = [];
+  standing = [];
+  deaths = record { opens = 0; closes = 0; rows = [] };
+  clears = record { opens = 0; closes = 0; rows = [] };
   objects = record { binder = 0; weak_binder = 0; handle = 0; weak_handle = 0; fd = 0; fda = 0; ptr = 0 };
   bad_objects = [];
   flags = [];
@@ -63,7 +71,7 @@ hundred_said : decimal 100 ≡ codes "100"
 hundred_said = decimal_pair 100 (omega arith) (omega arith) ∙ ap (λ (t : List ℕ). t ++ codes "00") (decimal_digit 1 (omega arith))
 
 empty_report : report_text nothing
-    ≡ codes "BINDER AUDIT 1\nframes 0 records 0 opaque 0 missing 0\ncodes 0\nobjects binder 0 weak_binder 0 handle 0 weak_handle 0 fd 0 fda 0 ptr 0 bad 0\nflags 0\n"
+    ≡ codes "BINDER AUDIT 1\nframes 0 records 0 opaque 0 missing 0\ncodes 0\nhandles 0 unbalanced 0\nnodes 0 unbalanced 0\nbuffers 0 leaked 0\nfrees 0 stray 0\nrequests 0 standing 0\ndeaths 0 unacknowledged 0 stray 0\nclears 0 unconfirmed 0 stray 0\nobjects binder 0 weak_binder 0 handle 0 weak_handle 0 fd 0 fda 0 ptr 0 bad 0\nflags 0\n"
 unfolding nothing report_text
 empty_report = rw zero_said refl
 

@@ -4,6 +4,7 @@ use Rattle.std.specs.Fmt.{decimal}
 use Rattle.event_core.specs.Events.{EventText}
 use Rattle.audit_join.specs.Findings.{FindingsText}
 use Rattle.audit_join.specs.Flags.{unknown_flags}
+use Rattle.report_text.specs.EventRow.{row_start}
 use Rattle.report_text.specs.Line.{hex_word}
 
 -- the head: how many rows there are
@@ -12,8 +13,7 @@ flags_head rows = codes "flags " ++ decimal rows
 
 -- a row: place, process, unknown bits
 abbrev pub flags_row : EventText → List ℕ
-flags_row e =
-    codes "  " ++ decimal e.place ++ codes " " ++ decimal e.process ++ codes " " ++ hex_word (unknown_flags e)
+flags_row e = row_start e ++ codes " " ++ hex_word (unknown_flags e)
 
 -- the section
 abbrev pub flags_lines : FindingsText → List (List ℕ)

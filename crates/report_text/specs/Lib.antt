@@ -1,5 +1,14 @@
 pub mod Line
+pub mod EventRow
 pub mod Codes
+pub mod Handles
+pub mod Nodes
+pub mod Buffers
+pub mod Frees
+pub mod Requests
+pub mod Unpaired
+pub mod Deaths
+pub mod Clears
 pub mod Objects
 pub mod Flags
 pub mod Fault

@@ -6,9 +6,10 @@ ghost use Rattle.audit_join.specs.Flags.{unknown_flags};
 ghost use Rattle.report_text.specs.Flags.{flags_head, flags_row, flags_lines};
 ghost use Rattle.report_text.specs.Pushed.{TakesLines};
 
+use crate::events::{EventLine, EventRows, row_start};
 use crate::line::{Row, push_decimal, push_hex_word};
 use crate::lines::Lines;
-use crate::shown::{Shown, push_rows};
+use crate::shown::push_rows;
 use audit_join::Findings;
 use binder_code::unknown_bits;
 use event_core::Event;
@@ -26,28 +27,23 @@ pub(crate) fn push_flags<T: Threads + Sync, L: Lines>(
 {
     let places = found.sections().flags.as_slice();
     lines.push_line(&head_line(places.len()))?;
-    push_rows(rt, alloc, FlagRows { found }, places, lines)
+    let section = Flagged;
+    push_rows(rt, alloc, EventRows { section, found }, places, lines)
 }
 
-/// The rows of the section, each kept as the place of its record.
 #[derive(Clone, Copy)]
-struct FlagRows<'f, 'c> {
-    found: &'f Findings<'c>,
-}
+struct Flagged;
 
-impl<'f, 'c> Shown for FlagRows<'f, 'c> {
-    ghost use Rattle.audit_join.specs.Lookup.{HasRecordIn};
+impl EventLine for Flagged {
+    ghost use Rattle.std.specs.Prelude.{refl};
     ghost use Rattle.report_text.specs.Flags.{flags_row};
-    ghost use Rattle.report_text.specs.Pushed.{ShowsEvent};
 
-    type Kept = u64;
+    ghost row_of = { flags_row };
 
-    ghost can_show = { λ rows place. HasRecordIn rows.found.now.frames place };
+    ghost bare = { λ e. refl };
 
-    ghost shows = { λ rows place line. ShowsEvent flags_row rows.found.now.frames place line };
-
-    fn line(&self, kept: &u64) -> Row {
-        row_line(self.found.record_at(*kept))
+    fn event_line(&self, event: Event<'_>) -> Row {
+        row_line(event)
     }
 }
 
@@ -63,11 +59,7 @@ fn head_line(rows: usize) -> Row
 fn row_line(event: Event<'_>) -> Row
     ensures { result.bytes ≡ flags_row (event_text event.entry) }
 {
-    let mut line = Row::new();
-    line.push_str("  ");
-    push_decimal(&mut line, event.place);
-    line.push_str(" ");
-    push_decimal(&mut line, u64::from(event.process));
+    let mut line = row_start(event);
     line.push_str(" ");
     push_hex_word(&mut line, unknown_flags(event));
     line

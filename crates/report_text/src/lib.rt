@@ -1,15 +1,24 @@
 //! The findings of a capture as lines and as text, and the line that names a fault.
 #![tactic(auto)]
 
+mod buffers;
+mod clears;
 mod codes;
+mod deaths;
+mod events;
 mod fault;
 mod flags;
+mod frees;
+mod handles;
 pub mod laws;
 mod line;
 mod lines;
+mod nodes;
 mod objects;
 mod report;
+mod requests;
 mod shown;
+mod unpaired;
 
 pub use fault::fault_text;
 pub use line::Row;

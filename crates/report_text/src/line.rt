@@ -1,9 +1,9 @@
 //! The parts of a line.
 
-ghost use Rattle.std.specs.Prelude.{◌≡◌, ◌+◌, ◌≤◌, ◌<◌, ◌^◌, ◌++◌, ◌∷◌, [], false};
-ghost use Rattle.std.specs.Fmt.{decimal, digit_glyph};
+ghost use Rattle.std.specs.Prelude.{◌≡◌, ◌+◌, ◌≤◌, ◌<◌, ◌^◌, ◌++◌, ◌∷◌, [], length, false};
+ghost use Rattle.std.specs.Fmt.{decimal, digit_glyph, digits, signed_decimal};
 ghost use Rattle.arrayvec.specs.ArrayString.{array_string_len};
-ghost use Rattle.report_text.specs.Line.{hex_digits, hex_word};
+ghost use Rattle.report_text.specs.Line.{hex_digits, hex_number, hex_word};
 
 use arrayvec::ArrayString;
 use itoa::Buffer;
@@ -20,6 +20,36 @@ pub(crate) fn push_decimal(line: &mut Row, number: u64)
     line.push_str(buffer.format(number));
 }
 
+/// Pushes a number in decimal, with `-` before a negative one.
+pub(crate) fn push_signed(line: &mut Row, number: i64)
+    requires { array_string_len line.old + 20 ≤ 256 }
+    ensures text { line.new.bytes ≡ line.old.bytes ++ signed_decimal number }
+    ensures short { array_string_len line.new ≤ array_string_len line.old + 20 }
+{
+    let mut buffer = Buffer::new();
+    line.push_str(buffer.format(number));
+}
+
+/// Pushes `0x` and the hexadecimal digits of a number, without leading zeros.
+pub(crate) fn push_hex_number(line: &mut Row, number: u64)
+    requires { array_string_len line.old + 18 ≤ 256 }
+    ensures text { line.new.bytes ≡ line.old.bytes ++ hex_number number }
+    ensures short { array_string_len line.new ≤ array_string_len line.old + 18 }
+{
+    line.push_str("0x");
+    push_hex_digits(line, digit_count(number), number);
+}
+
+/// How many hexadecimal digits a number has, without leading zeros.
+fn digit_count(number: u64) -> usize
+    ensures { (result ≡ length (digits 16 false number)) × (result ≤ 16) }
+{
+    if number < 16 {
+        return 1;
+    }
+    digit_count(number / 16) + 1
+}
+
 /// Pushes `0x` and eight hexadecimal digits.
 pub(crate) fn push_hex_word(line: &mut Row, word: u32)
     requires { array_string_len line.old + 10 ≤ 256 }
@@ -27,18 +57,18 @@ pub(crate) fn push_hex_word(line: &mut Row, word: u32)
     ensures length { array_string_len line.new ≡ array_string_len line.old + 10 }
 {
     line.push_str("0x");
-    push_hex_digits(line, 8, word);
+    push_hex_digits(line, 8, u64::from(word));
 }
 
 /// Pushes the last hexadecimal digits of a number, this many of them.
-fn push_hex_digits(line: &mut Row, digits: usize, number: u32)
+fn push_hex_digits(line: &mut Row, digits: usize, number: u64)
     requires { array_string_len line.old + digits ≤ 256 }
     ensures text { line.new.bytes ≡ line.old.bytes ++ hex_digits digits number }
     ensures length { array_string_len line.new ≡ array_string_len line.old + digits }
 {
     if digits > 0 {
         push_hex_digits(line, digits - 1, number / 16);
-        line.push(hex_digit(number % 16));
+        line.push(hex_digit((number % 16) as u32));
     }
 }
 

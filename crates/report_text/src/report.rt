@@ -7,11 +7,18 @@ ghost use Rattle.audit_join.specs.Kept.{Tell};
 ghost use Rattle.report_text.specs.Pushed.{TakesLines};
 ghost use Rattle.report_text.specs.Text.{title, totals, report_lines, report_text};
 
+use crate::buffers::push_buffers;
+use crate::clears::push_clears;
 use crate::codes::push_codes;
+use crate::deaths::push_deaths;
 use crate::flags::push_flags;
+use crate::frees::push_frees;
+use crate::handles::push_handles;
 use crate::line::{Row, push_decimal};
 use crate::lines::Lines;
+use crate::nodes::push_nodes;
 use crate::objects::push_objects;
+use crate::requests::push_requests;
 use audit_join::Findings;
 use std::alloc::{AllocError, Global};
 use std::thread::Threads;
@@ -60,6 +67,13 @@ fn push_report<T: Threads + Sync, L: Lines>(
     lines.push_line(&title_line())?;
     lines.push_line(&totals_line(found))?;
     push_codes(rt, alloc, found, lines)?;
+    push_handles(rt, alloc, found, lines)?;
+    push_nodes(rt, alloc, found, lines)?;
+    push_buffers(rt, alloc, found, lines)?;
+    push_frees(rt, alloc, found, lines)?;
+    push_requests(rt, alloc, found, lines)?;
+    push_deaths(rt, alloc, found, lines)?;
+    push_clears(rt, alloc, found, lines)?;
     push_objects(rt, alloc, found, lines)?;
     push_flags(rt, alloc, found, lines)
 }

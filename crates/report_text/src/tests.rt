@@ -2,8 +2,8 @@
 
 use crate::codes::{self, CodeRows};
 use crate::shown::push_rows;
-use crate::{Row, fault_text, objects, rows, text};
-use audit_join::{CodeRow, SortCounts, audit_one};
+use crate::{Row, fault_text, handles, nodes, objects, rows, text};
+use audit_join::{CodeRow, ProcessHandle, ProcessNode, SortCounts, audit_one};
 use capture_frame::{Fault, FaultKind};
 use object_view::Cause;
 use std::process::Abort;
@@ -145,6 +145,37 @@ fn names_each_cause(rt: HostRuntime) {
     );
 }
 
+#[test]
+fn spells_references(rt: HostRuntime) {
+    let handle = ProcessHandle {
+        process: u32::MAX,
+        handle: 0,
+        strong: -1,
+        strong_low: i64::MIN,
+        weak: i64::MAX,
+        weak_low: 0,
+    };
+    assert_eq!(rt;
+        handles::row_line(handle).as_str(),
+        "  4294967295 0 -1 -9223372036854775808 9223372036854775807 0"
+    );
+    let node = ProcessNode {
+        process: 7,
+        ptr: 0,
+        cookie: u64::MAX,
+        strong: 10,
+        strong_low: -10,
+        weak: 2,
+        weak_low: -3,
+        strong_due: 4,
+        weak_due: i64::MIN,
+    };
+    assert_eq!(rt;
+        nodes::row_line(node).as_str(),
+        "  7 0x0 0xffffffffffffffff 10 -10 2 -3 4 -9223372036854775808"
+    );
+}
+
 /// One more than the rows that are held at a time.
 const MANY: u64 = 65_537;
 
@@ -196,6 +227,14 @@ const REPORT: &str = "BINDER AUDIT 1\n\
     \x20\x200x400c6313 OPAQUE 1\n\
     \x20\x200x40406300 BC_TRANSACTION 1\n\
     \x20\x200x80407202 BR_TRANSACTION 1\n\
+    handles 0 unbalanced 0\n\
+    nodes 0 unbalanced 0\n\
+    buffers 1 leaked 1\n\
+    \x20\x2048 100 0x9000 28 BR_TRANSACTION\n\
+    frees 0 stray 0\n\
+    requests 0 standing 0\n\
+    deaths 0 unacknowledged 0 stray 0\n\
+    clears 0 unconfirmed 0 stray 0\n\
     objects binder 0 weak_binder 0 handle 0 weak_handle 0 fd 0 fda 0 ptr 0 bad 1\n\
     \x20\x2048 100 0 2 Misaligned\n\
     flags 1\n\
@@ -210,7 +249,7 @@ fn reports_a_capture(rt: HostRuntime) -> Result<(), Fail> {
 }
 
 fn check_lines<R: Abort>(rt: &R, rows: &[Row]) {
-    assert_eq!(rt; rows.len(), 10);
+    assert_eq!(rt; rows.len(), 18);
     for (row, line) in rows.iter().zip(REPORT.lines()) {
         assert_eq!(rt; row.as_str(), line);
     }

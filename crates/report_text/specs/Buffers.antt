@@ -1,0 +1,29 @@
+-- The lines of the section `buffers` (docs/REPORT.md).
+use Rattle.std.specs.Prelude.{ℕ, List, [], ◌∷◌, ◌++◌, length, map, codes, Option, Some}
+use Rattle.std.specs.Fmt.{decimal}
+use Rattle.binder_code.specs.Commands.{name_of}
+use Rattle.event_core.specs.Events.{EventText}
+use Rattle.event_core.specs.declared.buffer.BufferItem.{BufferItem}
+use Rattle.event_core.specs.declared.buffer.BufferItem.TheVariants.{Delivery}
+use Rattle.audit_join.specs.Buffers.{buffer_item_of}
+use Rattle.audit_join.specs.Findings.{FindingsText}
+use Rattle.report_text.specs.EventRow.{row_start}
+use Rattle.report_text.specs.Line.{hex_number}
+
+-- the head: how many deliveries there are, and how many leaked ones among them
+abbrev pub buffers_head : ℕ → ℕ → List ℕ
+buffers_head deliveries leaked = codes "buffers " ++ decimal deliveries ++ codes " leaked " ++ decimal leaked
+
+-- what a row says of a delivery: address, size of its data, kind; and nothing of what is none
+abbrev pub delivery_fields : Option BufferItem → List ℕ
+delivery_fields (Some (Delivery place address data_size kind)) =
+    codes " " ++ hex_number address ++ codes " " ++ decimal data_size ++ codes " " ++ name_of kind
+delivery_fields _ = []
+
+-- a row: place, process, and these fields
+abbrev pub buffers_row : EventText → List ℕ
+buffers_row e = row_start e ++ delivery_fields (buffer_item_of e)
+
+-- the section
+abbrev pub buffers_lines : FindingsText → List (List ℕ)
+buffers_lines said = buffers_head said.counts.deliveries (length said.leaked) ∷ map buffers_row said.leaked

@@ -1,0 +1,27 @@
+-- The lines of the section `frees` (docs/REPORT.md).
+use Rattle.std.specs.Prelude.{ℕ, List, [], ◌∷◌, ◌++◌, length, map, codes, Option, Some}
+use Rattle.std.specs.Fmt.{decimal}
+use Rattle.event_core.specs.Events.{EventText}
+use Rattle.event_core.specs.declared.buffer.BufferItem.{BufferItem}
+use Rattle.event_core.specs.declared.buffer.BufferItem.TheVariants.{Free}
+use Rattle.audit_join.specs.Buffers.{buffer_item_of}
+use Rattle.audit_join.specs.Findings.{FindingsText}
+use Rattle.report_text.specs.EventRow.{row_start}
+use Rattle.report_text.specs.Line.{hex_number}
+
+-- the head: how many frees there are, and how many stray ones among them
+abbrev pub frees_head : ℕ → ℕ → List ℕ
+frees_head frees stray = codes "frees " ++ decimal frees ++ codes " stray " ++ decimal stray
+
+-- what a row says of a free: its address; and nothing of what is none
+abbrev pub free_fields : Option BufferItem → List ℕ
+free_fields (Some (Free place address)) = codes " " ++ hex_number address
+free_fields _ = []
+
+-- a row: place, process, and this field
+abbrev pub frees_row : EventText → List ℕ
+frees_row e = row_start e ++ free_fields (buffer_item_of e)
+
+-- the section
+abbrev pub frees_lines : FindingsText → List (List ℕ)
+frees_lines said = frees_head said.counts.frees (length said.stray_frees) ∷ map frees_row said.stray_frees

@@ -1,0 +1,34 @@
+-- The lines of the section `requests` (docs/REPORT.md).
+use Rattle.std.specs.Prelude.{ℕ, List, [], ◌∷◌, ◌++◌, length, map, codes, Option, Some}
+use Rattle.std.specs.Fmt.{decimal}
+use Rattle.event_core.specs.Events.{EventText}
+use Rattle.event_core.specs.declared.request.RequestChange.{RequestChange}
+use Rattle.event_core.specs.declared.request.RequestChange.TheVariants.{Request}
+use Rattle.event_core.specs.declared.request.RequestItem.{RequestItem}
+use Rattle.audit_join.specs.Findings.{FindingsText}
+use Rattle.audit_join.specs.Requests.{request_item_of}
+use Rattle.report_text.specs.EventRow.{row_start}
+use Rattle.report_text.specs.Line.{hex_number}
+
+-- the head: how many requests there are, and how many that still stand
+abbrev pub requests_head : ℕ → ℕ → List ℕ
+requests_head requests standing = codes "requests " ++ decimal requests ++ codes " standing " ++ decimal standing
+
+-- what a row says of a request: handle, cookie; and nothing of another change
+abbrev pub change_fields : RequestChange → List ℕ
+change_fields (Request key) = codes " " ++ decimal key.handle ++ codes " " ++ hex_number key.cookie
+change_fields _ = []
+
+-- and nothing of what is no change of requests
+abbrev pub request_fields : Option RequestItem → List ℕ
+request_fields (Some item) = change_fields item.change
+request_fields _ = []
+
+-- a row: place, process, and these fields
+abbrev pub requests_row : EventText → List ℕ
+requests_row e = row_start e ++ request_fields (request_item_of e)
+
+-- the section
+abbrev pub requests_lines : FindingsText → List (List ℕ)
+requests_lines said =
+    requests_head said.counts.requests (length said.standing) ∷ map requests_row said.standing

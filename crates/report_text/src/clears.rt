@@ -1,0 +1,52 @@
+//! The section `clears`.
+
+ghost use Rattle.std.specs.Prelude.{OnOk};
+ghost use Rattle.report_text.specs.Clears.{clears_lines};
+ghost use Rattle.report_text.specs.Pushed.{TakesLines};
+
+use crate::events::{EventLine, EventRows};
+use crate::line::Row;
+use crate::lines::Lines;
+use crate::shown::push_rows;
+use crate::unpaired::{head_line, row_line};
+use audit_join::Findings;
+use event_core::{Event, clear_step};
+use std::alloc::{AllocError, Global};
+use std::thread::Threads;
+
+/// Pushes the lines of the section.
+pub(crate) fn push_clears<T: Threads + Sync, L: Lines>(
+    rt: &T,
+    alloc: Global,
+    found: &Findings<'_>,
+    lines: &mut L,
+) -> Result<(), AllocError>
+    ensures { OnOk result (TakesLines L.takes clears_lines found.now lines.old lines.new) }
+{
+    let sections = found.sections();
+    let places = sections.clears.rows.as_slice();
+    lines.push_line(&head_line(
+        "clears",
+        "unconfirmed",
+        sections.counts.clears,
+        &sections.clears,
+    ))?;
+    let section = Clears;
+    push_rows(rt, alloc, EventRows { section, found }, places, lines)
+}
+
+#[derive(Clone, Copy)]
+struct Clears;
+
+impl EventLine for Clears {
+    ghost use Rattle.std.specs.Prelude.{refl};
+    ghost use Rattle.report_text.specs.Clears.{clears_row};
+
+    ghost row_of = { clears_row };
+
+    ghost bare = { λ e. refl };
+
+    fn event_line(&self, event: Event<'_>) -> Row {
+        row_line(event, clear_step(event), "unconfirmed")
+    }
+}

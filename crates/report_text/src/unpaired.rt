@@ -1,0 +1,49 @@
+//! What the sections `deaths` and `clears` have alike.
+
+ghost use Rattle.std.specs.Prelude.{◌≡◌, ◌≤◌, ◌++◌, length};
+ghost use Rattle.event_core.specs.Reading.{event_text};
+ghost use Rattle.report_text.specs.EventRow.{row_start};
+ghost use Rattle.report_text.specs.Unpaired.{unpaired_head, unpaired_fields};
+
+use crate::events::row_start;
+use crate::line::{Row, push_decimal, push_hex_number};
+use audit_join::Unpaired;
+use event_core::{Event, PendingChange, PendingItem};
+
+/// The head of a section that has this name, and this word for an open without its close. There
+/// are so many opens in all.
+pub(crate) fn head_line(name: &str, unclosed: &str, all: u64, found: &Unpaired) -> Row
+    requires name { length name.now ≤ 16 }
+    requires unclosed { length unclosed.now ≤ 16 }
+    ensures { result.bytes ≡ unpaired_head name.now unclosed.now all found.now.opens found.now.closes }
+{
+    let mut line = Row::new();
+    line.push_str(name);
+    line.push_str(" ");
+    push_decimal(&mut line, all);
+    line.push_str(" ");
+    line.push_str(unclosed);
+    line.push_str(" ");
+    push_decimal(&mut line, found.opens);
+    line.push_str(" stray ");
+    push_decimal(&mut line, found.closes);
+    line
+}
+
+/// The row of an event that is this open or close.
+pub(crate) fn row_line(event: Event<'_>, item: Option<PendingItem<u64>>, unclosed: &str) -> Row
+    requires { length unclosed.now ≤ 16 }
+    ensures { result.bytes ≡ row_start (event_text event.entry) ++ unpaired_fields unclosed.now item }
+{
+    let mut line = row_start(event);
+    if let Some(PendingItem { key, change, .. }) = item {
+        line.push_str(" ");
+        push_hex_number(&mut line, key);
+        line.push_str(" ");
+        line.push_str(match change {
+            PendingChange::Open => unclosed,
+            PendingChange::Close => "stray",
+        });
+    }
+    line
+}
