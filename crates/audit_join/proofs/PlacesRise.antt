@@ -138,7 +138,7 @@ all_whole base before (w ∷ wholes) stand =
     All-cons IsWhole (record { place = base; unit = w }) (placed (λ (x : WholeFrame). frame_bytes x.frame) next wholes)
     (stand.0.has_records, stand.0.has_entries) (all_whole next (Some w.frame.sequence) wholes stand.1)
 
-events_rise : (capture : List ℕ) (wholes : List WholeFrame) → IsInGrammar capture wholes
+pub events_rise : (capture : List ℕ) (wholes : List WholeFrame) → IsInGrammar capture wholes
     → PlacesRise (λ (e : EventText). e.place) (events_of_wholes (wholes_of wholes))
 events_rise capture wholes is = wholes_rise (wholes_of wholes) (all_whole 16 None wholes is.2.stand) (wholes_apart wholes)
 
