@@ -3,7 +3,7 @@ use Rattle.std.proofs.Common.{◌≡◌, ℕ, true, false, cond, eqb, List, Opti
 use Rattle.std.specs.Option.{option_map, unwrap_or}
 use Rattle.binder_code.specs.declared.record_kind.Kind.{Kind}
 use Rattle.binder_code.specs.declared.record_kind.Kind.TheVariants.{BcFreeBuffer, BcClearDeathNotification, BrTransaction, BrTransactionSecCtx, BrReply, BrClearDeathNotificationDone}
-use Rattle.event_core.specs.Buffers.{buffer_item}
+use Rattle.event_core.specs.Buffers.{buffer_item, buffer_pending}
 use Rattle.event_core.specs.Clears.{clear_item}
 use Rattle.event_core.specs.Deaths.{death_change}
 use Rattle.event_core.specs.Events.{EventText}
@@ -13,7 +13,7 @@ use Rattle.event_core.specs.declared.pending.PendingItem.{PendingItem}
 use Rattle.pending_ledger.specs.Ledgers.{buffer_place}
 use Rattle.pending_ledger.specs.Pending.{place_of}
 use Rattle.pending_ledger.specs.Requests.{request_place}
-use Rattle.audit_join.specs.Buffers.{buffer_item_of}
+use Rattle.audit_join.specs.Buffers.{buffer_item_of, buffer_pending_of}
 use Rattle.audit_join.specs.Clears.{clear_item_of}
 use Rattle.audit_join.specs.Deaths.{death_item_of}
 use Rattle.audit_join.specs.Processes.{read_of}
@@ -62,3 +62,11 @@ death_keeps e i is = made_there place_of _ e.place (λ change. refl) (death_chan
 
 pub clear_keeps : KeepsPlace place_of clear_item_of
 clear_keeps e i is = clear_there e.place e.kind e.payload i is
+
+pending_there : (at : ℕ) (o : Option BufferItem) → ((b : BufferItem) → o ≡ Some b → buffer_place b ≡ at) → (i : PendingItem ℕ)
+    → option_map buffer_pending o ≡ Some i → i.place ≡ at
+pending_there at None keeps i is = let no : ⊥ = cc in absurd no
+pending_there at (Some b) keeps i is = sym (ap (λ o. place_of (unwrap_or o i)) is) ∙ keeps b refl
+
+pub pending_keeps : KeepsPlace place_of buffer_pending_of
+pending_keeps e i is = pending_there e.place (buffer_item_of e) (buffer_keeps e) i is

@@ -28,6 +28,7 @@ use Rattle.audit_join.specs.Places.{AreEventsAt, RiseInPlace, StandsInProcess, E
 use Rattle.audit_join.specs.Processes.{process_of, processes_of}
 use Rattle.audit_join.specs.ProcessLedgers.{NeedsItems, AreLedgersOf, IsOfProcess, AreOfProcesses}
 use Rattle.audit_join.proofs.InOrderLaws.{each_among_firsts, firsts_distinct}
+use Rattle.audit_join.proofs.EventsAt.{events_at}
 
 -- numbers that rise differ
 rising_apart : (places : List ℕ) → IsStrictlyIncreasing places → AllPairs (λ x y. x ≢ y) places
@@ -182,24 +183,6 @@ gathered_sorted IsSo stands needs entries wholes of rise gathered places are mov
 
 -- ---- the events at places
 
-some_events : (events : List EventText) (places : List ℕ) → All (λ p. (e : EventText) × Contains events e × (e.place ≡ p)) places
-    → (said : List EventText) × All (Contains events) said × (map (λ e. e.place) said ≡ places)
-some_events events [] all = ([], All-nil (Contains events), refl)
-some_events events (p ∷ places) all =
-    let Stands = λ (p : ℕ). (e : EventText) × Contains events e × (e.place ≡ p) in
-    let here = All-head Stands p places all in
-    let rest = some_events events places (All-tail Stands p places all) in
-    (here.0 ∷ rest.0, All-cons (Contains events) here.0 rest.0 here.1 rest.1, (λ j. here.2 j ∷ rest.2 j))
-
--- where an event stands at each place at which something is so, the events at those places
-pub events_there : (IsSo : ℕ → Type 0) (events : List EventText) → ((p : ℕ) → IsSo p → (e : EventText) × Contains events e × (e.place ≡ p))
-    → (places : List ℕ) → ArePlacesOf IsSo places → (said : List EventText) × AreEventsAt IsSo events said × (places ≡ map (λ e. e.place) said)
-events_there IsSo events stands places are =
-    let found = some_events events places
-    (All-weaker (Contains places) (λ p. (e : EventText) × Contains events e × (e.place ≡ p)) (λ p c. stands p ((are.exact p).0 c)) places
-    (All-contains_itself places)) in
-    (found.0, record { stand = found.1; places = subst (ArePlacesOf IsSo) (sym found.2) are }, sym found.2)
-
 -- opens and closes at different places, in one list
 pub both_sorted : (IsOpen IsClose : ℕ → Type 0) (opens closes places : List ℕ) → ((p : ℕ) → IsOpen p → IsClose p → ⊥) → ArePlacesOf IsOpen opens
     → ArePlacesOf IsClose closes → IsPermutation (opens ++ closes) places → IsSorted nat_cmp places → ArePlacesOf (λ p. IsOpen p ⊎ IsClose p) places
@@ -236,7 +219,7 @@ unpaired_kept IsOpen IsClose open_stands close_stands exclude events rise opens 
     (λ (open_is : SomeOpen p). let at = open_stands events open_is.0 p open_is.1 in (at.0, at.1, at.3))
     (λ (close_is : SomeClose p). let at = close_stands events close_is.0 p close_is.1 in (at.0, at.1, at.3))
     is in
-    let rows = events_there (λ p. SomeOpen p ⊎ SomeClose p) events stands found.rows both in (
+    let rows = events_at (λ p. SomeOpen p ⊎ SomeClose p) events stands found.rows both in (
       record { opens = length opens; closes = length closes; rows = rows.0 },
       record { opens = many_opens; closes = many_closes; rows = rows.2 },
       record { opens = (opens, opened, refl); closes = (closes, closed, refl); rows = rows.1 },

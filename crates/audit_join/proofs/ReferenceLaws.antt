@@ -25,6 +25,7 @@ use Rattle.audit_join.specs.Handles.{handle_item_of, process_handle, AreHandlesO
 use Rattle.audit_join.specs.Nodes.{node_item_of, process_node, AreNodesOf, AreNodeFindings}
 use Rattle.audit_join.specs.ProcessLedgers.{AreLedgersOf, AreOfProcesses, IsOfProcess, GivesHandles, GivesNodes}
 use Rattle.audit_join.specs.Processes.{processes_of, read_of}
+use Rattle.audit_join.proofs.ProcessLaws.{found_ledgers, no_ledgers}
 use Rattle.audit_join.proofs.TurnLaws.{Turning, turned, turned_of, joined}
 
 -- no item, no row
@@ -36,33 +37,27 @@ no_nodes : AreNodeRows (λ (item : NodeItem). Some item) [] []
 unfolding IsStrictlySortedBy
 no_nodes = record { rising = tt; named = All-nil _; whole = λ key is. let no : ⊥ = cc in absurd no; right = All-nil _ }
 
--- the ledgers that a process has are its own
-pub held : (o : Option (Box ProcessLedgers Global)) (ledgers : ProcessLedgers) → IsSomeAnd o (λ own. ledgers ≡ own.value)
-    → (events : List EventText) (process : ℕ) → IsOfProcess o events process → AreLedgersOf ledgers events process
-held None ledgers is events process of = absurd is
-held (Some own) ledgers is events process of = subst (λ (l : ProcessLedgers). AreLedgersOf l events process) (sym is) of
-
 -- the rows of a process, without ledgers and with them
 pub none_handles : (summary : ProcessSummary) → summary.ledgers ≡ None → GivesHandles summary []
 none_handles summary none events process is =
-    let nothing = subst (λ (o : Option (Box ProcessLedgers Global)). IsOfProcess o events process) none is in
+    let nothing = no_ledgers summary.ledgers events process none is in
     read_handle_rows (read_of handle_item_of process) events [] (subst (λ items. AreHandleRows (λ item. Some item) items []) (sym nothing.handles) no_handles)
 
 pub some_handles : (summary : ProcessSummary) (ledgers : ProcessLedgers) → IsSomeAnd summary.ledgers (λ own. ledgers ≡ own.value) → (rows : List HandleRow)
     → GivesHandleRows ledgers.handles rows → GivesHandles summary rows
 some_handles summary ledgers some rows gives events process is =
-    let own = held summary.ledgers ledgers some events process is in
+    let own = found_ledgers summary.ledgers ledgers events process some is in
     read_handle_rows (read_of handle_item_of process) events rows (gives (filter_map (read_of handle_item_of process) events) own.handles)
 
 pub none_nodes : (summary : ProcessSummary) → summary.ledgers ≡ None → GivesNodes summary []
 none_nodes summary none events process is =
-    let nothing = subst (λ (o : Option (Box ProcessLedgers Global)). IsOfProcess o events process) none is in
+    let nothing = no_ledgers summary.ledgers events process none is in
     read_node_rows (read_of node_item_of process) events [] (subst (λ items. AreNodeRows (λ item. Some item) items []) (sym nothing.nodes) no_nodes)
 
 pub some_nodes : (summary : ProcessSummary) (ledgers : ProcessLedgers) → IsSomeAnd summary.ledgers (λ own. ledgers ≡ own.value) → (rows : List NodeRow)
     → GivesNodeRows ledgers.nodes rows → GivesNodes summary rows
 some_nodes summary ledgers some rows gives events process is =
-    let own = held summary.ledgers ledgers some events process is in
+    let own = found_ledgers summary.ledgers ledgers events process some is in
     read_node_rows (read_of node_item_of process) events rows (gives (filter_map (read_of node_item_of process) events) own.nodes)
 
 -- ---- all processes

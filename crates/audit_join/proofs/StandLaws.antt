@@ -15,8 +15,8 @@ use Rattle.event_core.specs.declared.pending.PendingChange.TheVariants.{Open, Cl
 use Rattle.event_core.specs.declared.pending.PendingItem.{PendingItem}
 use Rattle.event_core.specs.declared.request.RequestItem.{RequestItem}
 use Rattle.pending_ledger.proofs.ListLaws.{contains_none, contains_read, contains_middle, one_place}
-use Rattle.pending_ledger.specs.Pending.{IsOutstanding, IsStray}
-use Rattle.pending_ledger.specs.Requests.{IsStanding}
+use Rattle.pending_ledger.specs.Pending.{IsOutstanding, IsStray, place_of}
+use Rattle.pending_ledger.specs.Requests.{IsStanding, request_place}
 use Rattle.std.specs.Ordering.{eq_by_cmp, nat_cmp}
 use Rattle.audit_join.specs.Buffers.{buffer_item_of, buffer_pending_of}
 use Rattle.audit_join.specs.Clears.{clear_item_of}
@@ -25,6 +25,7 @@ use Rattle.audit_join.specs.Places.{RiseInPlace, StandsInProcess, ExcludeEachOth
 use Rattle.audit_join.specs.ProcessLedgers.{HasNoItems, NeedsItems}
 use Rattle.audit_join.specs.Processes.{read_of, items_of_process}
 use Rattle.audit_join.specs.Requests.{request_item_of}
+use Rattle.audit_join.proofs.ItemPlaces.{KeepsPlace, pending_keeps, request_keeps, death_keeps, clear_keeps}
 
 chosen : {I : Type 0} (b : Bool) (o : Option I) (i : I) → cond b o None ≡ Some i → (b ≡ true) × (o ≡ Some i)
 chosen true o i is = (refl, is)
@@ -38,10 +39,6 @@ read_there read process events i c =
     let e = found.0 in
     let both = chosen (eqb process e.process) (read e) i found.2 in
     (e, found.1, sym (eqb-true process e.process both.0), both.1)
-
--- what is read from an event stands where the event does
-abbrev KeepsPlace : {I : Type 0} → (I → ℕ) → (EventText → Option I) → Type 0
-KeepsPlace {I} place read = (e : EventText) (i : I) → read e ≡ Some i → place i ≡ e.place
 
 stands_there : {I : Type 0} (place : I → ℕ) (read : EventText → Option I) → KeepsPlace place read
     → (events : List EventText) (process at : ℕ) (i : I) → Contains (items_of_process read process events) i → place i ≡ at
@@ -57,15 +54,15 @@ listed_there items earlier later i split = subst (λ t. Contains t i) (sym split
 not_there : {I : Type 0} (items earlier later : List I) (i : I) → items ≡ [] → items ≡ earlier ++ i ∷ later → ⊥
 not_there items earlier later i none split = contains_none i (subst (λ t. Contains t i) none (listed_there items earlier later i split))
 
-module _ (read : EventText → Option (PendingItem ℕ)) (keeps : KeepsPlace (λ (i : PendingItem ℕ). i.place) read) where
+module _ (read : EventText → Option (PendingItem ℕ)) (keeps : KeepsPlace place_of read) where
   open_stands : StandsInProcess (λ events process place. IsOutstanding (eq_by_cmp nat_cmp) (items_of_process read process events) place)
   open_stands events process place is =
-      stands_there (λ (i : PendingItem ℕ). i.place) read keeps events process place is.item
+      stands_there place_of read keeps events process place is.item
       (listed_there (items_of_process read process events) is.earlier is.later is.item is.split) is.at_place
 
   stray_stands : StandsInProcess (λ events process place. IsStray (eq_by_cmp nat_cmp) (items_of_process read process events) place)
   stray_stands events process place is =
-      stands_there (λ (i : PendingItem ℕ). i.place) read keeps events process place is.item
+      stands_there place_of read keeps events process place is.item
       (listed_there (items_of_process read process events) is.earlier is.later is.item is.split) is.at_place
 
   none_open : (events : List EventText) (process place : ℕ) → items_of_process read process events ≡ []
@@ -94,64 +91,35 @@ module _ (read : EventText → Option (PendingItem ℕ)) (keeps : KeepsPlace (λ
 
 -- ---- each ledger
 
-some_place : {A I : Type 0} (place : I → ℕ) (make : A → I) (at : ℕ) → ((a : A) → place (make a) ≡ at) → (o : Option A) (i : I) → option_map make o ≡ Some i
-    → place i ≡ at
-some_place place make at there None i is = let no : ⊥ = cc in absurd no
-some_place place make at there (Some a) i is = ap place (sym (ap (λ o. unwrap_or o i) is)) ∙ there a
-
-death_place : KeepsPlace (λ (i : PendingItem ℕ). i.place) death_item_of
-death_place e i is = some_place (λ (i : PendingItem ℕ). i.place) _ e.place (λ change. refl) (death_change e.kind) i is
-
-request_at : KeepsPlace (λ (i : RequestItem). i.place) request_item_of
-request_at e i is = some_place (λ (i : RequestItem). i.place) _ e.place (λ change. refl) (request_change e.kind e.payload) i is
-
-buffer_there : (at : ℕ) (kind : Kind) (payload : List ℕ) (i : PendingItem ℕ) → option_map buffer_pending (buffer_item at kind payload) ≡ Some i → i.place ≡ at
-buffer_there at BrTransaction payload i is = ap (λ (o : Option (PendingItem ℕ)). (unwrap_or o i).place) (sym is)
-buffer_there at BrTransactionSecCtx payload i is = ap (λ (o : Option (PendingItem ℕ)). (unwrap_or o i).place) (sym is)
-buffer_there at BrReply payload i is = ap (λ (o : Option (PendingItem ℕ)). (unwrap_or o i).place) (sym is)
-buffer_there at BcFreeBuffer payload i is = ap (λ (o : Option (PendingItem ℕ)). (unwrap_or o i).place) (sym is)
-buffer_there at _ payload i is = let no : ⊥ = cc in absurd no
-
-clear_there : (at : ℕ) (kind : Kind) (payload : List ℕ) (i : PendingItem ℕ) → clear_item at kind payload ≡ Some i → i.place ≡ at
-clear_there at BcClearDeathNotification payload i is = ap (λ (o : Option (PendingItem ℕ)). (unwrap_or o i).place) (sym is)
-clear_there at BrClearDeathNotificationDone payload i is = ap (λ (o : Option (PendingItem ℕ)). (unwrap_or o i).place) (sym is)
-clear_there at _ payload i is = let no : ⊥ = cc in absurd no
-
-pending_place : KeepsPlace (λ (i : PendingItem ℕ). i.place) buffer_pending_of
-pending_place e i is = buffer_there e.place e.kind e.payload i is
-
-clear_place : KeepsPlace (λ (i : PendingItem ℕ). i.place) clear_item_of
-clear_place e i is = clear_there e.place e.kind e.payload i is
-
 pub leaked_stands : StandsInProcess (λ events process place. IsOutstanding (eq_by_cmp nat_cmp) (items_of_process buffer_pending_of process events) place)
-leaked_stands = open_stands buffer_pending_of pending_place
+leaked_stands = open_stands buffer_pending_of pending_keeps
 
 pub stray_free_stands : StandsInProcess (λ events process place. IsStray (eq_by_cmp nat_cmp) (items_of_process buffer_pending_of process events) place)
-stray_free_stands = stray_stands buffer_pending_of pending_place
+stray_free_stands = stray_stands buffer_pending_of pending_keeps
 
 pub open_death_stands : StandsInProcess (λ events process place. IsOutstanding (eq_by_cmp nat_cmp) (items_of_process death_item_of process events) place)
-open_death_stands = open_stands death_item_of death_place
+open_death_stands = open_stands death_item_of death_keeps
 
 pub stray_acknowledgement_stands : StandsInProcess (λ events process place. IsStray (eq_by_cmp nat_cmp) (items_of_process death_item_of process events) place)
-stray_acknowledgement_stands = stray_stands death_item_of death_place
+stray_acknowledgement_stands = stray_stands death_item_of death_keeps
 
 pub deaths_apart : ExcludeEachOther (λ events process place. IsOutstanding (eq_by_cmp nat_cmp) (items_of_process death_item_of process events) place)
     (λ events process place. IsStray (eq_by_cmp nat_cmp) (items_of_process death_item_of process events) place)
-deaths_apart = apart death_item_of death_place
+deaths_apart = apart death_item_of death_keeps
 
 pub open_clear_stands : StandsInProcess (λ events process place. IsOutstanding (eq_by_cmp nat_cmp) (items_of_process clear_item_of process events) place)
-open_clear_stands = open_stands clear_item_of clear_place
+open_clear_stands = open_stands clear_item_of clear_keeps
 
 pub stray_confirmation_stands : StandsInProcess (λ events process place. IsStray (eq_by_cmp nat_cmp) (items_of_process clear_item_of process events) place)
-stray_confirmation_stands = stray_stands clear_item_of clear_place
+stray_confirmation_stands = stray_stands clear_item_of clear_keeps
 
 pub clears_apart : ExcludeEachOther (λ events process place. IsOutstanding (eq_by_cmp nat_cmp) (items_of_process clear_item_of process events) place)
     (λ events process place. IsStray (eq_by_cmp nat_cmp) (items_of_process clear_item_of process events) place)
-clears_apart = apart clear_item_of clear_place
+clears_apart = apart clear_item_of clear_keeps
 
 pub request_stands : StandsInProcess (λ events process place. IsStanding (items_of_process request_item_of process events) place)
 request_stands events process place is =
-    stands_there (λ (i : RequestItem). i.place) request_item_of request_at events process place is.item
+    stands_there request_place request_item_of request_keeps events process place is.item
     (listed_there (items_of_process request_item_of process events) is.earlier is.later is.item is.split) is.at_place
 
 -- ---- what is made of each item
@@ -180,22 +148,22 @@ no_pending : (events : List EventText) (process : ℕ) → HasNoItems events pro
 no_pending events process none = pending_made process events ∙ ap (map buffer_pending) none.buffers
 
 pub leaked_needs : NeedsItems (λ events process place. IsOutstanding (eq_by_cmp nat_cmp) (items_of_process buffer_pending_of process events) place)
-leaked_needs events process place none = none_open buffer_pending_of pending_place events process place (no_pending events process none)
+leaked_needs events process place none = none_open buffer_pending_of pending_keeps events process place (no_pending events process none)
 
 pub stray_free_needs : NeedsItems (λ events process place. IsStray (eq_by_cmp nat_cmp) (items_of_process buffer_pending_of process events) place)
-stray_free_needs events process place none = none_stray buffer_pending_of pending_place events process place (no_pending events process none)
+stray_free_needs events process place none = none_stray buffer_pending_of pending_keeps events process place (no_pending events process none)
 
 pub open_death_needs : NeedsItems (λ events process place. IsOutstanding (eq_by_cmp nat_cmp) (items_of_process death_item_of process events) place)
-open_death_needs events process place none = none_open death_item_of death_place events process place none.deaths
+open_death_needs events process place none = none_open death_item_of death_keeps events process place none.deaths
 
 pub stray_acknowledgement_needs : NeedsItems (λ events process place. IsStray (eq_by_cmp nat_cmp) (items_of_process death_item_of process events) place)
-stray_acknowledgement_needs events process place none = none_stray death_item_of death_place events process place none.deaths
+stray_acknowledgement_needs events process place none = none_stray death_item_of death_keeps events process place none.deaths
 
 pub open_clear_needs : NeedsItems (λ events process place. IsOutstanding (eq_by_cmp nat_cmp) (items_of_process clear_item_of process events) place)
-open_clear_needs events process place none = none_open clear_item_of clear_place events process place none.clears
+open_clear_needs events process place none = none_open clear_item_of clear_keeps events process place none.clears
 
 pub stray_confirmation_needs : NeedsItems (λ events process place. IsStray (eq_by_cmp nat_cmp) (items_of_process clear_item_of process events) place)
-stray_confirmation_needs events process place none = none_stray clear_item_of clear_place events process place none.clears
+stray_confirmation_needs events process place none = none_stray clear_item_of clear_keeps events process place none.clears
 
 pub request_needs : NeedsItems (λ events process place. IsStanding (items_of_process request_item_of process events) place)
 request_needs events process place none is =
