@@ -19,7 +19,7 @@ use Rattle.audit_join.specs.declared.record_counts.RecordCounts.{RecordCounts}
 use Rattle.audit_join.specs.Frames.{events_of_wholes}
 use Rattle.audit_join.specs.Handles.{AreHandlesOf, AreHandleFindings, handle_item_of, process_handle}
 use Rattle.audit_join.specs.Nodes.{AreNodesOf, AreNodeFindings, node_item_of, process_node}
-use Rattle.audit_join.specs.Places.{AreEventsAt, AreUnpaired, IsCountOfPlaces, RiseInPlace, UnpairedText}
+use Rattle.audit_join.specs.Places.{AreEventsAt, AreOpenAndStray, IsCountOfPlaces, RiseInPlace, OpenAndStrayText}
 use Rattle.audit_join.specs.Processes.{AreInTurn, processes_of, read_of}
 use Rattle.audit_join.specs.RecordCounts.{AreRecordCounts}
 
@@ -138,14 +138,14 @@ one_list_of_events IsSo events said other rise a b =
     let places : List EventText → List ℕ = λ es. map (λ e. e.place) es in
     same_events events rise said other a.stand b.stand (one_list_of_places IsSo (places said) (places other) a.places b.places)
 
-pub one_unpaired : (IsOpen IsClose : ℕ → Type 0) (events : List EventText) (said other : UnpairedText) → RiseInPlace events
-    → AreUnpaired IsOpen IsClose events said → AreUnpaired IsOpen IsClose events other → said ≡ other
-one_unpaired IsOpen IsClose events said other rise a b =
-    let make : ℕ → ℕ → List EventText → UnpairedText = λ o c r. record { opens = o; closes = c; rows = r } in
-    let opens = one_count_of_places IsOpen said.opens other.opens a.opens b.opens in
-    let closes = one_count_of_places IsClose said.closes other.closes a.closes b.closes in
+pub one_open_and_stray : (IsOpen IsClose : ℕ → Type 0) (events : List EventText) (said other : OpenAndStrayText) → RiseInPlace events
+    → AreOpenAndStray IsOpen IsClose events said → AreOpenAndStray IsOpen IsClose events other → said ≡ other
+one_open_and_stray IsOpen IsClose events said other rise a b =
+    let make : ℕ → ℕ → List EventText → OpenAndStrayText = λ o c r. record { unclosed = o; strays = c; rows = r } in
+    let opens = one_count_of_places IsOpen said.unclosed other.unclosed a.unclosed b.unclosed in
+    let closes = one_count_of_places IsClose said.strays other.strays a.strays b.strays in
     let rows = one_list_of_events (λ place. IsOpen place ⊎ IsClose place) events said.rows other.rows rise a.rows b.rows in
-    ap₂ (λ (o c : ℕ). make o c said.rows) opens closes ∙ ap (make other.opens other.closes) rows
+    ap₂ (λ (o c : ℕ). make o c said.rows) opens closes ∙ ap (make other.unclosed other.strays) rows
 
 -- ---- counts
 

@@ -21,10 +21,10 @@ use Rattle.pending_ledger.specs.Pending.{ArePlacesOf}
 use Rattle.audit_join.specs.declared.process.Process.{Process}
 use Rattle.audit_join.specs.declared.process_ledgers.ProcessLedgers.{ProcessLedgers}
 use Rattle.audit_join.specs.declared.process_summary.ProcessSummary.{ProcessSummary}
-use Rattle.audit_join.specs.declared.unpaired.Unpaired.{Unpaired}
+use Rattle.audit_join.specs.declared.open_and_stray.OpenAndStray.{OpenAndStray}
 use Rattle.audit_join.specs.Frames.{events_of_wholes}
-use Rattle.audit_join.specs.Kept.{KeepsUnpaired}
-use Rattle.audit_join.specs.Places.{AreEventsAt, RiseInPlace, StandsInProcess, ExcludeEachOther, UnpairedText, AreUnpaired}
+use Rattle.audit_join.specs.Kept.{KeepsOpenAndStray}
+use Rattle.audit_join.specs.Places.{AreEventsAt, RiseInPlace, StandsInProcess, ExcludeEachOther, OpenAndStrayText, AreOpenAndStray}
 use Rattle.audit_join.specs.Processes.{process_of, processes_of}
 use Rattle.audit_join.specs.ProcessLedgers.{NeedsItems, AreLedgersOf, IsOfProcess, AreOfProcesses}
 use Rattle.audit_join.proofs.InOrderLaws.{each_among_firsts, firsts_distinct}
@@ -202,13 +202,13 @@ both_sorted IsOpen IsClose opens closes places exclude opened closed moved sorte
     is)
 
 -- what is kept of the opens and closes of all processes
-pub unpaired_kept : (IsOpen IsClose : List EventText → ℕ → ℕ → Type 0) → StandsInProcess IsOpen → StandsInProcess IsClose → ExcludeEachOther IsOpen IsClose
+pub open_and_stray_kept : (IsOpen IsClose : List EventText → ℕ → ℕ → Type 0) → StandsInProcess IsOpen → StandsInProcess IsClose → ExcludeEachOther IsOpen IsClose
     → (events : List EventText) → RiseInPlace events → (opens closes : List ℕ) → ArePlacesOf (λ place. (process : ℕ) × IsOpen events process place) opens
-    → ArePlacesOf (λ place. (process : ℕ) × IsClose events process place) closes → (found : Unpaired) → found.opens ≡ length opens
-    → found.closes ≡ length closes → IsPermutation (opens ++ closes) found.rows → IsSorted nat_cmp found.rows
-    → (said : UnpairedText) × KeepsUnpaired found said
-    × AreUnpaired (λ place. (process : ℕ) × IsOpen events process place) (λ place. (process : ℕ) × IsClose events process place) events said
-unpaired_kept IsOpen IsClose open_stands close_stands exclude events rise opens closes opened closed found many_opens many_closes moved sorted =
+    → ArePlacesOf (λ place. (process : ℕ) × IsClose events process place) closes → (found : OpenAndStray) → found.unclosed ≡ length opens
+    → found.strays ≡ length closes → IsPermutation (opens ++ closes) found.rows → IsSorted nat_cmp found.rows
+    → (said : OpenAndStrayText) × KeepsOpenAndStray found said
+    × AreOpenAndStray (λ place. (process : ℕ) × IsOpen events process place) (λ place. (process : ℕ) × IsClose events process place) events said
+open_and_stray_kept IsOpen IsClose open_stands close_stands exclude events rise opens closes opened closed found many_opens many_closes moved sorted =
     let SomeOpen = λ (place : ℕ). (process : ℕ) × IsOpen events process place in
     let SomeClose = λ (place : ℕ). (process : ℕ) × IsClose events process place in
     let both = both_sorted SomeOpen SomeClose opens closes found.rows
@@ -220,7 +220,7 @@ unpaired_kept IsOpen IsClose open_stands close_stands exclude events rise opens 
     (λ (close_is : SomeClose p). let at = close_stands events close_is.0 p close_is.1 in (at.0, at.1, at.3))
     is in
     let rows = events_at (λ p. SomeOpen p ⊎ SomeClose p) events stands found.rows both in (
-      record { opens = length opens; closes = length closes; rows = rows.0 },
-      record { opens = many_opens; closes = many_closes; rows = rows.2 },
-      record { opens = (opens, opened, refl); closes = (closes, closed, refl); rows = rows.1 },
+      record { unclosed = length opens; strays = length closes; rows = rows.0 },
+      record { unclosed = many_opens; strays = many_closes; rows = rows.2 },
+      record { unclosed = (opens, opened, refl); strays = (closes, closed, refl); rows = rows.1 },
     )

@@ -1,5 +1,5 @@
--- The sections `buffers` and `frees`: deliveries that are never freed, and frees of what was not delivered
--- (docs/REPORT.md).
+-- The sections `buffers` and `frees`: deliveries that are never freed, and frees of what is not delivered or is freed
+-- already (docs/REPORT.md).
 use Rattle.std.specs.Prelude.{ℕ, List, Option}
 use Rattle.std.specs.Option.{option_map}
 use Rattle.event_core.specs.Buffers.{buffer_item, buffer_pending}
@@ -20,6 +20,6 @@ buffer_pending_of e = option_map buffer_pending (buffer_item_of e)
 abbrev pub AreLeaked : List EventText → List EventText → Type 0
 AreLeaked events said = AreEventsAt (IsOpenStill buffer_pending_of events) events said
 
--- the frees of an address that was not delivered to their process since its last free
+-- the frees whose address was not delivered to their process, or was not delivered again since its last free there
 abbrev pub AreStrayFrees : List EventText → List EventText → Type 0
 AreStrayFrees events said = AreEventsAt (IsStrayClose buffer_pending_of events) events said

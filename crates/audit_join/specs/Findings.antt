@@ -17,7 +17,7 @@ use Rattle.audit_join.specs.Frames.{events_of_wholes}
 use Rattle.audit_join.specs.Handles.{AreHandleFindings}
 use Rattle.audit_join.specs.Nodes.{AreNodeFindings}
 use Rattle.audit_join.specs.Objects.{BadOwned, attachments_of, AreObjectFindings}
-use Rattle.audit_join.specs.Places.{UnpairedText}
+use Rattle.audit_join.specs.Places.{OpenAndStrayText}
 use Rattle.audit_join.specs.RecordCounts.{AreRecordCounts}
 use Rattle.audit_join.specs.Requests.{AreStandingRequests}
 
@@ -44,8 +44,8 @@ pub record FindingsText : Type 0 where
   pub leaked : List EventText
   pub stray_frees : List EventText
   pub standing : List EventText
-  pub deaths : UnpairedText
-  pub clears : UnpairedText
+  pub deaths : OpenAndStrayText
+  pub clears : OpenAndStrayText
   pub objects : SortCounts
   pub bad_objects : List BadOwned
   pub flags : List EventText

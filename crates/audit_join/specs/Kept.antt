@@ -4,23 +4,23 @@ use Rattle.capture_frame.specs.declared.frame.Frame.{Frame}
 use Rattle.transaction_view.specs.Grammar.{WholeFrame}
 use Rattle.audit_join.specs.declared.objects.BadRow.{BadRow}
 use Rattle.audit_join.specs.declared.findings.Sections.{Sections}
-use Rattle.audit_join.specs.declared.unpaired.Unpaired.{Unpaired}
+use Rattle.audit_join.specs.declared.open_and_stray.OpenAndStray.{OpenAndStray}
 use Rattle.audit_join.specs.Findings.{FindingsText, AreFindings}
 use Rattle.audit_join.specs.Frames.{Show, wholes_of}
 use Rattle.audit_join.specs.Objects.{BadOwned}
-use Rattle.audit_join.specs.Places.{UnpairedText}
+use Rattle.audit_join.specs.Places.{OpenAndStrayText}
 
 -- what is kept of a bad object: its record's place, and the object
 abbrev pub kept_bad : BadOwned → BadRow
 kept_bad b = record { owner = b.owner.place; bad = b.bad }
 
--- what is kept of opens and closes without their like: their numbers, and the places of all
-pub record KeepsUnpaired (kept : Unpaired) (said : UnpairedText) : Type 0 where
-  pub opens : kept.opens ≡ said.opens
-  pub closes : kept.closes ≡ said.closes
+-- what is kept of unclosed opens and stray closes: their numbers, and the places of all of them
+pub record KeepsOpenAndStray (kept : OpenAndStray) (said : OpenAndStrayText) : Type 0 where
+  pub unclosed : kept.unclosed ≡ said.unclosed
+  pub strays : kept.strays ≡ said.strays
   pub rows : kept.rows ≡ map (λ e. e.place) said.rows
 
--- the numbers are the same, and each row of events is kept by their places
+-- numbers, and rows that are no events, are the same; of each list of events the places are kept
 pub record Keep (sections : Sections) (said : FindingsText) : Type 0 where
   pub records : sections.records ≡ said.records
   pub opaque : sections.opaque ≡ said.opaque
@@ -32,8 +32,8 @@ pub record Keep (sections : Sections) (said : FindingsText) : Type 0 where
   pub leaked : sections.leaked ≡ map (λ e. e.place) said.leaked
   pub stray_frees : sections.stray_frees ≡ map (λ e. e.place) said.stray_frees
   pub standing : sections.standing ≡ map (λ e. e.place) said.standing
-  pub deaths : KeepsUnpaired sections.deaths said.deaths
-  pub clears : KeepsUnpaired sections.clears said.clears
+  pub deaths : KeepsOpenAndStray sections.deaths said.deaths
+  pub clears : KeepsOpenAndStray sections.clears said.clears
   pub objects : sections.objects ≡ said.objects
   pub bad_objects : sections.bad_objects ≡ map kept_bad said.bad_objects
   pub flags : sections.flags ≡ map (λ e. e.place) said.flags

@@ -1,5 +1,5 @@
--- Rows that are events, in rising place over all processes: what some process opened and nothing closed, and what it
--- closed while it was not open (docs/REPORT.md).
+-- Rows that are events, in rising place over all processes; among them the opens of a process that it never closes
+-- later, and the closes of what is not open (docs/REPORT.md).
 use Rattle.std.specs.Prelude.{◌≡◌, ℕ, List, length, map, All, Contains, Option, ◌⊎◌}
 use Rattle.std.specs.Ordering.{eq_by_cmp, nat_cmp}
 use Rattle.event_core.specs.Events.{EventText}
@@ -8,7 +8,7 @@ use Rattle.pending_ledger.specs.Pending.{ArePlacesOf, IsOutstanding, IsStray}
 use Rattle.summary_law.specs.Fits.{PlacesRise}
 use Rattle.audit_join.specs.Processes.{items_of_process}
 
--- these events stand at the places at which something is so, in rising place
+-- these are, of the first events, the ones at the places at which something is so, in rising place
 pub record AreEventsAt (IsSo : ℕ → Type 0) (events said : List EventText) : Type 0 where
   pub stand : All (λ e. Contains events e) said
   pub places : ArePlacesOf IsSo (map (λ e. e.place) said)
@@ -22,21 +22,22 @@ abbrev pub IsOpenStill : (EventText → Option (PendingItem ℕ)) → List Event
 IsOpenStill read events place =
     (process : ℕ) × IsOutstanding (eq_by_cmp nat_cmp) (items_of_process read process events) place
 
--- among them it is a close, and the latest earlier one of its key, if any, is no open
+-- among the opens and closes of some process the one at the place is a close, and the latest earlier one of its key, if
+-- any, is no open
 abbrev pub IsStrayClose : (EventText → Option (PendingItem ℕ)) → List EventText → ℕ → Type 0
 IsStrayClose read events place =
     (process : ℕ) × IsStray (eq_by_cmp nat_cmp) (items_of_process read process events) place
 
--- opens without a later close, and closes without an open before them: how many there are of each, and all in one list
-pub record UnpairedText : Type 0 where
-  pub opens : ℕ
-  pub closes : ℕ
+-- opens that no later close has the key of, and stray closes: how many there are of each, and all of them in one list
+pub record OpenAndStrayText : Type 0 where
+  pub unclosed : ℕ
+  pub strays : ℕ
   pub rows : List EventText
 
--- they are those at the places of which these two are so, among these events
-pub record AreUnpaired (IsOpen IsClose : ℕ → Type 0) (events : List EventText) (said : UnpairedText) : Type 0 where
-  pub opens : IsCountOfPlaces IsOpen said.opens
-  pub closes : IsCountOfPlaces IsClose said.closes
+-- each number is that of the places at which the one or the other is so, and the rows are the events at all of them
+pub record AreOpenAndStray (IsOpen IsClose : ℕ → Type 0) (events : List EventText) (said : OpenAndStrayText) : Type 0 where
+  pub unclosed : IsCountOfPlaces IsOpen said.unclosed
+  pub strays : IsCountOfPlaces IsClose said.strays
   pub rows : AreEventsAt (λ place. IsOpen place ⊎ IsClose place) events said.rows
 
 -- the places of these events rise

@@ -39,7 +39,7 @@ is_no_items items =
 abbrev pub key_of : Placed WholeFrame → Process
 key_of there = record { number = process_of there }
 
--- a frame names its process, and then each of its events does, with its items
+-- a frame is fed as its process with no item, and then each of its events as the process with the items that it is
 abbrev pub fed_by : Placed WholeFrame → List (Process × ProcessItems)
 fed_by there = (key_of there, no_items) ∷ map (λ e. (key_of there, items_of_event e)) (events_of_whole there)
 

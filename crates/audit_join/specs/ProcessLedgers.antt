@@ -74,7 +74,7 @@ pub record FitProcess (items : List ProcessItems) : Type 0 where
   pub deaths : IsPlaced place_of (deaths_in items)
   pub clears : IsPlaced place_of (clears_in items)
 
--- where a list of items fits, the items that are read from both its parts do
+-- where the items that are read from a list fit, so do those that are read from both its parts
 read_parts : {I J : Type 0} (read : I → Option J) (Fits : List J → Type 0) → FitsInParts Fits → (first second : List I)
     → Fits (filter_map read (first ++ second)) → Fits (filter_map read first) × Fits (filter_map read second)
 read_parts read Fits parts first second fits =
@@ -116,11 +116,12 @@ abbrev pub AddsMaybe : {S I : Type 0} → (S → List I → Type 0) → (List I 
 AddsMaybe Sums Fits old None new = new ≡ old
 AddsMaybe Sums Fits old (Some item) new = Adds Sums Fits old item new
 
--- the ledgers, if there are any, are those of these items; there are none where no item is one of a ledger
+-- the ledgers, if there are any, are those of these items; there are none only where no item is one of a ledger
 abbrev pub SumsIfAny : Option (Box ProcessLedgers Global) → List ProcessItems → Type 0
 SumsIfAny None items = All (λ i. is_no_items i ≡ true) items
 SumsIfAny (Some ledgers) items = SumsProcess ledgers.value items
 
+-- the same of a process that has them or has none
 abbrev pub SumsProcessItems : ProcessSummary → List ProcessItems → Type 0
 SumsProcessItems summary items = SumsIfAny summary.ledgers items
 
@@ -148,17 +149,18 @@ pub record HasNoItems (events : List EventText) (process : ℕ) : Type 0 where
   pub deaths : items_of_process death_item_of process events ≡ []
   pub clears : items_of_process clear_item_of process events ≡ []
 
--- the ledgers, if there are any, are those of this process; there are none where none of its events is an item of one
+-- the ledgers, if there are any, are those of this process; there are none only where none
+-- of its events is an item of one
 abbrev pub IsOfProcess : Option (Box ProcessLedgers Global) → List EventText → ℕ → Type 0
 IsOfProcess None events process = HasNoItems events process
 IsOfProcess (Some ledgers) events process = AreLedgersOf ledgers.value events process
 
--- where it is so of a process at some place, some event of the process is an item of a ledger
+-- where something is so of a process at some place, some event of the process is an item of a ledger
 abbrev pub NeedsItems : (List EventText → ℕ → ℕ → Type 0) → Type 0
 NeedsItems IsSo =
     (events : List EventText) (process place : ℕ) → HasNoItems events process → IsSo events process place → ⊥
 
--- they are those of the processes of these frames, in the order of their first frames
+-- the entries are those of the processes of these frames, in the order of their first frames
 pub record AreOfProcesses (processes : List (Process × ProcessSummary)) (wholes : List (Placed WholeFrame)) : Type 0 where
   pub order : map (λ (e : Process × ProcessSummary). e.0.number) processes ≡ processes_of wholes
   pub each : All (λ (e : Process × ProcessSummary). IsOfProcess e.1.ledgers (events_of_wholes wholes) e.0.number) processes
@@ -169,7 +171,7 @@ GivesHandles summary rows =
     (events : List EventText) (process : ℕ) → IsOfProcess summary.ledgers events process
     → AreHandleRows (read_of handle_item_of process) events rows
 
--- and those of nodes
+-- the rows of nodes of whatever process the ledgers are of
 abbrev pub GivesNodes : ProcessSummary → List NodeRow → Type 0
 GivesNodes summary rows =
     (events : List EventText) (process : ℕ) → IsOfProcess summary.ledgers events process

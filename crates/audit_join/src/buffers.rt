@@ -21,7 +21,7 @@ impl Listed for Leaked {
     }
 }
 
-/// Frees of what was not delivered.
+/// Frees of what is not delivered, or is freed already.
 pub(crate) struct StrayFrees;
 
 impl Listed for StrayFrees {

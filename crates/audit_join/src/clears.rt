@@ -21,7 +21,7 @@ impl Listed for Unconfirmed {
     }
 }
 
-/// Confirmations of no clear.
+/// Confirmations of what is not cleared, or is confirmed already.
 pub(crate) struct StrayConfirmations;
 
 impl Listed for StrayConfirmations {

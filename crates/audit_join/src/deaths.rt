@@ -21,7 +21,7 @@ impl Listed for Unacknowledged {
     }
 }
 
-/// Acknowledgements of no death.
+/// Acknowledgements of what is not dead, or is acknowledged already.
 pub(crate) struct StrayAcknowledgements;
 
 impl Listed for StrayAcknowledgements {

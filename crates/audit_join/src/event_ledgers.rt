@@ -12,7 +12,7 @@ use event_core::Event;
 use std::alloc::{AllocError, Global};
 use summary_law::{Summary, Tally};
 
-/// How many events there are, and what each section keeps of them.
+/// How many events there are, and what `codes`, `objects` and `flags` keep of them.
 #[derive(Drop)]
 pub(crate) struct EventLedgers {
     pub records: u64,

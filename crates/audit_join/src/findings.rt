@@ -10,12 +10,12 @@ use crate::objects::BadRow;
 use crate::record_counts::RecordCounts;
 use crate::rows::Rows;
 use crate::sort_counts::SortCounts;
-use crate::unpaired::Unpaired;
+use crate::open_and_stray::OpenAndStray;
 use capture_frame::Frame;
 use event_core::{Event, bare_event_at};
 use std::marker::Model;
 
-/// The numbers and the rows of the report, beside the number of frames.
+/// The numbers and the rows of the report, apart from the number of frames.
 #[derive(Debug, Drop)]
 pub struct Sections {
     /// How many records there are, opaque ones included.
@@ -34,14 +34,14 @@ pub struct Sections {
     pub nodes: Rows<ProcessNode>,
     /// The places of the deliveries that are never freed, rising.
     pub leaked: Rows<u64>,
-    /// The places of the frees of what was not delivered, rising.
+    /// The places of the frees of what is not delivered or is freed already, rising.
     pub stray_frees: Rows<u64>,
     /// The places of the requests that still stand, rising.
     pub standing: Rows<u64>,
-    /// Deaths that nobody acknowledges, and acknowledgements of none.
-    pub deaths: Unpaired,
-    /// Clears that nobody confirms, and confirmations of none.
-    pub clears: Unpaired,
+    /// Deaths that nobody acknowledges, and stray acknowledgements.
+    pub deaths: OpenAndStray,
+    /// Clears that nobody confirms, and stray confirmations.
+    pub clears: OpenAndStray,
     /// How many good objects of each sort there are.
     pub objects: SortCounts,
     /// The bad objects, in rising place of their records.

@@ -14,8 +14,8 @@ use crate::rows::Rows;
 use handle_ledger::HandleRow;
 use std::alloc::{AllocError, Global};
 
-/// The references that a process holds by a handle: how many more it took than it let go, and the
-/// least value that this number ever had.
+/// The references that a process holds by a handle, strong and weak: how many more it took than it
+/// let go, and the least that this number ever was, the 0 at the capture's beginning included.
 #[derive(Clone, Copy, Debug, PartialEq, Eq)]
 pub struct ProcessHandle {
     pub process: u32,

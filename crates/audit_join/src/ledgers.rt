@@ -21,13 +21,13 @@ use crate::record_counts::record_counts;
 use crate::requests::Standing;
 use crate::rows::Rows;
 use crate::sequences::Sequences;
-use crate::unpaired::unpaired_of;
+use crate::open_and_stray::open_and_stray_of;
 use capture_frame::Frame;
 use event_core::Events;
 use std::alloc::{AllocError, Global};
 use summary_law::Summary;
 
-/// The sequences of frames, and what their events come to.
+/// The sequences of frames, what their events come to, and what those of each process do.
 #[derive(Drop)]
 pub(crate) struct Ledgers {
     pub sequences: Sequences,
@@ -111,8 +111,8 @@ impl Ledgers {
             leaked: Rows::of(places_of::<Leaked>(alloc, processes)?),
             stray_frees: Rows::of(places_of::<StrayFrees>(alloc, processes)?),
             standing: Rows::of(places_of::<Standing>(alloc, processes)?),
-            deaths: unpaired_of::<Unacknowledged, StrayAcknowledgements>(alloc, processes)?,
-            clears: unpaired_of::<Unconfirmed, StrayConfirmations>(alloc, processes)?,
+            deaths: open_and_stray_of::<Unacknowledged, StrayAcknowledgements>(alloc, processes)?,
+            clears: open_and_stray_of::<Unconfirmed, StrayConfirmations>(alloc, processes)?,
             objects: objects.counts,
             bad_objects: Rows::of(objects.bad),
             flags: Rows::of(flags.into_places()),

@@ -29,7 +29,7 @@ mod requests;
 mod rows;
 mod sequences;
 mod sort_counts;
-mod unpaired;
+mod open_and_stray;
 
 pub use audit::audit_one;
 pub use audit_error::AuditError;
@@ -43,7 +43,7 @@ pub use piece_summary::PieceSummary;
 pub use record_counts::RecordCounts;
 pub use rows::Rows;
 pub use sort_counts::SortCounts;
-pub use unpaired::Unpaired;
+pub use open_and_stray::OpenAndStray;
 
 #[cfg(test)]
 mod tests;

@@ -14,8 +14,9 @@ use crate::rows::Rows;
 use handle_ledger::NodeRow;
 use std::alloc::{AllocError, Global};
 
-/// The references that the driver holds to a node of a process, the least value that each of the
-/// two numbers ever had, and how many are asked for and not yet acknowledged.
+/// The references that the driver holds to a node of a process, strong and weak: how many more it
+/// took than it let go, and the least that this number ever was, the 0 at the capture's beginning
+/// included; and how many more it asked for than the process acknowledged.
 #[derive(Clone, Copy, Debug, PartialEq, Eq)]
 pub struct ProcessNode {
     pub process: u32,

@@ -21,10 +21,10 @@ pub(crate) trait Listed {
     ghost use Rattle.pending_ledger.specs.Pending.{ArePlacesOf};
     ghost use Rattle.audit_join.specs.ProcessLedgers.{AreLedgersOf};
 
-    /// Among these events, something is so of this process at this place.
+    /// Among these events, the list of this process has this place.
     ghost is_so: { List EventText → ℕ → ℕ → Type 0 };
 
-    /// The places, rising.
+    /// The list, the places rising.
     fn places(ledgers: &ProcessLedgers, alloc: Global) -> Result<Vec<u64>, AllocError>
         ensures { IfOk result (λ places. (events : List EventText) (process : ℕ) →
             AreLedgersOf ledgers.now events process →

@@ -16,7 +16,7 @@ pub(crate) struct ProcessSummary {
 }
 
 impl ProcessSummary {
-    /// The ledgers; None where none of them has an item.
+    /// The ledgers; None only where none of them would have an item.
     pub fn ledgers(&self) -> Option<&ProcessLedgers>
         ensures some { IfSome result (λ ledgers.
             IsSomeAnd self.now.ledgers (λ own. ledgers.now ≡ own.value)) }

@@ -4,7 +4,7 @@ ghost use Rattle.std.specs.Prelude.{◌≡◌, length};
 
 use std::marker::Model;
 
-/// Rows in their order: those of a section, or the frames of a capture.
+/// The rows of a section, in their order.
 #[derive(Debug, Drop)]
 pub struct Rows<T> {
     rows: Vec<T>,

@@ -17,7 +17,7 @@ use Rattle.audit_join.specs.declared.sort_counts.SortCounts.{SortCounts}
 use Rattle.audit_join.specs.Findings.{FindingsText, AreFindings}
 use Rattle.audit_join.specs.Frames.{wholes_of, events_of_wholes}
 use Rattle.audit_join.specs.Objects.{Attached, Outcome, IsOutcome, AreOutcomes, BadOwned, AreObjectFindings, count_of, times_of, good_objects, bad_objects}
-use Rattle.audit_join.proofs.OneFindings.{one_counts, one_list_of_events, one_list_of_handles, one_list_of_nodes, one_unpaired}
+use Rattle.audit_join.proofs.OneFindings.{one_counts, one_list_of_events, one_list_of_handles, one_list_of_nodes, one_open_and_stray}
 use Rattle.audit_join.proofs.PlacesRise.{events_rise}
 use Rattle.report_text.specs.Answers.{IsTextOf, report, malformed, IsLineOn, none, named}
 use Rattle.report_text.specs.Fault.{fault_line}
@@ -80,8 +80,8 @@ one_findings capture wholes said other is a b =
     let leaked = one_list_of_events _ events said.leaked other.leaked rise a.leaked b.leaked in
     let stray_frees = one_list_of_events _ events said.stray_frees other.stray_frees rise a.stray_frees b.stray_frees in
     let standing = one_list_of_events _ events said.standing other.standing rise a.standing b.standing in
-    let deaths = one_unpaired _ _ events said.deaths other.deaths rise a.deaths b.deaths in
-    let clears = one_unpaired _ _ events said.clears other.clears rise a.clears b.clears in
+    let deaths = one_open_and_stray _ _ events said.deaths other.deaths rise a.deaths b.deaths in
+    let clears = one_open_and_stray _ _ events said.clears other.clears rise a.clears b.clears in
     let objects = one_of_objects _ said.objects other.objects said.bad_objects other.bad_objects a.objects b.objects in
     let codes = one_list_of_rows _ said.codes other.codes a.codes b.codes in
     let frames : said.frames ≡ other.frames = a.frames ∙ sym b.frames in

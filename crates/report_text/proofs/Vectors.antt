@@ -30,8 +30,8 @@ nothing = record {
   leaked = [];
   stray_frees = [];
   standing = [];
-  deaths = record { opens = 0; closes = 0; rows = [] };
-  clears = record { opens = 0; closes = 0; rows = [] };
+  deaths = record { unclosed = 0; strays = 0; rows = [] };
+  clears = record { unclosed = 0; strays = 0; rows = [] };
   objects = record { binder = 0; weak_binder = 0; handle = 0; weak_handle = 0; fd = 0; fda = 0; ptr = 0 };
   bad_objects = [];
   flags = [];

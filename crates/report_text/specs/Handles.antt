@@ -5,7 +5,7 @@ use Rattle.audit_join.specs.declared.handles.ProcessHandle.{ProcessHandle}
 use Rattle.audit_join.specs.Findings.{FindingsText}
 use Rattle.report_text.specs.Line.{is_not_zero}
 
--- whether a process did not let go as many references as it took
+-- whether the strong or the weak references that the process took are not as many as those that it let go
 abbrev pub is_unbalanced_handle : ProcessHandle → Bool
 is_unbalanced_handle row = is_not_zero row.strong || is_not_zero row.weak
 

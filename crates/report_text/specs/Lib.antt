@@ -6,7 +6,7 @@ pub mod Nodes
 pub mod Buffers
 pub mod Frees
 pub mod Requests
-pub mod Unpaired
+pub mod OpenAndStray
 pub mod Deaths
 pub mod Clears
 pub mod Objects

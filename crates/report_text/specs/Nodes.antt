@@ -5,7 +5,7 @@ use Rattle.audit_join.specs.declared.nodes.ProcessNode.{ProcessNode}
 use Rattle.audit_join.specs.Findings.{FindingsText}
 use Rattle.report_text.specs.Line.{hex_number, is_not_zero}
 
--- whether the driver holds references to the node, or waits for it to acknowledge some
+-- whether one of the counts is not 0, or one of the numbers of references that are due
 abbrev pub is_unbalanced_node : ProcessNode → Bool
 is_unbalanced_node row =
     is_not_zero row.strong || is_not_zero row.weak || is_not_zero row.strong_due || is_not_zero row.weak_due

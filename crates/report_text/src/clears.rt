@@ -8,7 +8,7 @@ use crate::events::{EventLine, EventRows};
 use crate::line::Row;
 use crate::lines::Lines;
 use crate::shown::push_rows;
-use crate::unpaired::{head_line, row_line};
+use crate::open_and_stray::{head_line, row_line};
 use audit_join::Findings;
 use event_core::{Event, clear_step};
 use std::alloc::{AllocError, Global};

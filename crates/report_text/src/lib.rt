@@ -18,7 +18,7 @@ mod objects;
 mod report;
 mod requests;
 mod shown;
-mod unpaired;
+mod open_and_stray;
 
 pub use fault::fault_text;
 pub use line::Row;

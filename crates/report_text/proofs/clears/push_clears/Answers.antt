@@ -6,7 +6,7 @@ use Rattle.audit_join.specs.declared.findings.Sections.{Sections}
 use Rattle.audit_join.specs.declared.record_counts.RecordCounts.{RecordCounts}
 use Rattle.audit_join.specs.Lookup.{HasRecordIn}
 use Rattle.report_text.specs.Clears.{clears_row}
-use Rattle.report_text.specs.Unpaired.{unpaired_head}
+use Rattle.report_text.specs.OpenAndStray.{open_and_stray_head}
 use Rattle.report_text.proofs.Listed.{EventRows, listed, listed_events, event_section}
 use Rattle.report_text.proofs.clears.push_clears.Goals as goal
 
@@ -24,15 +24,15 @@ returns g c =
     let found = c.args.found.now in
     let sections = c.sections-sections.ensures.value in
     let is = c.as_slice-places.ensures ∙ ap (λ (s : Sections). s.clears.rows) sections in
-    let head : ℕ → ℕ → ℕ → _ = unpaired_head (codes "clears") (codes "unconfirmed") in
+    let head : ℕ → ℕ → ℕ → _ = open_and_stray_head (codes "clears") (codes "unconfirmed") in
     on_ok_weaker c.push_rows.result
     (λ rows.
     event_section clears.kept clears.rows clears.keeps clears.are_events g.L.Lines.takes found clears_row
-    (λ said. head said.counts.clears said.clears.opens said.clears.closes) c.head_line.result.bytes c.as_slice-places.result.now c.args.lines.now
+    (λ said. head said.counts.clears said.clears.unclosed said.clears.strays) c.head_line.result.bytes c.as_slice-places.result.now c.args.lines.now
     c.push_line.new.self c.push_rows.new.lines
     (λ wholes said tell.
-    c.head_line.ensures ∙ ap (λ (s : Sections). head s.counts.clears s.clears.opens s.clears.closes) sections
-    ∙ ap (λ (counts : RecordCounts). head counts.clears found.sections.clears.opens found.sections.clears.closes) tell.keep.counts
-    ∙ ap₂ (head said.counts.clears) tell.keep.clears.opens tell.keep.clears.closes)
+    c.head_line.ensures ∙ ap (λ (s : Sections). head s.counts.clears s.clears.unclosed s.clears.strays) sections
+    ∙ ap (λ (counts : RecordCounts). head counts.clears found.sections.clears.unclosed found.sections.clears.strays) tell.keep.counts
+    ∙ ap₂ (head said.counts.clears) tell.keep.clears.unclosed tell.keep.clears.strays)
     c.in_ok-push_line.ensures is rows)
     c.push_rows.ensures

@@ -6,7 +6,7 @@ use Rattle.audit_join.specs.declared.findings.Sections.{Sections}
 use Rattle.audit_join.specs.declared.record_counts.RecordCounts.{RecordCounts}
 use Rattle.audit_join.specs.Lookup.{HasRecordIn}
 use Rattle.report_text.specs.Deaths.{deaths_row}
-use Rattle.report_text.specs.Unpaired.{unpaired_head}
+use Rattle.report_text.specs.OpenAndStray.{open_and_stray_head}
 use Rattle.report_text.proofs.Listed.{EventRows, listed, listed_events, event_section}
 use Rattle.report_text.proofs.deaths.push_deaths.Goals as goal
 
@@ -24,15 +24,15 @@ returns g c =
     let found = c.args.found.now in
     let sections = c.sections-sections.ensures.value in
     let is = c.as_slice-places.ensures ∙ ap (λ (s : Sections). s.deaths.rows) sections in
-    let head : ℕ → ℕ → ℕ → _ = unpaired_head (codes "deaths") (codes "unacknowledged") in
+    let head : ℕ → ℕ → ℕ → _ = open_and_stray_head (codes "deaths") (codes "unacknowledged") in
     on_ok_weaker c.push_rows.result
     (λ rows.
     event_section deaths.kept deaths.rows deaths.keeps deaths.are_events g.L.Lines.takes found deaths_row
-    (λ said. head said.counts.deaths said.deaths.opens said.deaths.closes) c.head_line.result.bytes c.as_slice-places.result.now c.args.lines.now
+    (λ said. head said.counts.deaths said.deaths.unclosed said.deaths.strays) c.head_line.result.bytes c.as_slice-places.result.now c.args.lines.now
     c.push_line.new.self c.push_rows.new.lines
     (λ wholes said tell.
-    c.head_line.ensures ∙ ap (λ (s : Sections). head s.counts.deaths s.deaths.opens s.deaths.closes) sections
-    ∙ ap (λ (counts : RecordCounts). head counts.deaths found.sections.deaths.opens found.sections.deaths.closes) tell.keep.counts
-    ∙ ap₂ (head said.counts.deaths) tell.keep.deaths.opens tell.keep.deaths.closes)
+    c.head_line.ensures ∙ ap (λ (s : Sections). head s.counts.deaths s.deaths.unclosed s.deaths.strays) sections
+    ∙ ap (λ (counts : RecordCounts). head counts.deaths found.sections.deaths.unclosed found.sections.deaths.strays) tell.keep.counts
+    ∙ ap₂ (head said.counts.deaths) tell.keep.deaths.unclosed tell.keep.deaths.strays)
     c.in_ok-push_line.ensures is rows)
     c.push_rows.ensures

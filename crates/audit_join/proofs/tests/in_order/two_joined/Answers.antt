@@ -4,7 +4,7 @@ use Rattle.std.proofs.lemmas.List.Elements.{All-cons, All-head, All-tail}
 use Rattle.std.specs.Map.{values_of}
 use Rattle.summary_law.specs.ByKey.{items_of, EachFits, each_fits_parts}
 use Rattle.summary_law.specs.Tally.{AreWeighted, weighted_parts}
-use Rattle.audit_join.specs.Keys.{same_process}
+use Rattle.audit_join.specs.Processes.{same_process}
 use Rattle.audit_join.proofs.tests.in_order.two_joined.Goals as goal
 
 no_more : {K I : Type 0} (eq : K → K → Bool) (key : K) (items : List (K × I)) → length (items_of eq key items) ≤ length (values_of items)

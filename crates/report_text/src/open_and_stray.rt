@@ -3,19 +3,20 @@
 ghost use Rattle.std.specs.Prelude.{◌≡◌, ◌≤◌, ◌++◌, length};
 ghost use Rattle.event_core.specs.Reading.{event_text};
 ghost use Rattle.report_text.specs.EventRow.{row_start};
-ghost use Rattle.report_text.specs.Unpaired.{unpaired_head, unpaired_fields};
+ghost use Rattle.report_text.specs.OpenAndStray.{open_and_stray_head, open_and_stray_fields};
 
 use crate::events::row_start;
 use crate::line::{Row, push_decimal, push_hex_number};
-use audit_join::Unpaired;
+use audit_join::OpenAndStray;
 use event_core::{Event, PendingChange, PendingItem};
 
 /// The head of a section that has this name, and this word for an open without its close. There
 /// are so many opens in all.
-pub(crate) fn head_line(name: &str, unclosed: &str, all: u64, found: &Unpaired) -> Row
+pub(crate) fn head_line(name: &str, unclosed: &str, all: u64, found: &OpenAndStray) -> Row
     requires name { length name.now ≤ 16 }
     requires unclosed { length unclosed.now ≤ 16 }
-    ensures { result.bytes ≡ unpaired_head name.now unclosed.now all found.now.opens found.now.closes }
+    ensures { result.bytes ≡ open_and_stray_head name.now unclosed.now all found.now.unclosed
+        found.now.strays }
 {
     let mut line = Row::new();
     line.push_str(name);
@@ -24,16 +25,16 @@ pub(crate) fn head_line(name: &str, unclosed: &str, all: u64, found: &Unpaired) 
     line.push_str(" ");
     line.push_str(unclosed);
     line.push_str(" ");
-    push_decimal(&mut line, found.opens);
+    push_decimal(&mut line, found.unclosed);
     line.push_str(" stray ");
-    push_decimal(&mut line, found.closes);
+    push_decimal(&mut line, found.strays);
     line
 }
 
 /// The row of an event that is this open or close.
 pub(crate) fn row_line(event: Event<'_>, item: Option<PendingItem<u64>>, unclosed: &str) -> Row
     requires { length unclosed.now ≤ 16 }
-    ensures { result.bytes ≡ row_start (event_text event.entry) ++ unpaired_fields unclosed.now item }
+    ensures { result.bytes ≡ row_start (event_text event.entry) ++ open_and_stray_fields unclosed.now item }
 {
     let mut line = row_start(event);
     if let Some(PendingItem { key, change, .. }) = item {

@@ -1,7 +1,7 @@
 use Rattle.std.proofs.Common.{◌≡◌, ℕ, List, ◌++◌, length, IsPermutation, IsSorted, nat_cmp, sym, ap, subst, ◌∙◌, rules}
 use Rattle.audit_join.specs.Frames.{events_of_wholes}
-use Rattle.audit_join.proofs.PlaceLaws.{unpaired_kept}
-use Rattle.audit_join.proofs.unpaired.unpaired_of.Goals as goal
+use Rattle.audit_join.proofs.PlaceLaws.{open_and_stray_kept}
+use Rattle.audit_join.proofs.open_and_stray.open_and_stray_of.Goals as goal
 
 pub returns : goal.returns
 returns g c = λ open_stands close_stands open_needs close_needs exclude wholes of rise.
@@ -14,7 +14,7 @@ returns g c = λ open_stands close_stands open_needs close_needs exclude wholes 
     (subst (λ (places : List ℕ). IsPermutation places c.sort_unstable.new.self.items) joined c.sort_unstable.ensures.permutation) in
     let many_opens : c.len-opens.result ≡ length opens = search rules in
     let many_closes : c.len.result ≡ length closes = search rules in
-    unpaired_kept g.O.Listed.is_so g.C.Listed.is_so open_stands close_stands exclude (events_of_wholes wholes) rise opens closes
+    open_and_stray_kept g.O.Listed.is_so g.C.Listed.is_so open_stands close_stands exclude (events_of_wholes wholes) rise opens closes
     (c.in_ok-places.ensures open_stands open_needs wholes of rise) (c.in_ok-closes.ensures close_stands close_needs wholes of rise)
-    (record { opens = c.len-opens.result; closes = c.len.result; rows = c.of.result }) many_opens many_closes moved
+    (record { unclosed = c.len-opens.result; strays = c.len.result; rows = c.of.result }) many_opens many_closes moved
     (subst (IsSorted nat_cmp) (sym c.of.ensures) c.sort_unstable.ensures.sorted)

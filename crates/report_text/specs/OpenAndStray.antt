@@ -1,0 +1,36 @@
+-- The lines of a section of unclosed opens and stray closes (docs/REPORT.md). Each section has a name, and a word for an
+-- unclosed open.
+use Rattle.std.specs.Prelude.{ℕ, List, [], ◌∷◌, ◌++◌, map, codes, Option, Some, None}
+use Rattle.std.specs.Fmt.{decimal}
+use Rattle.event_core.specs.Events.{EventText}
+use Rattle.event_core.specs.declared.pending.PendingChange.{PendingChange}
+use Rattle.event_core.specs.declared.pending.PendingChange.TheVariants.{Open, Close}
+use Rattle.event_core.specs.declared.pending.PendingItem.{PendingItem}
+use Rattle.audit_join.specs.Places.{OpenAndStrayText}
+use Rattle.report_text.specs.EventRow.{row_start}
+use Rattle.report_text.specs.Line.{hex_number}
+
+-- the head: how many opens there are in all, how many of them are unclosed, and how many closes are stray
+abbrev pub open_and_stray_head : List ℕ → List ℕ → ℕ → ℕ → ℕ → List ℕ
+open_and_stray_head name word all unclosed strays =
+    name ++ codes " " ++ decimal all ++ codes " " ++ word ++ codes " " ++ decimal unclosed
+    ++ codes " stray " ++ decimal strays
+
+-- what a row is called
+abbrev pub word_of : List ℕ → PendingChange → List ℕ
+word_of unclosed Open = unclosed
+word_of unclosed Close = codes "stray"
+
+-- what a row says of an open or a close: its cookie, and what it is called; and nothing of what is neither
+abbrev pub open_and_stray_fields : List ℕ → Option (PendingItem ℕ) → List ℕ
+open_and_stray_fields unclosed (Some item) = codes " " ++ hex_number item.key ++ codes " " ++ word_of unclosed item.change
+open_and_stray_fields unclosed None = []
+
+-- a row: place, process, and these fields
+abbrev pub open_and_stray_row : List ℕ → (EventText → Option (PendingItem ℕ)) → EventText → List ℕ
+open_and_stray_row unclosed read e = row_start e ++ open_and_stray_fields unclosed (read e)
+
+-- the section
+abbrev pub open_and_stray_lines : List ℕ → List ℕ → (EventText → Option (PendingItem ℕ)) → ℕ → OpenAndStrayText → List (List ℕ)
+open_and_stray_lines name unclosed read all said =
+    open_and_stray_head name unclosed all said.unclosed said.strays ∷ map (open_and_stray_row unclosed read) said.rows
