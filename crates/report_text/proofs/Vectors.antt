@@ -1,10 +1,10 @@
 -- The definitions at findings that were worked out by hand.
 use Rattle.std.proofs.Common.{◌≡◌, ℕ, List, [], ◌∷◌, ◌++◌, replicate, codes, refl, ap, ◌∙◌, arith}
-use Rattle.std.specs.Prelude.{None}
-use Rattle.std.specs.Fmt.{decimal}
+use Rattle.std.specs.Prelude.{None, pos, negsuc}
+use Rattle.std.specs.Fmt.{decimal, digits}
 use Rattle.std.proofs.lemmas.Fmt.{decimal_digit}
 use Rattle.itoa.proofs.Decimal.{decimal_two, decimal_pair}
-use Rattle.binder_code.specs.declared.record_kind.Kind.TheVariants.{BcTransaction}
+use Rattle.binder_code.specs.declared.record_kind.Kind.TheVariants.{BcDeadBinderDone, BcTransaction, BrDeadBinder}
 use Rattle.capture_frame.specs.Envelope.{number_at}
 use Rattle.capture_frame.specs.declared.fault.FaultKind.TheVariants.{RecordDirection}
 use Rattle.object_view.specs.declared.bad_object.Cause.TheVariants.{Overlap}
@@ -12,8 +12,11 @@ use Rattle.object_view.specs.Objects.{bad_at}
 use Rattle.event_core.specs.Events.{EventText}
 use Rattle.audit_join.specs.Findings.{FindingsText}
 use Rattle.report_text.specs.Codes.{codes_row}
+use Rattle.report_text.specs.Deaths.{deaths_row}
 use Rattle.report_text.specs.Fault.{fault_line, no_fault_line}
 use Rattle.report_text.specs.Flags.{flags_row}
+use Rattle.report_text.specs.Handles.{handles_row}
+use Rattle.report_text.specs.Line.{hex_number}
 use Rattle.report_text.specs.Objects.{objects_row}
 use Rattle.report_text.specs.Text.{report_text}
 
@@ -88,6 +91,26 @@ overlap_row = rw (forty_eight_said, hundred_said, one_said, twenty_said) refl
 unknown_row : flags_row send ≡ codes "  48 100 0x00000082"
 unfolding send number_at
 unknown_row = rw (forty_eight_said, hundred_said) refl
+
+zero_number : hex_number 0 ≡ codes "0x0"
+unfolding digits
+zero_number = refl
+
+address_number : hex_number 0x70a0 ≡ codes "0x70a0"
+unfolding digits
+address_number = refl
+
+negative_row : handles_row (record { process = 100; handle = 2; strong = pos 0; strong_low = negsuc 1; weak = pos 1; weak_low = pos 0 })
+    ≡ codes "  100 2 0 -2 1 0"
+negative_row = rw (hundred_said, zero_said, one_said, two_said) refl
+
+dead_row : deaths_row (record send { kind = BrDeadBinder; payload = 1 ∷ replicate 7 0 }) ≡ codes "  48 100 0x1 unacknowledged"
+unfolding send number_at digits
+dead_row = refl
+
+done_row : deaths_row (record send { kind = BcDeadBinderDone; payload = 1 ∷ replicate 7 0 }) ≡ codes "  48 100 0x1 stray"
+unfolding send number_at digits
+done_row = refl
 
 direction_line : fault_line (record { kind = RecordDirection; place = 84 }) ≡ codes "malformed RecordDirection at 84\n"
 unfolding fault_line
