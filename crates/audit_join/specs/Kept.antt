@@ -39,7 +39,8 @@ pub record Keep (sections : Sections) (said : FindingsText) : Type 0 where
   pub flags : sections.flags ≡ map (λ e. e.place) said.flags
 
 -- the views show these frames of a capture, whose findings say this, and the sections keep it
-pub record Tell (wholes : List WholeFrame) (said : FindingsText) (frames : List Frame) (sections : Sections) : Type 0 where
+pub record Tell (wholes : List WholeFrame) (said : FindingsText) (frames : List Frame) (sections : Sections) :
+    Type 0 where
   pub show : Show frames (wholes_of wholes)
   pub are : AreFindings (wholes_of wholes) said
   pub keep : Keep sections said

@@ -32,7 +32,8 @@ process_node process row = record {
 -- the rows of this process: one for each node that is named to it or by it, by rising ptr and then by rising cookie
 abbrev pub AreNodesOf : List EventText → ℕ → List ProcessNode → Type 0
 AreNodesOf events process rows =
-    (own : List NodeRow) × AreNodeRows (read_of node_item_of process) events own × (rows ≡ map (process_node process) own)
+    (own : List NodeRow) × AreNodeRows (read_of node_item_of process) events own
+    × (rows ≡ map (process_node process) own)
 
 -- the rows of the section: those of each process in turn
 abbrev pub AreNodeFindings : List (Placed WholeFrame) → List ProcessNode → Type 0

@@ -35,7 +35,8 @@ pub record OpenAndStrayText : Type 0 where
   pub rows : List EventText
 
 -- each number is that of the places at which the one or the other is so, and the rows are the events at all of them
-pub record AreOpenAndStray (IsOpen IsClose : ℕ → Type 0) (events : List EventText) (said : OpenAndStrayText) : Type 0 where
+pub record AreOpenAndStray (IsOpen IsClose : ℕ → Type 0) (events : List EventText) (said : OpenAndStrayText) :
+    Type 0 where
   pub unclosed : IsCountOfPlaces IsOpen said.unclosed
   pub strays : IsCountOfPlaces IsClose said.strays
   pub rows : AreEventsAt (λ place. IsOpen place ⊎ IsClose place) events said.rows

@@ -84,10 +84,18 @@ pub process_parts : FitsInParts FitProcess
 process_parts first second fit =
     let handles = read_parts (λ (i : ProcessItems). i.handle) IsShort short_parts first second fit.handles in
     let nodes = read_parts (λ (i : ProcessItems). i.node) IsShort short_parts first second fit.nodes in
-    let buffers = read_parts (λ (i : ProcessItems). i.buffer) (IsPlaced buffer_place) (placed_parts buffer_place) first second fit.buffers in
-    let requests = read_parts (λ (i : ProcessItems). i.request) (IsPlaced request_place) (placed_parts request_place) first second fit.requests in
-    let deaths = read_parts (λ (i : ProcessItems). i.death) (IsPlaced place_of) (placed_parts place_of) first second fit.deaths in
-    let clears = read_parts (λ (i : ProcessItems). i.clear) (IsPlaced place_of) (placed_parts place_of) first second fit.clears in (
+    let buffers =
+    read_parts (λ (i : ProcessItems). i.buffer) (IsPlaced buffer_place) (placed_parts buffer_place)
+    first second fit.buffers in
+    let requests =
+    read_parts (λ (i : ProcessItems). i.request) (IsPlaced request_place) (placed_parts request_place)
+    first second fit.requests in
+    let deaths =
+    read_parts (λ (i : ProcessItems). i.death) (IsPlaced place_of) (placed_parts place_of)
+    first second fit.deaths in
+    let clears =
+    read_parts (λ (i : ProcessItems). i.clear) (IsPlaced place_of) (placed_parts place_of)
+    first second fit.clears in (
       record {
         handles = handles.0;
         nodes = nodes.0;
@@ -161,9 +169,11 @@ NeedsItems IsSo =
     (events : List EventText) (process place : ℕ) → HasNoItems events process → IsSo events process place → ⊥
 
 -- the entries are those of the processes of these frames, in the order of their first frames
-pub record AreOfProcesses (processes : List (Process × ProcessSummary)) (wholes : List (Placed WholeFrame)) : Type 0 where
+pub record AreOfProcesses (processes : List (Process × ProcessSummary)) (wholes : List (Placed WholeFrame)) :
+    Type 0 where
   pub order : map (λ (e : Process × ProcessSummary). e.0.number) processes ≡ processes_of wholes
-  pub each : All (λ (e : Process × ProcessSummary). IsOfProcess e.1.ledgers (events_of_wholes wholes) e.0.number) processes
+  pub each : All (λ (e : Process × ProcessSummary). IsOfProcess e.1.ledgers (events_of_wholes wholes) e.0.number)
+      processes
 
 -- the rows of handles of whatever process the ledgers are of
 abbrev pub GivesHandles : ProcessSummary → List HandleRow → Type 0

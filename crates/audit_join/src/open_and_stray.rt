@@ -35,7 +35,8 @@ pub(crate) fn open_and_stray_of<O: Listed, C: Listed>(
     ensures { IfOk result (λ found. StandsInProcess O.is_so → StandsInProcess C.is_so →
         NeedsItems O.is_so → NeedsItems C.is_so →
         ExcludeEachOther O.is_so C.is_so → (wholes : List (Placed WholeFrame)) →
-        AreOfProcesses processes.now.entries.entries wholes → RiseInPlace (events_of_wholes wholes) →
+        AreOfProcesses processes.now.entries.entries wholes →
+        RiseInPlace (events_of_wholes wholes) →
         (said : OpenAndStrayText) × KeepsOpenAndStray found said
         × AreOpenAndStray (λ place. (process : ℕ) × O.is_so (events_of_wholes wholes) process place)
         (λ place. (process : ℕ) × C.is_so (events_of_wholes wholes) process place)

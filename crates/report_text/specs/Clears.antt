@@ -12,4 +12,5 @@ clears_row e = open_and_stray_row (codes "unconfirmed") clear_item_of e
 
 -- the section
 abbrev pub clears_lines : FindingsText → List (List ℕ)
-clears_lines said = open_and_stray_lines (codes "clears") (codes "unconfirmed") clear_item_of said.counts.clears said.clears
+clears_lines said =
+    open_and_stray_lines (codes "clears") (codes "unconfirmed") clear_item_of said.counts.clears said.clears

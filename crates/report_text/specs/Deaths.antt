@@ -11,4 +11,5 @@ deaths_row e = open_and_stray_row (codes "unacknowledged") death_item_of e
 
 -- the section
 abbrev pub deaths_lines : FindingsText → List (List ℕ)
-deaths_lines said = open_and_stray_lines (codes "deaths") (codes "unacknowledged") death_item_of said.counts.deaths said.deaths
+deaths_lines said =
+    open_and_stray_lines (codes "deaths") (codes "unacknowledged") death_item_of said.counts.deaths said.deaths

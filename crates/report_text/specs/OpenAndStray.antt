@@ -1,5 +1,5 @@
--- The lines of a section of unclosed opens and stray closes (docs/REPORT.md). Each section has a name, and a word for an
--- unclosed open.
+-- The lines of a section of unclosed opens and stray closes (docs/REPORT.md). Each section has a name, and a word for
+-- an unclosed open.
 use Rattle.std.specs.Prelude.{ℕ, List, [], ◌∷◌, ◌++◌, map, codes, Option, Some, None}
 use Rattle.std.specs.Fmt.{decimal}
 use Rattle.event_core.specs.Events.{EventText}
@@ -23,7 +23,8 @@ word_of unclosed Close = codes "stray"
 
 -- what a row says of an open or a close: its cookie, and what it is called; and nothing of what is neither
 abbrev pub open_and_stray_fields : List ℕ → Option (PendingItem ℕ) → List ℕ
-open_and_stray_fields unclosed (Some item) = codes " " ++ hex_number item.key ++ codes " " ++ word_of unclosed item.change
+open_and_stray_fields unclosed (Some item) =
+    codes " " ++ hex_number item.key ++ codes " " ++ word_of unclosed item.change
 open_and_stray_fields unclosed None = []
 
 -- a row: place, process, and these fields
@@ -31,6 +32,7 @@ abbrev pub open_and_stray_row : List ℕ → (EventText → Option (PendingItem 
 open_and_stray_row unclosed read e = row_start e ++ open_and_stray_fields unclosed (read e)
 
 -- the section
-abbrev pub open_and_stray_lines : List ℕ → List ℕ → (EventText → Option (PendingItem ℕ)) → ℕ → OpenAndStrayText → List (List ℕ)
+abbrev pub open_and_stray_lines : List ℕ → List ℕ → (EventText → Option (PendingItem ℕ)) → ℕ → OpenAndStrayText
+    → List (List ℕ)
 open_and_stray_lines name unclosed read all said =
     open_and_stray_head name unclosed all said.unclosed said.strays ∷ map (open_and_stray_row unclosed read) said.rows

@@ -36,8 +36,8 @@ totals_lines said = totals said.frames said.records said.opaque said.missing ∷
 -- the parts of the report, in their order: the first two lines, and the sections
 abbrev pub parts : List (FindingsText → List (List ℕ))
 parts =
-    title_lines ∷ totals_lines ∷ codes_lines ∷ handles_lines ∷ nodes_lines ∷ buffers_lines ∷ frees_lines ∷ requests_lines
-    ∷ deaths_lines ∷ clears_lines ∷ objects_lines ∷ flags_lines ∷ []
+    title_lines ∷ totals_lines ∷ codes_lines ∷ handles_lines ∷ nodes_lines ∷ buffers_lines ∷ frees_lines
+    ∷ requests_lines ∷ deaths_lines ∷ clears_lines ∷ objects_lines ∷ flags_lines ∷ []
 
 -- the lines of the report, without their line feeds
 abbrev pub report_lines : FindingsText → List (List ℕ)

@@ -34,7 +34,8 @@ pub(crate) fn head_line(name: &str, unclosed: &str, all: u64, found: &OpenAndStr
 /// The row of an event that is this open or close.
 pub(crate) fn row_line(event: Event<'_>, item: Option<PendingItem<u64>>, unclosed: &str) -> Row
     requires { length unclosed.now ≤ 16 }
-    ensures { result.bytes ≡ row_start (event_text event.entry) ++ open_and_stray_fields unclosed.now item }
+    ensures { result.bytes ≡ row_start (event_text event.entry)
+        ++ open_and_stray_fields unclosed.now item }
 {
     let mut line = row_start(event);
     if let Some(PendingItem { key, change, .. }) = item {

@@ -23,8 +23,8 @@ use audit_join::Findings;
 use std::alloc::{AllocError, Global};
 use std::thread::Threads;
 
-/// The lines of the report, without their line feeds. Listed records are read again from the capture,
-/// by several threads where there are many.
+/// The lines of the report, without their line feeds. Listed records are read again from the
+/// capture, by several threads where there are many.
 pub fn rows<T: Threads + Sync>(
     rt: &T,
     alloc: Global,

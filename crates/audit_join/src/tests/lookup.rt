@@ -42,8 +42,8 @@ const FRAMES: &[(u64, Option<u64>)] = &[
     (u64::MAX, None),
 ];
 
-/// The place, the kind, the process and the flags of each record that a section lists: each owner of
-/// a bad object has unknown flags too.
+/// The place, the kind, the process and the flags of each record with unknown flags; each owner of
+/// a bad object is among them.
 const RECORDS: &[(u64, Kind, u32, u32)] = &[
     (92, Kind::BcTransaction, 100, 0x100),
     (272, Kind::BrTransaction, 200, 0x8000_0010),
