@@ -131,7 +131,7 @@ fed_shown frame wholes others show =
       events.2,
       events.3,
       ap (λ (t : List (Placed WholeFrame)). fed_by_all (wholes ++ t)) alone ∙ fed_one wholes w
-      ∙ ap₂ (λ (q : Process) (t : List EventText). fed_before wholes q ++ map (λ e. (q, items_of_event e)) t) key same,
+          ∙ ap₂ (λ (q : Process) (t : List EventText). fed_before wholes q ++ map (λ e. (q, items_of_event e)) t) key same,
     )
 
 -- few frames with this one behind them: its events fit, and so does the mark of its process

@@ -18,6 +18,7 @@ mod limits;
 mod lookup;
 mod nodes;
 mod objects;
+mod open_and_stray;
 mod piece_summary;
 mod places;
 mod process;
@@ -29,7 +30,6 @@ mod requests;
 mod rows;
 mod sequences;
 mod sort_counts;
-mod open_and_stray;
 
 pub use audit::audit_one;
 pub use audit_error::AuditError;
@@ -39,11 +39,11 @@ pub use handles::ProcessHandle;
 pub use limits::CAPTURE_LIMIT;
 pub use nodes::ProcessNode;
 pub use objects::BadRow;
+pub use open_and_stray::OpenAndStray;
 pub use piece_summary::PieceSummary;
 pub use record_counts::RecordCounts;
 pub use rows::Rows;
 pub use sort_counts::SortCounts;
-pub use open_and_stray::OpenAndStray;
 
 #[cfg(test)]
 mod tests;

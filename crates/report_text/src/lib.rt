@@ -15,10 +15,10 @@ mod line;
 mod lines;
 mod nodes;
 mod objects;
+mod open_and_stray;
 mod report;
 mod requests;
 mod shown;
-mod open_and_stray;
 
 pub use fault::fault_text;
 pub use line::Row;

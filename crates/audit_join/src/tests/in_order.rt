@@ -4,8 +4,8 @@ ghost use Rattle.std.specs.Map.{values_of};
 ghost use Rattle.std.specs.Prelude.{◌++◌};
 ghost use Rattle.summary_law.specs.Tally.{AreWeighted};
 
-use crate::process::Process;
 use crate::in_order::InOrder;
+use crate::process::Process;
 use std::alloc::{AllocError, Global};
 use std::process::Abort;
 use std::test::Fail;
