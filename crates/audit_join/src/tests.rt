@@ -126,18 +126,34 @@ const FLAGS: &[u64] = &[92, 272, 720];
 
 /// The sections are those of the eight frames.
 fn expect_sections(rt: &impl Abort, sections: &Sections) {
+    expect_records(rt, sections);
+    expect_references(rt, sections);
+    expect_places(rt, sections);
+    expect_objects(rt, sections);
+}
+
+fn expect_records(rt: &impl Abort, sections: &Sections) {
     assert_eq!(rt; sections.records, 13);
     assert_eq!(rt; sections.opaque, 2);
     assert_eq!(rt; sections.missing, 9);
     assert_eq!(rt; sections.codes.as_slice(), CODES);
     assert_eq!(rt; sections.counts, COUNTS);
+}
+
+fn expect_references(rt: &impl Abort, sections: &Sections) {
     assert_eq!(rt; sections.handles.as_slice(), HANDLES);
     assert_eq!(rt; sections.nodes.len(), 0);
+}
+
+fn expect_places(rt: &impl Abort, sections: &Sections) {
     assert_eq!(rt; sections.leaked.as_slice(), LEAKED);
     assert_eq!(rt; sections.stray_frees.len(), 0);
     assert_eq!(rt; sections.standing.len(), 0);
     assert_eq!(rt; sections.deaths.rows.len(), 0);
     assert_eq!(rt; sections.clears.rows.len(), 0);
+}
+
+fn expect_objects(rt: &impl Abort, sections: &Sections) {
     assert_eq!(rt; sections.objects, OBJECTS);
     assert_eq!(rt; sections.bad_objects.as_slice(), BAD_OBJECTS);
     assert_eq!(rt; sections.flags.as_slice(), FLAGS);
