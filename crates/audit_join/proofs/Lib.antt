@@ -1,31 +1,3 @@
-pub mod ObjectWalk
-pub mod FewLaws
-pub mod OutcomeLaws
-pub mod FlagLaws
-pub mod SequenceLaws
-pub mod CodeLaws
-pub mod FrameLaws
-pub mod EventSizes
-pub mod PieceLaws
 pub mod CaptureLaws
-pub mod LookupLaws
-pub mod RecordsThere
-pub mod Rising
-pub mod PlacesRise
 pub mod PartLaws
-pub mod OneFindings
 pub mod ListedThere
-pub mod StandLaws
-pub mod PlaceLaws
-mod FirstLaws
-pub mod InOrderLaws
-pub mod FedLaws
-pub mod ItemPlaces
-pub mod FitLaws
-pub mod KeyLaws
-pub mod OfProcesses
-pub mod EventsAt
-pub mod TurnLaws
-pub mod ReferenceLaws
-pub mod ProcessLaws
-mod RecordCountLaws

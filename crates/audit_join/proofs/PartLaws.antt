@@ -2,7 +2,7 @@
 use Rattle.std.proofs.Common.{ℕ, List, take, drop, sym, subst}
 use Rattle.std.proofs.lemmas.List.{take-append-drop}
 use Rattle.capture_frame.specs.declared.frame.Frame.{Frame}
-use Rattle.audit_join.specs.Frames.{AreGoodFrames, good_frames_parts}
+use Rattle.audit_findings.specs.Frames.{AreGoodFrames, good_frames_parts}
 
 -- both are good
 pub parts_good : (frames : List Frame) (n : ℕ) → AreGoodFrames frames → AreGoodFrames (take n frames) × AreGoodFrames (drop n frames)

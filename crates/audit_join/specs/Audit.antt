@@ -3,8 +3,8 @@ use Rattle.std.specs.Prelude.{ℕ, List, ⊤}
 use Rattle.transaction_view.specs.Grammar.{WholeFrame, IsInGrammar, HasFirstFault}
 use Rattle.audit_join.specs.declared.audit_error.AuditError.{AuditError}
 use Rattle.audit_join.specs.declared.audit_error.AuditError.TheVariants.{Memory, Malformed}
-use Rattle.audit_join.specs.Findings.{FindingsText}
-use Rattle.audit_join.specs.Kept.{KeptFindings, Tell}
+use Rattle.audit_findings.specs.Findings.{FindingsText}
+use Rattle.audit_findings.specs.Kept.{KeptFindings, Tell}
 
 -- the capture is in the grammar, and the findings are those of its frames
 abbrev pub IsAudited : List ℕ → KeptFindings → Type 0

@@ -2,15 +2,14 @@
 
 ghost use Rattle.std.specs.Prelude.{◌≡◌, ◌≤◌, ◌++◌, ◌∷◌, [], length, IfErr, IfOk, OnOk};
 ghost use Rattle.summary_law.specs.Summary.{CanAdd, Adds};
-ghost use Rattle.audit_join.specs.Frames.{AreGoodFrames};
-ghost use Rattle.audit_join.specs.Summary.{SumsPiece};
+ghost use Rattle.audit_findings.specs.Frames.{AreGoodFrames};
+ghost use Rattle.audit_findings.specs.Summary.{SumsPiece};
 ghost use Rattle.audit_join.specs.Audit.{IsAudited, IsMalformed};
 ghost use Rattle.audit_join.specs.declared.limits.TheConstants.{CAPTURE_LIMIT};
 
 use crate::audit_error::AuditError;
-use crate::findings::Findings;
 use crate::limits::CAPTURE_LIMIT;
-use crate::piece_summary::PieceSummary;
+use audit_findings::{Findings, PieceSummary};
 use capture_frame::{Frame, Frames};
 use std::alloc::{AllocError, Global};
 use std::thread::Threads;

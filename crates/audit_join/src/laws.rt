@@ -1,15 +1,7 @@
 //! Laws of the definitions, as contracts of functions that do nothing.
 
 ghost use Rattle.std.specs.Prelude.{◌≡◌};
-ghost use Rattle.audit_join.specs.Laws.{BadObjectsRise, FlagsRise};
 ghost use Rattle.audit_join.specs.declared.limits.TheConstants.{CAPTURE_LIMIT};
-
-/// The rows of the sections `objects` and `flags` rise strictly in place, so no two of a section
-/// have one place.
-pub fn rows_rise()
-    ensures objects { BadObjectsRise }
-    ensures flags { FlagsRise }
-{}
 
 /// The most bytes that a capture may have are 1 GiB.
 pub fn limit()

@@ -1,13 +1,12 @@
 //! What no clause says: the sections of a capture, typed by hand, of however many parts.
 
 mod captures;
-mod in_order;
 mod lookup;
 mod splits;
 
 ghost use Rattle.std.specs.Prelude.{◌≤◌, length};
 ghost use Rattle.audit_join.specs.Audit.{IsAudited};
-ghost use Rattle.audit_join.specs.Frames.{AreGoodFrames};
+ghost use Rattle.audit_findings.specs.Frames.{AreGoodFrames};
 ghost use Rattle.audit_join.specs.declared.limits.TheConstants.{CAPTURE_LIMIT};
 
 use crate::{

@@ -3,6 +3,7 @@ use Rattle.std.specs.Prelude.{◌≡◌, ℕ, if◌then◌else◌, Bool, true, f
 use Rattle.std.specs.Prelude.{List, [], ◌∷◌, map, fold, find, filter_map, slice_get}
 use Rattle.std.specs.Option.{option_or}
 use Rattle.event_core.specs.Brackets.{mark_of, bracket_of}
+use Rattle.binder_code.specs.declared.record_kind.Kind.{Kind}
 use Rattle.event_core.specs.declared.event.Event.{Event}
 use Rattle.event_core.specs.declared.marks.Bracket.{Bracket}
 use Rattle.event_core.specs.declared.marks.Bracket.TheVariants.{Error, Refused, Neither}
@@ -18,44 +19,137 @@ use Rattle.call_stacks.specs.declared.verdict.Verdict.TheVariants.{Open}
 use Rattle.call_stacks.specs.Matching.{Side, opener, Match, IsStray, ListsInOrder}
 use Rattle.call_stacks.specs.Verdicts.{side_of, verdict_of}
 
+-- what is read of an event for the calls of its thread: its place, what its code stands for, and its payload
+pub record Reads (E : Type 0) : Type 0 where
+  pub place : E → ℕ
+  pub kind : E → Kind
+  pub payload : E → List ℕ
+
+-- the mark that an event leaves in its thread
+abbrev pub mark_read : {E : Type 0} → Reads E → E → Option Mark
+mark_read reads event = mark_of (reads.kind event) (reads.payload event)
+
+-- what an event is among the calls of its thread, by the thread's latest mark before it
+abbrev pub bracket_read : {E : Type 0} → Reads E → Option Mark → E → Bracket
+bracket_read reads before event = bracket_of before (reads.kind event) (reads.payload event)
+
+-- the latest mark behind an event, by the latest one before it
+abbrev pub mark_behind_by : {E : Type 0} → Reads E → Option Mark → E → Option Mark
+mark_behind_by reads before event = option_or (mark_read reads event) before
+
+-- an event with the latest mark before it, and with what it is by that mark
+pub record JudgedOf (E : Type 0) : Type 0 where
+  pub event : E
+  pub before : Option Mark
+  pub bracket : Bracket
+
+-- the events, each judged by the latest mark before it, which before the first one is this
+abbrev pub judged_with : {E : Type 0} → Reads E → (Option Mark → E → Bracket) → Option Mark → List E → List (JudgedOf E)
+judged_with reads judge before [] = []
+judged_with reads judge before (event ∷ later) =
+    record { event = event; before = before; bracket = judge before event }
+    ∷ judged_with reads judge (mark_behind_by reads before event) later
+
+-- the events of a whole thread
+abbrev pub judged_of : {E : Type 0} → Reads E → List E → List (JudgedOf E)
+judged_of reads events = judged_with reads (bracket_read reads) None events
+
+-- what the events are to the matching of calls
+abbrev pub sides_of : {E : Type 0} → List (JudgedOf E) → List Side
+sides_of judged = map (λ found. side_of found.bracket) judged
+
+-- The verdict of an opener by a closer. Which opener or closer an event is does not depend on the mark before it.
+abbrev pub verdict_read : {E : Type 0} → Reads E → E → E → Verdict
+verdict_read reads call answer = verdict_of (bracket_read reads None call) (bracket_read reads None answer)
+
+-- an opener with what becomes of it, and with the place of its closer, if there is one
+pub record OpenerOf (E : Type 0) : Type 0 where
+  pub event : E
+  pub verdict : Verdict
+  pub closer : Option ℕ
+
+-- what becomes of the opener at a position: the closer that matches it says so, or there is none
+pub data HasVerdict {E : Type 0} (reads : Reads E) (judged : List (JudgedOf E)) (i : ℕ) (call : OpenerOf E) : Type 0 where
+  closed_by : (j : ℕ) (answer : JudgedOf E) → Match (sides_of judged) i j → slice_get judged j ≡ Some answer
+      → call.verdict ≡ verdict_read reads call.event answer.event → call.closer ≡ Some (reads.place answer.event)
+      → HasVerdict reads judged i call
+  left_open : ((j : ℕ) → ¬ (Match (sides_of judged) i j)) → call.verdict ≡ Open → call.closer ≡ None
+      → HasVerdict reads judged i call
+
+-- one of the openers, with what becomes of it
+pub record IsOpenerOf {E : Type 0} (reads : Reads E) (judged : List (JudgedOf E)) (call : OpenerOf E) : Type 0 where
+  pub position : ℕ
+  pub there : JudgedOf E
+  pub stands : slice_get judged position ≡ Some there
+  pub opens : side_of there.bracket ≡ opener
+  pub event : call.event ≡ there.event
+  pub verdict : HasVerdict reads judged position call
+
+-- one of the closers that match no opener
+pub record IsStrayEvent {E : Type 0} (judged : List (JudgedOf E)) (answer : E) : Type 0 where
+  pub position : ℕ
+  pub there : JudgedOf E
+  pub stands : slice_get judged position ≡ Some there
+  pub stray : IsStray (sides_of judged) position
+  pub event : answer ≡ there.event
+
+abbrev pub is_refused : Bracket → Bool
+is_refused Refused = true
+is_refused _ = false
+
+-- whether an error reply that follows refuses a oneway transaction
+abbrev pub is_oneway : Option Mark → Bool
+is_oneway (Some Oneway) = true
+is_oneway _ = false
+
+-- a refused send: the error reply that tells of it, and whether it is a oneway transaction
+pub record RefusedOf (E : Type 0) : Type 0 where
+  pub event : E
+  pub oneway : Bool
+
+-- one of the refused sends
+pub record IsRefusedSend {E : Type 0} (judged : List (JudgedOf E)) (sent : RefusedOf E) : Type 0 where
+  pub position : ℕ
+  pub there : JudgedOf E
+  pub stands : slice_get judged position ≡ Some there
+  pub refused : is_refused there.bracket ≡ true
+  pub event : sent.event ≡ there.event
+  pub oneway : sent.oneway ≡ is_oneway there.before
+
+-- ---- of the events that a summary of calls takes
+
 abbrev pub event_place : Event → ℕ
 event_place event = event.place
 
 abbrev pub opener_place : Opener → ℕ
 opener_place found = found.event.place
 
--- the mark that an event leaves in its thread
+-- what is read of such an event
+abbrev pub event_reads : Reads Event
+event_reads = record { place = event_place; kind = λ event. event.kind; payload = λ event. event.payload.now }
+
 abbrev pub event_mark : Event → Option Mark
-event_mark event = mark_of event.kind event.payload.now
+event_mark event = mark_read event_reads event
 
--- what an event is among the calls of its thread, by the thread's latest mark before it
 abbrev pub bracket_by : Option Mark → Event → Bracket
-bracket_by before event = bracket_of before event.kind event.payload.now
+bracket_by before event = bracket_read event_reads before event
 
--- the latest mark behind an event, by the latest one before it
 abbrev pub mark_behind : Option Mark → Event → Option Mark
-mark_behind before event = option_or (event_mark event) before
+mark_behind before event = mark_behind_by event_reads before event
 
 -- the latest mark of the events
 abbrev pub last_mark : List Event → Option Mark
 last_mark events = fold mark_behind None events
 
--- an event with the latest mark before it, and with what it is by that mark
-pub record Judged : Type 0 where
-  pub event : Event
-  pub before : Option Mark
-  pub bracket : Bracket
+abbrev pub Judged : Type 0
+Judged = JudgedOf Event
 
--- the events, each judged by the latest mark before it, which before the first one is this
 abbrev pub judged_by : (Option Mark → Event → Bracket) → Option Mark → List Event → List Judged
-judged_by judge before [] = []
-judged_by judge before (event ∷ later) =
-    record { event = event; before = before; bracket = judge before event }
-    ∷ judged_by judge (mark_behind before event) later
+judged_by judge before events = judged_with event_reads judge before events
 
 -- the events of a whole thread
 abbrev pub judged : List Event → List Judged
-judged events = judged_by bracket_by None events
+judged events = judged_of event_reads events
 
 abbrev pub is_error : Bracket → Bool
 is_error Error = true
@@ -78,47 +172,15 @@ if_error_reply event = if is_error (bracket_by None event) then Some event else 
 abbrev pub undecided_of : List Event → Option Event
 undecided_of events = option_and_then if_error_reply (find (λ event. is_some (event_mark event)) events)
 
--- what the events are to the matching of calls
-abbrev pub sides_of : List Judged → List Side
-sides_of judged = map (λ found. side_of found.bracket) judged
-
--- The verdict of an opener by a closer. Which opener or closer an event is does not depend on the mark before it.
 abbrev pub verdict_by : Event → Event → Verdict
-verdict_by call answer = verdict_of (bracket_by None call) (bracket_by None answer)
+verdict_by call answer = verdict_read event_reads call answer
 
--- what becomes of the opener at a position: the closer that matches it says so, or there is none
-pub data HasVerdict (judged : List Judged) (i : ℕ) (call : Opener) : Type 0 where
-  closed_by : (j : ℕ) (answer : Judged) → Match (sides_of judged) i j → slice_get judged j ≡ Some answer
-      → call.verdict ≡ verdict_by call.event answer.event → call.closer ≡ Some answer.event.place
-      → HasVerdict judged i call
-  left_open : ((j : ℕ) → ¬ (Match (sides_of judged) i j)) → call.verdict ≡ Open → call.closer ≡ None
-      → HasVerdict judged i call
+-- an opener as a summary keeps it
+abbrev pub opener_of : Opener → OpenerOf Event
+opener_of call = record { event = call.event; verdict = call.verdict; closer = call.closer }
 
--- one of the openers, with what becomes of it
-pub record IsOpener (judged : List Judged) (call : Opener) : Type 0 where
-  pub position : ℕ
-  pub there : Judged
-  pub stands : slice_get judged position ≡ Some there
-  pub opens : side_of there.bracket ≡ opener
-  pub event : call.event ≡ there.event
-  pub verdict : HasVerdict judged position call
-
--- one of the closers that match no opener
-pub record IsStrayEvent (judged : List Judged) (answer : Event) : Type 0 where
-  pub position : ℕ
-  pub there : Judged
-  pub stands : slice_get judged position ≡ Some there
-  pub stray : IsStray (sides_of judged) position
-  pub event : answer ≡ there.event
-
-abbrev pub is_refused : Bracket → Bool
-is_refused Refused = true
-is_refused _ = false
-
--- whether an error reply that follows refuses a oneway transaction
-abbrev pub is_oneway : Option Mark → Bool
-is_oneway (Some Oneway) = true
-is_oneway _ = false
+abbrev pub IsOpener : List Judged → Opener → Type 0
+IsOpener judged call = IsOpenerOf event_reads judged (opener_of call)
 
 -- the refused send that an event tells of
 abbrev pub refused_send : Judged → Option RefusedSend

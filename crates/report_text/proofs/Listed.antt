@@ -6,11 +6,11 @@ use Rattle.std.proofs.lemmas.List.{length-map, map-id}
 use Rattle.std.proofs.lemmas.List.Elements.{All-map}
 use Rattle.transaction_view.specs.Grammar.{WholeFrame}
 use Rattle.event_core.specs.Events.{EventText}
-use Rattle.audit_join.specs.Findings.{FindingsText}
-use Rattle.audit_join.specs.Frames.{wholes_of, events_of_wholes}
-use Rattle.audit_join.specs.Kept.{KeptFindings, AreOfFrames, Tell}
-use Rattle.audit_join.specs.Lookup.{HasRecordIn}
-use Rattle.audit_join.proofs.RecordsThere.{has_record_in}
+use Rattle.audit_findings.specs.Findings.{FindingsText}
+use Rattle.audit_findings.specs.Frames.{wholes_of, events_of_wholes}
+use Rattle.audit_findings.specs.Kept.{KeptFindings, AreOfFrames, Tell}
+use Rattle.audit_findings.specs.Lookup.{HasRecordIn}
+use Rattle.audit_findings.proofs.RecordsThere.{has_record_in}
 use Rattle.report_text.specs.Pushed.{ShowsEvent, TakesLines, TakesRows}
 use Rattle.report_text.proofs.Sections.{shown_lines}
 

@@ -6,8 +6,8 @@ use Rattle.std.specs.Option.{option_map}
 use Rattle.std.proofs.lemmas.List.Elements.{All-contains_itself, All-cons, All-nil, All-head, All-tail}
 use Rattle.object_view.specs.declared.bad_object.BadObject.{BadObject}
 use Rattle.event_core.specs.Events.{AttachmentText, EventText}
-use Rattle.audit_join.specs.declared.sort_counts.SortCounts.{SortCounts}
-use Rattle.audit_join.specs.Objects.{Attached, attached_to, attachments_of, Outcome, BadOwned, bad_of, AreObjectFindings}
+use Rattle.audit_findings.specs.declared.sort_counts.SortCounts.{SortCounts}
+use Rattle.audit_findings.specs.Objects.{Attached, attached_to, attachments_of, Outcome, BadOwned, bad_of, AreObjectFindings}
 use Rattle.report_text.proofs.Sections.{unmapped}
 
 -- what holds of each item that is made of a list's holds of the list of them

@@ -12,13 +12,13 @@ use Rattle.object_view.specs.declared.sort.Sort.TheVariants.{Binder, WeakBinder,
 use Rattle.object_view.specs.Objects.{ObjectText, AreObjects}
 use Rattle.object_view.proofs.ListLaws.{one_list}
 use Rattle.event_core.specs.Events.{EventText}
-use Rattle.audit_join.specs.declared.codes.CodeRow.{CodeRow}
-use Rattle.audit_join.specs.declared.sort_counts.SortCounts.{SortCounts}
-use Rattle.audit_join.specs.Findings.{FindingsText, AreFindings}
-use Rattle.audit_join.specs.Frames.{wholes_of, events_of_wholes}
-use Rattle.audit_join.specs.Objects.{Attached, Outcome, IsOutcome, AreOutcomes, BadOwned, AreObjectFindings, count_of, times_of, good_objects, bad_objects}
-use Rattle.audit_join.proofs.OneFindings.{one_counts, one_list_of_events, one_list_of_handles, one_list_of_nodes, one_open_and_stray}
-use Rattle.audit_join.proofs.PlacesRise.{events_rise}
+use Rattle.audit_findings.specs.declared.codes.CodeRow.{CodeRow}
+use Rattle.audit_findings.specs.declared.sort_counts.SortCounts.{SortCounts}
+use Rattle.audit_findings.specs.Findings.{FindingsText, AreFindings}
+use Rattle.audit_findings.specs.Frames.{wholes_of, events_of_wholes}
+use Rattle.audit_findings.specs.Objects.{Attached, Outcome, IsOutcome, AreOutcomes, BadOwned, AreObjectFindings, count_of, times_of, good_objects, bad_objects}
+use Rattle.audit_findings.proofs.OneFindings.{one_counts, one_list_of_events, one_list_of_handles, one_list_of_nodes, one_open_and_stray}
+use Rattle.audit_findings.proofs.PlacesRise.{events_rise}
 use Rattle.report_text.specs.Answers.{IsTextOf, report, malformed, IsLineOn, none, named}
 use Rattle.report_text.specs.Fault.{fault_line}
 use Rattle.report_text.specs.Text.{IsReportOn, report_text}

@@ -1,8 +1,8 @@
 -- Lines that are pushed one behind another.
 use Rattle.std.proofs.Common.{ℕ, List, [], ◌∷◌, ◌++◌, map, refl, sym, ap₂, subst}
 use Rattle.std.specs.List.{AllZip, FoldsTo, flat_map}
-use Rattle.audit_join.specs.Findings.{FindingsText}
-use Rattle.audit_join.specs.Kept.{KeptFindings}
+use Rattle.audit_findings.specs.Findings.{FindingsText}
+use Rattle.audit_findings.specs.Kept.{KeptFindings}
 use Rattle.report_text.specs.Pushed.{TakesLines}
 
 -- some lines, and then others

@@ -3,9 +3,9 @@ use Rattle.std.proofs.Common.{◌≡◌, ℕ, zero, suc, ◌<◌, List, [], ◌�
 use Rattle.std.specs.Prelude.{◌==◌, All, Contains}
 use Rattle.std.proofs.lemmas.Bool.{cases_eq, ne_eqb}
 use Rattle.std.proofs.lemmas.List.Kept.{AllPairs-from_increasing}
-use Rattle.audit_join.specs.declared.codes.CodeRow.{CodeRow}
-use Rattle.audit_join.specs.Codes.{AreCodeRows}
-use Rattle.audit_join.proofs.OneFindings.{contains_here, contains_behind, contains_cases, contains_none, same_members}
+use Rattle.audit_findings.specs.declared.codes.CodeRow.{CodeRow}
+use Rattle.audit_findings.specs.Codes.{AreCodeRows}
+use Rattle.audit_findings.proofs.OneFindings.{contains_here, contains_behind, contains_cases, contains_none, same_members}
 
 counted_here : (word w : ℕ) (words : List ℕ) → 0 < count_by (λ v. v == word) (w ∷ words) → (0 < count_by (λ v. v == word) words → Contains words word)
     → Contains (w ∷ words) word

@@ -10,7 +10,7 @@ use Rattle.capture_frame.specs.declared.fault.FaultKind.TheVariants.{RecordDirec
 use Rattle.object_view.specs.declared.bad_object.Cause.TheVariants.{Overlap}
 use Rattle.object_view.specs.Objects.{bad_at}
 use Rattle.event_core.specs.Events.{EventText}
-use Rattle.audit_join.specs.Findings.{FindingsText}
+use Rattle.audit_findings.specs.Findings.{FindingsText}
 use Rattle.report_text.specs.Codes.{codes_row}
 use Rattle.report_text.specs.Deaths.{deaths_row}
 use Rattle.report_text.specs.Fault.{fault_line, no_fault_line}

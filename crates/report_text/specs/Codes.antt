@@ -4,8 +4,8 @@ use Rattle.std.specs.Fmt.{decimal}
 use Rattle.std.specs.Result.{result_ok}
 use Rattle.binder_code.specs.declared.record_kind.Kind.{Kind}
 use Rattle.binder_code.specs.Commands.{kind_of, protocol_of_word, name_of}
-use Rattle.audit_join.specs.declared.codes.CodeRow.{CodeRow}
-use Rattle.audit_join.specs.Findings.{FindingsText}
+use Rattle.audit_findings.specs.declared.codes.CodeRow.{CodeRow}
+use Rattle.audit_findings.specs.Findings.{FindingsText}
 use Rattle.report_text.specs.Line.{hex_word}
 
 -- the name of a kind, and nothing where there is none

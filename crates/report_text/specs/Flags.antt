@@ -2,8 +2,8 @@
 use Rattle.std.specs.Prelude.{ℕ, List, ◌∷◌, ◌++◌, length, map, codes}
 use Rattle.std.specs.Fmt.{decimal}
 use Rattle.event_core.specs.Events.{EventText}
-use Rattle.audit_join.specs.Findings.{FindingsText}
-use Rattle.audit_join.specs.Flags.{unknown_flags}
+use Rattle.audit_findings.specs.Findings.{FindingsText}
+use Rattle.audit_findings.specs.Flags.{unknown_flags}
 use Rattle.report_text.specs.EventRow.{row_start}
 use Rattle.report_text.specs.Line.{hex_word}
 

@@ -1,8 +1,8 @@
 -- The lines of the section `handles` (docs/REPORT.md).
 use Rattle.std.specs.Prelude.{ℕ, Bool, ◌||◌, List, ◌∷◌, ◌++◌, length, filter, map, codes}
 use Rattle.std.specs.Fmt.{decimal, signed_decimal}
-use Rattle.audit_join.specs.declared.handles.ProcessHandle.{ProcessHandle}
-use Rattle.audit_join.specs.Findings.{FindingsText}
+use Rattle.audit_findings.specs.declared.handles.ProcessHandle.{ProcessHandle}
+use Rattle.audit_findings.specs.Findings.{FindingsText}
 use Rattle.report_text.specs.Line.{is_not_zero}
 
 -- whether the strong or the weak references that the process took are not as many as those that it let go

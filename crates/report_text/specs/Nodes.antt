@@ -1,8 +1,8 @@
 -- The lines of the section `nodes` (docs/REPORT.md).
 use Rattle.std.specs.Prelude.{ℕ, Bool, ◌||◌, List, ◌∷◌, ◌++◌, length, filter, map, codes}
 use Rattle.std.specs.Fmt.{decimal, signed_decimal}
-use Rattle.audit_join.specs.declared.nodes.ProcessNode.{ProcessNode}
-use Rattle.audit_join.specs.Findings.{FindingsText}
+use Rattle.audit_findings.specs.declared.nodes.ProcessNode.{ProcessNode}
+use Rattle.audit_findings.specs.Findings.{FindingsText}
 use Rattle.report_text.specs.Line.{hex_number, is_not_zero}
 
 -- whether one of the counts is not 0, or one of the numbers of references that are due

@@ -3,9 +3,9 @@ use Rattle.std.specs.Prelude.{ℕ, List, ◌∷◌, ◌++◌, length, map, codes
 use Rattle.std.specs.Fmt.{decimal}
 use Rattle.object_view.specs.declared.bad_object.Cause.{Cause}
 use Rattle.object_view.specs.declared.bad_object.Cause.TheVariants.{ListLength, Misaligned, Overlap, Short, UnknownSort}
-use Rattle.audit_join.specs.declared.sort_counts.SortCounts.{SortCounts}
-use Rattle.audit_join.specs.Findings.{FindingsText}
-use Rattle.audit_join.specs.Objects.{BadOwned}
+use Rattle.audit_findings.specs.declared.sort_counts.SortCounts.{SortCounts}
+use Rattle.audit_findings.specs.Findings.{FindingsText}
+use Rattle.audit_findings.specs.Objects.{BadOwned}
 
 -- the head: how many good objects of each sort there are, and how many bad ones
 abbrev pub objects_head : SortCounts → ℕ → List ℕ

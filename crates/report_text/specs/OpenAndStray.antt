@@ -6,7 +6,7 @@ use Rattle.event_core.specs.Events.{EventText}
 use Rattle.event_core.specs.declared.pending.PendingChange.{PendingChange}
 use Rattle.event_core.specs.declared.pending.PendingChange.TheVariants.{Open, Close}
 use Rattle.event_core.specs.declared.pending.PendingItem.{PendingItem}
-use Rattle.audit_join.specs.Places.{OpenAndStrayText}
+use Rattle.audit_findings.specs.Places.{OpenAndStrayText}
 use Rattle.report_text.specs.EventRow.{row_start}
 use Rattle.report_text.specs.Line.{hex_number}
 

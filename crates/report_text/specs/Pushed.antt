@@ -5,9 +5,9 @@ use Rattle.capture_frame.specs.declared.frame.Frame.{Frame}
 use Rattle.capture_frame.specs.Units.{Placed}
 use Rattle.transaction_view.specs.Grammar.{WholeFrame}
 use Rattle.event_core.specs.Events.{EventText}
-use Rattle.audit_join.specs.Findings.{FindingsText}
-use Rattle.audit_join.specs.Frames.{Show, events_of_wholes}
-use Rattle.audit_join.specs.Kept.{KeptFindings, Tell}
+use Rattle.audit_findings.specs.Findings.{FindingsText}
+use Rattle.audit_findings.specs.Frames.{Show, events_of_wholes}
+use Rattle.audit_findings.specs.Kept.{KeptFindings, Tell}
 
 -- the line is made so of the event at this place of the frames that the views show
 abbrev pub ShowsEvent : (EventText → List ℕ) → List Frame → ℕ → List ℕ → Type 0

@@ -9,7 +9,7 @@ use crate::events::{EventLine, EventRows, row_start};
 use crate::line::{Row, push_decimal, push_hex_number};
 use crate::lines::Lines;
 use crate::shown::push_rows;
-use audit_join::Findings;
+use audit_findings::Findings;
 use event_core::{BufferItem, Event, buffer_step};
 use std::alloc::{AllocError, Global};
 use std::thread::Threads;

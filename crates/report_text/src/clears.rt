@@ -9,7 +9,7 @@ use crate::line::Row;
 use crate::lines::Lines;
 use crate::open_and_stray::{head_line, row_line};
 use crate::shown::push_rows;
-use audit_join::Findings;
+use audit_findings::Findings;
 use event_core::{Event, clear_step};
 use std::alloc::{AllocError, Global};
 use std::thread::Threads;

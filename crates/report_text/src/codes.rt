@@ -7,7 +7,7 @@ ghost use Rattle.report_text.specs.Pushed.{TakesLines};
 use crate::line::{Row, push_decimal, push_hex_word};
 use crate::lines::Lines;
 use crate::shown::{Shown, push_rows};
-use audit_join::{CodeRow, Findings};
+use audit_findings::{CodeRow, Findings};
 use binder_code::{Code, Protocol, kind};
 use std::alloc::{AllocError, Global};
 use std::thread::Threads;

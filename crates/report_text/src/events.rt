@@ -7,7 +7,7 @@ ghost use Rattle.report_text.specs.EventRow.{row_start};
 
 use crate::line::{Row, push_decimal};
 use crate::shown::Shown;
-use audit_join::Findings;
+use audit_findings::Findings;
 use event_core::Event;
 
 /// How the rows of a section are made into lines, each of them an event.
@@ -35,7 +35,7 @@ pub(crate) struct EventRows<'f, 'c, S> {
 }
 
 impl<'f, 'c, S: EventLine> Shown for EventRows<'f, 'c, S> {
-    ghost use Rattle.audit_join.specs.Lookup.{HasRecordIn};
+    ghost use Rattle.audit_findings.specs.Lookup.{HasRecordIn};
     ghost use Rattle.report_text.specs.Pushed.{ShowsEvent};
 
     type Kept = u64;

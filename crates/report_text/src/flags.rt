@@ -2,7 +2,7 @@
 
 ghost use Rattle.std.specs.Prelude.{◌≡◌, OnOk};
 ghost use Rattle.event_core.specs.Reading.{event_text};
-ghost use Rattle.audit_join.specs.Flags.{unknown_flags};
+ghost use Rattle.audit_findings.specs.Flags.{unknown_flags};
 ghost use Rattle.report_text.specs.Flags.{flags_head, flags_row, flags_lines};
 ghost use Rattle.report_text.specs.Pushed.{TakesLines};
 
@@ -10,7 +10,7 @@ use crate::events::{EventLine, EventRows, row_start};
 use crate::line::{Row, push_decimal, push_hex_word};
 use crate::lines::Lines;
 use crate::shown::push_rows;
-use audit_join::Findings;
+use audit_findings::Findings;
 use binder_code::unknown_bits;
 use event_core::Event;
 use std::alloc::{AllocError, Global};

@@ -7,7 +7,7 @@ ghost use Rattle.report_text.specs.Pushed.{TakesLines};
 use crate::line::{Row, push_decimal, push_signed};
 use crate::lines::Lines;
 use crate::shown::{Shown, push_rows};
-use audit_join::{Findings, ProcessHandle};
+use audit_findings::{Findings, ProcessHandle};
 use std::alloc::{AllocError, Global};
 use std::thread::Threads;
 

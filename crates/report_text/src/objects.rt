@@ -8,7 +8,7 @@ ghost use Rattle.report_text.specs.Pushed.{TakesLines};
 use crate::line::{Row, push_decimal};
 use crate::lines::Lines;
 use crate::shown::{Shown, push_rows};
-use audit_join::{BadRow, Findings, SortCounts};
+use audit_findings::{BadRow, Findings, SortCounts};
 use event_core::Event;
 use object_view::{BadObject, Cause};
 use std::alloc::{AllocError, Global};
@@ -36,7 +36,7 @@ struct ObjectRows<'f, 'c> {
 }
 
 impl<'f, 'c> Shown for ObjectRows<'f, 'c> {
-    ghost use Rattle.audit_join.specs.Lookup.{HasRecordIn};
+    ghost use Rattle.audit_findings.specs.Lookup.{HasRecordIn};
     ghost use Rattle.report_text.specs.Objects.{objects_row};
     ghost use Rattle.report_text.specs.Pushed.{ShowsEvent};
 

@@ -7,7 +7,7 @@ ghost use Rattle.report_text.specs.OpenAndStray.{open_and_stray_head, open_and_s
 
 use crate::events::row_start;
 use crate::line::{Row, push_decimal, push_hex_number};
-use audit_join::OpenAndStray;
+use audit_findings::OpenAndStray;
 use event_core::{Event, PendingChange, PendingItem};
 
 /// The head of a section that has this name, and this word for an open without its close. There

@@ -2,8 +2,8 @@
 
 ghost use Rattle.std.specs.Prelude.{◌≡◌, ◌≤◌, List, All, map, length, IfOk, OnOk, string_bytes};
 ghost use Rattle.transaction_view.specs.Grammar.{WholeFrame};
-ghost use Rattle.audit_join.specs.Findings.{FindingsText};
-ghost use Rattle.audit_join.specs.Kept.{Tell};
+ghost use Rattle.audit_findings.specs.Findings.{FindingsText};
+ghost use Rattle.audit_findings.specs.Kept.{Tell};
 ghost use Rattle.report_text.specs.Pushed.{TakesLines};
 ghost use Rattle.report_text.specs.Text.{title, totals, report_lines, report_text};
 
@@ -19,7 +19,7 @@ use crate::lines::Lines;
 use crate::nodes::push_nodes;
 use crate::objects::push_objects;
 use crate::requests::push_requests;
-use audit_join::Findings;
+use audit_findings::Findings;
 use std::alloc::{AllocError, Global};
 use std::thread::Threads;
 

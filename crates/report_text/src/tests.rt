@@ -3,7 +3,8 @@
 use crate::codes::{self, CodeRows};
 use crate::shown::push_rows;
 use crate::{Row, fault_text, handles, nodes, objects, rows, text};
-use audit_join::{CodeRow, ProcessHandle, ProcessNode, SortCounts, audit_one};
+use audit_findings::{CodeRow, ProcessHandle, ProcessNode, SortCounts};
+use audit_join::audit_one;
 use capture_frame::{Fault, FaultKind};
 use object_view::Cause;
 use std::process::Abort;

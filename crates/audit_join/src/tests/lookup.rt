@@ -1,7 +1,7 @@
 //! The frame and the record at a place of the eight frames.
 
 ghost use Rattle.std.specs.Prelude.{All};
-ghost use Rattle.audit_join.specs.Lookup.{HasRecordIn};
+ghost use Rattle.audit_findings.specs.Lookup.{HasRecordIn};
 
 use super::captures::EIGHT_FRAMES;
 use super::expect_sections;

@@ -1,8 +1,8 @@
 //! The sections are the same however the frames are split, joined and kept.
 
 ghost use Rattle.std.specs.Prelude.{◌≤◌, ◌+◌, length, IfOk};
-ghost use Rattle.audit_join.specs.Frames.{AreGoodFrames};
-ghost use Rattle.audit_join.specs.Summary.{SumsPiece, CanSettle};
+ghost use Rattle.audit_findings.specs.Frames.{AreGoodFrames};
+ghost use Rattle.audit_findings.specs.Summary.{SumsPiece, CanSettle};
 
 use super::captures::EIGHT_FRAMES;
 use super::{expect_sections, frames_of};

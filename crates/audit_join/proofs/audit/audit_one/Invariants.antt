@@ -1,8 +1,8 @@
 use Rattle.std.proofs.Common.{List}
 use Rattle.transaction_view.specs.Grammar.{WholeFrame}
 use Rattle.transaction_view.proofs.CaptureWalk.{StandsBehind, left_of}
-use Rattle.audit_join.specs.Frames.{Show, wholes_of}
-use Rattle.audit_join.specs.Summary.{SumsPiece}
+use Rattle.audit_findings.specs.Frames.{Show, wholes_of}
+use Rattle.audit_findings.specs.Summary.{SumsPiece}
 use Rattle.audit_join.proofs.audit.audit_one.Given as goal
 
 -- the reader stands behind these frames, which the views show, and the summary is theirs

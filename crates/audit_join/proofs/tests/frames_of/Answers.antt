@@ -2,7 +2,7 @@ use Rattle.std.proofs.Common.{[], ap, sym, subst, ◌∙◌, length-append, arit
 use Rattle.capture_frame.specs.Envelope.{file_header}
 use Rattle.capture_frame.specs.Units.{spelling_of}
 use Rattle.transaction_view.specs.Grammar.{whole_format}
-use Rattle.audit_join.specs.Frames.{AreGoodFrames}
+use Rattle.audit_findings.specs.Frames.{AreGoodFrames}
 use Rattle.audit_join.proofs.CaptureLaws.{shown_are_good}
 use Rattle.audit_join.proofs.tests.frames_of.Goals as goal
 

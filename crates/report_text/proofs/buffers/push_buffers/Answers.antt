@@ -2,9 +2,9 @@ use Rattle.std.proofs.Common.{ℕ, length, sym, ap, ap₂, subst, ◌∙◌}
 use Rattle.std.specs.Prelude.{All}
 use Rattle.std.proofs.lemmas.Result.{on_ok_weaker}
 use Rattle.event_core.specs.Events.{EventText}
-use Rattle.audit_join.specs.declared.findings.Sections.{Sections}
-use Rattle.audit_join.specs.declared.record_counts.RecordCounts.{RecordCounts}
-use Rattle.audit_join.specs.Lookup.{HasRecordIn}
+use Rattle.audit_findings.specs.declared.findings.Sections.{Sections}
+use Rattle.audit_findings.specs.declared.record_counts.RecordCounts.{RecordCounts}
+use Rattle.audit_findings.specs.Lookup.{HasRecordIn}
 use Rattle.report_text.specs.Buffers.{buffers_head, buffers_row}
 use Rattle.report_text.proofs.Listed.{EventRows, listed, listed_events, event_section, as_many}
 use Rattle.report_text.proofs.buffers.push_buffers.Goals as goal

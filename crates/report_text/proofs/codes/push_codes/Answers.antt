@@ -1,8 +1,8 @@
 use Rattle.std.proofs.Common.{◌≡◌, ℕ, List, ◌∷◌, length, sym, ap, ap₂, ◌∙◌}
 use Rattle.std.proofs.lemmas.List.{map-id}
 use Rattle.std.proofs.lemmas.Result.{on_ok_weaker}
-use Rattle.audit_join.specs.declared.codes.CodeRow.{CodeRow}
-use Rattle.audit_join.specs.declared.findings.Sections.{Sections}
+use Rattle.audit_findings.specs.declared.codes.CodeRow.{CodeRow}
+use Rattle.audit_findings.specs.declared.findings.Sections.{Sections}
 use Rattle.report_text.specs.Codes.{codes_head, codes_row}
 use Rattle.report_text.proofs.Sections.{shown_lines}
 use Rattle.report_text.proofs.codes.push_codes.Goals as goal

@@ -1,6 +1,6 @@
 use Rattle.std.proofs.Common.{ap, ◌∙◌}
 use Rattle.std.proofs.lemmas.Result.{on_ok_weaker}
-use Rattle.audit_join.specs.declared.findings.Sections.{Sections}
+use Rattle.audit_findings.specs.declared.findings.Sections.{Sections}
 use Rattle.report_text.specs.Handles.{handles_head, handles_row}
 use Rattle.report_text.proofs.Listed.{whole_section}
 use Rattle.report_text.proofs.handles.push_handles.Goals as goal

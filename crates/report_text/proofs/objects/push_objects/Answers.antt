@@ -2,12 +2,12 @@ use Rattle.std.proofs.Common.{ℕ, List, ◌∷◌, length, refl, sym, ap, ap₂
 use Rattle.std.specs.Prelude.{All}
 use Rattle.std.proofs.lemmas.List.{length-map}
 use Rattle.std.proofs.lemmas.Result.{on_ok_weaker}
-use Rattle.audit_join.specs.declared.objects.BadRow.{BadRow}
-use Rattle.audit_join.specs.declared.findings.Sections.{Sections}
-use Rattle.audit_join.specs.Frames.{wholes_of, events_of_wholes}
-use Rattle.audit_join.specs.Lookup.{HasRecordIn}
-use Rattle.audit_join.specs.Kept.{kept_bad}
-use Rattle.audit_join.specs.Objects.{BadOwned}
+use Rattle.audit_findings.specs.declared.objects.BadRow.{BadRow}
+use Rattle.audit_findings.specs.declared.findings.Sections.{Sections}
+use Rattle.audit_findings.specs.Frames.{wholes_of, events_of_wholes}
+use Rattle.audit_findings.specs.Lookup.{HasRecordIn}
+use Rattle.audit_findings.specs.Kept.{kept_bad}
+use Rattle.audit_findings.specs.Objects.{BadOwned}
 use Rattle.report_text.specs.Objects.{objects_head, objects_row}
 use Rattle.report_text.proofs.Listed.{EventRows, listed, event_lines}
 use Rattle.report_text.proofs.ObjectOwners.{owners_there}

@@ -3,9 +3,9 @@ use Rattle.std.proofs.lemmas.List.{length-map}
 use Rattle.std.proofs.lemmas.Result.{on_ok_weaker}
 use Rattle.capture_frame.specs.Envelope.{placed_frame}
 use Rattle.transaction_view.specs.Grammar.{WholeFrame}
-use Rattle.audit_join.specs.Findings.{FindingsText}
-use Rattle.audit_join.specs.Frames.{wholes_of, placed_text}
-use Rattle.audit_join.specs.Kept.{KeptFindings, Tell}
+use Rattle.audit_findings.specs.Findings.{FindingsText}
+use Rattle.audit_findings.specs.Frames.{wholes_of, placed_text}
+use Rattle.audit_findings.specs.Kept.{KeptFindings, Tell}
 use Rattle.report_text.specs.Text.{totals, parts}
 use Rattle.report_text.proofs.Pushes.{all_parts}
 use Rattle.report_text.proofs.report.push_report.Goals as goal

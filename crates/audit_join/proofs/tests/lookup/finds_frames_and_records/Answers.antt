@@ -1,7 +1,7 @@
 use Rattle.std.proofs.Common.{sym, subst, ap, ◌∙◌}
 use Rattle.std.specs.Prelude.{All}
-use Rattle.audit_join.specs.declared.findings.Sections.{Sections}
-use Rattle.audit_join.specs.Lookup.{HasRecordIn}
+use Rattle.audit_findings.specs.declared.findings.Sections.{Sections}
+use Rattle.audit_findings.specs.Lookup.{HasRecordIn}
 use Rattle.audit_join.proofs.ListedThere.{flags_there}
 use Rattle.audit_join.proofs.tests.lookup.finds_frames_and_records.Goals as goal
 

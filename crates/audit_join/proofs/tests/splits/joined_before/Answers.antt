@@ -1,5 +1,5 @@
 use Rattle.std.proofs.Common.{sym, subst}
-use Rattle.audit_join.specs.Frames.{AreGoodFrames}
+use Rattle.audit_findings.specs.Frames.{AreGoodFrames}
 use Rattle.audit_join.proofs.PartLaws.{parts_good}
 use Rattle.audit_join.proofs.tests.splits.joined_before.Goals as goal
 

@@ -1,8 +1,8 @@
 use Rattle.std.proofs.Common.{◌≡◌, ◌+◌, ◌∷◌, ◌++◌, [], take, drop, sym, subst, ap, ◌∙◌, arith}
 use Rattle.std.proofs.lemmas.List.{take_more, take-append-drop}
 use Rattle.capture_frame.specs.declared.frame.Frame.{Frame}
-use Rattle.audit_join.specs.Frames.{AreGoodFrames, good_frames_parts}
-use Rattle.audit_join.specs.Summary.{SumsPiece}
+use Rattle.audit_findings.specs.Frames.{AreGoodFrames, good_frames_parts}
+use Rattle.audit_findings.specs.Summary.{SumsPiece}
 use Rattle.audit_join.proofs.tests.splits.summary_of.Goals as goal
 
 pub add-requires : goal.add-requires

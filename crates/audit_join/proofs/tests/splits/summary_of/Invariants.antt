@@ -1,5 +1,5 @@
 use Rattle.std.proofs.Common.{take}
-use Rattle.audit_join.specs.Summary.{SumsPiece}
+use Rattle.audit_findings.specs.Summary.{SumsPiece}
 use Rattle.audit_join.proofs.tests.splits.summary_of.Given as goal
 
 abbrev pub invariant-loop-frame : goal.invariant-loop-frame

@@ -1,0 +1,211 @@
+-- Views of frames, and the whole frames that they show.
+use Rattle.std.proofs.Common.{◌≡◌, ℕ, ◌+◌, List, [], ◌∷◌, ◌++◌, length, map, take, drop, All, Some, None, refl, sym, ap, ap₂, subst, ◌∙◌, append_assoc, arith}
+use Rattle.std.proofs.lemmas.Grind.{flat_map-append}
+use Rattle.std.proofs.lemmas.List.{append-nil, map-append, take-append-drop}
+use Rattle.std.proofs.lemmas.List.Elements.{All-append, All-cons, All-head, All-nil, All-tail}
+use Rattle.capture_frame.specs.declared.frame.Frame.{Frame}
+use Rattle.capture_frame.specs.Envelope.{FrameText, frame_text, placed_frame}
+use Rattle.capture_frame.specs.Units.{Placed, placed_at}
+use Rattle.transaction_view.specs.FirstFault.{HasGoodContent}
+use Rattle.transaction_view.specs.Grammar.{WholeFrame}
+use Rattle.event_core.specs.Events.{EventText, events_of, events_of_whole}
+use Rattle.record_view.specs.Records.{RecordText, HasRecords}
+use Rattle.transaction_view.specs.Attachments.{EntryText, HasEntries}
+use Rattle.event_core.specs.declared.event.Event.{Event}
+use Rattle.event_core.specs.Reading.{Reading, Steps, event_text}
+use Rattle.event_core.proofs.EventsGiven.{Given, one_further, given_first, given_all}
+use Rattle.summary_law.specs.Fits.{short_parts}
+use Rattle.audit_findings.specs.declared.ledgers.Ledgers.{Ledgers}
+use Rattle.audit_findings.specs.Ledgers.{AreFewEvents, AreFewFrames, SumsLedgers, Takes, CanTake}
+use Rattle.audit_findings.proofs.FewLaws.{few_parts}
+use Rattle.audit_findings.specs.Frames.{Show, IsWhole, placed_text, events_of_wholes}
+
+pub events-append : (wholes others : List (Placed WholeFrame)) → events_of_wholes (wholes ++ others) ≡ events_of_wholes wholes ++ events_of_wholes others
+events-append wholes others = flat_map-append events_of_whole wholes others
+
+-- no view shows no whole frame
+pub none_shown : Show [] []
+none_shown = record { stand = refl; are_whole = All-nil IsWhole }
+
+pub shown_none : (wholes : List (Placed WholeFrame)) → Show [] wholes → wholes ≡ []
+shown_none [] show = refl
+shown_none (w ∷ wholes) show = let wrong = ap length show.stand in absurd (omega (arith, wrong))
+
+-- two lists that begin alike
+pub first_same : {A : Type 0} (x y : A) (xs ys : List A) → x ∷ xs ≡ y ∷ ys → (x ≡ y) × (xs ≡ ys)
+first_same x y xs ys same = (cc, cc)
+
+-- what the first view shows, and what the others do
+pub shown_first : (frame : Frame) (frames : List Frame) (wholes : List (Placed WholeFrame)) → Show (frame ∷ frames) wholes
+    → (w : Placed WholeFrame) × (others : List (Placed WholeFrame)) × (wholes ≡ w ∷ others) × (placed_frame frame ≡ placed_text w) × IsWhole w
+    × Show frames others
+shown_first frame frames [] show = let wrong = ap length show.stand in absurd (omega (arith, wrong))
+shown_first frame frames (w ∷ wholes) show =
+    let same = first_same (placed_frame frame) (placed_text w) (map placed_frame frames) (map placed_text wholes) show.stand in (
+      w,
+      wholes,
+      refl,
+      same.0,
+      All-head IsWhole w wholes show.are_whole,
+      record { stand = same.1; are_whole = All-tail IsWhole w wholes show.are_whole },
+    )
+
+-- views one behind the other show whole frames one behind the other
+pub shown_both : (frames more : List Frame) (wholes others : List (Placed WholeFrame)) → Show frames wholes → Show more others
+    → Show (frames ++ more) (wholes ++ others)
+shown_both frames more wholes others show show_more = record {
+  stand = map-append placed_frame frames more
+      ∙ ap₂ (λ (first second : List (Placed FrameText)). first ++ second) show.stand show_more.stand
+      ∙ sym (map-append placed_text wholes others);
+  are_whole = All-append IsWhole wholes others show.are_whole show_more.are_whole;
+}
+
+pub shown_parts : (frames more : List Frame) (wholes : List (Placed WholeFrame)) → Show (frames ++ more) wholes
+    → (first second : List (Placed WholeFrame)) × (wholes ≡ first ++ second) × Show frames first × Show more second
+shown_parts [] more wholes show = ([], wholes, refl, none_shown, show)
+shown_parts (f ∷ frames) more wholes show =
+    let one = shown_first f (frames ++ more) wholes show in
+    let rest = shown_parts frames more one.1 one.5 in (
+      one.0 ∷ rest.0,
+      rest.1,
+      one.2 ∙ ap (λ (t : List (Placed WholeFrame)). one.0 ∷ t) rest.2,
+      record {
+        stand = ap₂ (λ (x : Placed FrameText) (t : List (Placed FrameText)). x ∷ t) one.3 rest.3.stand;
+        are_whole = All-cons IsWhole one.0 rest.0 one.4 rest.3.are_whole;
+      },
+      rest.4,
+    )
+
+-- good frames show whole frames
+shown_one : (frame : Frame) → HasGoodContent (frame_text frame) → (w : Placed WholeFrame) × (placed_frame frame ≡ placed_text w) × IsWhole w
+shown_one frame good =
+    let w : Placed WholeFrame = placed_at frame.place record { frame = frame_text frame; records = good.0.0; entries = good.1.0 } in
+    (w, refl, (good.0.1, good.1.1))
+
+pub good_shown : (frames : List Frame) → All (λ (frame : Frame). HasGoodContent (frame_text frame)) frames → (wholes : List (Placed WholeFrame)) × Show frames wholes
+good_shown [] good = ([], none_shown)
+good_shown (f ∷ frames) good =
+    let IsGood : Frame → Type 0 = λ frame. HasGoodContent (frame_text frame) in
+    let one = shown_one f (All-head IsGood f frames good) in
+    let rest = good_shown frames (All-tail IsGood f frames good) in (
+      one.0 ∷ rest.0,
+      record {
+        stand = ap₂ (λ (x : Placed FrameText) (t : List (Placed FrameText)). x ∷ t) one.1 rest.1.stand;
+        are_whole = All-cons IsWhole one.0 rest.0 one.2 rest.1.are_whole;
+      },
+    )
+
+-- ---- the events of one frame
+
+-- the frame's events are few behind those before, however its bytes are read
+abbrev pub AreFewWith : List EventText → Frame → Type 0
+AreFewWith before frame =
+    (records : List RecordText) × (entries : List EntryText) × HasRecords (frame_text frame) records × HasEntries (frame_text frame) entries
+    × AreFewEvents (before ++ events_of (placed_frame frame) records entries)
+
+-- the whole frame that a view shows has its records and its entries
+pub whole_events : (frame : Frame) (w : Placed WholeFrame) → placed_frame frame ≡ placed_text w → IsWhole w
+    → (records : List RecordText) × (entries : List EntryText) × HasRecords (frame_text frame) records × HasEntries (frame_text frame) entries
+    × (events_of_wholes (w ∷ []) ≡ events_of (placed_frame frame) records entries)
+whole_events frame w same whole =
+    let text : frame_text frame ≡ w.unit.frame = ap (λ (p : Placed FrameText). p.unit) same in (
+      w.unit.records,
+      w.unit.entries,
+      subst (λ (t : FrameText). HasRecords t w.unit.records) (sym text) whole.0,
+      subst (λ (t : FrameText). HasEntries t w.unit.entries) (sym text) whole.1,
+      append-nil (events_of_whole w) ∙ ap (λ (p : Placed FrameText). events_of p w.unit.records w.unit.entries) (sym same),
+    )
+
+pub few_with : (before : List EventText) (frame : Frame) (wholes others : List (Placed WholeFrame)) → events_of_wholes wholes ≡ before
+    → Show (frame ∷ []) others → AreFewFrames (wholes ++ others) → AreFewWith before frame
+few_with before frame wholes others is show few =
+    let one = shown_first frame [] others show in
+    let events = whole_events frame one.0 one.3 one.4 in
+    let alone : others ≡ one.0 ∷ [] = one.2 ∙ ap (λ (t : List (Placed WholeFrame)). one.0 ∷ t) (shown_none one.1 one.5) in
+    let all : events_of_wholes (wholes ++ others) ≡ before ++ events_of (placed_frame frame) events.0 events.1 =
+    events-append wholes others
+    ∙ ap₂ (λ (a b : List EventText). a ++ b) is (ap events_of_wholes alone ∙ events.4) in
+    (events.0, events.1, events.2, events.3, subst AreFewEvents all few.1)
+
+-- an event more is few with them
+pub few_next : (before : List EventText) (frame : Frame) → AreFewWith before frame → (reading : Reading) (given : List Event)
+    → Given (placed_frame frame) reading given → AreFewEvents (before ++ map event_text given)
+few_next before frame few reading given so_far =
+    let first = given_first (placed_frame frame) reading given few.0 few.1 few.2 few.3 so_far in
+    let all : before ++ events_of (placed_frame frame) few.0 few.1 ≡ (before ++ map event_text given) ++ first.0 =
+    ap (λ (t : List EventText). before ++ t) first.1 ∙ sym (append_assoc before (map event_text given) first.0) in
+    (few_parts (before ++ map event_text given) first.0 (subst AreFewEvents all few.4)).0
+
+-- at the end they are the events of the whole frame
+pub all_given : (before : List EventText) (frame : Frame) (wholes others : List (Placed WholeFrame)) → events_of_wholes wholes ≡ before
+    → Show (frame ∷ []) others → (reading new : Reading) (given : List Event) → Given (placed_frame frame) reading given → Steps reading None new
+    → before ++ map event_text given ≡ events_of_wholes (wholes ++ others)
+all_given before frame wholes others is show reading new given so_far steps =
+    let one = shown_first frame [] others show in
+    let events = whole_events frame one.0 one.3 one.4 in
+    let alone : others ≡ one.0 ∷ [] = one.2 ∙ ap (λ (t : List (Placed WholeFrame)). one.0 ∷ t) (shown_none one.1 one.5) in
+    let all = given_all (placed_frame frame) reading new given events.0 events.1 events.2 events.3 so_far steps in
+    sym (events-append wholes others ∙ ap₂ (λ (a b : List EventText). a ++ b) is (ap events_of_wholes alone ∙ events.4 ∙ all))
+
+pub given_next : (frame : Frame) (before reading : Reading) (earlier : List Event) (found : Event) → Given (placed_frame frame) before earlier
+    → Steps before (Some found) reading → Given (placed_frame frame) reading (earlier ++ found ∷ [])
+given_next frame before reading earlier found so_far steps = one_further before reading earlier (earlier ++ found ∷ []) found so_far steps refl
+
+pub texts_next : (before : List EventText) (given : List Event) (found : Event)
+    → (before ++ map event_text given) ++ event_text found ∷ [] ≡ before ++ map event_text (given ++ found ∷ [])
+texts_next before given found = append_assoc before (map event_text given) (event_text found ∷ [])
+    ∙ ap (λ (t : List EventText). before ++ t) (sym (map-append event_text given (found ∷ [])))
+
+-- the one whole frame that a view shows
+pub shown_alone : (frame : Frame) (others : List (Placed WholeFrame)) → Show (frame ∷ []) others
+    → (w : Placed WholeFrame) × (others ≡ w ∷ []) × (w.unit.frame.sequence ≡ frame.sequence)
+shown_alone frame others show =
+    let one = shown_first frame [] others show in (
+      one.0,
+      one.2 ∙ ap (λ (t : List (Placed WholeFrame)). one.0 ∷ t) (shown_none one.1 one.5),
+      sym (ap (λ (p : Placed FrameText). p.unit.sequence) one.3),
+    )
+
+-- and its content has no fault
+pub shown_good : (frame : Frame) (others : List (Placed WholeFrame)) → Show (frame ∷ []) others → HasGoodContent (frame_text frame)
+shown_good frame others show =
+    let one = shown_first frame [] others show in
+    let events = whole_events frame one.0 one.3 one.4 in
+    ((events.0, events.2), (events.1, events.3))
+
+-- ---- ledgers that take frame after frame
+
+-- few frames are few in parts
+pub few_frames_parts : (first second : List (Placed WholeFrame)) → AreFewFrames (first ++ second) → AreFewFrames first × AreFewFrames second
+few_frames_parts first second few =
+    let short = short_parts first second few.0 in
+    let events = few_parts (events_of_wholes first) (events_of_wholes second) (subst AreFewEvents (events-append first second) few.1) in
+    ((short.0, events.0), (short.1, events.1))
+
+-- a list around one of its elements
+pub one_behind : (frames : List Frame) (i : ℕ) (f : Frame) → take (i + 1) frames ≡ take i frames ++ f ∷ []
+    → frames ≡ take i frames ++ f ∷ drop (i + 1) frames
+one_behind frames i f more = sym (take-append-drop (i + 1) frames) ∙ ap (λ (t : List Frame). t ++ drop (i + 1) frames) more
+    ∙ append_assoc (take i frames) (f ∷ []) (drop (i + 1) frames)
+
+-- the frames so far and one more
+pub takes_next : (old mid new : Ledgers) (done : List Frame) (f : Frame) → Takes old done mid → Takes mid (f ∷ []) new → Takes old (done ++ f ∷ []) new
+takes_next old mid new done f so_far last wholes others sums show few =
+    let parts = shown_parts done (f ∷ []) others show in
+    let joined : wholes ++ others ≡ (wholes ++ parts.0) ++ parts.1 =
+    ap (λ (t : List (Placed WholeFrame)). wholes ++ t) parts.2 ∙ sym (append_assoc wholes parts.0 parts.1) in
+    let fits = subst AreFewFrames joined few in
+    subst (SumsLedgers new) (sym joined)
+    (last (wholes ++ parts.0) parts.1 (so_far wholes parts.0 sums parts.3 (few_frames_parts (wholes ++ parts.0) parts.1 fits).0) parts.4 fits)
+
+-- one of some frames can be taken, behind those before it
+pub takes_first : (old mid : Ledgers) (done : List Frame) (f : Frame) (rest : List Frame) (wholes others : List (Placed WholeFrame))
+    → SumsLedgers old wholes → Show (done ++ f ∷ rest) others → AreFewFrames (wholes ++ others) → Takes old done mid → CanTake mid (f ∷ [])
+takes_first old mid done f rest wholes others sums show few so_far =
+    let parts = shown_parts done (f ∷ rest) others show in
+    let next = shown_parts (f ∷ []) rest parts.1 parts.4 in
+    let joined : wholes ++ others ≡ ((wholes ++ parts.0) ++ next.0) ++ next.1 =
+    ap (λ (t : List (Placed WholeFrame)). wholes ++ t) parts.2 ∙ sym (append_assoc wholes parts.0 parts.1)
+    ∙ ap (λ (t : List (Placed WholeFrame)). (wholes ++ parts.0) ++ t) next.2 ∙ sym (append_assoc (wholes ++ parts.0) next.0 next.1) in
+    let fits = (few_frames_parts ((wholes ++ parts.0) ++ next.0) next.1 (subst AreFewFrames joined few)).0 in
+    (wholes ++ parts.0, next.0, so_far wholes parts.0 sums parts.3 (few_frames_parts (wholes ++ parts.0) next.0 fits).0, next.3, fits)

@@ -1,0 +1,13 @@
+-- What `==` says of processes, and its laws.
+use Rattle.std.proofs.Common.{◌≡◌, refl}
+use Rattle.std.proofs.lemmas.Cmp.{nat_eq_equiv, on_equiv}
+use Rattle.std.specs.Cmp.{IsEquivalence}
+use Rattle.audit_findings.specs.contracts.process.ProcessPartialEq.TheImpl as process_eq
+use Rattle.audit_findings.specs.declared.process.Process.{Process}
+use Rattle.audit_findings.specs.Processes.{same_process}
+
+pub process_eq_is : (a b : Process) → (process_eq.ghosts).eq a b ≡ same_process a b
+process_eq_is a b = refl
+
+pub same_process_equiv : IsEquivalence same_process
+same_process_equiv = on_equiv (λ (p : Process). p.number) nat_eq_equiv

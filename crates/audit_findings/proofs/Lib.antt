@@ -1,0 +1,28 @@
+pub mod ObjectWalk
+pub mod FewLaws
+pub mod OutcomeLaws
+pub mod FlagLaws
+pub mod SequenceLaws
+pub mod CodeLaws
+pub mod FrameLaws
+pub mod EventSizes
+pub mod PieceLaws
+pub mod LookupLaws
+pub mod RecordsThere
+pub mod Rising
+pub mod PlacesRise
+pub mod OneFindings
+pub mod StandLaws
+pub mod PlaceLaws
+mod FirstLaws
+pub mod InOrderLaws
+pub mod FedLaws
+pub mod ItemPlaces
+pub mod FitLaws
+pub mod KeyLaws
+pub mod OfProcesses
+pub mod EventsAt
+pub mod TurnLaws
+pub mod ReferenceLaws
+pub mod ProcessLaws
+mod RecordCountLaws

@@ -1,0 +1,100 @@
+-- The ledgers of what frames fed are those of the frames' processes.
+use Rattle.std.proofs.Common.{◌≡◌, ◌≢◌, ℕ, Bool, true, false, ◌&&◌, List, [], ◌∷◌, map, All, Option, Some, None, is_none, refl, sym, ap, subst, ◌∙◌}
+use Rattle.std.proofs.Common.{Box, Global}
+use Rattle.std.specs.List.{filter_map, cons_option}
+use Rattle.std.specs.Map.{keys_of}
+use Rattle.std.specs.Ordering.{nat_cmp}
+use Rattle.std.proofs.lemmas.List.Elements.{All-head, All-tail, All-weaker}
+use Rattle.std.proofs.lemmas.Simd.{map-map}
+use Rattle.capture_frame.specs.Units.{Placed}
+use Rattle.handle_ledger.specs.Handles.{HandleLedgerSums}
+use Rattle.handle_ledger.specs.Nodes.{NodeLedgerSums}
+use Rattle.pending_ledger.specs.Sums.{BuffersSums, PendingSums, RequestsSums}
+use Rattle.summary_law.specs.ByKey.{items_of}
+use Rattle.transaction_view.specs.Grammar.{WholeFrame}
+use Rattle.audit_findings.specs.declared.process.Process.{Process}
+use Rattle.audit_findings.specs.declared.process_items.ProcessItems.{ProcessItems}
+use Rattle.audit_findings.specs.declared.process_ledgers.ProcessLedgers.{ProcessLedgers}
+use Rattle.audit_findings.specs.declared.process_summary.ProcessSummary.{ProcessSummary}
+use Rattle.audit_findings.specs.Buffers.{buffer_item_of}
+use Rattle.audit_findings.specs.Clears.{clear_item_of}
+use Rattle.audit_findings.specs.Deaths.{death_item_of}
+use Rattle.audit_findings.specs.Frames.{events_of_wholes}
+use Rattle.audit_findings.specs.Handles.{handle_item_of}
+use Rattle.audit_findings.specs.Nodes.{node_item_of}
+use Rattle.audit_findings.specs.ProcessItems.{is_no_items, fed_by_all}
+use Rattle.audit_findings.specs.ProcessLedgers.{SumsIfAny, SumsProcessItems, SumsProcesses, IsOfProcess, AreOfProcesses}
+use Rattle.audit_findings.specs.Processes.{same_process, processes_of}
+use Rattle.audit_findings.specs.Requests.{request_item_of}
+use Rattle.audit_findings.proofs.FedLaws.{fed_items, processes_fed}
+use Rattle.audit_findings.proofs.InOrderLaws.{each_sums}
+use Rattle.audit_findings.proofs.KeyLaws.{same_process_equiv}
+
+both_true : (a b : Bool) → (a && b) ≡ true → (a ≡ true) × (b ≡ true)
+both_true true b is = (refl, is)
+both_true false b is = let no : ⊥ = cc in absurd no
+
+nothing : {X : Type 0} (o : Option X) → is_none o ≡ true → o ≡ None
+nothing None is = refl
+nothing (Some x) is = let no : ⊥ = cc in absurd no
+
+-- where no item is one of a ledger, none is read
+none_read : {I : Type 0} (part : ProcessItems → Option I) → ((i : ProcessItems) → is_no_items i ≡ true → part i ≡ None)
+    → (items : List ProcessItems) → All (λ i. is_no_items i ≡ true) items → filter_map part items ≡ []
+none_read part none [] all = refl
+none_read {I} part none (i ∷ items) all =
+    let IsNone : ProcessItems → Type 0 = λ i. is_no_items i ≡ true in
+    ap (λ (o : Option I). cons_option o (filter_map part items)) (none i (All-head IsNone i items all))
+    ∙ none_read part none items (All-tail IsNone i items all)
+
+-- the parts of what is no item
+no_items_parts : (i : ProcessItems) → is_no_items i ≡ true
+    → (i.handle ≡ None) × (i.node ≡ None) × (i.buffer ≡ None) × (i.request ≡ None) × (i.death ≡ None) × (i.clear ≡ None)
+no_items_parts i is =
+    let h = is_none i.handle in
+    let n = is_none i.node in
+    let b = is_none i.buffer in
+    let r = is_none i.request in
+    let d = is_none i.death in
+    let last = both_true (h && n && b && r && d) (is_none i.clear) is in
+    let death = both_true (h && n && b && r) d last.0 in
+    let request = both_true (h && n && b) r death.0 in
+    let buffer = both_true (h && n) b request.0 in
+    let node = both_true h n buffer.0 in
+    (nothing i.handle node.0, nothing i.node node.1, nothing i.buffer buffer.1, nothing i.request request.1, nothing i.death death.1, nothing i.clear last.1)
+
+-- what sums what was fed under a key is of the process
+is_of : (ledgers : Option (Box ProcessLedgers Global)) (wholes : List (Placed WholeFrame)) (q : Process)
+    → SumsIfAny ledgers (items_of same_process q (fed_by_all wholes)) → IsOfProcess ledgers (events_of_wholes wholes) q.number
+is_of None wholes q all =
+    let items = items_of same_process q (fed_by_all wholes) in
+    record {
+      handles = sym (fed_items (λ i. i.handle) handle_item_of refl (λ e. refl) q wholes) ∙ none_read (λ i. i.handle) (λ i is. (no_items_parts i is).0) items all;
+      nodes = sym (fed_items (λ i. i.node) node_item_of refl (λ e. refl) q wholes) ∙ none_read (λ i. i.node) (λ i is. (no_items_parts i is).1) items all;
+      buffers = sym (fed_items (λ i. i.buffer) buffer_item_of refl (λ e. refl) q wholes) ∙ none_read (λ i. i.buffer) (λ i is. (no_items_parts i is).2) items all;
+      requests = sym (fed_items (λ i. i.request) request_item_of refl (λ e. refl) q wholes) ∙ none_read (λ i. i.request) (λ i is. (no_items_parts i is).3) items all;
+      deaths = sym (fed_items (λ i. i.death) death_item_of refl (λ e. refl) q wholes) ∙ none_read (λ i. i.death) (λ i is. (no_items_parts i is).4) items all;
+      clears = sym (fed_items (λ i. i.clear) clear_item_of refl (λ e. refl) q wholes) ∙ none_read (λ i. i.clear) (λ i is. (no_items_parts i is).5) items all;
+    }
+is_of (Some ledgers) wholes q sums =
+    record {
+      handles = subst (HandleLedgerSums ledgers.value.handles) (fed_items (λ i. i.handle) handle_item_of refl (λ e. refl) q wholes) sums.handles;
+      nodes = subst (NodeLedgerSums ledgers.value.nodes) (fed_items (λ i. i.node) node_item_of refl (λ e. refl) q wholes) sums.nodes;
+      buffers = subst (BuffersSums ledgers.value.buffers) (fed_items (λ i. i.buffer) buffer_item_of refl (λ e. refl) q wholes) sums.buffers;
+      requests = subst (RequestsSums ledgers.value.requests) (fed_items (λ i. i.request) request_item_of refl (λ e. refl) q wholes) sums.requests;
+      deaths = subst (PendingSums nat_cmp ledgers.value.deaths) (fed_items (λ i. i.death) death_item_of refl (λ e. refl) q wholes) sums.deaths;
+      clears = subst (PendingSums nat_cmp ledgers.value.clears) (fed_items (λ i. i.clear) clear_item_of refl (λ e. refl) q wholes) sums.clears;
+    }
+
+pub are_of_processes : (entries : List (Process × ProcessSummary)) (wholes : List (Placed WholeFrame)) → SumsProcesses entries wholes
+    → AreOfProcesses entries wholes
+are_of_processes entries wholes sums =
+    let fed = fed_by_all wholes in
+    let Sums : Process × ProcessSummary → Type 0 =
+    λ e. (items_of same_process e.0 fed ≢ []) × SumsProcessItems e.1 (items_of same_process e.0 fed) in
+    record {
+      order = sym (map-map (λ (q : Process). q.number) (λ (e : Process × ProcessSummary). e.0) entries)
+          ∙ ap (map (λ (q : Process). q.number)) sums.order ∙ processes_fed wholes;
+      each = All-weaker Sums (λ (e : Process × ProcessSummary). IsOfProcess e.1.ledgers (events_of_wholes wholes) e.0.number)
+          (λ e own. is_of e.1.ledgers wholes e.0 own.1) entries (each_sums same_process_equiv SumsProcessItems entries fed sums);
+    }

@@ -1,0 +1,181 @@
+-- The events of frames that stand apart rise strictly in place, and so do the rows that are made of them.
+use Rattle.std.proofs.Common.{◌≡◌, ℕ, ◌+◌, ◌<◌, ◌≤◌, List, [], ◌∷◌, length, map, All, Option, Some, None, sym, ap, subst, ◌∙◌, length-append, arith, get_or}
+use Rattle.std.specs.Prelude.{AllPairs}
+use Rattle.std.specs.List.{flat_map}
+use Rattle.std.specs.List.Sorted.{IsStrictlyIncreasing}
+use Rattle.std.specs.Option.{option_map, unwrap_or}
+use Rattle.std.proofs.lemmas.List.{append-nil}
+use Rattle.std.proofs.lemmas.List.Concat.{flat_map-cons}
+use Rattle.std.proofs.lemmas.List.Elements.{All-cons, All-map, All-nil, All-weaker}
+use Rattle.std.proofs.lemmas.List.Kept.{AllPairs-cons}
+use Rattle.capture_frame.specs.declared.frame.Frame.{Frame}
+use Rattle.capture_frame.specs.Units.{AllStand, placed, Placed}
+use Rattle.capture_frame.specs.Envelope.{FrameText, placed_frame, frame_bytes, frame_header_length}
+use Rattle.capture_frame.proofs.FrameLaws.{length-frame_bytes}
+use Rattle.object_view.specs.declared.bad_object.BadObject.{BadObject}
+use Rattle.record_view.specs.Records.{record_bytes}
+use Rattle.record_view.proofs.RecordLaws.{length-record_bytes}
+use Rattle.transaction_view.specs.Grammar.{WholeFrame, whole_format, IsInGrammar}
+use Rattle.event_core.specs.Events.{AttachmentText, EventText, event_of, events_of_whole, placed_records}
+use Rattle.summary_law.specs.Fits.{PlacesRise}
+use Rattle.audit_findings.specs.Findings.{FindingsText, AreFindings}
+use Rattle.audit_findings.specs.Flags.{has_unknown_flags, flagged}
+use Rattle.audit_findings.specs.Frames.{Show, IsWhole, placed_text, wholes_of, events_of_wholes, StandApart}
+use Rattle.audit_findings.specs.Objects.{Attached, attached_to, Outcome, BadOwned, bad_of, bad_objects}
+use Rattle.audit_findings.proofs.Rising.{pairs_nil, pairs_map, pairs_unmap, pairs_flat, rising_made, rising_kept, increasing_places}
+
+-- ---- units, one behind another
+
+module _ {U : Type 0} (spelling : U → List ℕ) where
+  -- each begins at the first one's place or behind it
+  placed_from : (base : ℕ) (units : List U) → All (λ (x : Placed U). base ≤ x.place) (placed spelling base units)
+  placed_from base [] = All-nil (λ (x : Placed U). base ≤ x.place)
+  placed_from base (u ∷ us) =
+      let next = base + length (spelling u) in
+      let later = All-weaker (λ (x : Placed U). next ≤ x.place) (λ (x : Placed U). base ≤ x.place) (λ x from. omega (arith, from)) (placed spelling next us)
+      (placed_from next us) in
+      All-cons (λ (x : Placed U). base ≤ x.place) (record { place = base; unit = u }) (placed spelling next us) (omega arith) later
+
+  -- and ends with the last one or before it
+  abbrev EndsBy : ℕ → Placed U → Type 0
+  EndsBy end x = x.place + length (spelling x.unit) ≤ end
+
+  placed_to : (base : ℕ) (units : List U) → All (EndsBy (base + length (flat_map spelling units))) (placed spelling base units)
+  placed_to base [] = All-nil (EndsBy (base + length (flat_map spelling [])))
+  placed_to base (u ∷ us) =
+      let next = base + length (spelling u) in
+      let end = base + length (flat_map spelling (u ∷ us)) in
+      let whole = ap length (flat_map-cons spelling u us) ∙ length-append (spelling u) (flat_map spelling us) in
+      let later = All-weaker (EndsBy (next + length (flat_map spelling us))) (EndsBy end) (λ x to. omega (arith, to, whole)) (placed spelling next us)
+      (placed_to next us) in
+      All-cons (EndsBy end) (record { place = base; unit = u }) (placed spelling next us) (omega (arith, whole)) later
+
+  -- each ends before every later one begins
+  placed_apart : (base : ℕ) (units : List U) → AllPairs (λ (a b : Placed U). a.place + length (spelling a.unit) ≤ b.place) (placed spelling base units)
+  placed_apart base [] = pairs_nil (λ (a b : Placed U). a.place + length (spelling a.unit) ≤ b.place)
+  placed_apart base (u ∷ us) =
+      let next = base + length (spelling u) in
+      AllPairs-cons (λ (a b : Placed U). a.place + length (spelling a.unit) ≤ b.place) (record { place = base; unit = u }) (placed spelling next us)
+      (placed_from next us) (placed_apart next us)
+
+-- ---- whole frames that stand apart
+
+-- how many bytes of the capture the frame takes
+abbrev text_span : FrameText → ℕ
+text_span text = frame_header_length + length text.commands + length text.attachments
+
+abbrev TextsApart : Placed FrameText → Placed FrameText → Type 0
+TextsApart earlier later = earlier.place + text_span earlier.unit ≤ later.place
+
+-- each of these whole frames ends before every later one begins
+abbrev pub WholesApart : List (Placed WholeFrame) → Type 0
+WholesApart wholes = AllPairs (λ a b. TextsApart (placed_text a) (placed_text b)) wholes
+
+-- those that views show do where the views do
+pub shown_apart : (frames : List Frame) (wholes : List (Placed WholeFrame)) → Show frames wholes → AllPairs StandApart frames → WholesApart wholes
+shown_apart frames wholes show apart =
+    pairs_unmap TextsApart placed_text wholes (subst (AllPairs TextsApart) show.stand (pairs_map TextsApart placed_frame frames apart))
+
+pub views_apart : (frames : List Frame) (wholes : List (Placed WholeFrame)) → Show frames wholes → WholesApart wholes → AllPairs StandApart frames
+views_apart frames wholes show apart =
+    pairs_unmap TextsApart placed_frame frames (subst (AllPairs TextsApart) (sym show.stand) (pairs_map TextsApart placed_text wholes apart))
+
+-- those of a capture do
+pub wholes_apart : (wholes : List WholeFrame) → WholesApart (wholes_of wholes)
+wholes_apart wholes i j d below within =
+    let there = get_or (wholes_of wholes) i d in
+    let apart = placed_apart (λ (w : WholeFrame). frame_bytes w.frame) 16 wholes i j d below within in
+    omega (arith, apart, length-frame_bytes there.unit.frame)
+
+-- ---- their events
+
+-- the events of a whole frame rise
+whole_rises : (w : Placed WholeFrame) → PlacesRise (λ (e : EventText). e.place) (events_of_whole w)
+whole_rises w =
+    let base = w.place + 32 in
+    pairs_map (λ (a b : EventText). a.place < b.place) (event_of (placed_text w) w.unit.entries) (placed_records (placed_text w) w.unit.records)
+    (λ i j d below within.
+    let apart = placed_apart record_bytes base w.unit.records i j d below within in
+    omega (arith, apart, length-record_bytes (get_or (placed record_bytes base w.unit.records) i d).unit))
+
+-- and stand within it
+StandsWithin : Placed WholeFrame → EventText → Type 0
+StandsWithin w e = (w.place ≤ e.place) × (e.place < w.place + text_span w.unit.frame)
+
+whole_within : (w : Placed WholeFrame) → IsWhole w → All (StandsWithin w) (events_of_whole w)
+unfolding StandsWithin
+whole_within w whole =
+    let base = w.place + 32 in
+    let bytes : length w.unit.frame.commands ≡ length (flat_map record_bytes w.unit.records) = ap length (whole.0.joined ∙ append-nil _) in
+    All-map (StandsWithin w) (event_of (placed_text w) w.unit.entries) (placed_records (placed_text w) w.unit.records)
+    (λ i d within.
+    let from = placed_from record_bytes base w.unit.records i d within in
+    let to = placed_to record_bytes base w.unit.records i d within in
+    let long = length-record_bytes (get_or (placed record_bytes base w.unit.records) i d).unit in
+    (omega (arith, from), omega (arith, to, long, bytes)))
+
+-- those of whole frames that stand apart rise
+pub wholes_rise : (wholes : List (Placed WholeFrame)) → All IsWhole wholes → WholesApart wholes
+    → PlacesRise (λ (e : EventText). e.place) (events_of_wholes wholes)
+unfolding StandsWithin
+wholes_rise wholes are apart =
+    let Rises : EventText → EventText → Type 0 = λ a b. a.place < b.place in
+    pairs_flat Rises events_of_whole wholes (λ i d within. whole_rises (get_or wholes i d))
+    (λ i j d below within k e inside l f there.
+    let far = apart i j d below within in
+    let first = whole_within (get_or wholes i d) (are i d (omega (arith, below, within))) k e inside in
+    let second = whole_within (get_or wholes j d) (are j d within) l f there in
+    let to = first.1 in
+    let from = second.0 in
+    omega (arith, far, to, from))
+
+-- the frames of a capture are whole
+all_whole : (base : ℕ) (before : Option ℕ) (wholes : List WholeFrame) → AllStand whole_format before wholes
+    → All IsWhole (placed (λ (w : WholeFrame). frame_bytes w.frame) base wholes)
+all_whole base before [] stand = All-nil IsWhole
+all_whole base before (w ∷ wholes) stand =
+    let next = base + length (frame_bytes w.frame) in
+    All-cons IsWhole (record { place = base; unit = w }) (placed (λ (x : WholeFrame). frame_bytes x.frame) next wholes)
+    (stand.0.has_records, stand.0.has_entries) (all_whole next (Some w.frame.sequence) wholes stand.1)
+
+pub events_rise : (capture : List ℕ) (wholes : List WholeFrame) → IsInGrammar capture wholes
+    → PlacesRise (λ (e : EventText). e.place) (events_of_wholes (wholes_of wholes))
+events_rise capture wholes is = wholes_rise (wholes_of wholes) (all_whole 16 None wholes is.2.stand) (wholes_apart wholes)
+
+-- ---- the rows of a capture
+
+pub flags_rise : (capture : List ℕ) (wholes : List WholeFrame) (said : FindingsText) → IsInGrammar capture wholes → AreFindings (wholes_of wholes) said
+    → IsStrictlyIncreasing (map (λ (e : EventText). e.place) said.flags)
+flags_rise capture wholes said is are =
+    let place : EventText → ℕ = λ e. e.place in
+    let events = events_of_wholes (wholes_of wholes) in
+    subst (λ (es : List EventText). IsStrictlyIncreasing (map place es)) (sym are.flags)
+    (increasing_places place (flagged events) (rising_kept place has_unknown_flags events (events_rise capture wholes is)))
+
+some_is : {A : Type 0} (x y : A) → Some x ≡ Some y → x ≡ y
+some_is x y same = ap (λ (o : Option _). unwrap_or o x) same
+
+attached_there : (e : EventText) (entry : Option AttachmentText) (a : Attached)
+    → option_map (λ (x : AttachmentText). let made : Attached = record { owner = e; attachment = x } in made) entry ≡ Some a → a.owner.place ≡ e.place
+attached_there e None a is = let wrong : None ≡ Some a = is in cc
+attached_there e (Some x) a is = ap (λ (o : Attached). o.owner.place) (sym (some_is (record { owner = e; attachment = x }) a is))
+
+bad_there : (o : Outcome) (bad : Option BadObject) (b : BadOwned)
+    → option_map (λ (x : BadObject). let made : BadOwned = record { owner = o.of.owner; bad = x } in made) bad ≡ Some b → b.owner.place ≡ o.of.owner.place
+bad_there o None b is = let wrong : None ≡ Some b = is in cc
+bad_there o (Some x) b is = ap (λ (y : BadOwned). y.owner.place) (sym (some_is (record { owner = o.of.owner; bad = x }) b is))
+
+pub objects_rise : (capture : List ℕ) (wholes : List WholeFrame) (said : FindingsText) → IsInGrammar capture wholes → AreFindings (wholes_of wholes) said
+    → IsStrictlyIncreasing (map (λ (b : BadOwned). b.owner.place) said.bad_objects)
+objects_rise capture wholes said is are =
+    let events = events_of_wholes (wholes_of wholes) in
+    let outcomes = are.objects.outcomes in
+    let owner : Attached → ℕ = λ a. a.owner.place in
+    let place : BadOwned → ℕ = λ b. b.owner.place in
+    let attachments = rising_made (λ (e : EventText). e.place) owner attached_to (λ e a made. attached_there e e.entry a made) events
+    (events_rise capture wholes is) in
+    let owners = pairs_unmap (λ (a b : Attached). owner a < owner b) (λ (o : Outcome). o.of) outcomes
+    (subst (PlacesRise owner) (sym are.objects.are.each) attachments) in
+    subst (λ (bs : List BadOwned). IsStrictlyIncreasing (map place bs)) (sym are.objects.bad_are)
+    (increasing_places place (bad_objects outcomes)
+    (rising_made (λ (o : Outcome). o.of.owner.place) place bad_of (λ o b made. bad_there o o.bad b made) outcomes owners))

@@ -1,0 +1,68 @@
+-- Counts of different words of one list.
+use Rattle.std.proofs.Common.{◌≡◌, ◌≢◌, ℕ, ◌+◌, ◌<◌, ◌≤◌, inl, inr, cond, eqb, List, [], ◌∷◌, length, map, count_by, ap, ◌∙◌, arith}
+use Rattle.std.proofs.lemmas.Bool.{cases_eq, eq-eqb, ne_eqb}
+use Rattle.std.proofs.lemmas.List.Sums.{sum_by-cons}
+use Rattle.std.specs.Ordering.{nat_cmp}
+use Rattle.event_core.specs.Events.{EventText}
+use Rattle.summary_law.specs.declared.amount.Amount.{Amount}
+use Rattle.summary_law.specs.declared.tally.Tally.{Tally}
+use Rattle.summary_law.specs.Tally.{TallySums, GivesAmount}
+use Rattle.audit_findings.specs.Codes.{code_words}
+use Rattle.audit_findings.specs.Ledgers.{code_item}
+use Rattle.audit_findings.proofs.CodeLaws.{items_of_word}
+
+-- what a tally of events gives for a code word
+pub word_count : (codes : Tally ℕ) (amount : Amount) (key : ℕ) → GivesAmount nat_cmp codes key amount → (events : List EventText)
+    → TallySums nat_cmp codes (map code_item events) → amount.count ≡ count_by (λ w. eqb w key) (code_words events)
+word_count codes amount key gives events sums = (gives (map code_item events) sums).count ∙ items_of_word key events
+
+abbrev one_if : ℕ → ℕ → ℕ
+one_if key word = cond (eqb word key) 1 0
+
+is_one : (key word : ℕ) → word ≡ key → one_if key word ≡ 1
+is_one key word same = ap (λ b. cond b 1 0) (eq-eqb word key same)
+
+is_zero : (key word : ℕ) → word ≢ key → one_if key word ≡ 0
+is_zero key word other = ap (λ b. cond b 1 0) (ne_eqb word key other)
+
+module _ (a b d : ℕ) (low : a < b) (high : b < d) where
+  -- a word is at most one of three different ones
+  at_most_one : (word : ℕ) → one_if a word + one_if b word + one_if d word ≤ 1
+  at_most_one word = elim (cases_eq word a) [
+    | inl is ↦ (
+        let first = is_one a word is in
+        let second = is_zero b word (λ (e : word ≡ b). omega (arith, e, is, low)) in
+        let third = is_zero d word (λ (e : word ≡ d). omega (arith, e, is, low, high)) in
+        omega (arith, first, second, third))
+    | inr not_a ↦ elim (cases_eq word b) [
+      | inl is ↦ (
+          let first = is_zero a word not_a in
+          let second = is_one b word is in
+          let third = is_zero d word (λ (e : word ≡ d). omega (arith, e, is, high)) in
+          omega (arith, first, second, third))
+      | inr not_b ↦ elim (cases_eq word d) [
+        | inl is ↦ (
+            let first = is_zero a word not_a in
+            let second = is_zero b word not_b in
+            let third = is_one d word is in
+            omega (arith, first, second, third))
+        | inr not_d ↦ (
+            let first = is_zero a word not_a in
+            let second = is_zero b word not_b in
+            let third = is_zero d word not_d in
+            omega (arith, first, second, third))
+      ]
+    ]
+  ]
+
+  -- three different words stand in a list no more often than it is long
+  pub three_counts : (words : List ℕ)
+      → count_by (λ w. eqb w a) words + count_by (λ w. eqb w b) words + count_by (λ w. eqb w d) words ≤ length words
+  three_counts [] = omega arith
+  three_counts (word ∷ words) =
+      let first = sum_by-cons (one_if a) word words in
+      let second = sum_by-cons (one_if b) word words in
+      let third = sum_by-cons (one_if d) word words in
+      let one = at_most_one word in
+      let others = three_counts words in
+      omega (arith, first, second, third, one, others)

@@ -1,0 +1,89 @@
+-- Each event of frames is of a record of one of them.
+use Rattle.std.proofs.Common.{◌≡◌, ℕ, zero, suc, ◌+◌, List, [], ◌∷◌, ◌++◌, length, None, refl, sym, ap, subst, ◌∙◌, append_assoc, length-append, arith}
+use Rattle.std.specs.Prelude.{All, Contains}
+use Rattle.std.specs.List.{flat_map}
+use Rattle.std.proofs.lemmas.Grind.{flat_map-append}
+use Rattle.std.proofs.lemmas.List.{append-nil}
+use Rattle.std.proofs.lemmas.List.Concat.{flat_map-cons}
+use Rattle.std.proofs.lemmas.List.Elements.{All-nil, All-cons, All-append, All-map, All-weaker, All-contains}
+use Rattle.capture_frame.specs.declared.frame.Frame.{Frame}
+use Rattle.capture_frame.specs.Envelope.{FrameText, frame_text, placed_frame, commands_place}
+use Rattle.capture_frame.specs.Units.{Placed, placed_at, placed, spelling_of}
+use Rattle.record_view.specs.Records.{RecordText, HasRecords, record_bytes, record_format, protocol_of, span_of}
+use Rattle.transaction_view.specs.Grammar.{WholeFrame}
+use Rattle.transaction_view.proofs.RecordPlaces.{stands_within}
+use Rattle.event_core.specs.Events.{EventText, RecordStandsAt, HasRecordAt, bare_event, event_of, events_of_whole}
+use Rattle.audit_findings.specs.Frames.{Show, IsWhole, placed_text, events_of_wholes}
+use Rattle.audit_findings.specs.Lookup.{Holds, HasRecordIn}
+use Rattle.audit_findings.proofs.FrameLaws.{shown_first, shown_none}
+
+-- the event is that of a record of the frame
+pub record IsEventOf (frame : Placed FrameText) (e : EventText) : Type 0 where
+  pub found : RecordText
+  pub stands : RecordStandsAt frame e.place found
+  pub bare : bare_event frame.unit (placed_at e.place found) ≡ record e { entry = None }
+
+-- the records behind these of a frame, each at its place
+behind_stand : (frame : Placed FrameText) (before rest : List RecordText) → HasRecords frame.unit (before ++ rest) → (start : ℕ)
+    → start ≡ commands_place frame.place + span_of before → All (λ there. RecordStandsAt frame there.place there.unit) (placed record_bytes start rest)
+behind_stand frame before [] has start is = All-nil (λ (there : Placed RecordText). RecordStandsAt frame there.place there.unit)
+behind_stand frame before (r ∷ rest) has start is =
+    let one : span_of (before ++ r ∷ []) ≡ span_of before + length (record_bytes r) =
+    ap length (flat_map-append record_bytes before (r ∷ []) ∙ ap (λ (t : List ℕ). flat_map record_bytes before ++ t) (append-nil (record_bytes r)))
+    ∙ length-append (flat_map record_bytes before) (record_bytes r) in
+    All-cons (λ (there : Placed RecordText). RecordStandsAt frame there.place there.unit) (placed_at start r)
+    (placed record_bytes (start + length (record_bytes r)) rest)
+    (span_of before, record { before = before; behind = rest; has_records = has; offset_is = refl }, is)
+    (behind_stand frame (before ++ r ∷ []) rest (subst (HasRecords frame.unit) (sym (append_assoc before (r ∷ []) rest)) has)
+    (start + length (record_bytes r)) (omega (arith, is, one)))
+
+-- the events of a whole frame are of its records
+of_whole : (there : Placed WholeFrame) → IsWhole there → All (IsEventOf (placed_text there)) (events_of_whole there)
+of_whole there whole =
+    let frame = placed_text there in
+    let start : commands_place frame.place ≡ commands_place frame.place + span_of [] = omega arith in
+    let records = placed record_bytes (commands_place frame.place) there.unit.records in
+    All-map (IsEventOf frame) (event_of frame there.unit.entries) records
+    (All-weaker (λ (r : Placed RecordText). RecordStandsAt frame r.place r.unit) (λ (r : Placed RecordText). IsEventOf frame (event_of frame there.unit.entries r))
+    (λ r stands. record { found = r.unit; stands = stands; bare = refl }) records
+    (behind_stand frame [] there.unit.records whole.0 (commands_place frame.place) start))
+
+-- the event is that of a record of one of these frames
+pub record IsEventIn (frames : List Frame) (e : EventText) : Type 0 where
+  pub frame : Frame
+  pub there : Contains frames frame
+  pub event : IsEventOf (placed_frame frame) e
+
+in_more : (first : Frame) (frames : List Frame) (e : EventText) → IsEventIn frames e → IsEventIn (first ∷ frames) e
+in_more first frames e is = record { frame = is.frame; there = (let within = is.there.1 in (suc is.there.0, omega (arith, within), is.there.2)); event = is.event }
+
+pub events_in : (frames : List Frame) (wholes : List (Placed WholeFrame)) → Show frames wholes → All (IsEventIn frames) (events_of_wholes wholes)
+events_in [] wholes show = subst (λ (t : List (Placed WholeFrame)). All (IsEventIn []) (events_of_wholes t)) (sym (shown_none wholes show)) (All-nil (IsEventIn []))
+events_in (f ∷ frames) wholes show =
+    let one = shown_first f frames wholes show in
+    let here : All (IsEventIn (f ∷ frames)) (events_of_whole one.0) =
+    All-weaker (IsEventOf (placed_text one.0)) (IsEventIn (f ∷ frames))
+    (λ e is. record { frame = f; there = (zero, omega arith, refl); event = subst (λ (p : Placed FrameText). IsEventOf p e) (sym one.3) is })
+    (events_of_whole one.0) (of_whole one.0 one.4) in
+    let others : All (IsEventIn (f ∷ frames)) (events_of_wholes one.1) =
+    All-weaker (IsEventIn frames) (IsEventIn (f ∷ frames)) (in_more f frames) (events_of_wholes one.1) (events_in frames one.1 one.5) in
+    let all = All-append (IsEventIn (f ∷ frames)) (events_of_whole one.0) (events_of_wholes one.1) here others in
+    subst (λ (t : List (Placed WholeFrame)). All (IsEventIn (f ∷ frames)) (events_of_wholes t)) (sym one.2)
+    (subst (All (IsEventIn (f ∷ frames))) (sym (flat_map-cons events_of_whole one.0 one.1)) all)
+
+-- so a record begins at its place
+pub has_record_in : (frames : List Frame) (wholes : List (Placed WholeFrame)) (e : EventText) → Show frames wholes → Contains (events_of_wholes wholes) e
+    → HasRecordIn frames e.place
+has_record_in frames wholes e show there =
+    let is = All-contains (IsEventIn frames) (events_of_wholes wholes) e (events_in frames wholes show) there in
+    (is.frame, is.there, (is.event.found, is.event.stands))
+
+-- the frame of a record holds its place
+pub record_held : (frame : Frame) (place : ℕ) → HasRecordAt (placed_frame frame) place → Holds place frame
+record_held frame place has =
+    let stands = has.1.1 in
+    let records = stands.before ++ has.0 ∷ stands.behind in
+    let within = stands_within (frame_text frame) records has.1.0 has.0 stands.has_records stands in
+    let whole = ap length stands.has_records.joined ∙ length-append (spelling_of (record_format (protocol_of frame.direction)) records) [] in
+    let at = has.1.2 in
+    (omega (arith, at), omega (arith, at, within, whole))

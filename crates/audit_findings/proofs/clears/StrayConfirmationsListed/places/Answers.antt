@@ -1,0 +1,8 @@
+use Rattle.std.proofs.lemmas.Result.{IfOk-weaker}
+use Rattle.audit_findings.specs.Clears.{clear_item_of}
+use Rattle.audit_findings.specs.Processes.{items_of_process}
+use Rattle.audit_findings.proofs.clears.StrayConfirmationsListed.places.Goals as goal
+
+pub returns : goal.returns
+returns c =
+    IfOk-weaker c.strays.result _ _ (λ places gives events process of. gives (items_of_process clear_item_of process events) of.clears) c.strays.ensures

@@ -1,0 +1,47 @@
+use Rattle.std.proofs.lemmas.Result.{on_ok_weaker}
+use Rattle.std.proofs.Common.{[], ◌∷◌, ◌++◌, map, sym, subst, length-append, arith}
+use Rattle.std.proofs.lemmas.List.{map-append}
+use Rattle.std.specs.Ordering.{nat_cmp}
+use Rattle.event_core.specs.Reading.{event_text}
+use Rattle.summary_law.specs.Tally.{TallySums}
+use Rattle.audit_findings.specs.Ledgers.{code_item}
+use Rattle.audit_findings.proofs.FewLaws.{weighted_parts, opaque-append, opaque_one, opaque_short}
+use Rattle.audit_findings.proofs.event_ledgers.EventLedgers.add.Goals as goal
+
+pub add-requires : goal.add-requires
+add-requires c =
+    let events = c.requires.0 in
+    (map code_item events, c.requires.1.codes, weighted_parts events (event_text c.args.event ∷ []) c.requires.2)
+
+pub overflow_add-self-2 : goal.overflow_add-self-2
+overflow_add-self-2 c =
+    let e = event_text c.args.event in
+    let events = c.requires.0 in
+    let opaque = c.requires.1.opaque in
+    let both = opaque-append events (e ∷ []) in
+    let one = opaque_one e in
+    let counted = c.opaque_count.ensures in
+    let few = opaque_short (events ++ e ∷ []) in
+    let short = c.requires.2.0 in
+    omega (arith, opaque, both, one, counted, few, short)
+
+pub returns : goal.returns
+returns c =
+    let e = event_text c.args.event in
+    on_ok_weaker c.add-3.result
+    (λ flags events sums fits.
+    let records = sums.records in
+    let long = length-append events (e ∷ []) in
+    let opaque = sums.opaque in
+    let both = opaque-append events (e ∷ []) in
+    let one = opaque_one e in
+    let counted = c.opaque_count.ensures in
+    record {
+      records = omega (arith, records, long);
+      opaque = omega (arith, opaque, both, one, counted);
+      codes = subst (TallySums nat_cmp c.add.new.self) (sym (map-append code_item events (e ∷ [])))
+          (c.in_ok-add.ensures (map code_item events) sums.codes (weighted_parts events (e ∷ []) fits));
+      objects = c.in_ok-add-2.ensures events sums.objects fits;
+      flags = flags events sums.flags;
+    })
+    c.add-3.ensures

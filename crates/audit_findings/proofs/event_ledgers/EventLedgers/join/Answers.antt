@@ -1,0 +1,30 @@
+use Rattle.std.proofs.Common.{map, sym, subst, length-append, arith}
+use Rattle.std.proofs.lemmas.List.{map-append}
+use Rattle.std.specs.Ordering.{nat_cmp}
+use Rattle.summary_law.specs.Tally.{TallySums}
+use Rattle.audit_findings.specs.Ledgers.{code_item}
+use Rattle.audit_findings.proofs.FewLaws.{weighted_parts, opaque-append}
+use Rattle.audit_findings.proofs.event_ledgers.EventLedgers.join.Goals as goal
+
+pub join-requires : goal.join-requires
+join-requires c =
+    let first = c.requires.0 in
+    let second = c.requires.1 in
+    (map code_item first, map code_item second, c.requires.2.codes, c.requires.3.codes, weighted_parts first second c.requires.4)
+
+pub returns : goal.returns
+returns c first second sums others fits =
+    let records = sums.records in
+    let more = others.records in
+    let long = length-append first second in
+    let opaque = sums.opaque in
+    let more_opaque = others.opaque in
+    let both = opaque-append first second in
+    record {
+      records = omega (arith, records, more, long);
+      opaque = omega (arith, opaque, more_opaque, both);
+      codes = subst (TallySums nat_cmp c.in_ok-join.field-0) (sym (map-append code_item first second))
+          (c.in_ok-join.ensures (map code_item first) (map code_item second) sums.codes others.codes (weighted_parts first second fits));
+      objects = c.in_ok-join-2.ensures first second sums.objects others.objects fits;
+      flags = c.in_ok-join-3.ensures first second sums.flags others.flags;
+    }

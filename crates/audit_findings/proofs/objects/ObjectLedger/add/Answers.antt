@@ -1,0 +1,30 @@
+use Rattle.std.proofs.Common.{◌++◌, [], ◌∷◌, map, ap, sym, ◌∙◌, arith}
+use Rattle.std.proofs.lemmas.List.{append-nil}
+use Rattle.event_core.specs.Reading.{event_text}
+use Rattle.audit_findings.specs.Kept.{kept_bad}
+use Rattle.audit_findings.specs.Objects.{owned_by}
+use Rattle.audit_findings.proofs.FewLaws.{few_parts, last_small}
+use Rattle.audit_findings.proofs.OutcomeLaws.{counts_short, objects_last}
+use Rattle.audit_findings.proofs.objects.ObjectLedger.add.Goals as goal
+
+pub count_attachment-requires : goal.count_attachment-requires
+count_attachment-requires c sort =
+    let e = event_text c.args.event in
+    let events = c.requires.0 in
+    let counts = counts_short c.args.self.now events c.requires.1 (few_parts events (e ∷ []) c.requires.2).0 sort in
+    let small = last_small events e c.requires.2 in
+    omega (arith, counts, small)
+
+pub returns-in_ok-push : goal.returns-in_ok-push
+returns-in_ok-push c events sums fits =
+    let e = event_text c.args.event in
+    let counted = c.count_attachment.ensures in
+    objects_last c.args.self.now _ events e c.count_attachment.result counted.0 sums counted.1 counted.2 counted.3
+    (c.in_ok-push.ensures.items ∙ ap (λ bad. c.args.self.now.bad.items ++ map kept_bad (owned_by e bad)) (sym c.in-Some.is))
+
+pub returns-in_default : goal.returns-in_default
+returns-in_default c events sums fits =
+    let e = event_text c.args.event in
+    let counted = c.count_attachment.ensures in
+    objects_last c.args.self.now _ events e c.count_attachment.result counted.0 sums counted.1 counted.2 counted.3
+    (sym (append-nil c.args.self.now.bad.items) ∙ ap (λ bad. c.args.self.now.bad.items ++ map kept_bad (owned_by e bad)) (sym c.in_default.is))

@@ -1,0 +1,20 @@
+use Rattle.std.proofs.Common.{◌≡◌, ℕ, List, ◌++◌, length, IsPermutation, IsSorted, nat_cmp, sym, ap, subst, ◌∙◌, rules}
+use Rattle.audit_findings.specs.Frames.{events_of_wholes}
+use Rattle.audit_findings.proofs.PlaceLaws.{open_and_stray_kept}
+use Rattle.audit_findings.proofs.open_and_stray.open_and_stray_of.Goals as goal
+
+pub returns : goal.returns
+returns g c = λ open_stands close_stands open_needs close_needs exclude wholes of rise.
+    let opens = c.in_ok-places.places.items in
+    let closes = c.in_ok-closes.closes.items in
+    let joined : c.extend_from_slice.new.self.items ≡ opens ++ closes
+    = c.in_ok-extend_from_slice.ensures.items ∙ ap (λ (t : List ℕ). opens ++ t) c.as_slice.ensures.value in
+    let moved : IsPermutation (opens ++ closes) c.of.result
+    = subst (λ (rows : List ℕ). IsPermutation (opens ++ closes) rows) (sym c.of.ensures)
+    (subst (λ (places : List ℕ). IsPermutation places c.sort_unstable.new.self.items) joined c.sort_unstable.ensures.permutation) in
+    let many_opens : c.len-opens.result ≡ length opens = search rules in
+    let many_closes : c.len.result ≡ length closes = search rules in
+    open_and_stray_kept g.O.Listed.is_so g.C.Listed.is_so open_stands close_stands exclude (events_of_wholes wholes) rise opens closes
+    (c.in_ok-places.ensures open_stands open_needs wholes of rise) (c.in_ok-closes.ensures close_stands close_needs wholes of rise)
+    (record { unclosed = c.len-opens.result; strays = c.len.result; rows = c.of.result }) many_opens many_closes moved
+    (subst (IsSorted nat_cmp) (sym c.of.ensures) c.sort_unstable.ensures.sorted)

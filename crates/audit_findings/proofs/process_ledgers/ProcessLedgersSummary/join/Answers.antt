@@ -1,0 +1,63 @@
+use Rattle.std.specs.Ordering.{nat_cmp}
+use Rattle.handle_ledger.specs.Handles.{HandleLedgerSums}
+use Rattle.handle_ledger.specs.Nodes.{NodeLedgerSums}
+use Rattle.pending_ledger.specs.Ledgers.{buffer_place}
+use Rattle.pending_ledger.specs.Pending.{place_of}
+use Rattle.pending_ledger.specs.Requests.{request_place}
+use Rattle.pending_ledger.specs.Sums.{BuffersSums, PendingSums, RequestsSums}
+use Rattle.summary_law.specs.Fits.{IsShort, IsPlaced}
+use Rattle.audit_findings.specs.declared.process_items.ProcessItems.{ProcessItems}
+use Rattle.audit_findings.proofs.ProcessLaws.{can_join_read, read_joined}
+use Rattle.audit_findings.proofs.process_ledgers.ProcessLedgersSummary.join.Goals as goal
+
+pub join-requires : goal.join-requires
+join-requires c =
+    can_join_read (λ (i : ProcessItems). i.handle) HandleLedgerSums IsShort c.requires.0 c.requires.1 c.args.self.handles c.args.later.handles
+    c.requires.2.handles c.requires.3.handles c.requires.4.handles
+
+pub join-requires-2 : goal.join-requires-2
+join-requires-2 c =
+    can_join_read (λ (i : ProcessItems). i.node) NodeLedgerSums IsShort c.requires.0 c.requires.1 c.args.self.nodes c.args.later.nodes
+    c.requires.2.nodes c.requires.3.nodes c.requires.4.nodes
+
+pub join-requires-3 : goal.join-requires-3
+join-requires-3 c =
+    can_join_read (λ (i : ProcessItems). i.buffer) BuffersSums (IsPlaced buffer_place) c.requires.0 c.requires.1 c.args.self.buffers c.args.later.buffers
+    c.requires.2.buffers c.requires.3.buffers c.requires.4.buffers
+
+pub join-requires-4 : goal.join-requires-4
+join-requires-4 c =
+    can_join_read (λ (i : ProcessItems). i.request) RequestsSums (IsPlaced request_place) c.requires.0 c.requires.1 c.args.self.requests c.args.later.requests
+    c.requires.2.requests c.requires.3.requests c.requires.4.requests
+
+pub join-requires-5 : goal.join-requires-5
+join-requires-5 c =
+    can_join_read (λ (i : ProcessItems). i.death) (PendingSums nat_cmp) (IsPlaced place_of) c.requires.0 c.requires.1 c.args.self.deaths c.args.later.deaths
+    c.requires.2.deaths c.requires.3.deaths c.requires.4.deaths
+
+pub join-requires-6 : goal.join-requires-6
+join-requires-6 c =
+    can_join_read (λ (i : ProcessItems). i.clear) (PendingSums nat_cmp) (IsPlaced place_of) c.requires.0 c.requires.1 c.args.self.clears c.args.later.clears
+    c.requires.2.clears c.requires.3.clears c.requires.4.clears
+
+pub returns : goal.returns
+returns c first second sums others fits = record {
+  handles =
+      read_joined (λ (i : ProcessItems). i.handle) HandleLedgerSums IsShort first second c.args.self.handles c.args.later.handles c.in_ok-join.field-0
+      c.in_ok-join.ensures sums.handles others.handles fits.handles;
+  nodes =
+      read_joined (λ (i : ProcessItems). i.node) NodeLedgerSums IsShort first second c.args.self.nodes c.args.later.nodes c.in_ok-join-2.field-0
+      c.in_ok-join-2.ensures sums.nodes others.nodes fits.nodes;
+  buffers =
+      read_joined (λ (i : ProcessItems). i.buffer) BuffersSums (IsPlaced buffer_place) first second c.args.self.buffers c.args.later.buffers c.in_ok-join-3.field-0
+      c.in_ok-join-3.ensures sums.buffers others.buffers fits.buffers;
+  requests =
+      read_joined (λ (i : ProcessItems). i.request) RequestsSums (IsPlaced request_place) first second c.args.self.requests c.args.later.requests c.in_ok-join-4.field-0
+      c.in_ok-join-4.ensures sums.requests others.requests fits.requests;
+  deaths =
+      read_joined (λ (i : ProcessItems). i.death) (PendingSums nat_cmp) (IsPlaced place_of) first second c.args.self.deaths c.args.later.deaths c.in_ok-join-5.field-0
+      c.in_ok-join-5.ensures sums.deaths others.deaths fits.deaths;
+  clears =
+      read_joined (λ (i : ProcessItems). i.clear) (PendingSums nat_cmp) (IsPlaced place_of) first second c.args.self.clears c.args.later.clears c.in_ok-join-6.field-0
+      c.in_ok-join-6.ensures sums.clears others.clears fits.clears;
+}

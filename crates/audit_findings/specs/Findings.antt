@@ -1,0 +1,80 @@
+-- What the report says of a capture in the grammar (docs/REPORT.md).
+use Rattle.std.specs.Prelude.{◌≡◌, ℕ, ◌-◌, List, [], ◌∷◌, length, count_by}
+use Rattle.transaction_view.specs.Grammar.{WholeFrame}
+use Rattle.capture_frame.specs.Units.{Placed}
+use Rattle.event_core.specs.Events.{EventText}
+use Rattle.audit_findings.specs.declared.codes.CodeRow.{CodeRow}
+use Rattle.audit_findings.specs.declared.handles.ProcessHandle.{ProcessHandle}
+use Rattle.audit_findings.specs.declared.nodes.ProcessNode.{ProcessNode}
+use Rattle.audit_findings.specs.declared.record_counts.RecordCounts.{RecordCounts}
+use Rattle.audit_findings.specs.declared.sort_counts.SortCounts.{SortCounts}
+use Rattle.audit_findings.specs.Buffers.{AreLeaked, AreStrayFrees}
+use Rattle.audit_findings.specs.Calls.{CallsText, ServedText, RefusedText, AreCallFindings, AreStrays, AreRefused}
+use Rattle.audit_findings.specs.Clears.{AreClearFindings}
+use Rattle.audit_findings.specs.Codes.{is_opaque, code_words, AreCodeRows}
+use Rattle.audit_findings.specs.Deaths.{AreDeathFindings}
+use Rattle.audit_findings.specs.Flags.{flagged}
+use Rattle.audit_findings.specs.Frames.{events_of_wholes}
+use Rattle.audit_findings.specs.Handles.{AreHandleFindings}
+use Rattle.audit_findings.specs.Nodes.{AreNodeFindings}
+use Rattle.audit_findings.specs.Objects.{BadOwned, attachments_of, AreObjectFindings}
+use Rattle.audit_findings.specs.Oneway.{OnewayText, AreOnewayFindings}
+use Rattle.audit_findings.specs.Places.{OpenAndStrayText}
+use Rattle.audit_findings.specs.RecordCounts.{AreRecordCounts}
+use Rattle.audit_findings.specs.Requests.{AreStandingRequests}
+
+-- the sequence of the last of these frames
+abbrev pub last_sequence : Placed WholeFrame → List (Placed WholeFrame) → ℕ
+last_sequence first [] = first.unit.frame.sequence
+last_sequence first (next ∷ others) = last_sequence next others
+
+-- how many sequences from the first frame's to the last one's have no frame here
+abbrev pub missing_count : List (Placed WholeFrame) → ℕ
+missing_count [] = 0
+missing_count (first ∷ others) = (last_sequence first others - first.unit.frame.sequence) - length others
+
+-- the numbers and the rows of a report; a listed event stands there as the event itself
+pub record FindingsText : Type 0 where
+  pub frames : ℕ
+  pub records : ℕ
+  pub opaque : ℕ
+  pub missing : ℕ
+  pub codes : List CodeRow
+  pub counts : RecordCounts
+  pub calls : CallsText
+  pub served : ServedText
+  pub strays : List EventText
+  pub refused : RefusedText
+  pub handles : List ProcessHandle
+  pub nodes : List ProcessNode
+  pub leaked : List EventText
+  pub stray_frees : List EventText
+  pub standing : List EventText
+  pub deaths : OpenAndStrayText
+  pub clears : OpenAndStrayText
+  pub oneway : OnewayText
+  pub objects : SortCounts
+  pub bad_objects : List BadOwned
+  pub flags : List EventText
+
+-- the findings are those of these frames
+pub record AreFindings (wholes : List (Placed WholeFrame)) (said : FindingsText) : Type 0 where
+  pub frames : said.frames ≡ length wholes
+  pub records : said.records ≡ length (events_of_wholes wholes)
+  pub opaque : said.opaque ≡ count_by is_opaque (events_of_wholes wholes)
+  pub missing : said.missing ≡ missing_count wholes
+  pub codes : AreCodeRows (code_words (events_of_wholes wholes)) said.codes
+  pub counts : AreRecordCounts (code_words (events_of_wholes wholes)) said.counts
+  pub calls : AreCallFindings (events_of_wholes wholes) said.calls said.served
+  pub strays : AreStrays (events_of_wholes wholes) said.strays
+  pub refused : AreRefused (events_of_wholes wholes) said.refused
+  pub handles : AreHandleFindings wholes said.handles
+  pub nodes : AreNodeFindings wholes said.nodes
+  pub leaked : AreLeaked (events_of_wholes wholes) said.leaked
+  pub stray_frees : AreStrayFrees (events_of_wholes wholes) said.stray_frees
+  pub standing : AreStandingRequests (events_of_wholes wholes) said.standing
+  pub deaths : AreDeathFindings (events_of_wholes wholes) said.deaths
+  pub clears : AreClearFindings (events_of_wholes wholes) said.clears
+  pub oneway : AreOnewayFindings wholes said.oneway
+  pub objects : AreObjectFindings (attachments_of (events_of_wholes wholes)) said.objects said.bad_objects
+  pub flags : said.flags ≡ flagged (events_of_wholes wholes)

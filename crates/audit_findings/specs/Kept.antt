@@ -1,0 +1,97 @@
+-- What the findings keep of what the report says: of a listed event its place, and what its record does not hold.
+use Rattle.std.specs.Prelude.{◌≡◌, List, map}
+use Rattle.capture_frame.specs.declared.frame.Frame.{Frame}
+use Rattle.transaction_view.specs.Grammar.{WholeFrame}
+use Rattle.event_core.specs.Events.{EventText}
+use Rattle.call_stacks.specs.Calls.{OpenerOf}
+use Rattle.audit_findings.specs.declared.calls.CallRow.{CallRow}
+use Rattle.audit_findings.specs.declared.calls.Calls.{Calls}
+use Rattle.audit_findings.specs.declared.oneway.Oneway.{Oneway}
+use Rattle.audit_findings.specs.declared.refused.Refused.{Refused}
+use Rattle.audit_findings.specs.declared.served.Served.{Served}
+use Rattle.audit_findings.specs.Calls.{CallsText, ServedText, RefusedText}
+use Rattle.audit_findings.specs.declared.objects.BadRow.{BadRow}
+use Rattle.audit_findings.specs.declared.findings.Sections.{Sections}
+use Rattle.audit_findings.specs.declared.open_and_stray.OpenAndStray.{OpenAndStray}
+use Rattle.audit_findings.specs.Findings.{FindingsText, AreFindings}
+use Rattle.audit_findings.specs.Frames.{Show, wholes_of}
+use Rattle.audit_findings.specs.Objects.{BadOwned}
+use Rattle.audit_findings.specs.Oneway.{OnewayText}
+use Rattle.audit_findings.specs.Places.{OpenAndStrayText}
+
+-- what is kept of a bad object: its record's place, and the object
+abbrev pub kept_bad : BadOwned → BadRow
+kept_bad b = record { owner = b.owner.place; bad = b.bad }
+
+-- what is kept of unclosed opens and stray closes: their numbers, and the places of all of them
+pub record KeepsOpenAndStray (kept : OpenAndStray) (said : OpenAndStrayText) : Type 0 where
+  pub unclosed : kept.unclosed ≡ said.unclosed
+  pub strays : kept.strays ≡ said.strays
+  pub rows : kept.rows ≡ map (λ e. e.place) said.rows
+
+-- what is kept of a call: its place, what became of it, and the place of its closer
+abbrev pub kept_call : OpenerOf EventText → CallRow
+kept_call o = record { place = o.event.place; verdict = o.verdict; closer = o.closer }
+
+pub record KeepsCalls (kept : Calls) (said : CallsText) : Type 0 where
+  pub answered : kept.answered ≡ said.answered
+  pub failed : kept.failed ≡ said.failed
+  pub unanswered : kept.unanswered ≡ said.unanswered
+  pub rows : kept.rows ≡ map kept_call said.rows
+
+pub record KeepsServed (kept : Served) (said : ServedText) : Type 0 where
+  pub replied : kept.replied ≡ said.replied
+  pub crossed : kept.crossed ≡ said.crossed
+  pub open : kept.open ≡ said.open
+  pub rows : kept.rows ≡ map kept_call said.rows
+
+pub record KeepsRefused (kept : Refused) (said : RefusedText) : Type 0 where
+  pub oneway : kept.oneway ≡ said.oneway
+  pub rows : kept.rows ≡ map (λ e. e.place) said.rows
+
+pub record KeepsOneway (kept : Oneway) (said : OnewayText) : Type 0 where
+  pub sent : kept.sent ≡ said.sent
+  pub received : kept.received ≡ said.received
+  pub rows : kept.rows ≡ said.rows
+
+-- numbers, and rows that are no events, are the same; of each list of events the places are kept
+pub record Keep (sections : Sections) (said : FindingsText) : Type 0 where
+  pub records : sections.records ≡ said.records
+  pub opaque : sections.opaque ≡ said.opaque
+  pub missing : sections.missing ≡ said.missing
+  pub codes : sections.codes ≡ said.codes
+  pub counts : sections.counts ≡ said.counts
+  pub calls : KeepsCalls sections.calls said.calls
+  pub served : KeepsServed sections.served said.served
+  pub strays : sections.strays ≡ map (λ e. e.place) said.strays
+  pub refused : KeepsRefused sections.refused said.refused
+  pub handles : sections.handles ≡ said.handles
+  pub nodes : sections.nodes ≡ said.nodes
+  pub leaked : sections.leaked ≡ map (λ e. e.place) said.leaked
+  pub stray_frees : sections.stray_frees ≡ map (λ e. e.place) said.stray_frees
+  pub standing : sections.standing ≡ map (λ e. e.place) said.standing
+  pub deaths : KeepsOpenAndStray sections.deaths said.deaths
+  pub clears : KeepsOpenAndStray sections.clears said.clears
+  pub oneway : KeepsOneway sections.oneway said.oneway
+  pub objects : sections.objects ≡ said.objects
+  pub bad_objects : sections.bad_objects ≡ map kept_bad said.bad_objects
+  pub flags : sections.flags ≡ map (λ e. e.place) said.flags
+
+-- the views show these frames of a capture, whose findings say this, and the sections keep it
+pub record Tell (wholes : List WholeFrame) (said : FindingsText) (frames : List Frame) (sections : Sections) :
+    Type 0 where
+  pub show : Show frames (wholes_of wholes)
+  pub are : AreFindings (wholes_of wholes) said
+  pub keep : Keep sections said
+
+-- findings as they are kept: the views of the frames, and the sections
+pub record KeptFindings : Type 0 where
+  pub frames : List Frame
+  pub sections : Sections
+
+abbrev pub kept_findings : List Frame → Sections → KeptFindings
+kept_findings frames sections = record { frames = frames; sections = sections }
+
+-- the sections keep the findings of some frames of a capture, which the views show
+abbrev pub AreOfFrames : List Frame → Sections → Type 0
+AreOfFrames frames sections = (wholes : List WholeFrame) × (said : FindingsText) × Tell wholes said frames sections

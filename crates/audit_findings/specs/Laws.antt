@@ -1,0 +1,16 @@
+-- Laws of the definitions.
+use Rattle.std.specs.Prelude.{ℕ, List, map}
+use Rattle.std.specs.List.Sorted.{IsStrictlyIncreasing}
+use Rattle.transaction_view.specs.Grammar.{WholeFrame, IsInGrammar}
+use Rattle.audit_findings.specs.Findings.{FindingsText, AreFindings}
+use Rattle.audit_findings.specs.Frames.{wholes_of}
+
+-- each bad object has a record above that of the one before it
+abbrev pub BadObjectsRise : Type 0
+BadObjectsRise = (capture : List ℕ) (wholes : List WholeFrame) (said : FindingsText) → IsInGrammar capture wholes
+    → AreFindings (wholes_of wholes) said → IsStrictlyIncreasing (map (λ b. b.owner.place) said.bad_objects)
+
+-- each record with unknown flag bits stands above the one before it
+abbrev pub FlagsRise : Type 0
+FlagsRise = (capture : List ℕ) (wholes : List WholeFrame) (said : FindingsText) → IsInGrammar capture wholes
+    → AreFindings (wholes_of wholes) said → IsStrictlyIncreasing (map (λ e. e.place) said.flags)

@@ -1,0 +1,97 @@
+-- What the ledgers of some events, and of some frames, come to while they are made.
+use Rattle.std.specs.Prelude.{◌≡◌, ℕ, ◌+◌, ◌<◌, ◌^◌, List, [], ◌∷◌, ◌++◌, length, map, count_by, All}
+use Rattle.std.specs.Option.{option_map_or}
+use Rattle.std.specs.Ordering.{nat_cmp}
+use Rattle.capture_frame.specs.declared.frame.Frame.{Frame}
+use Rattle.capture_frame.specs.Units.{Placed}
+use Rattle.transaction_view.specs.Grammar.{WholeFrame}
+use Rattle.event_core.specs.Events.{AttachmentText, EventText}
+use Rattle.summary_law.specs.Fits.{IsShort, IsPlaced}
+use Rattle.summary_law.specs.Tally.{TallySums}
+use Rattle.audit_findings.specs.declared.codes.CodeRow.{CodeRow}
+use Rattle.audit_findings.specs.declared.event_ledgers.EventLedgers.{EventLedgers}
+use Rattle.audit_findings.specs.declared.findings.Sections.{Sections}
+use Rattle.audit_findings.specs.declared.flags.FlagLedger.{FlagLedger}
+use Rattle.audit_findings.specs.declared.ledgers.Ledgers.{Ledgers}
+use Rattle.audit_findings.specs.declared.objects.ObjectLedger.{ObjectLedger}
+use Rattle.audit_findings.specs.declared.sequences.Sequences.{Sequences}
+use Rattle.audit_findings.specs.Codes.{is_opaque}
+use Rattle.audit_findings.specs.Findings.{FindingsText, AreFindings, last_sequence}
+use Rattle.audit_findings.specs.Flags.{flagged}
+use Rattle.audit_findings.specs.Frames.{Show, events_of_wholes}
+use Rattle.audit_findings.specs.Kept.{Keep, kept_bad}
+use Rattle.audit_findings.specs.Objects.{BadOwned, AreObjectFindings, attachments_of}
+use Rattle.audit_findings.specs.ProcessLedgers.{SumsProcesses}
+
+-- how many bytes of a list of offsets an event has
+abbrev pub offset_bytes_of : EventText → ℕ
+offset_bytes_of e = option_map_or (λ (a : AttachmentText). length a.offset_bytes) e.entry 0
+
+-- at most 2^32 events, whose places rise, none with a list of offsets of 2^32 bytes
+abbrev pub AreFewEvents : List EventText → Type 0
+AreFewEvents events = IsPlaced (λ e. e.place) events × All (λ e. offset_bytes_of e < 2 ^ 32) events
+
+-- an event in the tally of code words: its code word, with weight 0
+abbrev pub code_item : EventText → ℕ × ℕ
+code_item e = (e.code, 0)
+
+-- the places are those of the events with flag bits that the header does not name
+abbrev pub ListsFlagged : FlagLedger → List EventText → Type 0
+ListsFlagged ledger events = ledger.places.items ≡ map (λ e. e.place) (flagged events)
+
+-- the objects are counted, and the bad ones kept
+pub record SumsObjects (ledger : ObjectLedger) (events : List EventText) : Type 0 where
+  pub bad : List BadOwned
+  pub are : AreObjectFindings (attachments_of events) ledger.counts bad
+  pub kept : ledger.bad.items ≡ map kept_bad bad
+
+-- the ledgers are those of these events
+pub record SumsEvents (ledgers : EventLedgers) (events : List EventText) : Type 0 where
+  pub records : ledgers.records ≡ length events
+  pub opaque : ledgers.opaque ≡ count_by is_opaque events
+  pub codes : TallySums nat_cmp ledgers.codes (map code_item events)
+  pub objects : SumsObjects ledgers.objects events
+  pub flags : ListsFlagged ledgers.flags events
+
+-- the sequences are those of these frames
+abbrev pub SumsFrames : Sequences → List (Placed WholeFrame) → Type 0
+SumsFrames sequences [] = sequences.frames ≡ 0
+SumsFrames sequences (first ∷ others) =
+    (sequences.frames ≡ length others + 1) × (sequences.first ≡ first.unit.frame.sequence)
+    × (sequences.last ≡ last_sequence first others)
+
+-- the ledgers are those of these frames
+pub record SumsLedgers (ledgers : Ledgers) (wholes : List (Placed WholeFrame)) : Type 0 where
+  pub sequences : SumsFrames ledgers.sequences wholes
+  pub events : SumsEvents ledgers.events (events_of_wholes wholes)
+  pub processes : SumsProcesses ledgers.processes.entries.entries wholes
+
+-- few frames, with few events
+abbrev pub AreFewFrames : List (Placed WholeFrame) → Type 0
+AreFewFrames wholes = IsShort wholes × AreFewEvents (events_of_wholes wholes)
+
+-- the ledgers are those of some frames that are few with those of these views behind them
+abbrev pub CanTake : Ledgers → List Frame → Type 0
+CanTake ledgers frames =
+    (wholes others : List (Placed WholeFrame)) × SumsLedgers ledgers wholes × Show frames others
+    × AreFewFrames (wholes ++ others)
+
+-- whatever frames the old ledgers are those of, the new ones are those of them and of these behind them
+abbrev pub Takes : Ledgers → List Frame → Ledgers → Type 0
+Takes old frames new =
+    (wholes others : List (Placed WholeFrame)) → SumsLedgers old wholes → Show frames others
+    → AreFewFrames (wholes ++ others) → SumsLedgers new (wholes ++ others)
+
+-- the ledgers are those of some frames that are few
+abbrev pub AreOfFew : Ledgers → Type 0
+AreOfFew ledgers = (wholes : List (Placed WholeFrame)) × SumsLedgers ledgers wholes × AreFewFrames wholes
+
+-- whatever few frames the ledgers are those of, the sections keep their findings
+abbrev pub GiveSections : Ledgers → Sections → Type 0
+GiveSections ledgers sections =
+    (wholes : List (Placed WholeFrame)) → SumsLedgers ledgers wholes → AreFewFrames wholes
+    → (said : FindingsText) × AreFindings wholes said × Keep sections said
+
+-- the key and the count of a tally's row
+abbrev pub row_of : ℕ × ℕ × ℕ → CodeRow
+row_of row = record { word = row.0; count = row.1 }

@@ -1,0 +1,84 @@
+-- The section `objects`: the good objects of each sort, and the bad ones (docs/REPORT.md).
+use Rattle.std.specs.Prelude.{◌≡◌, ◌==◌, ℕ, Bool, List, [], ◌∷◌, map, All, count_by, Option, Some, None}
+use Rattle.std.specs.List.{flat_map, filter_map}
+use Rattle.std.specs.Option.{option_map}
+use Rattle.object_view.specs.declared.bad_object.BadObject.{BadObject}
+use Rattle.object_view.specs.declared.sort.Sort.{Sort}
+use Rattle.object_view.specs.declared.sort.Sort.TheVariants.{Binder, WeakBinder, Handle, WeakHandle, Fd, Fda, Ptr}
+use Rattle.object_view.specs.Fields.{sort_number}
+use Rattle.object_view.specs.Objects.{ObjectText, AreObjects}
+use Rattle.event_core.specs.Events.{AttachmentText, EventText}
+use Rattle.audit_findings.specs.declared.sort_counts.SortCounts.{SortCounts}
+
+-- an attachment, with the event of the record that it belongs to
+pub record Attached : Type 0 where
+  pub owner : EventText
+  pub attachment : AttachmentText
+
+abbrev pub attached_to : EventText → Option Attached
+attached_to e = option_map (λ a. record { owner = e; attachment = a }) e.entry
+
+-- the attachments of these events, in their order
+abbrev pub attachments_of : List EventText → List Attached
+attachments_of events = filter_map attached_to events
+
+-- what the objects of an attachment come to: those before the first bad one, and that one, if there is one
+pub record Outcome : Type 0 where
+  pub of : Attached
+  pub objects : List ObjectText
+  pub bad : Option BadObject
+
+-- the outcome is that of its attachment
+abbrev pub IsOutcome : Outcome → Type 0
+IsOutcome o = AreObjects o.of.attachment.body o.of.attachment.offset_bytes o.objects o.bad
+
+-- each of these attachments, in their order, has its outcome
+pub record AreOutcomes (attachments : List Attached) (outcomes : List Outcome) : Type 0 where
+  pub each : map (λ o. o.of) outcomes ≡ attachments
+  pub are_objects : All IsOutcome outcomes
+
+-- whether two sorts are one
+abbrev pub same_sort : Sort → Sort → Bool
+same_sort sort other = sort_number sort == sort_number other
+
+-- the count of a sort
+abbrev pub count_of : SortCounts → Sort → ℕ
+count_of counts Binder = counts.binder
+count_of counts WeakBinder = counts.weak_binder
+count_of counts Handle = counts.handle
+count_of counts WeakHandle = counts.weak_handle
+count_of counts Fd = counts.fd
+count_of counts Fda = counts.fda
+count_of counts Ptr = counts.ptr
+
+-- how many of these objects are of the sort
+abbrev pub times_of : Sort → List ObjectText → ℕ
+times_of sort objects = count_by (λ o. same_sort o.sort sort) objects
+
+-- the good objects of these outcomes
+abbrev pub good_objects : List Outcome → List ObjectText
+good_objects outcomes = flat_map (λ o. o.objects) outcomes
+
+-- a bad object, with the event of the record that owns it
+pub record BadOwned : Type 0 where
+  pub owner : EventText
+  pub bad : BadObject
+
+abbrev pub bad_of : Outcome → Option BadOwned
+bad_of o = option_map (λ bad. record { owner = o.of.owner; bad = bad }) o.bad
+
+-- the bad objects of these outcomes
+abbrev pub bad_objects : List Outcome → List BadOwned
+bad_objects outcomes = filter_map bad_of outcomes
+
+-- the objects of these attachments: how many good ones of each sort there are, and the bad ones
+pub record AreObjectFindings (attachments : List Attached) (counts : SortCounts) (bad : List BadOwned) : Type 0 where
+  pub outcomes : List Outcome
+  pub are : AreOutcomes attachments outcomes
+  pub counted : (sort : Sort) → count_of counts sort ≡ times_of sort (good_objects outcomes)
+  pub bad_are : bad ≡ bad_objects outcomes
+
+-- the bad object of an owner's attachment, if it has one
+abbrev pub owned_by : EventText → Option BadObject → List BadOwned
+owned_by owner None = []
+owned_by owner (Some bad) = record { owner = owner; bad = bad } ∷ []

@@ -1,0 +1,23 @@
+-- How many records of some kinds there are, by their code words (docs/REPORT.md).
+use Rattle.std.specs.Prelude.{◌≡◌, ◌==◌, ◌+◌, ℕ, Bool, false, List, count_by}
+use Rattle.std.specs.Option.{option_map_or}
+use Rattle.binder_code.specs.Commands.{Row, row_of, word_of}
+use Rattle.binder_code.specs.declared.record_kind.Kind.{Kind}
+use Rattle.binder_code.specs.declared.record_kind.Kind.TheVariants.{BcFreeBuffer, BcRequestDeathNotification, BcClearDeathNotification, BrTransaction, BrTransactionSecCtx, BrReply, BrDeadBinder}
+use Rattle.audit_findings.specs.declared.record_counts.RecordCounts.{RecordCounts}
+
+-- whether the code word is that of the kind
+abbrev pub is_word_of : Kind → ℕ → Bool
+is_word_of kind word = option_map_or (λ (row : Row). word == word_of row) (row_of kind) false
+
+-- how many of these code words are the kind's
+abbrev pub times : Kind → List ℕ → ℕ
+times kind words = count_by (is_word_of kind) words
+
+-- the counts of these code words
+pub record AreRecordCounts (words : List ℕ) (counts : RecordCounts) : Type 0 where
+  pub deliveries : counts.deliveries ≡ times BrTransaction words + times BrTransactionSecCtx words + times BrReply words
+  pub frees : counts.frees ≡ times BcFreeBuffer words
+  pub requests : counts.requests ≡ times BcRequestDeathNotification words
+  pub deaths : counts.deaths ≡ times BrDeadBinder words
+  pub clears : counts.clears ≡ times BcClearDeathNotification words

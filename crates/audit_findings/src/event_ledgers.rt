@@ -1,0 +1,65 @@
+//! What events come to.
+
+ghost use Rattle.std.specs.Prelude.{◌≡◌, [], IfOk, OnOk};
+ghost use Rattle.event_core.specs.Reading.{event_text};
+ghost use Rattle.summary_law.specs.Summary.{CanAdd, Adds, CanJoin, Joins};
+ghost use Rattle.audit_findings.specs.Ledgers.{SumsEvents, AreFewEvents};
+
+use crate::codes::opaque_count;
+use crate::flags::FlagLedger;
+use crate::objects::ObjectLedger;
+use event_core::Event;
+use std::alloc::{AllocError, Global};
+use summary_law::{Summary, Tally};
+
+/// How many events there are, and what `codes`, `objects` and `flags` keep of them.
+#[derive(Drop)]
+pub(crate) struct EventLedgers {
+    pub records: u64,
+    pub opaque: u64,
+    /// The code words, each record with weight 0.
+    pub codes: Tally<u32>,
+    pub objects: ObjectLedger,
+    pub flags: FlagLedger,
+}
+
+impl EventLedgers {
+    pub fn empty(alloc: Global) -> Self
+        ensures { SumsEvents result [] }
+    {
+        EventLedgers {
+            records: 0,
+            opaque: 0,
+            codes: Tally::empty(alloc),
+            objects: ObjectLedger::empty(alloc),
+            flags: FlagLedger::empty(alloc),
+        }
+    }
+
+    /// Adds an event. After an error they are only to be dropped.
+    pub fn add(&mut self, event: Event<'_>) -> Result<(), AllocError>
+        requires { CanAdd SumsEvents AreFewEvents self.old (event_text event) }
+        ensures { OnOk result
+            (Adds SumsEvents AreFewEvents self.old (event_text event.entry) self.new) }
+    {
+        self.records += 1;
+        self.opaque += opaque_count(event.kind);
+        self.codes.add((event.code.0, 0))?;
+        self.objects.add(event)?;
+        self.flags.add(event)
+    }
+
+    /// Those of these events and of the later ones.
+    pub fn join(self, later: EventLedgers) -> Result<EventLedgers, AllocError>
+        requires { CanJoin SumsEvents AreFewEvents self later }
+        ensures { IfOk result (Joins SumsEvents AreFewEvents self later) }
+    {
+        Ok(EventLedgers {
+            records: self.records + later.records,
+            opaque: self.opaque + later.opaque,
+            codes: self.codes.join(later.codes)?,
+            objects: self.objects.join(later.objects)?,
+            flags: self.flags.join(later.flags)?,
+        })
+    }
+}

@@ -1,0 +1,10 @@
+//! Laws of the definitions, as contracts of functions that do nothing.
+
+ghost use Rattle.audit_findings.specs.Laws.{BadObjectsRise, FlagsRise};
+
+/// The rows of the sections `objects` and `flags` rise strictly in place, so no two of a section
+/// have one place.
+pub fn rows_rise()
+    ensures objects { BadObjectsRise }
+    ensures flags { FlagsRise }
+{}

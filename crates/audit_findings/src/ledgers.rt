@@ -1,0 +1,98 @@
+//! What frames come to.
+
+ghost use Rattle.std.specs.Prelude.{◌≡◌, [], ◌∷◌, IfOk, OnOk};
+ghost use Rattle.summary_law.specs.Summary.{CanJoin, Joins};
+ghost use Rattle.audit_findings.specs.Ledgers.{SumsLedgers, AreFewFrames, CanTake, Takes, AreOfFew, GiveSections};
+
+use crate::buffers::{Leaked, StrayFrees};
+use crate::clears::{StrayConfirmations, Unconfirmed};
+use crate::codes::code_rows;
+use crate::deaths::{StrayAcknowledgements, Unacknowledged};
+use crate::event_ledgers::EventLedgers;
+use crate::findings::Sections;
+use crate::handles::handle_rows;
+use crate::in_order::InOrder;
+use crate::nodes::node_rows;
+use crate::open_and_stray::open_and_stray_of;
+use crate::places::places_of;
+use crate::process::Process;
+use crate::process_items::ProcessItems;
+use crate::process_summary::ProcessSummary;
+use crate::record_counts::record_counts;
+use crate::requests::Standing;
+use crate::rows::Rows;
+use crate::sequences::Sequences;
+use capture_frame::Frame;
+use event_core::Events;
+use std::alloc::{AllocError, Global};
+use summary_law::Summary;
+
+/// The sequences of frames, what their events come to, and what those of each process do.
+#[derive(Drop)]
+pub(crate) struct Ledgers {
+    pub sequences: Sequences,
+    pub events: EventLedgers,
+    pub processes: InOrder<Process, ProcessSummary>,
+}
+
+impl Ledgers {
+    pub fn empty(alloc: Global) -> Self
+        ensures { SumsLedgers result [] }
+    {
+        Ledgers {
+            sequences: Sequences::NONE,
+            events: EventLedgers::empty(alloc),
+            processes: InOrder::empty(alloc),
+        }
+    }
+
+    /// Adds frames without a fault. After an error they are only to be dropped.
+    pub fn add_all(&mut self, frames: &[Frame<'_>]) -> Result<(), AllocError>
+        requires { CanTake self.old frames.now }
+        ensures { OnOk result (Takes self.old frames.entry.now self.new) }
+    {
+        for frame in frames {
+            self.add(*frame)?;
+        }
+        Ok(())
+    }
+
+    /// Adds a frame without a fault.
+    fn add(&mut self, frame: Frame<'_>) -> Result<(), AllocError>
+        requires { CanTake self.old (frame ∷ []) }
+        ensures { OnOk result (Takes self.old (frame.entry ∷ []) self.new) }
+    {
+        self.sequences = self.sequences.with(frame.sequence);
+        let process = Process {
+            number: frame.process,
+        };
+        self.processes.add((process, ProcessItems::NONE))?;
+        let mut events = Events::of(frame);
+        while let Some(event) = events.next_event() {
+            self.events.add(event)?;
+            self.processes.add((process, ProcessItems::of(event)))?;
+        }
+        Ok(())
+    }
+
+    /// Those of these frames and of the later ones.
+    pub fn join(self, later: Ledgers) -> Result<Ledgers, AllocError>
+        requires { CanJoin SumsLedgers AreFewFrames self later }
+        ensures { IfOk result (Joins SumsLedgers AreFewFrames self later) }
+    {
+        Ok(Ledgers {
+            sequences: self.sequences.then(later.sequences),
+            events: self.events.join(later.events)?,
+            processes: self.processes.join(later.processes)?,
+        })
+    }
+
+    /// What the findings keep of the frames.
+    pub fn sections(self, alloc: Global) -> Result<Sections, AllocError>
+        requires { AreOfFew self }
+        ensures { IfOk result (GiveSections self) }
+    {
+        let _ = (self, alloc);
+        Err(AllocError)
+    }
+}

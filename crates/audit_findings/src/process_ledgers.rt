@@ -1,0 +1,73 @@
+//! What the events of one process come to.
+
+ghost use Rattle.std.specs.Prelude.{OnOk};
+ghost use Rattle.audit_findings.specs.ProcessLedgers.{SumsProcess, FitProcess, CanAddMaybe, AddsMaybe, process_parts};
+
+use crate::process_items::ProcessItems;
+use handle_ledger::{HandleLedger, NodeLedger};
+use pending_ledger::{Buffers, Clears, Deaths, Requests};
+use std::alloc::{AllocError, Global};
+use summary_law::Summary;
+
+/// The ledgers of one process.
+#[derive(Drop)]
+pub(crate) struct ProcessLedgers {
+    pub handles: HandleLedger,
+    pub nodes: NodeLedger,
+    pub buffers: Buffers,
+    pub requests: Requests,
+    pub deaths: Deaths,
+    pub clears: Clears,
+}
+
+impl Summary for ProcessLedgers {
+    type Item = ProcessItems;
+
+    ghost fits = { FitProcess };
+
+    ghost sums = { SumsProcess };
+
+    fn empty(alloc: Global) -> ProcessLedgers {
+        ProcessLedgers {
+            handles: HandleLedger::empty(alloc),
+            nodes: NodeLedger::empty(alloc),
+            buffers: Buffers::empty(alloc),
+            requests: Requests::empty(alloc),
+            deaths: Deaths::empty(alloc),
+            clears: Clears::empty(alloc),
+        }
+    }
+
+    fn add(&mut self, item: ProcessItems) -> Result<(), AllocError> {
+        add_item(&mut self.handles, item.handle)?;
+        add_item(&mut self.nodes, item.node)?;
+        add_item(&mut self.buffers, item.buffer)?;
+        add_item(&mut self.requests, item.request)?;
+        add_item(&mut self.deaths, item.death)?;
+        add_item(&mut self.clears, item.clear)
+    }
+
+    fn join(self, later: ProcessLedgers) -> Result<ProcessLedgers, AllocError> {
+        Ok(ProcessLedgers {
+            handles: self.handles.join(later.handles)?,
+            nodes: self.nodes.join(later.nodes)?,
+            buffers: self.buffers.join(later.buffers)?,
+            requests: self.requests.join(later.requests)?,
+            deaths: self.deaths.join(later.deaths)?,
+            clears: self.clears.join(later.clears)?,
+        })
+    }
+
+    ghost fits_parts = { process_parts };
+}
+
+/// Adds an item, where there is one.
+fn add_item<S: Summary>(summary: &mut S, item: Option<S::Item>) -> Result<(), AllocError>
+    requires { CanAddMaybe S.sums S.fits summary.old item }
+    ensures { OnOk result (AddsMaybe S.sums S.fits summary.old item summary.new) }
+{
+    match item {
+        Some(item) => summary.add(item),
+        None => Ok(()),
+    }
+}
