@@ -67,7 +67,7 @@ pub record CallsText : Type 0 where
 pub record ServedText : Type 0 where
   pub replied : ℕ
   pub crossed : ℕ
-  pub open : ℕ
+  pub left_open : ℕ
   pub rows : List (OpenerOf EventText)
 
 -- the calls among these openers
@@ -81,7 +81,7 @@ pub record AreCalls (openers : List (OpenerOf EventText)) (said : CallsText) : T
 pub record AreServed (openers : List (OpenerOf EventText)) (said : ServedText) : Type 0 where
   pub replied : said.replied ≡ count_by (λ o. not (is_call o) && is_replied o.verdict) openers
   pub crossed : said.crossed ≡ count_by (λ o. not (is_call o) && is_crossed o.verdict) openers
-  pub open : said.open ≡ count_by (λ o. not (is_call o) && is_open o.verdict) openers
+  pub left_open : said.left_open ≡ count_by (λ o. not (is_call o) && is_open o.verdict) openers
   pub rows : said.rows ≡ filter (λ o. not (is_call o) && not (is_replied o.verdict)) openers
 
 -- the calls and the served calls of all threads

@@ -42,7 +42,7 @@ pub record KeepsCalls (kept : Calls) (said : CallsText) : Type 0 where
 pub record KeepsServed (kept : Served) (said : ServedText) : Type 0 where
   pub replied : kept.replied ≡ said.replied
   pub crossed : kept.crossed ≡ said.crossed
-  pub open : kept.open ≡ said.open
+  pub left_open : kept.left_open ≡ said.left_open
   pub rows : kept.rows ≡ map kept_call said.rows
 
 pub record KeepsRefused (kept : Refused) (said : RefusedText) : Type 0 where

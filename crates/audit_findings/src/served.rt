@@ -11,7 +11,7 @@ pub struct Served {
     /// How many something else closed.
     pub crossed: u64,
     /// How many nothing closed.
-    pub open: u64,
+    pub left_open: u64,
     /// Those that are not replied, in rising place.
     pub rows: Rows<CallRow>,
 }

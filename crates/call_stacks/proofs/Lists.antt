@@ -9,7 +9,7 @@ use Rattle.event_core.specs.declared.marks.Mark.{Mark}
 use Rattle.call_stacks.specs.declared.opener.Opener.{Opener}
 use Rattle.call_stacks.specs.declared.verdict.Verdict.{Verdict}
 use Rattle.call_stacks.specs.declared.verdict.Verdict.TheVariants.{Open}
-use Rattle.call_stacks.specs.Calls.{Judged, judged_by, event_place, opener_place, mark_behind, sides_of, verdict_by, IsOpener, IsStrayEvent, HasVerdict, closed_by, left_open}
+use Rattle.call_stacks.specs.Calls.{Judged, judged_by, event_place, opener_place, mark_behind, sides_of, verdict_by, event_reads, kept_opener, IsOpener, IsStrayEvent, HasVerdict, closed_by, left_open}
 use Rattle.call_stacks.specs.Matching.{Side, opener, closer, neither, ListsInOrder}
 use Rattle.call_stacks.specs.Verdicts.{side_of}
 use Rattle.call_stacks.proofs.Judging.{pair, side}
@@ -150,7 +150,7 @@ opener_listed items call x h there same =
     (map-in found (openers side (map pair items)) (item_pair x, option_map item_pair h) in_pairs)
 
 opener_whole_at : (items : List Judged) (call : Opener) (position : ℕ) (there : Judged) → slice_get items position ≡ Some there
-    → side_of there.bracket ≡ opener → call.event ≡ there.event → HasVerdict items position call → In call (openers_found items)
+    → side_of there.bracket ≡ opener → call.event ≡ there.event → HasVerdict event_reads items position (kept_opener call) → In call (openers_found items)
 opener_whole_at items call position there stands opens event (closed_by j answer matched answer_stands verdict place) =
     let here = has_match item_side 0 items position j matched in
     let call_same : there ≡ here.opener = one_item items position there here.opener stands here.opener_stands in

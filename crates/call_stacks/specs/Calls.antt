@@ -176,11 +176,11 @@ abbrev pub verdict_by : Event → Event → Verdict
 verdict_by call answer = verdict_read event_reads call answer
 
 -- an opener as a summary keeps it
-abbrev pub opener_of : Opener → OpenerOf Event
-opener_of call = record { event = call.event; verdict = call.verdict; closer = call.closer }
+abbrev pub kept_opener : Opener → OpenerOf Event
+kept_opener call = record { event = call.event; verdict = call.verdict; closer = call.closer }
 
 abbrev pub IsOpener : List Judged → Opener → Type 0
-IsOpener judged call = IsOpenerOf event_reads judged (opener_of call)
+IsOpener judged call = IsOpenerOf event_reads judged (kept_opener call)
 
 -- the refused send that an event tells of
 abbrev pub refused_send : Judged → Option RefusedSend
