@@ -610,6 +610,11 @@ CAPTURES = {
     "threads-that-fall.cap": threads_that_fall(),
     # a oneway transaction is refused behind a call
     "refused-behind-a-call.cap": refused_behind_a_call(),
+    # a frame is missing that had a call: its reply closes the served call around it
+    "lost-call.cap": HEADER
+    + read(1, 200, 201, transaction(BR_TRANSACTION, code=2, sender=100, buffer=0x8000))
+    + read(3, 200, 201, record(BR_TRANSACTION_COMPLETE), transaction(BR_REPLY, buffer=0x9000))
+    + write(4, 200, 201, transaction(BC_REPLY)),
     # calls in one another, two threads by turns
     "nested-calls.cap": nested_calls(),
     # each opener with each closer
