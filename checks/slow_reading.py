@@ -3,11 +3,15 @@
 
     checks/slow_reading.py FILE                 what `report` writes of the capture
     checks/slow_reading.py --first-fault FILE   what `first-fault` writes
+    checks/slow_reading.py --check FOLDER       compares the answers of the cases with its own
 
 It is written from docs/ENVELOPE.md, docs/COMMANDS.md and docs/REPORT.md alone and shares nothing
 with the auditor. It looks through lists and counts: it keeps no stack and no ledger, and takes time
 that grows with the square of the records. The status is 2 where the capture is malformed, and
 else 0.
+
+FOLDER is crates/audit_cases. --check looks at the cases that have a capture and an answer about it.
+It is silent where all is well, else it names each case that differs, with status 1.
 """
 
 import pathlib
@@ -665,7 +669,7 @@ def unknown_flags(events):
     return [f"flags {len(rows)}", *rows]
 
 
-# ---- the texts
+# ---- the texts, and the command line
 
 
 def report_of(frames, events):
@@ -703,18 +707,44 @@ def reading(capture, first_fault=False):
     return 0, ["no malformed record"] if first_fault else report_of(frames, events)
 
 
-def main(words):
-    match words:
-        case ["--first-fault", file]:
-            first_fault = True
-        case [file] if not file.startswith("-"):
-            first_fault = False
-        case _:
-            print(__doc__, file=sys.stderr)
-            return 64
+def cases(folder):
+    """The cases of the folder: of each its line and the answer that is stored."""
+    for case in (folder / "stdout").read_text().removeprefix(">").split("\n>"):
+        line, _, answer = case.partition("\n")
+        yield line.removeprefix(" "), answer.rstrip("\n").split("\n")
+
+
+def differences(folder):
+    """The lines of the cases whose stored answer about a capture is another one than here."""
+    for line, answer in cases(folder):
+        words = line.split("\t")
+        if answer[0] in ("status 0", "status 2"):
+            [name] = [word for word in words if word.endswith(".cap")]
+            capture = (folder / "data" / name).read_bytes()
+            status, lines = reading(capture, words[0] == "first-fault")
+            if answer != [f"status {status}", *lines]:
+                yield line
+
+
+def print_reading(file, first_fault):
     status, lines = reading(pathlib.Path(file).read_bytes(), first_fault)
     print("\n".join(lines))
     return status
+
+
+def main(words):
+    match words:
+        case ["--check", folder]:
+            lines = list(differences(pathlib.Path(folder)))
+            for line in lines:
+                print(f"{folder}/stdout: {line}: not the answer of {sys.argv[0]}")
+            return 1 if lines else 0
+        case ["--first-fault", file]:
+            return print_reading(file, first_fault=True)
+        case [file] if not file.startswith("-"):
+            return print_reading(file, first_fault=False)
+    print(__doc__, file=sys.stderr)
+    return 64
 
 
 if __name__ == "__main__":
