@@ -5,9 +5,9 @@
     checks/slow_reading.py --first-fault FILE   what `first-fault` writes
     checks/slow_reading.py --check FOLDER       compares the answers of the cases with its own
 
-It is written from docs/ENVELOPE.md, docs/COMMANDS.md and docs/REPORT.md alone and shares nothing
-with the auditor. It looks through lists and counts: it keeps no stack and no ledger, and takes time
-that grows with the square of the records. The status is 2 where the capture is malformed, and
+Each of its rules stands in docs/ENVELOPE.md, docs/COMMANDS.md or docs/REPORT.md, and it shares no
+code with the auditor. It looks through lists and counts: it keeps no stack and no ledger, and takes
+time that grows with the square of the records. The status is 2 where the capture is malformed, and
 else 0.
 
 FOLDER is crates/audit_cases. --check looks at the cases that have a capture and an answer about it.
