@@ -353,6 +353,187 @@ def processes():
     )
 
 
+def oneway_replies():
+    """`TF_ONE_WAY` on a reply says nothing: the one that is got answers a call, the one that is
+    sent replies to a served call. The latter is refused, and no oneway transaction is."""
+    return HEADER + read(
+        1, 100, 101, transaction(BR_TRANSACTION, code=3, sender=200, buffer=0x8000),
+    ) + write(
+        2, 100, 101, transaction(BC_TRANSACTION, target=1, code=4),
+    ) + read(
+        3, 100, 101, record(BR_TRANSACTION_COMPLETE),
+        transaction(BR_REPLY, flags=1, buffer=0x7000),
+    ) + write(
+        4, 100, 101, *each_long(BC_FREE_BUFFER, 0x7000, 0x8000),
+        transaction(BC_REPLY, flags=1, sizes=(24, 0)),
+    ) + read(
+        5, 100, 101, record(BR_FAILED_REPLY),
+    )
+
+
+def threads_of_one_number():
+    """Thread 7 of two processes. The reply is to the call of the one, which is not the last call,
+    and the error reply to that of the other, where no oneway transaction stands before it."""
+    return HEADER + write(
+        1, 100, 7, transaction(BC_TRANSACTION, target=1, code=1),
+    ) + write(
+        2, 200, 7, transaction(BC_TRANSACTION, target=2, code=2),
+    ) + read(
+        3, 100, 7, transaction(BR_REPLY, buffer=0x7000),
+    ) + write(
+        4, 100, 7, transaction(BC_TRANSACTION, target=3, code=3, flags=1),
+    ) + read(
+        5, 200, 7, record(BR_FAILED_REPLY),
+    ) + read(
+        6, 100, 7, record(BR_TRANSACTION_COMPLETE),
+    )
+
+
+def threads_that_fall():
+    """Threads 9, 5 and 1 of one process in this order, each with rows in some of the sections of
+    calls, which alternate."""
+    return HEADER + write(
+        1, 100, 9, transaction(BC_TRANSACTION, target=1, code=1),
+    ) + write(
+        2, 100, 5, transaction(BC_TRANSACTION, target=2, code=2),
+    ) + write(
+        3, 100, 1, transaction(BC_TRANSACTION, target=3, code=3),
+    ) + read(
+        4, 100, 5, record(BR_DEAD_REPLY), record(BR_FROZEN_REPLY),
+    ) + read(
+        5, 100, 1, transaction(BR_TRANSACTION, code=4, sender=MAX_32, buffer=0x8000),
+    ) + write(
+        6, 100, 9, transaction(BC_REPLY),
+    ) + read(
+        7, 100, 9, record(BR_FAILED_REPLY), record(BR_FAILED_REPLY),
+    ) + write(
+        8, 100, 1, transaction(BC_TRANSACTION, target=4, flags=1),
+    ) + read(
+        9, 100, 1, record(BR_DEAD_REPLY),
+    ) + read(
+        10, 100, 5, transaction(BR_TRANSACTION, code=5, sender=2**31, buffer=0x9000),
+    )
+
+
+def refused_behind_a_call():
+    """A oneway transaction behind a call is refused, and the call answered. Then a call behind a
+    oneway transaction fails."""
+    return HEADER + write(
+        1, 100, 101, transaction(BC_TRANSACTION, target=1, code=2),
+        transaction(BC_TRANSACTION, target=2, code=3, flags=1, sizes=(8, 0)),
+    ) + read(
+        2, 100, 101, record(BR_FAILED_REPLY), record(BR_TRANSACTION_COMPLETE),
+        transaction(BR_REPLY, buffer=0x7000),
+    ) + write(
+        3, 100, 101, *each_long(BC_FREE_BUFFER, 0x7000),
+        transaction(BC_TRANSACTION, target=2, code=3, flags=1, sizes=(16, 0)),
+        transaction(BC_TRANSACTION, target=1, code=4),
+    ) + read(
+        4, 100, 101, record(BR_FAILED_REPLY),
+    )
+
+
+def nested_calls():
+    """Two threads of a process whose frames alternate. In the one a call is made in a served call
+    in a call, and each has its reply; two more replies close nothing. In the other a served call in
+    a call in a served call has no reply of its own: so all three have a wrong closer or none."""
+    return HEADER + write(
+        1, 100, 1, transaction(BC_TRANSACTION, target=1, code=1),
+    ) + read(
+        2, 100, 2, transaction(BR_TRANSACTION, code=4, sender=300),
+    ) + read(
+        3, 100, 1, record(BR_TRANSACTION_COMPLETE), transaction(BR_TRANSACTION, code=2, sender=200),
+    ) + write(
+        4, 100, 2, transaction(BC_TRANSACTION, target=4, code=5),
+    ) + write(
+        5, 100, 1, transaction(BC_TRANSACTION_SG, target=2, code=3),
+    ) + read(
+        6, 100, 2, transaction(BR_TRANSACTION_SEC_CTX, code=6, sender=400),
+    ) + read(
+        7, 100, 1, record(BR_TRANSACTION_COMPLETE), transaction(BR_REPLY),
+    ) + read(
+        8, 100, 2, transaction(BR_REPLY),
+    ) + write(
+        9, 100, 1, transaction(BC_REPLY),
+    ) + write(
+        10, 100, 2, transaction(BC_REPLY),
+    ) + read(
+        11, 100, 1, transaction(BR_REPLY), transaction(BR_REPLY),
+    ) + write(
+        12, 100, 1, transaction(BC_REPLY_SG), *each_long(BC_FREE_BUFFER, 0),
+    )
+
+
+def in_a_frame(sequence, thread, one):
+    """A frame of process 100 with this record, a write or a read by its letter."""
+    return frame(1 if one[1:2] == b"c" else 2, sequence, 100, thread, [one])
+
+
+def in_threads_of_their_own(threads):
+    """The records of each of these threads, 1 and so on, a frame for each record; at the end the
+    buffers at 0 are freed."""
+    told = [(at, one) for at, records in enumerate(threads, 1) for one in records]
+    frames = [in_a_frame(sequence, *one) for sequence, one in enumerate(told, 1)]
+    return HEADER + b"".join(frames) + write(
+        len(frames) + 1, 100, 1, *each_long(BC_FREE_BUFFER, 0))
+
+
+def verdicts():
+    """Each of the four openers, closed by nothing and by each of the six closers. Threads 1 to 7
+    have the first opener, 8 to 14 the second, and so on."""
+    openers = BC_TRANSACTION, BC_TRANSACTION_SG, BR_TRANSACTION, BR_TRANSACTION_SEC_CTX
+    closers = BR_REPLY, BC_REPLY, BC_REPLY_SG, BR_DEAD_REPLY, BR_FAILED_REPLY, BR_FROZEN_REPLY
+    return in_threads_of_their_own(
+        [record(opener), *map(record, closer)]
+        for opener in openers for closer in ((), *((one,) for one in closers)))
+
+
+def marks():
+    """Between a oneway send and an error reply one record of each kind, in threads 1 to 41; in the
+    last two threads a oneway send and one that is received."""
+    send = transaction(BC_TRANSACTION, flags=1)
+    between = (*map(record, COMMANDS + RETURNS), transaction(BC_TRANSACTION_SG, flags=1),
+               transaction(BR_TRANSACTION_SEC_CTX, flags=1))
+    return in_threads_of_their_own([send, one, record(BR_FAILED_REPLY)] for one in between)
+
+
+def oneway_traffic():
+    """Three processes, the first of which has an empty first frame. Handles are sent to in no
+    order, by several threads; some sends have other flags beside `TF_ONE_WAY`. Calls and replies do
+    not count. Of three refused sends one is a reply."""
+    def send(target, size, kind=BC_TRANSACTION, flags=1):
+        return transaction(kind, target=target, flags=flags, sizes=(size, 0))
+
+    def got(size, kind=BR_TRANSACTION, flags=1):
+        return transaction(kind, target=7, flags=flags, sizes=(size, 8))
+    return HEADER + write(
+        1, 300, 1,
+    ) + write(
+        2, 100, 101, send(9, 5), send(2, 7, BC_TRANSACTION_SG), send(2, 100, flags=0),
+        send(9, MAX_64, flags=0x11), send(9, 1000, BC_REPLY), send(10, 0),
+    ) + read(
+        3, 100, 102, got(3), got(MAX_64, BR_TRANSACTION_SEC_CTX), got(50, flags=0),
+        got(60, BR_REPLY),
+    ) + read(
+        4, 200, 201, got(0),
+    ) + write(
+        5, 300, 1, send(MAX_32, 1), send(0, 2, BC_TRANSACTION_SG, flags=MAX_32),
+    ) + read(
+        6, 300, 1, record(BR_DEAD_REPLY),
+    ) + read(
+        7, 100, 101, record(BR_FAILED_REPLY),
+    ) + read(
+        8, 300, 2, got(11), got(12),
+    ) + write(
+        9, 300, 2, send(1, 1, BC_REPLY_SG),
+    ) + read(
+        10, 300, 2, record(BR_FROZEN_REPLY),
+    ) + write(
+        11, 100, 103, send(2, 8),
+    )
+
+
+
 # ---- the captures
 
 CAPTURES = {
@@ -419,6 +600,29 @@ CAPTURES = {
     "deaths-and-clears.cap": deaths_and_clears(),
     # the order of processes is that of their first frames
     "processes.cap": processes(),
+
+    # -- calls of threads, and oneway transactions
+    # TF_ONE_WAY on replies
+    "oneway-replies.cap": oneway_replies(),
+    # two threads of one number
+    "threads-of-one-number.cap": threads_of_one_number(),
+    # threads of a process in falling number
+    "threads-that-fall.cap": threads_that_fall(),
+    # a oneway transaction is refused behind a call
+    "refused-behind-a-call.cap": refused_behind_a_call(),
+    # a frame is missing that had a call: its reply closes the served call around it
+    "lost-call.cap": HEADER
+    + read(1, 200, 201, transaction(BR_TRANSACTION, code=2, sender=100, buffer=0x8000))
+    + read(3, 200, 201, record(BR_TRANSACTION_COMPLETE), transaction(BR_REPLY, buffer=0x9000))
+    + write(4, 200, 201, transaction(BC_REPLY)),
+    # calls in one another, two threads by turns
+    "nested-calls.cap": nested_calls(),
+    # each opener with each closer
+    "verdicts.cap": verdicts(),
+    # which records are marks
+    "marks.cap": marks(),
+    # counts and sums of oneway transactions
+    "oneway.cap": oneway_traffic(),
 
     # -- each record of the tables, and names
     # each command and each return of the tables, once

@@ -1,0 +1,751 @@
+#!/usr/bin/env python3
+"""A slow second reading of a capture, by the rules of the pages and nothing cleverer.
+
+    checks/slow_reading.py FILE                 what `report` writes of the capture
+    checks/slow_reading.py --first-fault FILE   what `first-fault` writes
+    checks/slow_reading.py --check FOLDER       compares the answers of the cases with its own
+
+Each of its rules stands in docs/ENVELOPE.md, docs/COMMANDS.md or docs/REPORT.md, and it shares no
+code with the auditor. It looks through lists and counts: it keeps no stack and no ledger, and takes
+time that grows with the square of the records. The status is 2 where the capture is malformed, and
+else 0.
+
+FOLDER is crates/audit_cases. --check looks at the cases that have a capture and an answer about it.
+It is silent where all is well, else it names each case that differs, with status 1.
+"""
+
+import pathlib
+import sys
+from typing import NamedTuple
+
+# ---- the tables: by number, the payload sizes and the names that go with them
+
+COMMANDS = {
+    0: {64: "BC_TRANSACTION"},
+    1: {64: "BC_REPLY"},
+    2: {4: "BC_ACQUIRE_RESULT"},
+    3: {8: "BC_FREE_BUFFER"},
+    4: {4: "BC_INCREFS"},
+    5: {4: "BC_ACQUIRE"},
+    6: {4: "BC_RELEASE"},
+    7: {4: "BC_DECREFS"},
+    8: {16: "BC_INCREFS_DONE"},
+    9: {16: "BC_ACQUIRE_DONE"},
+    10: {8: "BC_ATTEMPT_ACQUIRE"},
+    11: {0: "BC_REGISTER_LOOPER"},
+    12: {0: "BC_ENTER_LOOPER"},
+    13: {0: "BC_EXIT_LOOPER"},
+    14: {12: "BC_REQUEST_DEATH_NOTIFICATION"},
+    15: {12: "BC_CLEAR_DEATH_NOTIFICATION"},
+    16: {8: "BC_DEAD_BINDER_DONE"},
+    17: {72: "BC_TRANSACTION_SG"},
+    18: {72: "BC_REPLY_SG"},
+}
+
+RETURNS = {
+    0: {4: "BR_ERROR"},
+    1: {0: "BR_OK"},
+    2: {64: "BR_TRANSACTION", 72: "BR_TRANSACTION_SEC_CTX"},
+    3: {64: "BR_REPLY"},
+    4: {4: "BR_ACQUIRE_RESULT"},
+    5: {0: "BR_DEAD_REPLY"},
+    6: {0: "BR_TRANSACTION_COMPLETE"},
+    7: {16: "BR_INCREFS"},
+    8: {16: "BR_ACQUIRE"},
+    9: {16: "BR_RELEASE"},
+    10: {16: "BR_DECREFS"},
+    11: {24: "BR_ATTEMPT_ACQUIRE"},
+    12: {0: "BR_NOOP"},
+    13: {0: "BR_SPAWN_LOOPER"},
+    14: {0: "BR_FINISHED"},
+    15: {8: "BR_DEAD_BINDER"},
+    16: {8: "BR_CLEAR_DEATH_NOTIFICATION_DONE"},
+    17: {0: "BR_FAILED_REPLY"},
+    18: {0: "BR_FROZEN_REPLY"},
+    19: {0: "BR_ONEWAY_SPAM_SUSPECT"},
+    20: {0: "BR_TRANSACTION_PENDING_FROZEN"},
+}
+
+# By direction: the letter of the codes, their direction bits where there is a payload, their table.
+WRITE, READ = 1, 2
+DIRECTIONS = {WRITE: (ord("c"), 1, COMMANDS), READ: (ord("r"), 2, RETURNS)}
+
+# By sort: the name of the object in the report, and its length.
+SORTS = {
+    0x73622A85: ("binder", 24),
+    0x77622A85: ("weak_binder", 24),
+    0x73682A85: ("handle", 24),
+    0x77682A85: ("weak_handle", 24),
+    0x66642A85: ("fd", 24),
+    0x66646185: ("fda", 32),
+    0x70742A85: ("ptr", 40),
+}
+
+TF_ONE_WAY = 0x01
+KNOWN_FLAGS = 0x7D
+
+SENT_TRANSACTIONS = "BC_TRANSACTION", "BC_TRANSACTION_SG"
+SENT_REPLIES = "BC_REPLY", "BC_REPLY_SG"
+GOT_TRANSACTIONS = "BR_TRANSACTION", "BR_TRANSACTION_SEC_CTX"
+DELIVERIES = (*GOT_TRANSACTIONS, "BR_REPLY")
+TRANSACTIONS_AND_REPLIES = (*SENT_TRANSACTIONS, *SENT_REPLIES, *DELIVERIES)
+CONFIRMATIONS = (
+    "BR_TRANSACTION_COMPLETE", "BR_ONEWAY_SPAM_SUSPECT", "BR_TRANSACTION_PENDING_FROZEN")
+ERROR_REPLIES = "BR_DEAD_REPLY", "BR_FAILED_REPLY", "BR_FROZEN_REPLY"
+
+
+# ---- what a capture holds
+
+
+class Fault(Exception):
+    """The first fault of a capture: its kind and its place."""
+
+
+class Frame(NamedTuple):
+    place: int
+    sequence: int
+    process: int
+    thread: int
+    direction: int
+    commands: bytes
+    attachments: bytes
+
+
+class Record(NamedTuple):
+    offset: int  # from the frame's first command byte
+    code: int
+    kind: str
+    payload: bytes
+
+
+class Entry(NamedTuple):
+    offset: int  # that of its record
+    body: bytes
+    listed: bytes
+
+
+class Event(NamedTuple):
+    """A record of a capture, with the process and the thread of its frame."""
+    place: int
+    process: int
+    thread: int
+    code: int
+    kind: str
+    payload: bytes
+    entry: Entry | None
+
+
+def number(data, at, size):
+    """The number of so many bytes there, the lowest byte first."""
+    return int.from_bytes(data[at:at + size], "little")
+
+
+# The fields of a transaction or reply.
+
+
+def target_handle(event):
+    return number(event.payload, 0, 4)
+
+
+def transaction_code(event):
+    return number(event.payload, 16, 4)
+
+
+def flags(event):
+    return number(event.payload, 20, 4)
+
+
+def sender_pid(event):
+    return int.from_bytes(event.payload[24:28], "little", signed=True)
+
+
+def data_size(event):
+    return number(event.payload, 32, 8)
+
+
+def buffer(event):
+    return number(event.payload, 48, 8)
+
+
+# ---- from bytes to frames and events, or to the first fault
+
+
+def judge_file_header(capture):
+    if len(capture) < 16:
+        raise Fault("HeaderShort", 0)
+    if capture[:8] != b"BNDRCAP1":
+        raise Fault("HeaderMagic", 0)
+    if number(capture, 8, 4) != 8:
+        raise Fault("HeaderProtocol", 8)
+    if number(capture, 12, 4) != 0:
+        raise Fault("HeaderReserved", 12)
+
+
+def read_frame(capture, place, before):
+    """The frame that begins there, behind these frames."""
+    header, behind = capture[place:place + 32], capture[place + 32:]
+    if len(header) < 32:
+        raise Fault("FrameShort", place)
+    sequence, direction = number(header, 0, 8), header[16]
+    if before and sequence <= before[-1].sequence:
+        raise Fault("FrameSequence", place)
+    if direction not in DIRECTIONS:
+        raise Fault("FrameDirection", place)
+    if number(header, 17, 3) != 0 or number(header, 28, 4) != 0:
+        raise Fault("FrameReserved", place)
+    commands, attachments = number(header, 20, 4), number(header, 24, 4)
+    if commands + attachments > len(behind):
+        raise Fault("FrameLength", place)
+    return Frame(place, sequence, number(header, 8, 4), number(header, 12, 4), direction,
+                 behind[:commands], behind[commands:commands + attachments])
+
+
+def kind_of(code, direction, place):
+    """The name of a code word in a frame of this direction; it stands at this place."""
+    letter, bits, table = DIRECTIONS[direction]
+    size = code >> 16 & 0x3FFF
+    if code >> 8 & 0xFF != letter or code >> 30 != (bits if size else 0):
+        raise Fault("RecordDirection", place)
+    sizes = table.get(code & 0xFF)
+    if sizes is None:
+        return "OPAQUE"
+    if size not in sizes:
+        raise Fault("RecordSize", place)
+    return sizes[size]
+
+
+def read_records(frame):
+    records, offset = [], 0
+    while offset < len(frame.commands):
+        place = frame.place + 32 + offset
+        left = frame.commands[offset:]
+        if len(left) < 4:
+            raise Fault("RecordShort", place)
+        code = number(left, 0, 4)
+        kind = kind_of(code, frame.direction, place)
+        size = code >> 16 & 0x3FFF
+        if size > len(left) - 4:
+            raise Fault("RecordShort", place)
+        records.append(Record(offset, code, kind, left[4:4 + size]))
+        offset += 4 + size
+    return records
+
+
+def read_entries(frame, records):
+    entries, at = [], 0
+    while at < len(frame.attachments):
+        place = frame.place + 32 + len(frame.commands) + at
+        left = frame.attachments[at:]
+        if len(left) < 12:
+            raise Fault("AttachShort", place)
+        offset, d, o = number(left, 0, 4), number(left, 4, 4), number(left, 8, 4)
+        if d + o > len(left) - 12:
+            raise Fault("AttachShort", place)
+        owners = [record for record in records
+                  if record.offset == offset and record.kind in TRANSACTIONS_AND_REPLIES]
+        if not owners or (entries and offset <= entries[-1].offset):
+            raise Fault("AttachRecord", place)
+        if (d, o) != (number(owners[0].payload, 32, 8), number(owners[0].payload, 40, 8)):
+            raise Fault("AttachSize", place)
+        entries.append(Entry(offset, left[12:12 + d], left[12 + d:12 + d + o]))
+        at += 12 + d + o
+    return entries
+
+
+def events_of(frame):
+    """The records of a frame, each with its attachment entry if it has one."""
+    records = read_records(frame)
+    entries = read_entries(frame, records)
+    events = []
+    for record in records:
+        owned = [entry for entry in entries if entry.offset == record.offset]
+        events.append(Event(frame.place + 32 + record.offset, frame.process, frame.thread,
+                            record.code, record.kind, record.payload,
+                            owned[0] if owned else None))
+    return events
+
+
+def read_capture(capture):
+    """The frames and the events of a capture without a fault."""
+    judge_file_header(capture)
+    frames, events, place = [], [], 16
+    while place < len(capture):
+        frame = read_frame(capture, place, frames)
+        frames.append(frame)
+        events += events_of(frame)
+        place += 32 + len(frame.commands) + len(frame.attachments)
+    return frames, events
+
+
+# ---- totals and codes
+
+
+def different(things):
+    """The different ones of these, each where it stands first."""
+    return list(dict.fromkeys(things))
+
+
+def of_kind(events, *kinds):
+    return [event for event in events if event.kind in kinds]
+
+
+def totals(frames, events):
+    missing = frames[-1].sequence - frames[0].sequence - (len(frames) - 1) if frames else 0
+    opaque = len(of_kind(events, "OPAQUE"))
+    return [f"frames {len(frames)} records {len(events)} opaque {opaque} missing {missing}"]
+
+
+def codes(events):
+    rows = []
+    for code in sorted(different(event.code for event in events)):
+        same = [event for event in events if event.code == code]
+        rows.append(f"  0x{code:08x} {same[0].kind} {len(same)}")
+    return [f"codes {len(rows)}", *rows]
+
+
+# ---- the calls of each thread
+
+
+def is_oneway(event):
+    return flags(event) & TF_ONE_WAY != 0
+
+
+def is_oneway_send(event):
+    return event.kind in SENT_TRANSACTIONS and is_oneway(event)
+
+
+def is_mark(event):
+    if event.kind in GOT_TRANSACTIONS:
+        return not is_oneway(event)
+    return event.kind in (
+        *SENT_TRANSACTIONS, *SENT_REPLIES, "BR_REPLY", *CONFIRMATIONS, *ERROR_REPLIES)
+
+
+def refused_send(thread, index):
+    """The send that this event of a thread tells to be refused; None where it tells of none."""
+    if thread[index].kind not in ERROR_REPLIES:
+        return None
+    latest = [event for event in thread[:index] if is_mark(event)][-1:]
+    sends = [event for event in latest if is_oneway_send(event) or event.kind in SENT_REPLIES]
+    return sends[0] if sends else None
+
+
+def is_opener(event):
+    return event.kind in (*SENT_TRANSACTIONS, *GOT_TRANSACTIONS) and not is_oneway(event)
+
+
+def is_closer(thread, index):
+    return (thread[index].kind in ("BR_REPLY", *SENT_REPLIES)
+            or thread[index].kind in ERROR_REPLIES and refused_send(thread, index) is None)
+
+
+def closer_of(openers, closers, index):
+    """Where the opener there is closed: the first place up to which, the opener included, there
+    are as many closers as openers. The lists tell of each event of the thread what it is."""
+    opened = closed = 0
+    for end in range(index, len(openers)):
+        opened += openers[end]
+        closed += closers[end]
+        if opened == closed:
+            return end
+    return None
+
+
+def verdict(opener, closer):
+    if closer is None:
+        return "open"
+    if opener.kind in SENT_TRANSACTIONS:
+        if closer.kind == "BR_REPLY":
+            return "answered"
+        return "failed" if closer.kind in ERROR_REPLIES else "crossed"
+    return "replied" if closer.kind in SENT_REPLIES else "crossed"
+
+
+class Calls(NamedTuple):
+    """What became of the calls of all threads."""
+    judged: list  # of each opener the event, its verdict and its closer or None
+    strays: list
+    refused: list  # of each refused send the event that tells of it, and the send
+
+
+def calls_of_thread(thread):
+    openers = [is_opener(event) for event in thread]
+    closers = [is_closer(thread, index) for index in range(len(thread))]
+    judged, matched = [], []
+    for index in range(len(thread)):
+        if openers[index]:
+            end = closer_of(openers, closers, index)
+            closer = None if end is None else thread[end]
+            matched.append(end)
+            judged.append((thread[index], verdict(thread[index], closer), closer))
+    strays = [event for index, event in enumerate(thread)
+              if closers[index] and index not in matched]
+    told = [(event, refused_send(thread, index)) for index, event in enumerate(thread)]
+    return Calls(judged, strays, [row for row in told if row[1] is not None])
+
+
+def calls_of(events):
+    judged, strays, refused = [], [], []
+    for name in different((event.process, event.thread) for event in events):
+        thread = calls_of_thread(
+            [event for event in events if (event.process, event.thread) == name])
+        judged += thread.judged
+        strays += thread.strays
+        refused += thread.refused
+    return Calls(sorted(judged, key=lambda row: row[0].place),
+                 sorted(strays, key=lambda event: event.place),
+                 sorted(refused, key=lambda row: row[0].place))
+
+
+def call_row(event, shown, verdict, closer):
+    """A row of `calls` or `served`; shown is the field that the two have different."""
+    return (f"  {event.place} {event.process} {event.thread} {shown} {transaction_code(event)}"
+            f" {verdict} {'-' if closer is None else closer.place}")
+
+
+def calls(found):
+    made = [row for row in found.judged if row[0].kind in SENT_TRANSACTIONS]
+    verdicts = [row[1] for row in made]
+    answered, failed = verdicts.count("answered"), verdicts.count("failed")
+    unanswered = verdicts.count("crossed") + verdicts.count("open")
+    return [f"calls {len(made)} answered {answered} failed {failed} unanswered {unanswered}",
+            *(call_row(row[0], target_handle(row[0]), row[1], row[2])
+              for row in made if row[1] != "answered")]
+
+
+def served(found):
+    got = [row for row in found.judged if row[0].kind in GOT_TRANSACTIONS]
+    verdicts = [row[1] for row in got]
+    replied, crossed = verdicts.count("replied"), verdicts.count("crossed")
+    return [f"served {len(got)} replied {replied} crossed {crossed} open {verdicts.count('open')}",
+            *(call_row(row[0], sender_pid(row[0]), row[1], row[2])
+              for row in got if row[1] != "replied")]
+
+
+def thread_row(event):
+    return f"  {event.place} {event.process} {event.thread} {event.kind}"
+
+
+def strays(found):
+    return [f"strays {len(found.strays)}", *map(thread_row, found.strays)]
+
+
+def refused(found):
+    return [f"refused {len(found.refused)}", *(thread_row(row[0]) for row in found.refused)]
+
+
+# ---- what each process holds
+
+
+def count(events, up, down):
+    """How many events of the one kind there are less those of the other, and the least that this
+    ever was, from the 0 at the begin on."""
+    values = [0]
+    for event in events:
+        values.append(values[-1] + (event.kind == up) - (event.kind == down))
+    return values[-1], min(values)
+
+
+def handle_of(event):
+    return number(event.payload, 0, 4)
+
+
+def handles(processes, events):
+    named = of_kind(events, "BC_ACQUIRE", "BC_RELEASE", "BC_INCREFS", "BC_DECREFS")
+    rows, unbalanced = [], 0
+    for process in processes:
+        own = [event for event in named if event.process == process]
+        for handle in sorted(different(map(handle_of, own))):
+            same = [event for event in own if handle_of(event) == handle]
+            strong, strong_low = count(same, "BC_ACQUIRE", "BC_RELEASE")
+            weak, weak_low = count(same, "BC_INCREFS", "BC_DECREFS")
+            unbalanced += (strong, weak) != (0, 0)
+            rows.append(f"  {process} {handle} {strong} {strong_low} {weak} {weak_low}")
+    return [f"handles {len(rows)} unbalanced {unbalanced}", *rows]
+
+
+def node_of(event):
+    return number(event.payload, 0, 8), number(event.payload, 8, 8)
+
+
+def nodes(processes, events):
+    named = of_kind(events, "BR_ACQUIRE", "BR_RELEASE", "BR_INCREFS", "BR_DECREFS",
+                    "BC_ACQUIRE_DONE", "BC_INCREFS_DONE")
+    rows, unbalanced = [], 0
+    for process in processes:
+        own = [event for event in named if event.process == process]
+        for ptr, cookie in sorted(different(map(node_of, own))):
+            same = [event for event in own if node_of(event) == (ptr, cookie)]
+            strong, strong_low = count(same, "BR_ACQUIRE", "BR_RELEASE")
+            weak, weak_low = count(same, "BR_INCREFS", "BR_DECREFS")
+            strong_due, _ = count(same, "BR_ACQUIRE", "BC_ACQUIRE_DONE")
+            weak_due, _ = count(same, "BR_INCREFS", "BC_INCREFS_DONE")
+            unbalanced += (strong, weak, strong_due, weak_due) != (0, 0, 0, 0)
+            rows.append(f"  {process} 0x{ptr:x} 0x{cookie:x} {strong} {strong_low}"
+                        f" {weak} {weak_low} {strong_due} {weak_due}")
+    return [f"nodes {len(rows)} unbalanced {unbalanced}", *rows]
+
+
+class Ledger(NamedTuple):
+    """Records that open and close something by a key, of each process alone."""
+    opens: tuple
+    closes: tuple
+    key: object  # of an event, its key
+
+    def same(self, events, event):
+        """The events of these that have the key of this one, in its process."""
+        return [other for other in of_kind(events, *self.opens, *self.closes)
+                if (other.process, self.key(other)) == (event.process, self.key(event))]
+
+    def outstanding(self, events):
+        """What is opened and has no later close of its key."""
+        return [event for event in of_kind(events, *self.opens)
+                if not any(other.place > event.place and other.kind in self.closes
+                           for other in self.same(events, event))]
+
+    def strays(self, events):
+        """The closes whose latest earlier event of their key is no open."""
+        found = []
+        for event in of_kind(events, *self.closes):
+            earlier = [other for other in self.same(events, event) if other.place < event.place]
+            if not earlier or earlier[-1].kind in self.closes:
+                found.append(event)
+        return found
+
+
+def cookie_of(event):
+    """The cookie of a death, of its acknowledgement, or of the confirmation of a clear."""
+    return number(event.payload, 0, 8)
+
+
+def cookie_behind_handle(event):
+    """The cookie of a request or of a clear."""
+    return number(event.payload, 4, 8)
+
+
+def address_of(event):
+    """The address of a delivery or of a free."""
+    return buffer(event) if event.kind in DELIVERIES else number(event.payload, 0, 8)
+
+
+def cleared_cookie(event):
+    """The cookie of a clear or of its confirmation."""
+    confirms = event.kind == "BR_CLEAR_DEATH_NOTIFICATION_DONE"
+    return cookie_of(event) if confirms else cookie_behind_handle(event)
+
+
+BUFFERS = Ledger(DELIVERIES, ("BC_FREE_BUFFER",), address_of)
+DEATHS = Ledger(("BR_DEAD_BINDER",), ("BC_DEAD_BINDER_DONE",), cookie_of)
+CLEARS = Ledger(
+    ("BC_CLEAR_DEATH_NOTIFICATION",), ("BR_CLEAR_DEATH_NOTIFICATION_DONE",), cleared_cookie)
+
+
+def buffers(events):
+    leaked = BUFFERS.outstanding(events)
+    return [f"buffers {len(of_kind(events, *DELIVERIES))} leaked {len(leaked)}",
+            *(f"  {event.place} {event.process} 0x{address_of(event):x} {data_size(event)}"
+              f" {event.kind}" for event in leaked)]
+
+
+def frees(events):
+    stray = BUFFERS.strays(events)
+    return [f"frees {len(of_kind(events, 'BC_FREE_BUFFER'))} stray {len(stray)}",
+            *(f"  {event.place} {event.process} 0x{BUFFERS.key(event):x}" for event in stray)]
+
+
+def ends(request, event):
+    """Whether this event, if it stands behind the request, ends it."""
+    if event.process != request.process:
+        return False
+    if event.kind == "BC_CLEAR_DEATH_NOTIFICATION":
+        return event.payload == request.payload
+    return event.kind == "BR_DEAD_BINDER" and cookie_of(event) == cookie_behind_handle(request)
+
+
+def requests(events):
+    made = of_kind(events, "BC_REQUEST_DEATH_NOTIFICATION")
+    standing = [request for request in made
+                if not any(event.place > request.place and ends(request, event)
+                           for event in events)]
+    return [f"requests {len(made)} standing {len(standing)}",
+            *(f"  {event.place} {event.process} {handle_of(event)}"
+              f" 0x{cookie_behind_handle(event):x}" for event in standing)]
+
+
+def open_and_stray(name, open_name, ledger, events):
+    """The section of a ledger whose open and stray ones stand in one list."""
+    outstanding, stray = ledger.outstanding(events), ledger.strays(events)
+    told = [(event, open_name) for event in outstanding] + [(event, "stray") for event in stray]
+    head = (f"{name} {len(of_kind(events, *ledger.opens))} {open_name} {len(outstanding)}"
+            f" stray {len(stray)}")
+    return [head, *(f"  {event.place} {event.process} 0x{ledger.key(event):x} {what}"
+                    for event, what in sorted(told, key=lambda row: row[0].place))]
+
+
+def deaths(events):
+    return open_and_stray("deaths", "unacknowledged", DEATHS, events)
+
+
+def clears(events):
+    return open_and_stray("clears", "unconfirmed", CLEARS, events)
+
+
+# ---- oneway transactions
+
+
+def sizes(events):
+    """How many there are, and the sum of their data sizes."""
+    return f"{len(events)} {sum(map(data_size, events))}"
+
+
+def oneway(processes, events, found):
+    sent = [event for event in events if is_oneway_send(event)]
+    received = [event for event in of_kind(events, *GOT_TRANSACTIONS) if is_oneway(event)]
+    refused = [send for _, send in found.refused if is_oneway_send(send)]
+    rows = []
+    for process in processes:
+        own = [event for event in sent if event.process == process]
+        for handle in sorted(different(map(target_handle, own))):
+            same = [event for event in own if target_handle(event) == handle]
+            rows.append(f"  {process} sent {handle} {sizes(same)}")
+        got = [event for event in received if event.process == process]
+        if got:
+            rows.append(f"  {process} received {sizes(got)}")
+    return [f"oneway sent {len(sent)} received {len(received)} refused {len(refused)}", *rows]
+
+
+# ---- objects and flags
+
+
+def cause_of(body, end, offset):
+    """What makes the object at this offset bad, behind one that ends there; None of a good one."""
+    if offset % 4 != 0:
+        return "Misaligned"
+    if offset < end:
+        return "Overlap"
+    if offset + 4 > len(body):
+        return "Short"
+    if number(body, offset, 4) not in SORTS:
+        return "UnknownSort"
+    if offset + SORTS[number(body, offset, 4)][1] > len(body):
+        return "Short"
+    return None
+
+
+def objects_of(entry):
+    """The names of the good objects in front of the first bad one; and of that one the index, the
+    offset and the cause, or None."""
+    if len(entry.listed) % 8 != 0:
+        return [], (0, 0, "ListLength")
+    names, end = [], 0
+    for index in range(len(entry.listed) // 8):
+        offset = number(entry.listed, 8 * index, 8)
+        cause = cause_of(entry.body, end, offset)
+        if cause is not None:
+            return names, (index, offset, cause)
+        name, length = SORTS[number(entry.body, offset, 4)]
+        names.append(name)
+        end = offset + length
+    return names, None
+
+
+def objects(events):
+    names, rows = [], []
+    for event in events:
+        if event.entry is not None:
+            good, bad = objects_of(event.entry)
+            names += good
+            if bad is not None:
+                index, offset, cause = bad
+                rows.append(f"  {event.place} {event.process} {index} {offset} {cause}")
+    counts = " ".join(f"{name} {names.count(name)}" for name, _ in SORTS.values())
+    return [f"objects {counts} bad {len(rows)}", *rows]
+
+
+def unknown_flags(events):
+    rows = [f"  {event.place} {event.process} 0x{flags(event) & ~KNOWN_FLAGS:08x}"
+            for event in of_kind(events, *TRANSACTIONS_AND_REPLIES)
+            if flags(event) & ~KNOWN_FLAGS != 0]
+    return [f"flags {len(rows)}", *rows]
+
+
+# ---- the texts, and the command line
+
+
+def report_of(frames, events):
+    """The lines of the report."""
+    processes = different(frame.process for frame in frames)
+    found = calls_of(events)
+    return [
+        "BINDER AUDIT 1",
+        *totals(frames, events),
+        *codes(events),
+        *calls(found),
+        *served(found),
+        *strays(found),
+        *refused(found),
+        *handles(processes, events),
+        *nodes(processes, events),
+        *buffers(events),
+        *frees(events),
+        *requests(events),
+        *deaths(events),
+        *clears(events),
+        *oneway(processes, events, found),
+        *objects(events),
+        *unknown_flags(events),
+    ]
+
+
+def reading(capture, first_fault=False):
+    """The status and the lines that the auditor answers to a capture with."""
+    try:
+        frames, events = read_capture(capture)
+    except Fault as fault:
+        kind, place = fault.args
+        return 2, [f"malformed {kind} at {place}"]
+    return 0, ["no malformed record"] if first_fault else report_of(frames, events)
+
+
+def cases(folder):
+    """The cases of the folder: of each its line and the answer that is stored."""
+    for case in (folder / "stdout").read_text().removeprefix(">").split("\n>"):
+        line, _, answer = case.partition("\n")
+        yield line.removeprefix(" "), answer.rstrip("\n").split("\n")
+
+
+def differences(folder):
+    """The lines of the cases whose stored answer about a capture is another one than here."""
+    for line, answer in cases(folder):
+        words = line.split("\t")
+        if answer[0] in ("status 0", "status 2"):
+            [name] = [word for word in words if word.endswith(".cap")]
+            capture = (folder / "data" / name).read_bytes()
+            status, lines = reading(capture, words[0] == "first-fault")
+            if answer != [f"status {status}", *lines]:
+                yield line
+
+
+def print_reading(file, first_fault):
+    status, lines = reading(pathlib.Path(file).read_bytes(), first_fault)
+    print("\n".join(lines))
+    return status
+
+
+def main(words):
+    match words:
+        case ["--check", folder]:
+            lines = list(differences(pathlib.Path(folder)))
+            for line in lines:
+                print(f"{folder}/stdout: {line}: not the answer of {sys.argv[0]}")
+            return 1 if lines else 0
+        case ["--first-fault", file]:
+            return print_reading(file, first_fault=True)
+        case [file] if not file.startswith("-"):
+            return print_reading(file, first_fault=False)
+    print(__doc__, file=sys.stderr)
+    return 64
+
+
+if __name__ == "__main__":
+    sys.exit(main(sys.argv[1:]))
