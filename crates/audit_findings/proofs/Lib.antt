@@ -26,3 +26,4 @@ pub mod TurnLaws
 pub mod ReferenceLaws
 pub mod ProcessLaws
 mod RecordCountLaws
+pub mod OnewayLaws
