@@ -26,4 +26,5 @@ pub mod TurnLaws
 pub mod ReferenceLaws
 pub mod ProcessLaws
 mod RecordCountLaws
-pub mod OnewayLaws
+mod OnewayLaws
+mod OnewayCountLaws

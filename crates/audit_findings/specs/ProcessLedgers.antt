@@ -11,6 +11,7 @@ use Rattle.event_core.specs.declared.buffer.BufferItem.{BufferItem}
 use Rattle.event_core.specs.declared.handle.HandleItem.{HandleItem}
 use Rattle.event_core.specs.declared.node.NodeItem.{NodeItem}
 use Rattle.event_core.specs.declared.oneway.OnewayItem.{OnewayItem}
+use Rattle.event_core.specs.declared.oneway.OnewayKey.{OnewayKey}
 use Rattle.event_core.specs.declared.pending.PendingItem.{PendingItem}
 use Rattle.event_core.specs.declared.request.RequestItem.{RequestItem}
 use Rattle.handle_ledger.specs.Handles.{HandleLedgerSums, AreHandleRows}
@@ -23,6 +24,7 @@ use Rattle.pending_ledger.specs.Requests.{request_place}
 use Rattle.pending_ledger.specs.Sums.{BuffersSums, PendingSums, RequestsSums}
 use Rattle.summary_law.specs.Fits.{IsShort, IsPlaced, short_parts, placed_parts}
 use Rattle.summary_law.specs.Summary.{CanAdd, Adds, FitsInParts}
+use Rattle.summary_law.specs.Tally.{AreTallyRows}
 use Rattle.audit_findings.specs.declared.process.Process.{Process}
 use Rattle.audit_findings.specs.declared.process_items.ProcessItems.{ProcessItems}
 use Rattle.audit_findings.specs.declared.process_ledgers.ProcessLedgers.{ProcessLedgers}
@@ -34,7 +36,7 @@ use Rattle.audit_findings.specs.Frames.{events_of_wholes}
 use Rattle.audit_findings.specs.Handles.{handle_item_of}
 use Rattle.audit_findings.specs.InOrder.{SumsInOrder}
 use Rattle.audit_findings.specs.Nodes.{node_item_of}
-use Rattle.audit_findings.specs.Oneway.{oneway_item_of}
+use Rattle.audit_findings.specs.Oneway.{oneway_item_of, oneway_cmp, oneway_pair}
 use Rattle.audit_findings.specs.OnewayLedger.{OnewayLedgerSums}
 use Rattle.audit_findings.specs.ProcessItems.{is_no_items, fed_by_all}
 use Rattle.audit_findings.specs.Processes.{same_process, processes_of, read_of, items_of_process}
@@ -199,3 +201,9 @@ abbrev pub GivesNodes : ProcessSummary → List NodeRow → Type 0
 GivesNodes summary rows =
     (events : List EventText) (process : ℕ) → IsOfProcess summary.ledgers events process
     → AreNodeRows (read_of node_item_of process) events rows
+
+-- the rows of oneway transactions of whatever process the ledgers are of
+abbrev pub GivesOneway : ProcessSummary → List (OnewayKey × ℕ × ℕ) → Type 0
+GivesOneway summary rows =
+    (events : List EventText) (process : ℕ) → IsOfProcess summary.ledgers events process
+    → AreTallyRows oneway_cmp (map oneway_pair (items_of_process oneway_item_of process events)) rows
