@@ -11,6 +11,7 @@ pub mod LookupLaws
 pub mod RecordsThere
 pub mod Rising
 pub mod PlacesRise
+mod TallyRows
 pub mod OneFindings
 pub mod StandLaws
 pub mod PlaceLaws

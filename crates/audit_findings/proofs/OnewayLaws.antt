@@ -1,9 +1,12 @@
 -- The ledger of oneway transactions, by the tally that it keeps.
-use Rattle.std.proofs.Common.{◌≡◌, ℕ, ◌<◌, ◌^◌, List, [], ◌∷◌, ◌++◌, map, All, refl, sym, subst, arith}
+use Rattle.std.proofs.Common.{◌≡◌, ℕ, ◌<◌, ◌^◌, List, [], ◌∷◌, ◌++◌, map, All, refl, sym, ap, subst, arith}
+use Rattle.std.specs.Cmp.{IsTotalOrder}
 use Rattle.std.specs.declared.cmp.Ordering.{Ordering}
 use Rattle.std.proofs.lemmas.List.{length-map, map-append}
 use Rattle.std.proofs.lemmas.List.Elements.{All-append, All-cons, All-map, All-nil}
+use Rattle.std.proofs.lemmas.Map.Lookups.{CmpEqualImpliesEq, exact_unsigned}
 use Rattle.event_core.specs.contracts.oneway.OnewayKeyOrd.TheImpl as key_ord
+use Rattle.event_core.specs.contracts.oneway.OnewayKeyOrd.TheImpl.Laws.{total-law}
 use Rattle.event_core.specs.declared.oneway.OnewayItem.{OnewayItem}
 use Rattle.event_core.specs.declared.oneway.OnewayKey.{OnewayKey}
 use Rattle.event_core.specs.declared.oneway.OnewayKey.TheVariants.{Sent, Received}
@@ -29,6 +32,15 @@ same_order Received Received = refl
 
 pub order_is : key_cmp ≡ oneway_cmp
 order_is i a b = same_order a b i
+
+pub oneway_cmp_total : IsTotalOrder oneway_cmp
+oneway_cmp_total = subst IsTotalOrder order_is total-law
+
+pub oneway_cmp_exact : CmpEqualImpliesEq oneway_cmp
+oneway_cmp_exact (Sent a) (Sent b) is = ap Sent (exact_unsigned a b is)
+oneway_cmp_exact (Sent a) Received is = let no : ⊥ = cc in absurd no
+oneway_cmp_exact Received (Sent b) is = let no : ⊥ = cc in absurd no
+oneway_cmp_exact Received Received is = refl
 
 by_derived : (tally : Tally OnewayKey) (items : List OnewayItem) → TallySums oneway_cmp tally (map oneway_pair items) → TallySums key_cmp tally (map oneway_pair items)
 by_derived tally items = subst (λ (cmp : OnewayKey → OnewayKey → Ordering). TallySums cmp tally (map oneway_pair items)) (sym order_is)

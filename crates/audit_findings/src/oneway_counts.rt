@@ -35,14 +35,18 @@ impl OnewayCounts {
     {
         match oneway_step(event) {
             None => OnewayCounts::NONE,
-            Some(OnewayItem {
-                key: OnewayKey::Sent(_),
-                ..
-            }) => OnewayCounts::SENT,
-            Some(OnewayItem {
-                key: OnewayKey::Received,
-                ..
-            }) => OnewayCounts::RECEIVED,
+            Some(
+                OnewayItem {
+                    key: OnewayKey::Sent(_),
+                    ..
+                },
+            ) => OnewayCounts::SENT,
+            Some(
+                OnewayItem {
+                    key: OnewayKey::Received,
+                    ..
+                },
+            ) => OnewayCounts::RECEIVED,
         }
     }
 
