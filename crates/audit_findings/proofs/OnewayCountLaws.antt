@@ -1,16 +1,17 @@
 -- How many oneway transactions there are among some events and others.
-use Rattle.std.proofs.Common.{◌≡◌, ℕ, ◌+◌, ◌<◌, ◌≤◌, ◌^◌, Bool, cond, List, ◌++◌, length, ap, ap₂, sym, ◌∙◌, length-append, arith}
+use Rattle.std.proofs.Common.{◌≡◌, ℕ, ◌+◌, ◌<◌, ◌≤◌, ◌^◌, Bool, cond, List, [], ◌∷◌, ◌++◌, Option, Some, refl, length, ap, ap₂, sym, ◌∙◌, length-append, arith}
 use Rattle.std.specs.Prelude.{count_by, not}
-use Rattle.std.specs.List.{filter_map}
+use Rattle.std.specs.List.{filter_map, cons_option}
 use Rattle.std.proofs.lemmas.List.Elements.{filter_map-append}
 use Rattle.std.proofs.lemmas.List.Sums.{sum_by-append, count_by-le-length}
 use Rattle.event_core.specs.Events.{EventText}
 use Rattle.event_core.specs.declared.oneway.OnewayItem.{OnewayItem}
+use Rattle.event_core.specs.declared.oneway.OnewayKey.{OnewayKey}
 use Rattle.summary_law.proofs.ReadLaws.{length-read}
 use Rattle.summary_law.specs.Fits.{IsShort}
 use Rattle.audit_findings.specs.declared.oneway_counts.OnewayCounts.{OnewayCounts}
 use Rattle.audit_findings.specs.Ledgers.{CountsOneway}
-use Rattle.audit_findings.specs.Oneway.{oneway_item_of, is_sent}
+use Rattle.audit_findings.specs.Oneway.{oneway_item_of, is_sent, is_sent_key}
 
 -- how many oneway transactions of a sort there are
 abbrev count_of : (OnewayItem → Bool) → List EventText → ℕ
@@ -26,6 +27,24 @@ count_of-short is events =
     let counted = count_by-le-length is (filter_map oneway_item_of events) in
     let read = length-read oneway_item_of events in
     omega (arith, counted, read)
+
+-- of one event
+abbrev one_if : Bool → ℕ
+one_if b = cond b 1 0
+
+count_of-one : (is : OnewayItem → Bool) (e : EventText) (item : OnewayItem) → Some item ≡ oneway_item_of e → count_of is (e ∷ []) ≡ one_if (is item)
+count_of-one is e item read =
+    let one : filter_map oneway_item_of (e ∷ []) ≡ item ∷ [] = ap (λ (o : Option OnewayItem). cons_option o []) (sym read) in
+    ap (count_by is) one ∙ (omega arith)
+
+pub counts_one : (counts : OnewayCounts) (e : EventText) (item : OnewayItem) (key : OnewayKey) → Some item ≡ oneway_item_of e → item.key ≡ key
+    → counts.sent ≡ one_if (is_sent_key key) → counts.received ≡ one_if (not (is_sent_key key)) → CountsOneway counts (e ∷ [])
+counts_one counts e item key read same sent received =
+    let given : (f : OnewayKey → Bool) → one_if (f item.key) ≡ one_if (f key) = λ f. ap (λ (k : OnewayKey). one_if (f k)) same in
+    record {
+      sent = sent ∙ sym (count_of-one is_sent e item read ∙ given is_sent_key);
+      received = received ∙ sym (count_of-one (λ item. not (is_sent item)) e item read ∙ given (λ k. not (is_sent_key k)));
+    }
 
 -- the counts of some events and of others are together those of both
 pub counts_both : (counts more both : OnewayCounts) (first second : List EventText) → CountsOneway counts first → CountsOneway more second

@@ -4,7 +4,7 @@ ghost use Rattle.std.specs.Prelude.{◌≡◌, ◌+◌, ◌∷◌, ◌<◌, ◌^
 ghost use Rattle.event_core.specs.Reading.{event_text};
 ghost use Rattle.audit_findings.specs.Ledgers.{CountsOneway};
 
-use event_core::{Event, OnewayItem, OnewayKey, oneway_step};
+use event_core::{Event, OnewayKey, oneway_step};
 
 /// How many oneway transactions are sent, and how many received, over all processes.
 #[derive(Clone, Copy)]
@@ -33,20 +33,12 @@ impl OnewayCounts {
     pub fn of(event: Event<'_>) -> Self
         ensures { CountsOneway result (event_text event.entry ∷ []) }
     {
-        match oneway_step(event) {
-            None => OnewayCounts::NONE,
-            Some(
-                OnewayItem {
-                    key: OnewayKey::Sent(_),
-                    ..
-                },
-            ) => OnewayCounts::SENT,
-            Some(
-                OnewayItem {
-                    key: OnewayKey::Received,
-                    ..
-                },
-            ) => OnewayCounts::RECEIVED,
+        let Some(item) = oneway_step(event) else {
+            return OnewayCounts::NONE;
+        };
+        match item.key {
+            OnewayKey::Sent(_) => OnewayCounts::SENT,
+            OnewayKey::Received => OnewayCounts::RECEIVED,
         }
     }
 
