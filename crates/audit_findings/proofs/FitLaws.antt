@@ -32,6 +32,7 @@ use Rattle.audit_findings.specs.Frames.{Show, IsWhole, events_of_wholes, placed_
 use Rattle.audit_findings.specs.Handles.{handle_item_of}
 use Rattle.audit_findings.specs.Ledgers.{AreFewEvents, AreFewFrames}
 use Rattle.audit_findings.specs.Nodes.{node_item_of}
+use Rattle.audit_findings.specs.Oneway.{oneway_item_of}
 use Rattle.audit_findings.specs.ProcessItems.{no_items, items_of_event, key_of, fed_by, fed_by_all}
 use Rattle.audit_findings.specs.ProcessLedgers.{FitProcess, SumsProcessItems, process_parts}
 use Rattle.audit_findings.specs.Processes.{same_process, read_of, items_of_process}
@@ -86,6 +87,7 @@ fit_all wholes few q =
           (placed_items place_of death_item_of death_keeps q.number events few);
       clears = subst (IsPlaced place_of) (sym (fed_items (λ i. i.clear) clear_item_of refl (λ e. refl) q wholes))
           (placed_items place_of clear_item_of clear_keeps q.number events few);
+      oneway = subst IsShort (sym (fed_items (λ i. i.oneway) oneway_item_of refl (λ e. refl) q wholes)) (short_items oneway_item_of q.number events few);
     }
 
 -- and by frames behind others

@@ -11,6 +11,7 @@ pub mod LookupLaws
 pub mod RecordsThere
 pub mod Rising
 pub mod PlacesRise
+mod TallyRows
 pub mod OneFindings
 pub mod StandLaws
 pub mod PlaceLaws
@@ -26,3 +27,5 @@ pub mod TurnLaws
 pub mod ReferenceLaws
 pub mod ProcessLaws
 mod RecordCountLaws
+mod OnewayLaws
+mod OnewayCountLaws

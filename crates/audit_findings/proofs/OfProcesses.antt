@@ -22,6 +22,8 @@ use Rattle.audit_findings.specs.Deaths.{death_item_of}
 use Rattle.audit_findings.specs.Frames.{events_of_wholes}
 use Rattle.audit_findings.specs.Handles.{handle_item_of}
 use Rattle.audit_findings.specs.Nodes.{node_item_of}
+use Rattle.audit_findings.specs.Oneway.{oneway_item_of}
+use Rattle.audit_findings.specs.OnewayLedger.{OnewayLedgerSums}
 use Rattle.audit_findings.specs.ProcessItems.{is_no_items, fed_by_all}
 use Rattle.audit_findings.specs.ProcessLedgers.{SumsIfAny, SumsProcessItems, SumsProcesses, IsOfProcess, AreOfProcesses}
 use Rattle.audit_findings.specs.Processes.{same_process, processes_of}
@@ -29,39 +31,7 @@ use Rattle.audit_findings.specs.Requests.{request_item_of}
 use Rattle.audit_findings.proofs.FedLaws.{fed_items, processes_fed}
 use Rattle.audit_findings.proofs.InOrderLaws.{each_sums}
 use Rattle.audit_findings.proofs.KeyLaws.{same_process_equiv}
-
-both_true : (a b : Bool) → (a && b) ≡ true → (a ≡ true) × (b ≡ true)
-both_true true b is = (refl, is)
-both_true false b is = let no : ⊥ = cc in absurd no
-
-nothing : {X : Type 0} (o : Option X) → is_none o ≡ true → o ≡ None
-nothing None is = refl
-nothing (Some x) is = let no : ⊥ = cc in absurd no
-
--- where no item is one of a ledger, none is read
-none_read : {I : Type 0} (part : ProcessItems → Option I) → ((i : ProcessItems) → is_no_items i ≡ true → part i ≡ None)
-    → (items : List ProcessItems) → All (λ i. is_no_items i ≡ true) items → filter_map part items ≡ []
-none_read part none [] all = refl
-none_read {I} part none (i ∷ items) all =
-    let IsNone : ProcessItems → Type 0 = λ i. is_no_items i ≡ true in
-    ap (λ (o : Option I). cons_option o (filter_map part items)) (none i (All-head IsNone i items all))
-    ∙ none_read part none items (All-tail IsNone i items all)
-
--- the parts of what is no item
-no_items_parts : (i : ProcessItems) → is_no_items i ≡ true
-    → (i.handle ≡ None) × (i.node ≡ None) × (i.buffer ≡ None) × (i.request ≡ None) × (i.death ≡ None) × (i.clear ≡ None)
-no_items_parts i is =
-    let h = is_none i.handle in
-    let n = is_none i.node in
-    let b = is_none i.buffer in
-    let r = is_none i.request in
-    let d = is_none i.death in
-    let last = both_true (h && n && b && r && d) (is_none i.clear) is in
-    let death = both_true (h && n && b && r) d last.0 in
-    let request = both_true (h && n && b) r death.0 in
-    let buffer = both_true (h && n) b request.0 in
-    let node = both_true h n buffer.0 in
-    (nothing i.handle node.0, nothing i.node node.1, nothing i.buffer buffer.1, nothing i.request request.1, nothing i.death death.1, nothing i.clear last.1)
+use Rattle.audit_findings.proofs.ProcessLaws.{nothing, none_read}
 
 -- what sums what was fed under a key is of the process
 is_of : (ledgers : Option (Box ProcessLedgers Global)) (wholes : List (Placed WholeFrame)) (q : Process)
@@ -69,12 +39,13 @@ is_of : (ledgers : Option (Box ProcessLedgers Global)) (wholes : List (Placed Wh
 is_of None wholes q all =
     let items = items_of same_process q (fed_by_all wholes) in
     record {
-      handles = sym (fed_items (λ i. i.handle) handle_item_of refl (λ e. refl) q wholes) ∙ none_read (λ i. i.handle) (λ i is. (no_items_parts i is).0) items all;
-      nodes = sym (fed_items (λ i. i.node) node_item_of refl (λ e. refl) q wholes) ∙ none_read (λ i. i.node) (λ i is. (no_items_parts i is).1) items all;
-      buffers = sym (fed_items (λ i. i.buffer) buffer_item_of refl (λ e. refl) q wholes) ∙ none_read (λ i. i.buffer) (λ i is. (no_items_parts i is).2) items all;
-      requests = sym (fed_items (λ i. i.request) request_item_of refl (λ e. refl) q wholes) ∙ none_read (λ i. i.request) (λ i is. (no_items_parts i is).3) items all;
-      deaths = sym (fed_items (λ i. i.death) death_item_of refl (λ e. refl) q wholes) ∙ none_read (λ i. i.death) (λ i is. (no_items_parts i is).4) items all;
-      clears = sym (fed_items (λ i. i.clear) clear_item_of refl (λ e. refl) q wholes) ∙ none_read (λ i. i.clear) (λ i is. (no_items_parts i is).5) items all;
+      handles = sym (fed_items (λ i. i.handle) handle_item_of refl (λ e. refl) q wholes) ∙ none_read (λ i. i.handle) (λ i is. (nothing i is).handle) items all;
+      nodes = sym (fed_items (λ i. i.node) node_item_of refl (λ e. refl) q wholes) ∙ none_read (λ i. i.node) (λ i is. (nothing i is).node) items all;
+      buffers = sym (fed_items (λ i. i.buffer) buffer_item_of refl (λ e. refl) q wholes) ∙ none_read (λ i. i.buffer) (λ i is. (nothing i is).buffer) items all;
+      requests = sym (fed_items (λ i. i.request) request_item_of refl (λ e. refl) q wholes) ∙ none_read (λ i. i.request) (λ i is. (nothing i is).request) items all;
+      deaths = sym (fed_items (λ i. i.death) death_item_of refl (λ e. refl) q wholes) ∙ none_read (λ i. i.death) (λ i is. (nothing i is).death) items all;
+      clears = sym (fed_items (λ i. i.clear) clear_item_of refl (λ e. refl) q wholes) ∙ none_read (λ i. i.clear) (λ i is. (nothing i is).clear) items all;
+      oneway = sym (fed_items (λ i. i.oneway) oneway_item_of refl (λ e. refl) q wholes) ∙ none_read (λ i. i.oneway) (λ i is. (nothing i is).oneway) items all;
     }
 is_of (Some ledgers) wholes q sums =
     record {
@@ -84,6 +55,7 @@ is_of (Some ledgers) wholes q sums =
       requests = subst (RequestsSums ledgers.value.requests) (fed_items (λ i. i.request) request_item_of refl (λ e. refl) q wholes) sums.requests;
       deaths = subst (PendingSums nat_cmp ledgers.value.deaths) (fed_items (λ i. i.death) death_item_of refl (λ e. refl) q wholes) sums.deaths;
       clears = subst (PendingSums nat_cmp ledgers.value.clears) (fed_items (λ i. i.clear) clear_item_of refl (λ e. refl) q wholes) sums.clears;
+      oneway = subst (OnewayLedgerSums ledgers.value.oneway) (fed_items (λ i. i.oneway) oneway_item_of refl (λ e. refl) q wholes) sums.oneway;
     }
 
 pub are_of_processes : (entries : List (Process × ProcessSummary)) (wholes : List (Placed WholeFrame)) → SumsProcesses entries wholes

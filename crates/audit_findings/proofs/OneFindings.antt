@@ -9,19 +9,24 @@ use Rattle.std.proofs.lemmas.List.Kept.{AllPairs-from_increasing}
 use Rattle.capture_frame.specs.Units.{Placed}
 use Rattle.transaction_view.specs.Grammar.{WholeFrame}
 use Rattle.event_core.specs.Events.{EventText}
+use Rattle.event_core.specs.declared.oneway.OnewayKey.{OnewayKey}
 use Rattle.handle_ledger.proofs.HandleLaws.{one_list_of_handle_rows}
 use Rattle.handle_ledger.proofs.NodeLaws.{one_list_of_node_rows}
 use Rattle.pending_ledger.proofs.ListLaws.{one_place}
 use Rattle.pending_ledger.specs.Pending.{ArePlacesOf}
 use Rattle.audit_findings.specs.declared.handles.ProcessHandle.{ProcessHandle}
 use Rattle.audit_findings.specs.declared.nodes.ProcessNode.{ProcessNode}
+use Rattle.audit_findings.specs.declared.oneway.OnewayRow.{OnewayRow}
 use Rattle.audit_findings.specs.declared.record_counts.RecordCounts.{RecordCounts}
 use Rattle.audit_findings.specs.Frames.{events_of_wholes}
 use Rattle.audit_findings.specs.Handles.{AreHandlesOf, AreHandleFindings, handle_item_of, process_handle}
 use Rattle.audit_findings.specs.Nodes.{AreNodesOf, AreNodeFindings, node_item_of, process_node}
+use Rattle.audit_findings.specs.Oneway.{OnewayText, AreOnewayFindings, AreOnewayRows, AreOnewayOf, oneway_cmp, oneway_item_of, oneway_pair, process_oneway}
 use Rattle.audit_findings.specs.Places.{AreEventsAt, AreOpenAndStray, IsCountOfPlaces, RiseInPlace, OpenAndStrayText}
-use Rattle.audit_findings.specs.Processes.{AreInTurn, processes_of, read_of}
+use Rattle.audit_findings.specs.Processes.{AreInTurn, items_of_process, processes_of, read_of}
 use Rattle.audit_findings.specs.RecordCounts.{AreRecordCounts}
+use Rattle.audit_findings.proofs.OnewayLaws.{oneway_cmp_total, oneway_cmp_exact}
+use Rattle.audit_findings.proofs.TallyRows.{one_list_of_tally_rows}
 
 -- ---- rows of each process in turn
 
@@ -54,6 +59,22 @@ one_list_of_nodes wholes =
     (λ process rows others a b.
     a.2 ∙ ap (map (process_node process)) (one_list_of_node_rows (read_of node_item_of process) (events_of_wholes wholes) a.0 b.0 a.1 b.1) ∙ sym b.2)
     (processes_of wholes)
+
+pub one_list_of_oneway : (wholes : List (Placed WholeFrame)) (rows others : List OnewayRow) → AreOnewayRows wholes rows → AreOnewayRows wholes others
+    → rows ≡ others
+one_list_of_oneway wholes =
+    let pairs : ℕ → List (OnewayKey × ℕ) = λ process. map oneway_pair (items_of_process oneway_item_of process (events_of_wholes wholes)) in
+    one_in_turn (AreOnewayOf (events_of_wholes wholes))
+    (λ process rows others a b.
+    a.2 ∙ ap (map (process_oneway process)) (one_list_of_tally_rows oneway_cmp (pairs process) oneway_cmp_total oneway_cmp_exact a.0 b.0 a.1 b.1) ∙ sym b.2)
+    (processes_of wholes)
+
+pub one_oneway : (wholes : List (Placed WholeFrame)) (said other : OnewayText) → AreOnewayFindings wholes said → AreOnewayFindings wholes other
+    → said ≡ other
+one_oneway wholes said other a b =
+    let make : ℕ → ℕ → List OnewayRow → OnewayText = λ s r rows. record { sent = s; received = r; rows = rows } in
+    ap₂ (λ (s r : ℕ). make s r said.rows) (a.sent ∙ sym b.sent) (a.received ∙ sym b.received)
+    ∙ ap (make other.sent other.received) (one_list_of_oneway wholes said.rows other.rows a.rows b.rows)
 
 -- ---- rising numbers with the same members
 

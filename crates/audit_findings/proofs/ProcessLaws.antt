@@ -10,6 +10,7 @@ use Rattle.pending_ledger.specs.Sums.{BuffersSums, PendingSums, RequestsSums}
 use Rattle.summary_law.specs.Summary.{CanJoin, Joins}
 use Rattle.audit_findings.specs.declared.process_items.ProcessItems.{ProcessItems}
 use Rattle.audit_findings.specs.declared.process_ledgers.ProcessLedgers.{ProcessLedgers}
+use Rattle.audit_findings.specs.OnewayLedger.{OnewayLedgerSums}
 use Rattle.audit_findings.specs.ProcessItems.{is_no_items}
 use Rattle.audit_findings.specs.ProcessLedgers.{CanAddMaybe, AddsMaybe, SumsProcess, SumsIfAny, IsOfProcess, AreLedgersOf, HasNoItems}
 
@@ -70,17 +71,19 @@ none_is None is = refl
 none_is (Some j) is = absurd (true≢false (sym is))
 
 -- no item of any ledger is read from the items
-record Nothing (i : ProcessItems) : Type 0 where
-  handle : i.handle ≡ None
-  node : i.node ≡ None
-  buffer : i.buffer ≡ None
-  request : i.request ≡ None
-  death : i.death ≡ None
-  clear : i.clear ≡ None
+pub record Nothing (i : ProcessItems) : Type 0 where
+  pub handle : i.handle ≡ None
+  pub node : i.node ≡ None
+  pub buffer : i.buffer ≡ None
+  pub request : i.request ≡ None
+  pub death : i.death ≡ None
+  pub clear : i.clear ≡ None
+  pub oneway : i.oneway ≡ None
 
-nothing : (i : ProcessItems) → is_no_items i ≡ true → Nothing i
+pub nothing : (i : ProcessItems) → is_no_items i ≡ true → Nothing i
 nothing i is =
-    let five = both_true (is_none i.handle && is_none i.node && is_none i.buffer && is_none i.request && is_none i.death) (is_none i.clear) is in
+    let six = both_true (is_none i.handle && is_none i.node && is_none i.buffer && is_none i.request && is_none i.death && is_none i.clear) (is_none i.oneway) is in
+    let five = both_true (is_none i.handle && is_none i.node && is_none i.buffer && is_none i.request && is_none i.death) (is_none i.clear) six.0 in
     let four = both_true (is_none i.handle && is_none i.node && is_none i.buffer && is_none i.request) (is_none i.death) five.0 in
     let three = both_true (is_none i.handle && is_none i.node && is_none i.buffer) (is_none i.request) four.0 in
     let two = both_true (is_none i.handle && is_none i.node) (is_none i.buffer) three.0 in
@@ -92,16 +95,17 @@ nothing i is =
       request = none_is i.request three.1;
       death = none_is i.death four.1;
       clear = none_is i.clear five.1;
+      oneway = none_is i.oneway six.1;
     }
 
-abbrev AreNone : List ProcessItems → Type 0
+abbrev pub AreNone : List ProcessItems → Type 0
 AreNone items = All (λ (i : ProcessItems). is_no_items i ≡ true) items
 
 -- nothing is read by this where there is no item
-abbrev ReadsNone : {J : Type 0} → (ProcessItems → Option J) → Type 0
+abbrev pub ReadsNone : {J : Type 0} → (ProcessItems → Option J) → Type 0
 ReadsNone read = (i : ProcessItems) → is_no_items i ≡ true → read i ≡ None
 
-none_read : {J : Type 0} (read : ProcessItems → Option J) → ReadsNone read → (items : List ProcessItems) → AreNone items → filter_map read items ≡ []
+pub none_read : {J : Type 0} (read : ProcessItems → Option J) → ReadsNone read → (items : List ProcessItems) → AreNone items → filter_map read items ≡ []
 none_read read reads [] all = refl
 none_read read reads (i ∷ items) all =
     let P = λ (i : ProcessItems). is_no_items i ≡ true in
@@ -118,6 +122,7 @@ same_sums ledgers items others same sums = record {
   requests = subst (RequestsSums ledgers.requests) (same _ (λ (i : ProcessItems). i.request) (λ i is. (nothing i is).request)) sums.requests;
   deaths = subst (PendingSums nat_cmp ledgers.deaths) (same _ (λ (i : ProcessItems). i.death) (λ i is. (nothing i is).death)) sums.deaths;
   clears = subst (PendingSums nat_cmp ledgers.clears) (same _ (λ (i : ProcessItems). i.clear) (λ i is. (nothing i is).clear)) sums.clears;
+  oneway = subst (OnewayLedgerSums ledgers.oneway) (same _ (λ (i : ProcessItems). i.oneway) (λ i is. (nothing i is).oneway)) sums.oneway;
 }
 
 -- ledgers of no item are those of a list of no items

@@ -1,5 +1,5 @@
--- Rows of handles and of nodes, of one process and of all in turn.
-use Rattle.std.proofs.Common.{◌≡◌, ℕ, true, List, [], map, Option, Some, None, IsSomeAnd, refl, sym, subst}
+-- Rows of handles, of nodes and of oneway transactions, of one process and of all in turn.
+use Rattle.std.proofs.Common.{◌≡◌, ℕ, true, List, [], map, Option, Some, None, IsSomeAnd, refl, sym, subst, arith}
 use Rattle.std.proofs.Common.{Box, Global}
 use Rattle.std.specs.List.{AllZip, filter_map}
 use Rattle.std.specs.List.Sorted.{IsStrictlySortedBy}
@@ -8,23 +8,29 @@ use Rattle.capture_frame.specs.Units.{Placed}
 use Rattle.event_core.specs.Events.{EventText}
 use Rattle.event_core.specs.declared.handle.HandleItem.{HandleItem}
 use Rattle.event_core.specs.declared.node.NodeItem.{NodeItem}
+use Rattle.event_core.specs.declared.oneway.OnewayItem.{OnewayItem}
+use Rattle.event_core.specs.declared.oneway.OnewayKey.{OnewayKey}
 use Rattle.handle_ledger.specs.Handles.{AreHandleRows, GivesHandleRows, IsHandleRow}
 use Rattle.handle_ledger.specs.Nodes.{AreNodeRows, GivesNodeRows, IsNodeRow}
 use Rattle.handle_ledger.specs.declared.handle_row.HandleRow.{HandleRow}
 use Rattle.handle_ledger.specs.declared.node_row.NodeRow.{NodeRow}
 use Rattle.handle_ledger.proofs.HandleLaws.{read_handle_rows}
 use Rattle.handle_ledger.proofs.NodeLaws.{read_node_rows}
+use Rattle.summary_law.specs.Tally.{AreTallyRows}
 use Rattle.transaction_view.specs.Grammar.{WholeFrame}
 use Rattle.audit_findings.specs.declared.handles.ProcessHandle.{ProcessHandle}
 use Rattle.audit_findings.specs.declared.nodes.ProcessNode.{ProcessNode}
+use Rattle.audit_findings.specs.declared.oneway.OnewayRow.{OnewayRow}
 use Rattle.audit_findings.specs.declared.process.Process.{Process}
 use Rattle.audit_findings.specs.declared.process_ledgers.ProcessLedgers.{ProcessLedgers}
 use Rattle.audit_findings.specs.declared.process_summary.ProcessSummary.{ProcessSummary}
 use Rattle.audit_findings.specs.Frames.{events_of_wholes}
 use Rattle.audit_findings.specs.Handles.{handle_item_of, process_handle, AreHandlesOf, AreHandleFindings}
 use Rattle.audit_findings.specs.Nodes.{node_item_of, process_node, AreNodesOf, AreNodeFindings}
-use Rattle.audit_findings.specs.ProcessLedgers.{AreLedgersOf, AreOfProcesses, IsOfProcess, GivesHandles, GivesNodes}
-use Rattle.audit_findings.specs.Processes.{processes_of, read_of}
+use Rattle.audit_findings.specs.Oneway.{oneway_cmp, oneway_item_of, oneway_pair, process_oneway, AreOnewayOf, AreOnewayRows}
+use Rattle.audit_findings.specs.OnewayLedger.{GivesTallyRows}
+use Rattle.audit_findings.specs.ProcessLedgers.{AreLedgersOf, AreOfProcesses, IsOfProcess, GivesHandles, GivesNodes, GivesOneway}
+use Rattle.audit_findings.specs.Processes.{processes_of, read_of, items_of_process}
 use Rattle.audit_findings.proofs.ProcessLaws.{found_ledgers, no_ledgers}
 use Rattle.audit_findings.proofs.TurnLaws.{Turning, turned, turned_of, joined}
 
@@ -36,6 +42,10 @@ no_handles = record { rising = tt; named = All-nil _; whole = λ key is. let no 
 no_nodes : AreNodeRows (λ (item : NodeItem). Some item) [] []
 unfolding IsStrictlySortedBy
 no_nodes = record { rising = tt; named = All-nil _; whole = λ key is. let no : ⊥ = cc in absurd no; right = All-nil _ }
+
+no_oneway : AreTallyRows oneway_cmp [] []
+unfolding IsStrictlySortedBy
+no_oneway = record { keys = record { rising = tt; came = All-nil _; whole = λ key is. absurd (omega arith) }; right = All-nil _ }
 
 -- the rows of a process, without ledgers and with them
 pub none_handles : (summary : ProcessSummary) → summary.ledgers ≡ None → GivesHandles summary []
@@ -60,6 +70,17 @@ some_nodes summary ledgers some rows gives events process is =
     let own = found_ledgers summary.ledgers ledgers events process some is in
     read_node_rows (read_of node_item_of process) events rows (gives (filter_map (read_of node_item_of process) events) own.nodes)
 
+pub none_oneway : (summary : ProcessSummary) → summary.ledgers ≡ None → GivesOneway summary []
+none_oneway summary none events process is =
+    let nothing = no_ledgers summary.ledgers events process none is in
+    subst (λ (items : List OnewayItem). AreTallyRows oneway_cmp (map oneway_pair items) []) (sym nothing.oneway) no_oneway
+
+pub some_oneway : (summary : ProcessSummary) (ledgers : ProcessLedgers) → IsSomeAnd summary.ledgers (λ own. ledgers ≡ own.value)
+    → (rows : List (OnewayKey × ℕ × ℕ)) → GivesTallyRows ledgers.oneway rows → GivesOneway summary rows
+some_oneway summary ledgers some rows gives events process is =
+    let own = found_ledgers summary.ledgers ledgers events process some is in
+    gives (items_of_process oneway_item_of process events) own.oneway
+
 -- ---- all processes
 
 -- the rows of an entry
@@ -68,6 +89,9 @@ HandlesOf e rows = (own : List HandleRow) × GivesHandles e.1 own × (rows ≡ m
 
 abbrev pub NodesOf : Process × ProcessSummary → List ProcessNode → Type 0
 NodesOf e rows = (own : List NodeRow) × GivesNodes e.1 own × (rows ≡ map (process_node e.0.number) own)
+
+abbrev pub OnewayOf : Process × ProcessSummary → List OnewayRow → Type 0
+OnewayOf e rows = (own : List (OnewayKey × ℕ × ℕ)) × GivesOneway e.1 own × (rows ≡ map (process_oneway e.0.number) own)
 
 -- the entry is that of its process
 abbrev OfIts : List EventText → Process × ProcessSummary → Type 0
@@ -96,3 +120,9 @@ pub nodes_in_turn : (wholes : List (Placed WholeFrame)) (entries : List (Process
 nodes_in_turn wholes entries rows turning of =
     let events = events_of_wholes wholes in
     in_turn NodesOf (AreNodesOf events) wholes (λ e rows is gives. (gives.0, gives.1 events e.0.number is, gives.2)) entries rows turning of
+
+pub oneway_in_turn : (wholes : List (Placed WholeFrame)) (entries : List (Process × ProcessSummary)) (rows : List OnewayRow)
+    → Turning OnewayOf entries [] rows → AreOfProcesses entries wholes → AreOnewayRows wholes rows
+oneway_in_turn wholes entries rows turning of =
+    let events = events_of_wholes wholes in
+    in_turn OnewayOf (AreOnewayOf events) wholes (λ e rows is gives. (gives.0, gives.1 events e.0.number is, gives.2)) entries rows turning of

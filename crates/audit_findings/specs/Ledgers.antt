@@ -14,6 +14,7 @@ use Rattle.audit_findings.specs.declared.findings.Sections.{Sections}
 use Rattle.audit_findings.specs.declared.flags.FlagLedger.{FlagLedger}
 use Rattle.audit_findings.specs.declared.ledgers.Ledgers.{Ledgers}
 use Rattle.audit_findings.specs.declared.objects.ObjectLedger.{ObjectLedger}
+use Rattle.audit_findings.specs.declared.oneway_counts.OnewayCounts.{OnewayCounts}
 use Rattle.audit_findings.specs.declared.sequences.Sequences.{Sequences}
 use Rattle.audit_findings.specs.Codes.{is_opaque}
 use Rattle.audit_findings.specs.Findings.{FindingsText, AreFindings, last_sequence}
@@ -21,6 +22,7 @@ use Rattle.audit_findings.specs.Flags.{flagged}
 use Rattle.audit_findings.specs.Frames.{Show, events_of_wholes}
 use Rattle.audit_findings.specs.Kept.{Keep, kept_bad}
 use Rattle.audit_findings.specs.Objects.{BadOwned, AreObjectFindings, attachments_of}
+use Rattle.audit_findings.specs.Oneway.{sent_count, received_count}
 use Rattle.audit_findings.specs.ProcessLedgers.{SumsProcesses}
 
 -- how many bytes of a list of offsets an event has
@@ -39,6 +41,11 @@ code_item e = (e.code, 0)
 abbrev pub ListsFlagged : FlagLedger → List EventText → Type 0
 ListsFlagged ledger events = ledger.places.items ≡ map (λ e. e.place) (flagged events)
 
+-- the counts are those of the oneway transactions among these events
+pub record CountsOneway (counts : OnewayCounts) (events : List EventText) : Type 0 where
+  pub sent : counts.sent ≡ sent_count events
+  pub received : counts.received ≡ received_count events
+
 -- the objects are counted, and the bad ones kept
 pub record SumsObjects (ledger : ObjectLedger) (events : List EventText) : Type 0 where
   pub bad : List BadOwned
@@ -50,6 +57,7 @@ pub record SumsEvents (ledgers : EventLedgers) (events : List EventText) : Type 
   pub records : ledgers.records ≡ length events
   pub opaque : ledgers.opaque ≡ count_by is_opaque events
   pub codes : TallySums nat_cmp ledgers.codes (map code_item events)
+  pub oneway : CountsOneway ledgers.oneway events
   pub objects : SumsObjects ledgers.objects events
   pub flags : ListsFlagged ledgers.flags events
 

@@ -13,6 +13,7 @@ pub mod Requests
 pub mod Deaths
 pub mod Clears
 pub mod Oneway
+pub mod OnewayLedger
 pub mod Objects
 pub mod Flags
 pub mod Findings

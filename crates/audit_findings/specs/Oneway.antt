@@ -51,14 +51,25 @@ AreOnewayOf events process rows =
     × AreTallyRows oneway_cmp (map oneway_pair (items_of_process oneway_item_of process events)) own
     × (rows ≡ map (process_oneway process) own)
 
+-- the rows of the section: those of each process in turn
+abbrev pub AreOnewayRows : List (Placed WholeFrame) → List OnewayRow → Type 0
+AreOnewayRows wholes rows = AreInTurn (AreOnewayOf (events_of_wholes wholes)) (processes_of wholes) rows
+
+-- how many oneway transactions among these events are sent, and how many received
+abbrev pub sent_count : List EventText → ℕ
+sent_count events = count_by is_sent (filter_map oneway_item_of events)
+
+abbrev pub received_count : List EventText → ℕ
+received_count events = count_by (λ item. not (is_sent item)) (filter_map oneway_item_of events)
+
 -- how many oneway transactions are sent and received, and the rows
 pub record OnewayText : Type 0 where
   pub sent : ℕ
   pub received : ℕ
   pub rows : List OnewayRow
 
--- those of all processes, the rows of each in turn
+-- those of all processes
 pub record AreOnewayFindings (wholes : List (Placed WholeFrame)) (said : OnewayText) : Type 0 where
-  pub sent : said.sent ≡ count_by is_sent (filter_map oneway_item_of (events_of_wholes wholes))
-  pub received : said.received ≡ count_by (λ item. not (is_sent item)) (filter_map oneway_item_of (events_of_wholes wholes))
-  pub rows : AreInTurn (AreOnewayOf (events_of_wholes wholes)) (processes_of wholes) said.rows
+  pub sent : said.sent ≡ sent_count (events_of_wholes wholes)
+  pub received : said.received ≡ received_count (events_of_wholes wholes)
+  pub rows : AreOnewayRows wholes said.rows

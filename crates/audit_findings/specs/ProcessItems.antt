@@ -11,12 +11,21 @@ use Rattle.audit_findings.specs.Clears.{clear_item_of}
 use Rattle.audit_findings.specs.Deaths.{death_item_of}
 use Rattle.audit_findings.specs.Handles.{handle_item_of}
 use Rattle.audit_findings.specs.Nodes.{node_item_of}
+use Rattle.audit_findings.specs.Oneway.{oneway_item_of}
 use Rattle.audit_findings.specs.Processes.{process_of}
 use Rattle.audit_findings.specs.Requests.{request_item_of}
 
 -- no item of any ledger
 abbrev pub no_items : ProcessItems
-no_items = record { handle = None; node = None; buffer = None; request = None; death = None; clear = None }
+no_items = record {
+  handle = None;
+  node = None;
+  buffer = None;
+  request = None;
+  death = None;
+  clear = None;
+  oneway = None;
+}
 
 -- the item of each ledger that an event is
 abbrev pub items_of_event : EventText → ProcessItems
@@ -27,13 +36,14 @@ items_of_event e = record {
   request = request_item_of e;
   death = death_item_of e;
   clear = clear_item_of e;
+  oneway = oneway_item_of e;
 }
 
 -- whether there is no item
 abbrev pub is_no_items : ProcessItems → Bool
 is_no_items items =
     is_none items.handle && is_none items.node && is_none items.buffer && is_none items.request && is_none items.death
-    && is_none items.clear
+    && is_none items.clear && is_none items.oneway
 
 -- the process of a frame, as a key
 abbrev pub key_of : Placed WholeFrame → Process

@@ -10,6 +10,8 @@ use Rattle.event_core.specs.Events.{EventText}
 use Rattle.event_core.specs.declared.buffer.BufferItem.{BufferItem}
 use Rattle.event_core.specs.declared.handle.HandleItem.{HandleItem}
 use Rattle.event_core.specs.declared.node.NodeItem.{NodeItem}
+use Rattle.event_core.specs.declared.oneway.OnewayItem.{OnewayItem}
+use Rattle.event_core.specs.declared.oneway.OnewayKey.{OnewayKey}
 use Rattle.event_core.specs.declared.pending.PendingItem.{PendingItem}
 use Rattle.event_core.specs.declared.request.RequestItem.{RequestItem}
 use Rattle.handle_ledger.specs.Handles.{HandleLedgerSums, AreHandleRows}
@@ -22,6 +24,7 @@ use Rattle.pending_ledger.specs.Requests.{request_place}
 use Rattle.pending_ledger.specs.Sums.{BuffersSums, PendingSums, RequestsSums}
 use Rattle.summary_law.specs.Fits.{IsShort, IsPlaced, short_parts, placed_parts}
 use Rattle.summary_law.specs.Summary.{CanAdd, Adds, FitsInParts}
+use Rattle.summary_law.specs.Tally.{AreTallyRows}
 use Rattle.audit_findings.specs.declared.process.Process.{Process}
 use Rattle.audit_findings.specs.declared.process_items.ProcessItems.{ProcessItems}
 use Rattle.audit_findings.specs.declared.process_ledgers.ProcessLedgers.{ProcessLedgers}
@@ -33,6 +36,8 @@ use Rattle.audit_findings.specs.Frames.{events_of_wholes}
 use Rattle.audit_findings.specs.Handles.{handle_item_of}
 use Rattle.audit_findings.specs.InOrder.{SumsInOrder}
 use Rattle.audit_findings.specs.Nodes.{node_item_of}
+use Rattle.audit_findings.specs.Oneway.{oneway_item_of, oneway_cmp, oneway_pair}
+use Rattle.audit_findings.specs.OnewayLedger.{OnewayLedgerSums}
 use Rattle.audit_findings.specs.ProcessItems.{is_no_items, fed_by_all}
 use Rattle.audit_findings.specs.Processes.{same_process, processes_of, read_of, items_of_process}
 use Rattle.audit_findings.specs.Requests.{request_item_of}
@@ -56,6 +61,9 @@ deaths_in items = filter_map (λ i. i.death) items
 abbrev pub clears_in : List ProcessItems → List (PendingItem ℕ)
 clears_in items = filter_map (λ i. i.clear) items
 
+abbrev pub oneways_in : List ProcessItems → List OnewayItem
+oneways_in items = filter_map (λ i. i.oneway) items
+
 -- the ledgers are those of these items
 pub record SumsProcess (ledgers : ProcessLedgers) (items : List ProcessItems) : Type 0 where
   pub handles : HandleLedgerSums ledgers.handles (handles_in items)
@@ -64,6 +72,7 @@ pub record SumsProcess (ledgers : ProcessLedgers) (items : List ProcessItems) : 
   pub requests : RequestsSums ledgers.requests (requests_in items)
   pub deaths : PendingSums nat_cmp ledgers.deaths (deaths_in items)
   pub clears : PendingSums nat_cmp ledgers.clears (clears_in items)
+  pub oneway : OnewayLedgerSums ledgers.oneway (oneways_in items)
 
 -- few items for each ledger, and places that rise where items have places
 pub record FitProcess (items : List ProcessItems) : Type 0 where
@@ -73,6 +82,7 @@ pub record FitProcess (items : List ProcessItems) : Type 0 where
   pub requests : IsPlaced request_place (requests_in items)
   pub deaths : IsPlaced place_of (deaths_in items)
   pub clears : IsPlaced place_of (clears_in items)
+  pub oneway : IsShort (oneways_in items)
 
 -- where the items that are read from a list fit, so do those that are read from both its parts
 read_parts : {I J : Type 0} (read : I → Option J) (Fits : List J → Type 0) → FitsInParts Fits → (first second : List I)
@@ -95,7 +105,8 @@ process_parts first second fit =
     first second fit.deaths in
     let clears =
     read_parts (λ (i : ProcessItems). i.clear) (IsPlaced place_of) (placed_parts place_of)
-    first second fit.clears in (
+    first second fit.clears in
+    let oneway = read_parts (λ (i : ProcessItems). i.oneway) IsShort short_parts first second fit.oneway in (
       record {
         handles = handles.0;
         nodes = nodes.0;
@@ -103,6 +114,7 @@ process_parts first second fit =
         requests = requests.0;
         deaths = deaths.0;
         clears = clears.0;
+        oneway = oneway.0;
       },
       record {
         handles = handles.1;
@@ -111,6 +123,7 @@ process_parts first second fit =
         requests = requests.1;
         deaths = deaths.1;
         clears = clears.1;
+        oneway = oneway.1;
       },
     )
 
@@ -147,6 +160,7 @@ pub record AreLedgersOf (ledgers : ProcessLedgers) (events : List EventText) (pr
   pub requests : RequestsSums ledgers.requests (items_of_process request_item_of process events)
   pub deaths : PendingSums nat_cmp ledgers.deaths (items_of_process death_item_of process events)
   pub clears : PendingSums nat_cmp ledgers.clears (items_of_process clear_item_of process events)
+  pub oneway : OnewayLedgerSums ledgers.oneway (items_of_process oneway_item_of process events)
 
 -- no event of this process is an item of a ledger
 pub record HasNoItems (events : List EventText) (process : ℕ) : Type 0 where
@@ -156,6 +170,7 @@ pub record HasNoItems (events : List EventText) (process : ℕ) : Type 0 where
   pub requests : items_of_process request_item_of process events ≡ []
   pub deaths : items_of_process death_item_of process events ≡ []
   pub clears : items_of_process clear_item_of process events ≡ []
+  pub oneway : items_of_process oneway_item_of process events ≡ []
 
 -- the ledgers, if there are any, are those of this process; there are none only where none
 -- of its events is an item of one
@@ -186,3 +201,9 @@ abbrev pub GivesNodes : ProcessSummary → List NodeRow → Type 0
 GivesNodes summary rows =
     (events : List EventText) (process : ℕ) → IsOfProcess summary.ledgers events process
     → AreNodeRows (read_of node_item_of process) events rows
+
+-- the rows of oneway transactions of whatever process the ledgers are of
+abbrev pub GivesOneway : ProcessSummary → List (OnewayKey × ℕ × ℕ) → Type 0
+GivesOneway summary rows =
+    (events : List EventText) (process : ℕ) → IsOfProcess summary.ledgers events process
+    → AreTallyRows oneway_cmp (map oneway_pair (items_of_process oneway_item_of process events)) rows

@@ -8,17 +8,19 @@ ghost use Rattle.audit_findings.specs.Ledgers.{SumsEvents, AreFewEvents};
 use crate::codes::opaque_count;
 use crate::flags::FlagLedger;
 use crate::objects::ObjectLedger;
+use crate::oneway_counts::OnewayCounts;
 use event_core::Event;
 use std::alloc::{AllocError, Global};
 use summary_law::{Summary, Tally};
 
-/// How many events there are, and what `codes`, `objects` and `flags` keep of them.
+/// How many events there are, and what `codes`, `oneway`, `objects` and `flags` keep of them all.
 #[derive(Drop)]
 pub(crate) struct EventLedgers {
     pub records: u64,
     pub opaque: u64,
     /// The code words, each record with weight 0.
     pub codes: Tally<u32>,
+    pub oneway: OnewayCounts,
     pub objects: ObjectLedger,
     pub flags: FlagLedger,
 }
@@ -31,6 +33,7 @@ impl EventLedgers {
             records: 0,
             opaque: 0,
             codes: Tally::empty(alloc),
+            oneway: OnewayCounts::NONE,
             objects: ObjectLedger::empty(alloc),
             flags: FlagLedger::empty(alloc),
         }
@@ -44,6 +47,7 @@ impl EventLedgers {
     {
         self.records += 1;
         self.opaque += opaque_count(event.kind);
+        self.oneway = self.oneway.plus(OnewayCounts::of(event));
         self.codes.add((event.code.0, 0))?;
         self.objects.add(event)?;
         self.flags.add(event)
@@ -58,6 +62,7 @@ impl EventLedgers {
             records: self.records + later.records,
             opaque: self.opaque + later.opaque,
             codes: self.codes.join(later.codes)?,
+            oneway: self.oneway.plus(later.oneway),
             objects: self.objects.join(later.objects)?,
             flags: self.flags.join(later.flags)?,
         })

@@ -17,6 +17,8 @@ mod lookup;
 mod nodes;
 mod objects;
 mod oneway;
+mod oneway_counts;
+mod oneway_ledger;
 mod open_and_stray;
 mod piece_summary;
 mod places;

@@ -5,8 +5,8 @@ ghost use Rattle.event_core.specs.Reading.{event_text};
 ghost use Rattle.audit_findings.specs.ProcessItems.{is_no_items, items_of_event};
 
 use event_core::{
-    BufferItem, Event, HandleItem, NodeItem, PendingItem, RequestItem, buffer_step, clear_step,
-    death_step, handle_step, node_step, request_step,
+    BufferItem, Event, HandleItem, NodeItem, OnewayItem, PendingItem, RequestItem, buffer_step,
+    clear_step, death_step, handle_step, node_step, oneway_step, request_step,
 };
 
 /// The item of each ledger that one event is, if it is one.
@@ -18,6 +18,7 @@ pub(crate) struct ProcessItems {
     pub request: Option<RequestItem>,
     pub death: Option<PendingItem<u64>>,
     pub clear: Option<PendingItem<u64>>,
+    pub oneway: Option<OnewayItem>,
 }
 
 impl ProcessItems {
@@ -29,6 +30,7 @@ impl ProcessItems {
         request: None,
         death: None,
         clear: None,
+        oneway: None,
     };
 
     /// The items that an event is.
@@ -42,6 +44,7 @@ impl ProcessItems {
             request: request_step(event),
             death: death_step(event),
             clear: clear_step(event),
+            oneway: oneway_step(event),
         }
     }
 
@@ -55,5 +58,6 @@ impl ProcessItems {
             && self.request.is_none()
             && self.death.is_none()
             && self.clear.is_none()
+            && self.oneway.is_none()
     }
 }

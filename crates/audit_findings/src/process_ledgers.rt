@@ -3,6 +3,7 @@
 ghost use Rattle.std.specs.Prelude.{OnOk};
 ghost use Rattle.audit_findings.specs.ProcessLedgers.{SumsProcess, FitProcess, CanAddMaybe, AddsMaybe, process_parts};
 
+use crate::oneway_ledger::OnewayLedger;
 use crate::process_items::ProcessItems;
 use handle_ledger::{HandleLedger, NodeLedger};
 use pending_ledger::{Buffers, Clears, Deaths, Requests};
@@ -18,6 +19,7 @@ pub(crate) struct ProcessLedgers {
     pub requests: Requests,
     pub deaths: Deaths,
     pub clears: Clears,
+    pub oneway: OnewayLedger,
 }
 
 impl Summary for ProcessLedgers {
@@ -35,6 +37,7 @@ impl Summary for ProcessLedgers {
             requests: Requests::empty(alloc),
             deaths: Deaths::empty(alloc),
             clears: Clears::empty(alloc),
+            oneway: OnewayLedger::empty(alloc),
         }
     }
 
@@ -44,7 +47,8 @@ impl Summary for ProcessLedgers {
         add_item(&mut self.buffers, item.buffer)?;
         add_item(&mut self.requests, item.request)?;
         add_item(&mut self.deaths, item.death)?;
-        add_item(&mut self.clears, item.clear)
+        add_item(&mut self.clears, item.clear)?;
+        add_item(&mut self.oneway, item.oneway)
     }
 
     fn join(self, later: ProcessLedgers) -> Result<ProcessLedgers, AllocError> {
@@ -55,6 +59,7 @@ impl Summary for ProcessLedgers {
             requests: self.requests.join(later.requests)?,
             deaths: self.deaths.join(later.deaths)?,
             clears: self.clears.join(later.clears)?,
+            oneway: self.oneway.join(later.oneway)?,
         })
     }
 

@@ -6,6 +6,7 @@ use Rattle.event_core.specs.Reading.{event_text}
 use Rattle.summary_law.specs.Tally.{TallySums}
 use Rattle.audit_findings.specs.Ledgers.{code_item}
 use Rattle.audit_findings.proofs.FewLaws.{weighted_parts, opaque-append, opaque_one, opaque_short}
+use Rattle.audit_findings.proofs.OnewayCountLaws.{counts_both, counts_small}
 use Rattle.audit_findings.proofs.event_ledgers.EventLedgers.add.Goals as goal
 
 pub add-requires : goal.add-requires
@@ -25,6 +26,14 @@ overflow_add-self-2 c =
     let short = c.requires.2.0 in
     omega (arith, opaque, both, one, counted, few, short)
 
+pub plus-self-requires-clause-sent : goal.plus-self-requires-clause-sent
+plus-self-requires-clause-sent c =
+    (counts_small c.args.self.now.oneway c.of.result c.requires.0 (event_text c.args.event ∷ []) c.requires.2.0.0 c.requires.1.oneway c.of.ensures).0
+
+pub plus-self-requires-clause-received : goal.plus-self-requires-clause-received
+plus-self-requires-clause-received c =
+    (counts_small c.args.self.now.oneway c.of.result c.requires.0 (event_text c.args.event ∷ []) c.requires.2.0.0 c.requires.1.oneway c.of.ensures).1
+
 pub returns : goal.returns
 returns c =
     let e = event_text c.args.event in
@@ -41,6 +50,8 @@ returns c =
       opaque = omega (arith, opaque, both, one, counted);
       codes = subst (TallySums nat_cmp c.add.new.self) (sym (map-append code_item events (e ∷ [])))
           (c.in_ok-add.ensures (map code_item events) sums.codes (weighted_parts events (e ∷ []) fits));
+      oneway = counts_both c.args.self.now.oneway c.of.result c.plus-self.result events (e ∷ []) sums.oneway c.of.ensures
+          c.plus-self.ensures.sent c.plus-self.ensures.received;
       objects = c.in_ok-add-2.ensures events sums.objects fits;
       flags = flags events sums.flags;
     })

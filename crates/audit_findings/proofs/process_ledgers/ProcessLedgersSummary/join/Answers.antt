@@ -7,6 +7,7 @@ use Rattle.pending_ledger.specs.Requests.{request_place}
 use Rattle.pending_ledger.specs.Sums.{BuffersSums, PendingSums, RequestsSums}
 use Rattle.summary_law.specs.Fits.{IsShort, IsPlaced}
 use Rattle.audit_findings.specs.declared.process_items.ProcessItems.{ProcessItems}
+use Rattle.audit_findings.specs.OnewayLedger.{OnewayLedgerSums}
 use Rattle.audit_findings.proofs.ProcessLaws.{can_join_read, read_joined}
 use Rattle.audit_findings.proofs.process_ledgers.ProcessLedgersSummary.join.Goals as goal
 
@@ -40,6 +41,11 @@ join-requires-6 c =
     can_join_read (λ (i : ProcessItems). i.clear) (PendingSums nat_cmp) (IsPlaced place_of) c.requires.0 c.requires.1 c.args.self.clears c.args.later.clears
     c.requires.2.clears c.requires.3.clears c.requires.4.clears
 
+pub join-requires-7 : goal.join-requires-7
+join-requires-7 c =
+    can_join_read (λ (i : ProcessItems). i.oneway) OnewayLedgerSums IsShort c.requires.0 c.requires.1 c.args.self.oneway c.args.later.oneway
+    c.requires.2.oneway c.requires.3.oneway c.requires.4.oneway
+
 pub returns : goal.returns
 returns c first second sums others fits = record {
   handles =
@@ -60,4 +66,7 @@ returns c first second sums others fits = record {
   clears =
       read_joined (λ (i : ProcessItems). i.clear) (PendingSums nat_cmp) (IsPlaced place_of) first second c.args.self.clears c.args.later.clears c.in_ok-join-6.field-0
       c.in_ok-join-6.ensures sums.clears others.clears fits.clears;
+  oneway =
+      read_joined (λ (i : ProcessItems). i.oneway) OnewayLedgerSums IsShort first second c.args.self.oneway c.args.later.oneway c.in_ok-join-7.field-0
+      c.in_ok-join-7.ensures sums.oneway others.oneway fits.oneway;
 }
