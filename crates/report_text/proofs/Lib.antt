@@ -3,6 +3,7 @@ pub mod Pushes
 pub mod Sections
 pub mod Listed
 pub mod ObjectOwners
+pub mod CallEvents
 pub mod SameRows
 pub mod OneText
 pub mod Vectors
