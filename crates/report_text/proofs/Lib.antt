@@ -5,5 +5,6 @@ pub mod Listed
 pub mod ObjectOwners
 pub mod CallEvents
 pub mod SameRows
+pub mod OneCalls
 pub mod OneText
 pub mod Vectors

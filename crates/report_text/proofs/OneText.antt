@@ -12,7 +12,6 @@ use Rattle.object_view.specs.declared.sort.Sort.TheVariants.{Binder, WeakBinder,
 use Rattle.object_view.specs.Objects.{ObjectText, AreObjects}
 use Rattle.object_view.proofs.ListLaws.{one_list}
 use Rattle.event_core.specs.Events.{EventText}
-use Rattle.audit_findings.specs.Calls.{CallsText, ServedText, RefusedText, AreCallFindings, AreStrays, AreRefused}
 use Rattle.audit_findings.specs.declared.codes.CodeRow.{CodeRow}
 use Rattle.audit_findings.specs.declared.sort_counts.SortCounts.{SortCounts}
 use Rattle.audit_findings.specs.Findings.{FindingsText, AreFindings}
@@ -24,6 +23,7 @@ use Rattle.audit_findings.proofs.PlacesRise.{events_rise}
 use Rattle.report_text.specs.Answers.{IsTextOf, report, malformed, IsLineOn, none, named}
 use Rattle.report_text.specs.Fault.{fault_line}
 use Rattle.report_text.specs.Text.{IsReportOn, report_text}
+use Rattle.report_text.proofs.OneCalls.{one_call_findings, one_list_of_strays, one_refused}
 use Rattle.report_text.proofs.SameRows.{one_list_of_rows}
 
 -- ---- the outcomes of attachments are one list
@@ -71,17 +71,7 @@ one_of_objects attachments counts others bad other_bad a b =
       a.bad_are ∙ ap bad_objects same ∙ sym b.bad_are,
     )
 
--- ---- the calls of threads, and oneway transactions
-
-one_call_findings : (events : List EventText) (calls other_calls : CallsText) (served other_served : ServedText) → AreCallFindings events calls served
-    → AreCallFindings events other_calls other_served → (calls ≡ other_calls) × (served ≡ other_served)
-one_call_findings events calls other_calls served other_served a b = ?
-
-one_list_of_strays : (events said other : List EventText) → AreStrays events said → AreStrays events other → said ≡ other
-one_list_of_strays events said other a b = ?
-
-one_refused : (events : List EventText) (said other : RefusedText) → AreRefused events said → AreRefused events other → said ≡ other
-one_refused events said other a b = ?
+-- ---- oneway transactions
 
 one_oneway : (wholes : List (Placed WholeFrame)) (said other : OnewayText) → AreOnewayFindings wholes said → AreOnewayFindings wholes other → said ≡ other
 one_oneway wholes said other a b = ?
