@@ -3,6 +3,8 @@ pub mod Pushes
 pub mod Sections
 pub mod Listed
 pub mod ObjectOwners
+pub mod CallEvents
 pub mod SameRows
+pub mod OneCalls
 pub mod OneText
 pub mod Vectors

@@ -49,6 +49,19 @@ module _ {K S : Type 0} (section : EventRows K S) (found : KeptFindings) where
       (λ j s inside line here.
       here (wholes_of wholes) _ tell.show (section.are_events found wholes said tell j s inside) (sym (section.same_place _)) ∙ makes _) shows
 
+  -- a head, and then the lines of the rows
+  pub listed_section : {L : Type 0} (takes : L → List ℕ → L → Type 0) (made : K → EventText → List ℕ) (line_of : S → List ℕ)
+      → ((s : S) → made (section.keep s) (section.owner s) ≡ line_of s) → (head : FindingsText → List ℕ) (line : List ℕ) (kept : List K) (old middle new : L)
+      → ((wholes : List WholeFrame) (said : FindingsText) → Tell wholes said found.frames found.sections → line ≡ head said) → takes old line middle
+      → kept ≡ section.kept found → TakesRows takes (λ k row. ShowsEvent (made k) found.frames (section.place k) row) kept middle new
+      → TakesLines takes (λ said. head said ∷ map line_of (section.rows said)) found old new
+  listed_section takes made line_of makes head line kept old middle new is first same pushed =
+      let shown = subst (λ (ks : List K). AllZip (λ k row. ShowsEvent (made k) found.frames (section.place k) row) ks pushed.0) same pushed.1 in (
+        line ∷ pushed.0,
+        (middle, first, pushed.2),
+        λ wholes said tell. ap₂ (λ (l : List ℕ) (ls : List (List ℕ)). l ∷ ls) (is wholes said tell) (event_lines made line_of makes pushed.0 shown wholes said tell),
+      )
+
 -- rows that are events, kept as the places of their records
 module _ (kept : KeptFindings → List ℕ) (rows : FindingsText → List EventText)
     (keeps : (found : KeptFindings) (wholes : List WholeFrame) (said : FindingsText) → Tell wholes said found.frames found.sections
@@ -79,13 +92,7 @@ module _ (kept : KeptFindings → List ℕ) (rows : FindingsText → List EventT
       → takes old line middle → places ≡ kept found → TakesRows takes (λ place row. ShowsEvent row_of found.frames place row) places middle new
       → TakesLines takes (λ said. head said ∷ map row_of (rows said)) found old new
   event_section takes found row_of head line places old middle new is first same pushed =
-      let shown = subst (λ (ps : List ℕ). AllZip (λ place row. ShowsEvent row_of found.frames place row) ps pushed.0) same pushed.1 in (
-        line ∷ pushed.0,
-        (middle, first, pushed.2),
-        λ wholes said tell.
-            ap₂ (λ (l : List ℕ) (ls : List (List ℕ)). l ∷ ls) (is wholes said tell)
-            (event_lines listed_events found (λ place. row_of) row_of (λ e. refl) pushed.0 shown wholes said tell),
-      )
+      listed_section listed_events found takes (λ place. row_of) row_of (λ e. refl) head line places old middle new is first same pushed
 
 -- a head, and then the lines of rows that are kept as they are
 pub whole_section : {L R : Type 0} (takes : L → List ℕ → L → Type 0) (found : KeptFindings) (rows : FindingsText → List R) (row_of : R → List ℕ)

@@ -16,12 +16,14 @@ use Rattle.audit_findings.specs.declared.codes.CodeRow.{CodeRow}
 use Rattle.audit_findings.specs.declared.sort_counts.SortCounts.{SortCounts}
 use Rattle.audit_findings.specs.Findings.{FindingsText, AreFindings}
 use Rattle.audit_findings.specs.Frames.{wholes_of, events_of_wholes}
+use Rattle.audit_findings.specs.Oneway.{OnewayText, AreOnewayFindings}
 use Rattle.audit_findings.specs.Objects.{Attached, Outcome, IsOutcome, AreOutcomes, BadOwned, AreObjectFindings, count_of, times_of, good_objects, bad_objects}
 use Rattle.audit_findings.proofs.OneFindings.{one_counts, one_list_of_events, one_list_of_handles, one_list_of_nodes, one_open_and_stray}
 use Rattle.audit_findings.proofs.PlacesRise.{events_rise}
 use Rattle.report_text.specs.Answers.{IsTextOf, report, malformed, IsLineOn, none, named}
 use Rattle.report_text.specs.Fault.{fault_line}
 use Rattle.report_text.specs.Text.{IsReportOn, report_text}
+use Rattle.report_text.proofs.OneCalls.{one_call_findings, one_list_of_strays, one_refused}
 use Rattle.report_text.proofs.SameRows.{one_list_of_rows}
 
 -- ---- the outcomes of attachments are one list
@@ -69,12 +71,20 @@ one_of_objects attachments counts others bad other_bad a b =
       a.bad_are ∙ ap bad_objects same ∙ sym b.bad_are,
     )
 
+-- ---- oneway transactions
+
+one_oneway : (wholes : List (Placed WholeFrame)) (said other : OnewayText) → AreOnewayFindings wholes said → AreOnewayFindings wholes other → said ≡ other
+one_oneway wholes said other a b = ?
+
 one_findings : (capture : List ℕ) (wholes : List WholeFrame) (said other : FindingsText) → IsInGrammar capture wholes → AreFindings (wholes_of wholes) said
     → AreFindings (wholes_of wholes) other → report_text said ≡ report_text other
 one_findings capture wholes said other is a b =
     let events = events_of_wholes (wholes_of wholes) in
     let rise = events_rise capture wholes is in
     let counts = one_counts _ said.counts other.counts a.counts b.counts in
+    let calls = one_call_findings events said.calls other.calls said.served other.served a.calls b.calls in
+    let strays = one_list_of_strays events said.strays other.strays a.strays b.strays in
+    let refused = one_refused events said.refused other.refused a.refused b.refused in
     let handles = one_list_of_handles (wholes_of wholes) said.handles other.handles a.handles b.handles in
     let nodes = one_list_of_nodes (wholes_of wholes) said.nodes other.nodes a.nodes b.nodes in
     let leaked = one_list_of_events _ events said.leaked other.leaked rise a.leaked b.leaked in
@@ -82,6 +92,7 @@ one_findings capture wholes said other is a b =
     let standing = one_list_of_events _ events said.standing other.standing rise a.standing b.standing in
     let deaths = one_open_and_stray _ _ events said.deaths other.deaths rise a.deaths b.deaths in
     let clears = one_open_and_stray _ _ events said.clears other.clears rise a.clears b.clears in
+    let oneway = one_oneway (wholes_of wholes) said.oneway other.oneway a.oneway b.oneway in
     let objects = one_of_objects _ said.objects other.objects said.bad_objects other.bad_objects a.objects b.objects in
     let codes = one_list_of_rows _ said.codes other.codes a.codes b.codes in
     let frames : said.frames ≡ other.frames = a.frames ∙ sym b.frames in
@@ -96,6 +107,10 @@ one_findings capture wholes said other is a b =
       missing = missing i;
       codes = codes i;
       counts = counts i;
+      calls = calls.0 i;
+      served = calls.1 i;
+      strays = strays i;
+      refused = refused i;
       handles = handles i;
       nodes = nodes i;
       leaked = leaked i;
@@ -103,6 +118,7 @@ one_findings capture wholes said other is a b =
       standing = standing i;
       deaths = deaths i;
       clears = clears i;
+      oneway = oneway i;
       objects = objects.0 i;
       bad_objects = objects.1 i;
       flags = flags i;

@@ -1,23 +1,29 @@
 -- The definitions at findings that were worked out by hand.
 use Rattle.std.proofs.Common.{◌≡◌, ℕ, List, [], ◌∷◌, ◌++◌, replicate, codes, refl, ap, ◌∙◌, arith}
-use Rattle.std.specs.Prelude.{None, pos, negsuc}
+use Rattle.std.specs.Prelude.{Some, None, pos, negsuc}
 use Rattle.std.specs.Fmt.{decimal, digits}
 use Rattle.std.proofs.lemmas.Fmt.{decimal_digit}
 use Rattle.itoa.proofs.Decimal.{decimal_two, decimal_pair}
-use Rattle.binder_code.specs.declared.record_kind.Kind.TheVariants.{BcDeadBinderDone, BcTransaction, BrDeadBinder}
+use Rattle.binder_code.specs.declared.record_kind.Kind.TheVariants.{BcDeadBinderDone, BcTransaction, BrDeadBinder, BrFailedReply, BrTransaction}
 use Rattle.capture_frame.specs.Envelope.{number_at}
 use Rattle.capture_frame.specs.declared.fault.FaultKind.TheVariants.{RecordDirection}
 use Rattle.object_view.specs.declared.bad_object.Cause.TheVariants.{Overlap}
 use Rattle.object_view.specs.Objects.{bad_at}
+use Rattle.event_core.specs.declared.oneway.OnewayKey.TheVariants.{Sent, Received}
 use Rattle.event_core.specs.Events.{EventText}
+use Rattle.call_stacks.specs.declared.verdict.Verdict.TheVariants.{Failed, Crossed, Open}
 use Rattle.audit_findings.specs.Findings.{FindingsText}
+use Rattle.report_text.specs.Calls.{calls_row}
 use Rattle.report_text.specs.Codes.{codes_row}
 use Rattle.report_text.specs.Deaths.{deaths_row}
+use Rattle.report_text.specs.EventRow.{kind_row}
 use Rattle.report_text.specs.Fault.{fault_line, no_fault_line}
 use Rattle.report_text.specs.Flags.{flags_row}
 use Rattle.report_text.specs.Handles.{handles_row}
 use Rattle.report_text.specs.Line.{hex_number}
 use Rattle.report_text.specs.Objects.{objects_row}
+use Rattle.report_text.specs.Oneway.{oneway_row}
+use Rattle.report_text.specs.Served.{served_row}
 use Rattle.report_text.specs.Text.{report_text}
 
 nothing : FindingsText
@@ -28,6 +34,10 @@ nothing = record {
   missing = 0;
   codes = [];
   counts = record { deliveries = 0; frees = 0; requests = 0; deaths = 0; clears = 0 };
+  calls = record { answered = 0; failed = 0; unanswered = 0; rows = [] };
+  served = record { replied = 0; crossed = 0; left_open = 0; rows = [] };
+  strays = [];
+  refused = record { oneway = 0; rows = [] };
   handles = [];
   nodes = [];
   leaked = [];
@@ -35,6 +45,7 @@ nothing = record {
   standing = [];
   deaths = record { unclosed = 0; strays = 0; rows = [] };
   clears = record { unclosed = 0; strays = 0; rows = [] };
+  oneway = record { sent = 0; received = 0; rows = [] };
   objects = record { binder = 0; weak_binder = 0; handle = 0; weak_handle = 0; fd = 0; fda = 0; ptr = 0 };
   bad_objects = [];
   flags = [];
@@ -74,7 +85,7 @@ hundred_said : decimal 100 ≡ codes "100"
 hundred_said = decimal_pair 100 (omega arith) (omega arith) ∙ ap (λ (t : List ℕ). t ++ codes "00") (decimal_digit 1 (omega arith))
 
 empty_report : report_text nothing
-    ≡ codes "BINDER AUDIT 1\nframes 0 records 0 opaque 0 missing 0\ncodes 0\nhandles 0 unbalanced 0\nnodes 0 unbalanced 0\nbuffers 0 leaked 0\nfrees 0 stray 0\nrequests 0 standing 0\ndeaths 0 unacknowledged 0 stray 0\nclears 0 unconfirmed 0 stray 0\nobjects binder 0 weak_binder 0 handle 0 weak_handle 0 fd 0 fda 0 ptr 0 bad 0\nflags 0\n"
+    ≡ codes "BINDER AUDIT 1\nframes 0 records 0 opaque 0 missing 0\ncodes 0\ncalls 0 answered 0 failed 0 unanswered 0\nserved 0 replied 0 crossed 0 open 0\nstrays 0\nrefused 0\nhandles 0 unbalanced 0\nnodes 0 unbalanced 0\nbuffers 0 leaked 0\nfrees 0 stray 0\nrequests 0 standing 0\ndeaths 0 unacknowledged 0 stray 0\nclears 0 unconfirmed 0 stray 0\noneway sent 0 received 0 refused 0\nobjects binder 0 weak_binder 0 handle 0 weak_handle 0 fd 0 fda 0 ptr 0 bad 0\nflags 0\n"
 unfolding nothing report_text
 empty_report = rw zero_said refl
 
@@ -83,6 +94,35 @@ acquire_row = rw two_said refl
 
 opaque_row : codes_row (record { word = 0x400c6313; count = 1 }) ≡ codes "  0x400c6313 OPAQUE 1"
 opaque_row = rw one_said refl
+
+open_row : calls_row (record { event = send; verdict = Open; closer = None }) ≡ codes "  48 100 101 1 0 open -"
+unfolding send number_at digits
+open_row = refl
+
+failed_row : calls_row (record { event = send; verdict = Failed; closer = Some 148 }) ≡ codes "  48 100 101 1 0 failed 148"
+unfolding send number_at digits
+failed_row = refl
+
+-- a method with the number 7, of a sender below zero
+crossed_row : served_row (record {
+  event = record send { kind = BrTransaction; payload = replicate 16 0 ++ 7 ∷ replicate 7 0 ++ 0xfe ∷ replicate 3 0xff ++ replicate 36 0 };
+  verdict = Crossed;
+  closer = Some 148;
+}) ≡ codes "  48 100 101 -2 7 crossed 148"
+unfolding send number_at digits
+crossed_row = refl
+
+error_row : kind_row (record send { kind = BrFailedReply; payload = [] }) ≡ codes "  48 100 101 BR_FAILED_REPLY"
+unfolding send digits
+error_row = refl
+
+sent_row : oneway_row (record { process = 100; key = Sent 3; count = 2; sum = 36893488147419103230 }) ≡ codes "  100 sent 3 2 36893488147419103230"
+unfolding digits
+sent_row = refl
+
+received_row : oneway_row (record { process = 100; key = Received; count = 2; sum = 0 }) ≡ codes "  100 received 2 0"
+unfolding digits
+received_row = refl
 
 overlap_row : objects_row (record { owner = send; bad = bad_at 1 20 Overlap }) ≡ codes "  48 100 1 20 Overlap"
 unfolding send

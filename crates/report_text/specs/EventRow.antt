@@ -1,8 +1,17 @@
--- How a row that is an event begins (docs/REPORT.md).
+-- How a row that is an event begins, and the row of one that is told by its kind (docs/REPORT.md).
 use Rattle.std.specs.Prelude.{ℕ, List, ◌++◌, codes}
 use Rattle.std.specs.Fmt.{decimal}
+use Rattle.binder_code.specs.Commands.{name_of}
 use Rattle.event_core.specs.Events.{EventText}
 
 -- place and process of its record
 abbrev pub row_start : EventText → List ℕ
 row_start e = codes "  " ++ decimal e.place ++ codes " " ++ decimal e.process
+
+-- and its thread
+abbrev pub thread_start : EventText → List ℕ
+thread_start e = row_start e ++ codes " " ++ decimal e.thread
+
+-- and its kind
+abbrev pub kind_row : EventText → List ℕ
+kind_row e = thread_start e ++ codes " " ++ name_of e.kind

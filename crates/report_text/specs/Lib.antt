@@ -1,6 +1,11 @@
 pub mod Line
 pub mod EventRow
 pub mod Codes
+pub mod CallRow
+pub mod Calls
+pub mod Served
+pub mod Strays
+pub mod Refused
 pub mod Handles
 pub mod Nodes
 pub mod Buffers
@@ -9,6 +14,7 @@ pub mod Requests
 pub mod OpenAndStray
 pub mod Deaths
 pub mod Clears
+pub mod Oneway
 pub mod Objects
 pub mod Flags
 pub mod Fault

@@ -7,6 +7,10 @@ use Rattle.audit_findings.specs.Findings.{FindingsText, AreFindings}
 use Rattle.audit_findings.specs.Frames.{wholes_of}
 use Rattle.report_text.specs.Line.{ended}
 use Rattle.report_text.specs.Codes.{codes_lines}
+use Rattle.report_text.specs.Calls.{calls_lines}
+use Rattle.report_text.specs.Served.{served_lines}
+use Rattle.report_text.specs.Strays.{strays_lines}
+use Rattle.report_text.specs.Refused.{refused_lines}
 use Rattle.report_text.specs.Handles.{handles_lines}
 use Rattle.report_text.specs.Nodes.{nodes_lines}
 use Rattle.report_text.specs.Buffers.{buffers_lines}
@@ -14,6 +18,7 @@ use Rattle.report_text.specs.Frees.{frees_lines}
 use Rattle.report_text.specs.Requests.{requests_lines}
 use Rattle.report_text.specs.Deaths.{deaths_lines}
 use Rattle.report_text.specs.Clears.{clears_lines}
+use Rattle.report_text.specs.Oneway.{oneway_lines}
 use Rattle.report_text.specs.Objects.{objects_lines}
 use Rattle.report_text.specs.Flags.{flags_lines}
 
@@ -36,8 +41,9 @@ totals_lines said = totals said.frames said.records said.opaque said.missing ∷
 -- the parts of the report, in their order: the first two lines, and the sections
 abbrev pub parts : List (FindingsText → List (List ℕ))
 parts =
-    title_lines ∷ totals_lines ∷ codes_lines ∷ handles_lines ∷ nodes_lines ∷ buffers_lines ∷ frees_lines
-    ∷ requests_lines ∷ deaths_lines ∷ clears_lines ∷ objects_lines ∷ flags_lines ∷ []
+    title_lines ∷ totals_lines ∷ codes_lines ∷ calls_lines ∷ served_lines ∷ strays_lines ∷ refused_lines
+    ∷ handles_lines ∷ nodes_lines ∷ buffers_lines ∷ frees_lines ∷ requests_lines ∷ deaths_lines ∷ clears_lines
+    ∷ oneway_lines ∷ objects_lines ∷ flags_lines ∷ []
 
 -- the lines of the report, without their line feeds
 abbrev pub report_lines : FindingsText → List (List ℕ)

@@ -3,7 +3,7 @@
 ghost use Rattle.std.specs.Prelude.{◌≡◌, ◌≤◌};
 ghost use Rattle.arrayvec.specs.ArrayString.{array_string_len};
 ghost use Rattle.event_core.specs.Reading.{event_text};
-ghost use Rattle.report_text.specs.EventRow.{row_start};
+ghost use Rattle.report_text.specs.EventRow.{row_start, thread_start, kind_row};
 
 use crate::line::{Row, push_decimal};
 use crate::shown::Shown;
@@ -59,5 +59,43 @@ pub(crate) fn row_start(event: Event<'_>) -> Row
     push_decimal(&mut line, event.place);
     line.push_str(" ");
     push_decimal(&mut line, u64::from(event.process));
+    line
+}
+
+/// A row with the place, the process and the thread of its event.
+pub(crate) fn thread_start(event: Event<'_>) -> Row
+    ensures text { result.bytes ≡ thread_start (event_text event.entry) }
+    ensures short { array_string_len result ≤ 64 }
+{
+    let mut line = row_start(event);
+    line.push_str(" ");
+    push_decimal(&mut line, u64::from(event.thread));
+    line
+}
+
+/// The rows of sections whose events are told by their kinds.
+#[derive(Clone, Copy)]
+pub(crate) struct Kinds;
+
+impl EventLine for Kinds {
+    ghost use Rattle.std.specs.Prelude.{refl};
+    ghost use Rattle.report_text.specs.EventRow.{kind_row};
+
+    ghost row_of = { kind_row };
+
+    ghost bare = { λ e. refl };
+
+    fn event_line(&self, event: Event<'_>) -> Row {
+        kind_row(event)
+    }
+}
+
+/// A row with place, process, thread and kind of its event.
+fn kind_row(event: Event<'_>) -> Row
+    ensures { result.bytes ≡ kind_row (event_text event.entry) }
+{
+    let mut line = thread_start(event);
+    line.push_str(" ");
+    line.push_str(event.kind.name());
     line
 }

@@ -2,6 +2,8 @@
 #![tactic(auto)]
 
 mod buffers;
+mod call_row;
+mod calls;
 mod clears;
 mod codes;
 mod deaths;
@@ -15,10 +17,14 @@ mod line;
 mod lines;
 mod nodes;
 mod objects;
+mod oneway;
 mod open_and_stray;
+mod refused;
 mod report;
 mod requests;
+mod served;
 mod shown;
+mod strays;
 
 pub use fault::fault_text;
 pub use line::Row;

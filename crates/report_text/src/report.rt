@@ -8,6 +8,7 @@ ghost use Rattle.report_text.specs.Pushed.{TakesLines};
 ghost use Rattle.report_text.specs.Text.{title, totals, report_lines, report_text};
 
 use crate::buffers::push_buffers;
+use crate::calls::push_calls;
 use crate::clears::push_clears;
 use crate::codes::push_codes;
 use crate::deaths::push_deaths;
@@ -18,7 +19,11 @@ use crate::line::{Row, push_decimal};
 use crate::lines::Lines;
 use crate::nodes::push_nodes;
 use crate::objects::push_objects;
+use crate::oneway::push_oneway;
+use crate::refused::push_refused;
 use crate::requests::push_requests;
+use crate::served::push_served;
+use crate::strays::push_strays;
 use audit_findings::Findings;
 use std::alloc::{AllocError, Global};
 use std::thread::Threads;
@@ -67,6 +72,10 @@ fn push_report<T: Threads + Sync, L: Lines>(
     lines.push_line(&title_line())?;
     lines.push_line(&totals_line(found))?;
     push_codes(rt, alloc, found, lines)?;
+    push_calls(rt, alloc, found, lines)?;
+    push_served(rt, alloc, found, lines)?;
+    push_strays(rt, alloc, found, lines)?;
+    push_refused(rt, alloc, found, lines)?;
     push_handles(rt, alloc, found, lines)?;
     push_nodes(rt, alloc, found, lines)?;
     push_buffers(rt, alloc, found, lines)?;
@@ -74,6 +83,7 @@ fn push_report<T: Threads + Sync, L: Lines>(
     push_requests(rt, alloc, found, lines)?;
     push_deaths(rt, alloc, found, lines)?;
     push_clears(rt, alloc, found, lines)?;
+    push_oneway(rt, alloc, found, lines)?;
     push_objects(rt, alloc, found, lines)?;
     push_flags(rt, alloc, found, lines)
 }

@@ -36,7 +36,7 @@ returns g c =
           (c.push_line-2.new.self, c.in_ok-push_line-2.ensures, refl),
           λ wholes said tell. ap alone (totals_told found wholes said c.totals_line.result.bytes tell c.totals_line.ensures),
         ),
-        (c.push_codes.new.lines, c.in_ok-push_codes.ensures, (c.push_handles.new.lines, c.in_ok-push_handles.ensures, (c.push_nodes.new.lines, c.in_ok-push_nodes.ensures, (c.push_buffers.new.lines, c.in_ok-push_buffers.ensures, (c.push_frees.new.lines, c.in_ok-push_frees.ensures, (c.push_requests.new.lines, c.in_ok-push_requests.ensures, (c.push_deaths.new.lines, c.in_ok-push_deaths.ensures, (c.push_clears.new.lines, c.in_ok-push_clears.ensures, (c.push_objects.new.lines, c.in_ok-push_objects.ensures, (c.push_flags.new.lines, flags, refl)))))))))),
+        (c.push_codes.new.lines, c.in_ok-push_codes.ensures, (c.push_calls.new.lines, c.in_ok-push_calls.ensures, (c.push_served.new.lines, c.in_ok-push_served.ensures, (c.push_strays.new.lines, c.in_ok-push_strays.ensures, (c.push_refused.new.lines, c.in_ok-push_refused.ensures, (c.push_handles.new.lines, c.in_ok-push_handles.ensures, (c.push_nodes.new.lines, c.in_ok-push_nodes.ensures, (c.push_buffers.new.lines, c.in_ok-push_buffers.ensures, (c.push_frees.new.lines, c.in_ok-push_frees.ensures, (c.push_requests.new.lines, c.in_ok-push_requests.ensures, (c.push_deaths.new.lines, c.in_ok-push_deaths.ensures, (c.push_clears.new.lines, c.in_ok-push_clears.ensures, (c.push_oneway.new.lines, c.in_ok-push_oneway.ensures, (c.push_objects.new.lines, c.in_ok-push_objects.ensures, (c.push_flags.new.lines, flags, refl))))))))))))))),
       ),
     ))
     c.push_flags.ensures

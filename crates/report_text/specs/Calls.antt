@@ -1,0 +1,27 @@
+-- The lines of the section `calls` (docs/REPORT.md).
+use Rattle.std.specs.Prelude.{ℕ, ◌+◌, List, ◌∷◌, ◌++◌, map, codes}
+use Rattle.std.specs.Fmt.{decimal}
+use Rattle.transaction_view.specs.Transaction.{target_handle}
+use Rattle.event_core.specs.Events.{EventText}
+use Rattle.call_stacks.specs.Calls.{OpenerOf}
+use Rattle.audit_findings.specs.Findings.{FindingsText}
+use Rattle.report_text.specs.CallRow.{call_row}
+
+-- the head: how many calls there are, and how many of each sort among them
+abbrev pub calls_head : ℕ → ℕ → ℕ → List ℕ
+calls_head answered failed unanswered =
+    codes "calls " ++ decimal (answered + failed + unanswered) ++ codes " answered " ++ decimal answered
+    ++ codes " failed " ++ decimal failed ++ codes " unanswered " ++ decimal unanswered
+
+-- the handle that a call goes to
+abbrev pub target_field : List ℕ → List ℕ
+target_field payload = decimal (target_handle payload)
+
+-- a row: place, process, thread, target handle, code, what became of the call, its closer
+abbrev pub calls_row : OpenerOf EventText → List ℕ
+calls_row call = call_row target_field call
+
+-- the section
+abbrev pub calls_lines : FindingsText → List (List ℕ)
+calls_lines said =
+    calls_head said.calls.answered said.calls.failed said.calls.unanswered ∷ map calls_row said.calls.rows

@@ -1,0 +1,27 @@
+-- The lines of the section `served` (docs/REPORT.md).
+use Rattle.std.specs.Prelude.{ℕ, ◌+◌, List, ◌∷◌, ◌++◌, map, codes}
+use Rattle.std.specs.Fmt.{decimal, signed_decimal}
+use Rattle.transaction_view.specs.Transaction.{sender_pid}
+use Rattle.event_core.specs.Events.{EventText}
+use Rattle.call_stacks.specs.Calls.{OpenerOf}
+use Rattle.audit_findings.specs.Findings.{FindingsText}
+use Rattle.report_text.specs.CallRow.{call_row}
+
+-- the head: how many served calls there are, and how many of each sort among them
+abbrev pub served_head : ℕ → ℕ → ℕ → List ℕ
+served_head replied crossed left_open =
+    codes "served " ++ decimal (replied + crossed + left_open) ++ codes " replied " ++ decimal replied
+    ++ codes " crossed " ++ decimal crossed ++ codes " open " ++ decimal left_open
+
+-- the process that the call comes from
+abbrev pub sender_field : List ℕ → List ℕ
+sender_field payload = signed_decimal (sender_pid payload)
+
+-- a row: place, process, thread, sender's process, code, what became of the call, its closer
+abbrev pub served_row : OpenerOf EventText → List ℕ
+served_row call = call_row sender_field call
+
+-- the section
+abbrev pub served_lines : FindingsText → List (List ℕ)
+served_lines said =
+    served_head said.served.replied said.served.crossed said.served.left_open ∷ map served_row said.served.rows
