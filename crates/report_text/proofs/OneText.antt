@@ -16,9 +16,8 @@ use Rattle.audit_findings.specs.declared.codes.CodeRow.{CodeRow}
 use Rattle.audit_findings.specs.declared.sort_counts.SortCounts.{SortCounts}
 use Rattle.audit_findings.specs.Findings.{FindingsText, AreFindings}
 use Rattle.audit_findings.specs.Frames.{wholes_of, events_of_wholes}
-use Rattle.audit_findings.specs.Oneway.{OnewayText, AreOnewayFindings}
 use Rattle.audit_findings.specs.Objects.{Attached, Outcome, IsOutcome, AreOutcomes, BadOwned, AreObjectFindings, count_of, times_of, good_objects, bad_objects}
-use Rattle.audit_findings.proofs.OneFindings.{one_counts, one_list_of_events, one_list_of_handles, one_list_of_nodes, one_open_and_stray}
+use Rattle.audit_findings.proofs.OneFindings.{one_counts, one_list_of_events, one_list_of_handles, one_list_of_nodes, one_open_and_stray, one_oneway}
 use Rattle.audit_findings.proofs.PlacesRise.{events_rise}
 use Rattle.report_text.specs.Answers.{IsTextOf, report, malformed, IsLineOn, none, named}
 use Rattle.report_text.specs.Fault.{fault_line}
@@ -70,11 +69,6 @@ one_of_objects attachments counts others bad other_bad a b =
       same_counts counts others (λ sort. a.counted sort ∙ ap (λ (o : List Outcome). times_of sort (good_objects o)) same ∙ sym (b.counted sort)),
       a.bad_are ∙ ap bad_objects same ∙ sym b.bad_are,
     )
-
--- ---- oneway transactions
-
-one_oneway : (wholes : List (Placed WholeFrame)) (said other : OnewayText) → AreOnewayFindings wholes said → AreOnewayFindings wholes other → said ≡ other
-one_oneway wholes said other a b = ?
 
 one_findings : (capture : List ℕ) (wholes : List WholeFrame) (said other : FindingsText) → IsInGrammar capture wholes → AreFindings (wholes_of wholes) said
     → AreFindings (wholes_of wholes) other → report_text said ≡ report_text other
