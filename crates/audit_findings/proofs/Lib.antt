@@ -20,6 +20,7 @@ pub mod FedLaws
 pub mod ItemPlaces
 pub mod FitLaws
 pub mod KeyLaws
+pub mod ThreadFits
 pub mod OfProcesses
 pub mod EventsAt
 pub mod TurnLaws

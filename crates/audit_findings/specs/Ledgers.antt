@@ -22,6 +22,7 @@ use Rattle.audit_findings.specs.Frames.{Show, events_of_wholes}
 use Rattle.audit_findings.specs.Kept.{Keep, kept_bad}
 use Rattle.audit_findings.specs.Objects.{BadOwned, AreObjectFindings, attachments_of}
 use Rattle.audit_findings.specs.ProcessLedgers.{SumsProcesses}
+use Rattle.audit_findings.specs.ThreadLedger.{SumsThreadCalls}
 
 -- how many bytes of a list of offsets an event has
 abbrev pub offset_bytes_of : EventText → ℕ
@@ -52,6 +53,7 @@ pub record SumsEvents (ledgers : EventLedgers) (events : List EventText) : Type 
   pub codes : TallySums nat_cmp ledgers.codes (map code_item events)
   pub objects : SumsObjects ledgers.objects events
   pub flags : ListsFlagged ledgers.flags events
+  pub threads : SumsThreadCalls ledgers.threads events
 
 -- the sequences are those of these frames
 abbrev pub SumsFrames : Sequences → List (Placed WholeFrame) → Type 0

@@ -19,6 +19,7 @@ pub mod Findings
 pub mod Kept
 pub mod ProcessItems
 pub mod ProcessLedgers
+pub mod ThreadLedger
 pub mod Ledgers
 pub mod Summary
 pub mod Lookup

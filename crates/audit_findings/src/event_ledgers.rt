@@ -8,22 +8,24 @@ ghost use Rattle.audit_findings.specs.Ledgers.{SumsEvents, AreFewEvents};
 use crate::codes::opaque_count;
 use crate::flags::FlagLedger;
 use crate::objects::ObjectLedger;
+use crate::thread_ledger::ThreadLedger;
 use event_core::Event;
 use std::alloc::{AllocError, Global};
 use summary_law::{Summary, Tally};
 
-/// How many events there are, and what `codes`, `objects` and `flags` keep of them.
+/// How many events there are, and what `codes`, `objects`, `flags` and `threads` keep of them.
 #[derive(Drop)]
-pub(crate) struct EventLedgers {
+pub(crate) struct EventLedgers<'c> {
     pub records: u64,
     pub opaque: u64,
     /// The code words, each record with weight 0.
     pub codes: Tally<u32>,
     pub objects: ObjectLedger,
     pub flags: FlagLedger,
+    pub threads: ThreadLedger<'c>,
 }
 
-impl EventLedgers {
+impl<'c> EventLedgers<'c> {
     pub fn empty(alloc: Global) -> Self
         ensures { SumsEvents result [] }
     {
@@ -33,11 +35,12 @@ impl EventLedgers {
             codes: Tally::empty(alloc),
             objects: ObjectLedger::empty(alloc),
             flags: FlagLedger::empty(alloc),
+            threads: ThreadLedger::empty(alloc),
         }
     }
 
     /// Adds an event. After an error they are only to be dropped.
-    pub fn add(&mut self, event: Event<'_>) -> Result<(), AllocError>
+    pub fn add(&mut self, event: Event<'c>) -> Result<(), AllocError>
         requires { CanAdd SumsEvents AreFewEvents self.old (event_text event) }
         ensures { OnOk result
             (Adds SumsEvents AreFewEvents self.old (event_text event.entry) self.new) }
@@ -46,13 +49,14 @@ impl EventLedgers {
         self.opaque += opaque_count(event.kind);
         self.codes.add((event.code.0, 0))?;
         self.objects.add(event)?;
-        self.flags.add(event)
+        self.flags.add(event)?;
+        self.threads.add(event)
     }
 
     /// Those of these events and of the later ones.
-    pub fn join(self, later: EventLedgers) -> Result<EventLedgers, AllocError>
+    pub fn join(self, later: EventLedgers<'c>) -> Result<EventLedgers<'c>, AllocError>
         requires { CanJoin SumsEvents AreFewEvents self later }
-        ensures { IfOk result (Joins SumsEvents AreFewEvents self later) }
+        ensures { IfOk result (Joins SumsEvents AreFewEvents self.entry later.entry) }
     {
         Ok(EventLedgers {
             records: self.records + later.records,
@@ -60,6 +64,7 @@ impl EventLedgers {
             codes: self.codes.join(later.codes)?,
             objects: self.objects.join(later.objects)?,
             flags: self.flags.join(later.flags)?,
+            threads: self.threads.join(later.threads)?,
         })
     }
 }

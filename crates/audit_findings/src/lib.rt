@@ -31,6 +31,8 @@ mod rows;
 mod sequences;
 mod served;
 mod sort_counts;
+mod thread;
+mod thread_ledger;
 
 pub use calls::{CallRow, Calls};
 pub use codes::CodeRow;

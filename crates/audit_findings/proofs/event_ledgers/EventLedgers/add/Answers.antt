@@ -13,6 +13,9 @@ add-requires c =
     let events = c.requires.0 in
     (map code_item events, c.requires.1.codes, weighted_parts events (event_text c.args.event ∷ []) c.requires.2)
 
+pub add-requires-4 : goal.add-requires-4
+add-requires-4 c = (c.requires.0, c.requires.1.threads, c.requires.2)
+
 pub overflow_add-self-2 : goal.overflow_add-self-2
 overflow_add-self-2 c =
     let e = event_text c.args.event in
@@ -28,8 +31,8 @@ overflow_add-self-2 c =
 pub returns : goal.returns
 returns c =
     let e = event_text c.args.event in
-    on_ok_weaker c.add-3.result
-    (λ flags events sums fits.
+    on_ok_weaker c.add-4.result
+    (λ threads events sums fits.
     let records = sums.records in
     let long = length-append events (e ∷ []) in
     let opaque = sums.opaque in
@@ -42,6 +45,7 @@ returns c =
       codes = subst (TallySums nat_cmp c.add.new.self) (sym (map-append code_item events (e ∷ [])))
           (c.in_ok-add.ensures (map code_item events) sums.codes (weighted_parts events (e ∷ []) fits));
       objects = c.in_ok-add-2.ensures events sums.objects fits;
-      flags = flags events sums.flags;
+      flags = c.in_ok-add-3.ensures events sums.flags;
+      threads = threads events sums.threads fits;
     })
-    c.add-3.ensures
+    c.add-4.ensures

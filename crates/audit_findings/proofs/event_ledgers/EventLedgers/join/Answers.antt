@@ -12,6 +12,9 @@ join-requires c =
     let second = c.requires.1 in
     (map code_item first, map code_item second, c.requires.2.codes, c.requires.3.codes, weighted_parts first second c.requires.4)
 
+pub join-requires-4 : goal.join-requires-4
+join-requires-4 c = (c.requires.0, c.requires.1, c.requires.2.threads, c.requires.3.threads, c.requires.4)
+
 pub returns : goal.returns
 returns c first second sums others fits =
     let records = sums.records in
@@ -27,4 +30,5 @@ returns c first second sums others fits =
           (c.in_ok-join.ensures (map code_item first) (map code_item second) sums.codes others.codes (weighted_parts first second fits));
       objects = c.in_ok-join-2.ensures first second sums.objects others.objects fits;
       flags = c.in_ok-join-3.ensures first second sums.flags others.flags;
+      threads = c.in_ok-join-4.ensures first second sums.threads others.threads fits;
     }
