@@ -75,7 +75,7 @@ impl<'c> PieceSummary<'c> {
         kept: Vec<Frame<'c>>,
     ) -> Result<PieceSummary<'c>, AllocError>
         requires { CanFollow self after.value kept.items }
-        ensures { IfOk result (Follow self.entry after.value kept.entry.items) }
+        ensures { IfOk result (Follow self.entry after.entry.value kept.entry.items) }
     {
         let PieceSummary {
             ledgers,
@@ -116,7 +116,7 @@ fn put<'c>(
     frames: &[Frame<'c>],
 ) -> Result<Box<Ledgers<'c>>, AllocError>
     requires { CanPut ledgers frames.now }
-    ensures { IfOk result (λ all. Puts ledgers frames.entry.now all.value) }
+    ensures { IfOk result (λ all. Puts ledgers.entry frames.entry.now all.value) }
 {
     let mut all = ledgers_or_none(alloc, ledgers)?;
     all.add_all(frames)?;
@@ -128,7 +128,7 @@ fn ledgers_or_none<'c>(
     alloc: Global,
     ledgers: Option<Box<Ledgers<'c>>>,
 ) -> Result<Box<Ledgers<'c>>, AllocError>
-    ensures { IfOk result (λ all. (wholes : List (Placed WholeFrame)) → SumsPut ledgers wholes →
+    ensures { IfOk result (λ all. (wholes : List (Placed WholeFrame)) → SumsPut ledgers.entry wholes →
         SumsLedgers all.value wholes) }
 {
     match ledgers {
