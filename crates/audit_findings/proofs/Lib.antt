@@ -21,6 +21,10 @@ pub mod FedLaws
 pub mod ItemPlaces
 pub mod FitLaws
 pub mod KeyLaws
+pub mod ThreadFits
+mod SortedRows
+mod ThreadRowLaws
+mod ThreadTurns
 pub mod OfProcesses
 pub mod EventsAt
 pub mod TurnLaws

@@ -99,8 +99,11 @@ pub record RefusedText : Type 0 where
   pub rows : List EventText
 
 -- the refused sends of all threads, in rising place
+abbrev pub AreSends : List EventText → List (RefusedOf EventText) → Type 0
+AreSends events sends = ListsInOrder (λ s. s.event.place) (λ s. IsRefusedSend (judged_in_thread events s.event) s) sends
+
+-- what is said of the refused sends of all threads
 abbrev pub AreRefused : List EventText → RefusedText → Type 0
 AreRefused events said =
-    (sends : List (RefusedOf EventText))
-    × ListsInOrder (λ s. s.event.place) (λ s. IsRefusedSend (judged_in_thread events s.event) s) sends
+    (sends : List (RefusedOf EventText)) × AreSends events sends
     × (said.oneway ≡ count_by (λ s. s.oneway) sends) × (said.rows ≡ map (λ s. s.event) sends)

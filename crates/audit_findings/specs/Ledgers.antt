@@ -24,6 +24,7 @@ use Rattle.audit_findings.specs.Kept.{Keep, kept_bad}
 use Rattle.audit_findings.specs.Objects.{BadOwned, AreObjectFindings, attachments_of}
 use Rattle.audit_findings.specs.Oneway.{sent_count, received_count}
 use Rattle.audit_findings.specs.ProcessLedgers.{SumsProcesses}
+use Rattle.audit_findings.specs.ThreadLedger.{SumsThreadCalls}
 
 -- how many bytes of a list of offsets an event has
 abbrev pub offset_bytes_of : EventText → ℕ
@@ -60,6 +61,7 @@ pub record SumsEvents (ledgers : EventLedgers) (events : List EventText) : Type 
   pub oneway : CountsOneway ledgers.oneway events
   pub objects : SumsObjects ledgers.objects events
   pub flags : ListsFlagged ledgers.flags events
+  pub threads : SumsThreadCalls ledgers.threads events
 
 -- the sequences are those of these frames
 abbrev pub SumsFrames : Sequences → List (Placed WholeFrame) → Type 0

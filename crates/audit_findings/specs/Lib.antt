@@ -20,6 +20,8 @@ pub mod Findings
 pub mod Kept
 pub mod ProcessItems
 pub mod ProcessLedgers
+pub mod ThreadLedger
+pub mod ThreadRows
 pub mod Ledgers
 pub mod Summary
 pub mod Lookup

@@ -9,13 +9,14 @@ use crate::codes::opaque_count;
 use crate::flags::FlagLedger;
 use crate::objects::ObjectLedger;
 use crate::oneway_counts::OnewayCounts;
+use crate::thread_ledger::ThreadLedger;
 use event_core::Event;
 use std::alloc::{AllocError, Global};
 use summary_law::{Summary, Tally};
 
-/// How many events there are, and what `codes`, `oneway`, `objects` and `flags` keep of them all.
+/// How many events there are, and what `codes`, `oneway`, `objects`, `flags` and `threads` keep of them all.
 #[derive(Drop)]
-pub(crate) struct EventLedgers {
+pub(crate) struct EventLedgers<'c> {
     pub records: u64,
     pub opaque: u64,
     /// The code words, each record with weight 0.
@@ -23,9 +24,10 @@ pub(crate) struct EventLedgers {
     pub oneway: OnewayCounts,
     pub objects: ObjectLedger,
     pub flags: FlagLedger,
+    pub threads: ThreadLedger<'c>,
 }
 
-impl EventLedgers {
+impl<'c> EventLedgers<'c> {
     pub fn empty(alloc: Global) -> Self
         ensures { SumsEvents result [] }
     {
@@ -36,11 +38,12 @@ impl EventLedgers {
             oneway: OnewayCounts::NONE,
             objects: ObjectLedger::empty(alloc),
             flags: FlagLedger::empty(alloc),
+            threads: ThreadLedger::empty(alloc),
         }
     }
 
     /// Adds an event. After an error they are only to be dropped.
-    pub fn add(&mut self, event: Event<'_>) -> Result<(), AllocError>
+    pub fn add(&mut self, event: Event<'c>) -> Result<(), AllocError>
         requires { CanAdd SumsEvents AreFewEvents self.old (event_text event) }
         ensures { OnOk result
             (Adds SumsEvents AreFewEvents self.old (event_text event.entry) self.new) }
@@ -50,13 +53,14 @@ impl EventLedgers {
         self.oneway = self.oneway.plus(OnewayCounts::of(event));
         self.codes.add((event.code.0, 0))?;
         self.objects.add(event)?;
-        self.flags.add(event)
+        self.flags.add(event)?;
+        self.threads.add(event)
     }
 
     /// Those of these events and of the later ones.
-    pub fn join(self, later: EventLedgers) -> Result<EventLedgers, AllocError>
+    pub fn join(self, later: EventLedgers<'c>) -> Result<EventLedgers<'c>, AllocError>
         requires { CanJoin SumsEvents AreFewEvents self later }
-        ensures { IfOk result (Joins SumsEvents AreFewEvents self later) }
+        ensures { IfOk result (Joins SumsEvents AreFewEvents self.entry later.entry) }
     {
         Ok(EventLedgers {
             records: self.records + later.records,
@@ -65,6 +69,7 @@ impl EventLedgers {
             oneway: self.oneway.plus(later.oneway),
             objects: self.objects.join(later.objects)?,
             flags: self.flags.join(later.flags)?,
+            threads: self.threads.join(later.threads)?,
         })
     }
 }

@@ -29,13 +29,13 @@ use summary_law::Summary;
 
 /// The sequences of frames, what their events come to, and what those of each process do.
 #[derive(Drop)]
-pub(crate) struct Ledgers {
+pub(crate) struct Ledgers<'c> {
     pub sequences: Sequences,
-    pub events: EventLedgers,
+    pub events: EventLedgers<'c>,
     pub processes: InOrder<Process, ProcessSummary>,
 }
 
-impl Ledgers {
+impl<'c> Ledgers<'c> {
     pub fn empty(alloc: Global) -> Self
         ensures { SumsLedgers result [] }
     {
@@ -47,7 +47,7 @@ impl Ledgers {
     }
 
     /// Adds frames without a fault. After an error they are only to be dropped.
-    pub fn add_all(&mut self, frames: &[Frame<'_>]) -> Result<(), AllocError>
+    pub fn add_all(&mut self, frames: &[Frame<'c>]) -> Result<(), AllocError>
         requires { CanTake self.old frames.now }
         ensures { OnOk result (Takes self.old frames.entry.now self.new) }
     {
@@ -58,7 +58,7 @@ impl Ledgers {
     }
 
     /// Adds a frame without a fault.
-    fn add(&mut self, frame: Frame<'_>) -> Result<(), AllocError>
+    fn add(&mut self, frame: Frame<'c>) -> Result<(), AllocError>
         requires { CanTake self.old (frame ∷ []) }
         ensures { OnOk result (Takes self.old (frame.entry ∷ []) self.new) }
     {
@@ -76,9 +76,9 @@ impl Ledgers {
     }
 
     /// Those of these frames and of the later ones.
-    pub fn join(self, later: Ledgers) -> Result<Ledgers, AllocError>
+    pub fn join(self, later: Ledgers<'c>) -> Result<Ledgers<'c>, AllocError>
         requires { CanJoin SumsLedgers AreFewFrames self later }
-        ensures { IfOk result (Joins SumsLedgers AreFewFrames self later) }
+        ensures { IfOk result (Joins SumsLedgers AreFewFrames self.entry later.entry) }
     {
         Ok(Ledgers {
             sequences: self.sequences.then(later.sequences),
@@ -90,7 +90,7 @@ impl Ledgers {
     /// What the findings keep of the frames.
     pub fn sections(self, alloc: Global) -> Result<Sections, AllocError>
         requires { AreOfFew self }
-        ensures { IfOk result (GiveSections self) }
+        ensures { IfOk result (GiveSections self.entry) }
     {
         let _ = (self, alloc);
         Err(AllocError)

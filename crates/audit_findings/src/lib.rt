@@ -33,6 +33,9 @@ mod rows;
 mod sequences;
 mod served;
 mod sort_counts;
+mod thread;
+mod thread_ledger;
+mod thread_rows;
 
 pub use calls::{CallRow, Calls};
 pub use codes::CodeRow;

@@ -22,7 +22,7 @@ const MOST_KEPT: usize = 65_536;
 /// ones before stand in ledgers.
 #[derive(Drop)]
 pub struct PieceSummary<'c> {
-    ledgers: Option<Box<Ledgers>>,
+    ledgers: Option<Box<Ledgers<'c>>>,
     kept: Vec<Frame<'c>>,
     most_kept: usize,
     alloc: Global,
@@ -71,11 +71,11 @@ impl<'c> PieceSummary<'c> {
     /// The same frames and, behind them, those of ledgers and the ones that are kept behind those.
     fn with_ledgers(
         self,
-        after: Box<Ledgers>,
+        after: Box<Ledgers<'c>>,
         kept: Vec<Frame<'c>>,
     ) -> Result<PieceSummary<'c>, AllocError>
         requires { CanFollow self after.value kept.items }
-        ensures { IfOk result (Follow self.entry after.value kept.entry.items) }
+        ensures { IfOk result (Follow self.entry after.entry.value kept.entry.items) }
     {
         let PieceSummary {
             ledgers,
@@ -110,13 +110,13 @@ impl<'c> PieceSummary<'c> {
 }
 
 /// The ledgers with these frames besides.
-fn put(
+fn put<'c>(
     alloc: Global,
-    ledgers: Option<Box<Ledgers>>,
-    frames: &[Frame<'_>],
-) -> Result<Box<Ledgers>, AllocError>
+    ledgers: Option<Box<Ledgers<'c>>>,
+    frames: &[Frame<'c>],
+) -> Result<Box<Ledgers<'c>>, AllocError>
     requires { CanPut ledgers frames.now }
-    ensures { IfOk result (λ all. Puts ledgers frames.entry.now all.value) }
+    ensures { IfOk result (λ all. Puts ledgers.entry frames.entry.now all.value) }
 {
     let mut all = ledgers_or_none(alloc, ledgers)?;
     all.add_all(frames)?;
@@ -124,8 +124,11 @@ fn put(
 }
 
 /// The ledgers, or those of no frame.
-fn ledgers_or_none(alloc: Global, ledgers: Option<Box<Ledgers>>) -> Result<Box<Ledgers>, AllocError>
-    ensures { IfOk result (λ all. (wholes : List (Placed WholeFrame)) → SumsPut ledgers wholes →
+fn ledgers_or_none<'c>(
+    alloc: Global,
+    ledgers: Option<Box<Ledgers<'c>>>,
+) -> Result<Box<Ledgers<'c>>, AllocError>
+    ensures { IfOk result (λ all. (wholes : List (Placed WholeFrame)) → SumsPut ledgers.entry wholes →
         SumsLedgers all.value wholes) }
 {
     match ledgers {

@@ -10,3 +10,4 @@ pub mod Sums
 pub mod Joins
 pub mod JoinedMatch
 pub mod PartLaws
+pub mod Retold

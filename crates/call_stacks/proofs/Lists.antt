@@ -9,7 +9,7 @@ use Rattle.event_core.specs.declared.marks.Mark.{Mark}
 use Rattle.call_stacks.specs.declared.opener.Opener.{Opener}
 use Rattle.call_stacks.specs.declared.verdict.Verdict.{Verdict}
 use Rattle.call_stacks.specs.declared.verdict.Verdict.TheVariants.{Open}
-use Rattle.call_stacks.specs.Calls.{Judged, judged_by, event_place, opener_place, mark_behind, sides_of, verdict_by, event_reads, kept_opener, IsOpener, IsStrayEvent, HasVerdict, closed_by, left_open}
+use Rattle.call_stacks.specs.Calls.{Reads, Judged, judged_with, judged_by, event_place, opener_place, mark_behind_by, sides_of, verdict_by, event_reads, kept_opener, IsOpener, IsStrayEvent, HasVerdict, closed_by, left_open}
 use Rattle.call_stacks.specs.Matching.{Side, opener, closer, neither, ListsInOrder}
 use Rattle.call_stacks.specs.Verdicts.{side_of}
 use Rattle.call_stacks.proofs.Judging.{pair, side}
@@ -219,17 +219,17 @@ openers_rise side rank (x ∷ items) rises =
     entry_rises rank (side x) x (strays side items) (openers side items) (λ p there. rises.0 p.0 (openers_in side items p there))
     (openers_rise side rank items rises.1)
 
-judged_events : (judge : Option Mark → Event → Bracket) (before : Option Mark) (events : List Event)
-    → map (λ (j : Judged). j.event) (judged_by judge before events) ≡ events
-judged_events judge before [] = refl
-judged_events judge before (e ∷ events) = ap (λ rest. e ∷ rest) (judged_events judge (mark_behind before e) events)
+pub judged_events : {E : Type 0} (reads : Reads E) (judge : Option Mark → E → Bracket) (before : Option Mark) (events : List E)
+    → map (λ j. j.event) (judged_with reads judge before events) ≡ events
+judged_events reads judge before [] = refl
+judged_events reads judge before (e ∷ events) = ap (λ rest. e ∷ rest) (judged_events reads judge (mark_behind_by reads before e) events)
 
 pairs_rise : (judge : Option Mark → Event → Bracket) (before : Option Mark) (events : List Event) → Rises event_place events
     → Rises (λ p. event_place p.0) (map pair (judged_by judge before events))
 pairs_rise judge before events rises =
     rises-map pair (λ p. event_place p.0) (judged_by judge before events)
     (map-rises (λ (j : Judged). j.event) event_place (judged_by judge before events)
-    (subst (λ (l : List Event). Rises event_place l) (sym (judged_events judge before events)) rises))
+    (subst (λ (l : List Event). Rises event_place l) (sym (judged_events event_reads judge before events)) rises))
 
 -- ---- the lists of the definitions
 

@@ -21,6 +21,9 @@ pub plus-requires-clause-received : goal.plus-requires-clause-received
 plus-requires-clause-received c =
     (counts_small c.args.self.oneway c.args.later.oneway c.requires.0 c.requires.1 c.requires.4.0.0 c.requires.2.oneway c.requires.3.oneway).1
 
+pub join-requires-4 : goal.join-requires-4
+join-requires-4 c = (c.requires.0, c.requires.1, c.requires.2.threads, c.requires.3.threads, c.requires.4)
+
 pub returns : goal.returns
 returns c first second sums others fits =
     let records = sums.records in
@@ -38,4 +41,5 @@ returns c first second sums others fits =
           c.plus.ensures.sent c.plus.ensures.received;
       objects = c.in_ok-join-2.ensures first second sums.objects others.objects fits;
       flags = c.in_ok-join-3.ensures first second sums.flags others.flags;
+      threads = c.in_ok-join-4.ensures first second sums.threads others.threads fits;
     }

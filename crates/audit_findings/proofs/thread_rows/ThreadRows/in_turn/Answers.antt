@@ -1,0 +1,20 @@
+use Rattle.std.proofs.Common.{◌≡◌, List, [], ◌∷◌, ◌++◌, sym, subst, rules}
+use Rattle.audit_findings.specs.ThreadRows.{openers_in, strays_in, sends_in, AreRowsInTurn}
+use Rattle.audit_findings.proofs.ThreadTurns.{no_threads, thread_in_front, taken_over, all_turned}
+use Rattle.audit_findings.proofs.thread_rows.ThreadRows.in_turn.Goals as goal
+
+pub loop-thread-preserved : goal.loop-thread-preserved
+loop-thread-preserved c = λ openers strays sends are.
+    let all = c.args.ledger.threads.entries.entries in
+    let found = c.in_ok-found.found in
+    let rest : c.loop-thread._thread-iterator ≡ (c.in-Some._thread, c.in-Some.calls) ∷ c.next.new.self = search rules in
+    let behind = thread_in_front (c.in-Some._thread, c.in-Some.calls) c.next.new.self found openers strays sends c.in_ok-found.ensures are in
+    taken_over all c.loop-thread.rows c.take_over.new.self found openers strays sends c.in_ok-take_over.ensures
+    (c.loop-thread.invariant (openers_in found ++ openers) (strays_in found ++ strays) (sends_in found ++ sends)
+    (subst (λ (es : List _). AreRowsInTurn es (openers_in found ++ openers) (strays_in found ++ strays) (sends_in found ++ sends)) (sym rest) behind))
+
+pub returns : goal.returns
+returns c =
+    let rest : c.loop-thread._thread-iterator ≡ [] = search rules in
+    all_turned c.args.ledger.threads.entries.entries c.loop-thread.rows
+    (c.loop-thread.invariant [] [] [] (subst (λ (es : List _). AreRowsInTurn es [] [] []) (sym rest) no_threads))

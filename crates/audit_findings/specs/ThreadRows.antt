@@ -1,0 +1,81 @@
+-- The rows of the calls of all threads, before they are counted.
+use Rattle.std.specs.Prelude.{◌≡◌, ◌++◌, ℕ, List, map}
+use Rattle.std.specs.List.{AllZip, flat_map}
+use Rattle.std.specs.List.Sorted.{IsPermutation, IsNonDecreasingBy}
+use Rattle.event_core.specs.declared.event.Event.{Event}
+use Rattle.event_core.specs.Events.{EventText}
+use Rattle.event_core.specs.Reading.{event_text}
+use Rattle.call_stacks.specs.Calls.{OpenerOf, RefusedOf, GivesFindings}
+use Rattle.call_stacks.specs.declared.findings.CallFindings.{CallFindings}
+use Rattle.call_stacks.specs.declared.findings.RefusedSend.{RefusedSend}
+use Rattle.call_stacks.specs.declared.opener.Opener.{Opener}
+use Rattle.call_stacks.specs.declared.thread_calls.ThreadCalls.{ThreadCalls}
+use Rattle.audit_findings.specs.declared.thread.Thread.{Thread}
+use Rattle.audit_findings.specs.declared.thread_rows.OpenerRow.{OpenerRow}
+use Rattle.audit_findings.specs.declared.thread_rows.SendRow.{SendRow}
+use Rattle.audit_findings.specs.declared.thread_rows.ThreadRows.{ThreadRows}
+use Rattle.audit_findings.specs.Calls.{is_call, AreOpeners, AreStrays, AreSends}
+use Rattle.audit_findings.specs.Kept.{kept_call}
+
+-- what an opener and a refused send of a thread say
+abbrev pub opener_text : Opener → OpenerOf EventText
+opener_text call = record { event = event_text call.event; verdict = call.verdict; closer = call.closer }
+
+abbrev pub send_text : RefusedSend → RefusedOf EventText
+send_text sent = record { event = event_text sent.event; oneway = sent.oneway }
+
+-- their rows
+abbrev pub opener_row : OpenerOf EventText → OpenerRow
+opener_row o = record { made = is_call o; row = kept_call o }
+
+abbrev pub send_row : RefusedOf EventText → SendRow
+send_row s = record { place = s.event.place; oneway = s.oneway }
+
+-- the rows of the calls of a thread
+abbrev pub openers_in : CallFindings → List OpenerRow
+openers_in found = map opener_row (map opener_text found.openers.items)
+
+abbrev pub strays_in : CallFindings → List ℕ
+strays_in found = map (λ e. e.place) (map event_text found.strays.items)
+
+abbrev pub sends_in : CallFindings → List SendRow
+sends_in found = map send_row (map send_text found.refused.items)
+
+-- the rows are the old ones with those of a thread behind them
+pub record TakesOver (old : ThreadRows) (found : CallFindings) (new : ThreadRows) : Type 0 where
+  pub openers : new.openers.items ≡ old.openers.items ++ openers_in found
+  pub strays : new.strays.items ≡ old.strays.items ++ strays_in found
+  pub sends : new.sends.items ≡ old.sends.items ++ sends_in found
+
+-- the rows of the threads of some entries, one thread behind another
+pub record AreRowsInTurn (entries : List (Thread × ThreadCalls)) (openers : List OpenerRow) (strays : List ℕ)
+    (sends : List SendRow) : Type 0 where
+  pub founds : List CallFindings
+  pub are : AllZip (λ (e : Thread × ThreadCalls) found. GivesFindings e.1 found) entries founds
+  pub openers_are : openers ≡ flat_map openers_in founds
+  pub strays_are : strays ≡ flat_map strays_in founds
+  pub sends_are : sends ≡ flat_map sends_in founds
+
+abbrev pub AreGatheredRows : List (Thread × ThreadCalls) → ThreadRows → Type 0
+AreGatheredRows entries rows = AreRowsInTurn entries rows.openers.items rows.strays.items rows.sends.items
+
+-- the lists are the old ones, each in the order of its places
+pub record AreSortedRows (old new : ThreadRows) : Type 0 where
+  pub openers : IsPermutation old.openers.items new.openers.items
+  pub openers_rise : IsNonDecreasingBy (λ o. o.row.place) new.openers.items
+  pub strays : IsPermutation old.strays.items new.strays.items
+  pub strays_rise : IsNonDecreasingBy (λ n. n) new.strays.items
+  pub sends : IsPermutation old.sends.items new.sends.items
+  pub sends_rise : IsNonDecreasingBy (λ s. s.place) new.sends.items
+
+-- the rows keep the openers, the strays and the refused sends of all threads of these events
+pub record KeepRows (rows : ThreadRows) (events : List EventText) : Type 0 where
+  pub openers : List (OpenerOf EventText)
+  pub are_openers : AreOpeners events openers
+  pub openers_kept : rows.openers.items ≡ map opener_row openers
+  pub strays : List EventText
+  pub are_strays : AreStrays events strays
+  pub strays_kept : rows.strays.items ≡ map (λ e. e.place) strays
+  pub sends : List (RefusedOf EventText)
+  pub are_sends : AreSends events sends
+  pub sends_kept : rows.sends.items ≡ map send_row sends

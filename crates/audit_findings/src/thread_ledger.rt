@@ -1,0 +1,49 @@
+//! The calls of all threads.
+
+ghost use Rattle.std.specs.Prelude.{[], IfOk, OnOk};
+ghost use Rattle.event_core.specs.Reading.{event_text};
+ghost use Rattle.summary_law.specs.Summary.{CanAdd, Adds, CanJoin, Joins};
+ghost use Rattle.audit_findings.specs.Ledgers.{AreFewEvents};
+ghost use Rattle.audit_findings.specs.ThreadLedger.{SumsThreadCalls};
+
+use crate::in_order::InOrder;
+use crate::thread::Thread;
+use call_stacks::ThreadCalls;
+use event_core::Event;
+use std::alloc::{AllocError, Global};
+use summary_law::Summary;
+
+/// The calls of each thread.
+#[derive(Drop)]
+pub(crate) struct ThreadLedger<'c> {
+    pub threads: InOrder<Thread, ThreadCalls<'c>>,
+}
+
+impl<'c> ThreadLedger<'c> {
+    pub fn empty(alloc: Global) -> Self
+        ensures { SumsThreadCalls result [] }
+    {
+        ThreadLedger {
+            threads: InOrder::empty(alloc),
+        }
+    }
+
+    /// Adds an event. After an error the ledger is only to be dropped.
+    pub fn add(&mut self, event: Event<'c>) -> Result<(), AllocError>
+        requires { CanAdd SumsThreadCalls AreFewEvents self.old (event_text event) }
+        ensures { OnOk result
+            (Adds SumsThreadCalls AreFewEvents self.old (event_text event.entry) self.new) }
+    {
+        self.threads.add((Thread::of(event), event))
+    }
+
+    /// Those of these events and of the later ones.
+    pub fn join(self, later: ThreadLedger<'c>) -> Result<ThreadLedger<'c>, AllocError>
+        requires { CanJoin SumsThreadCalls AreFewEvents self later }
+        ensures { IfOk result (Joins SumsThreadCalls AreFewEvents self.entry later.entry) }
+    {
+        Ok(ThreadLedger {
+            threads: self.threads.join(later.threads)?,
+        })
+    }
+}

@@ -1,0 +1,145 @@
+//! The rows of the calls of all threads.
+
+ghost use Rattle.std.specs.Prelude.{◌≡◌, ◌++◌, List, map, IfOk, OnOk};
+ghost use Rattle.event_core.specs.Events.{EventText};
+ghost use Rattle.event_core.specs.Reading.{event_text};
+ghost use Rattle.audit_findings.specs.Places.{RiseInPlace};
+ghost use Rattle.audit_findings.specs.ThreadLedger.{SumsThreadCalls};
+ghost use Rattle.audit_findings.specs.ThreadRows.{opener_text, opener_row, send_text, send_row, TakesOver, AreGatheredRows, AreSortedRows, KeepRows};
+
+use crate::calls::CallRow;
+use crate::in_order::InOrder;
+use crate::thread_ledger::ThreadLedger;
+use call_stacks::{CallFindings, Opener, RefusedSend};
+use event_core::{Bracket, Event, bracket};
+use std::alloc::{AllocError, Global};
+
+/// A call as a row, and whether its thread makes it; else its thread gets it to serve.
+#[derive(Clone, Copy, Debug)]
+pub(crate) struct OpenerRow {
+    pub made: bool,
+    pub row: CallRow,
+}
+
+impl OpenerRow {
+    fn of(opener: &Opener<'_>) -> Self
+        ensures { result ≡ opener_row (opener_text opener.now) }
+    {
+        OpenerRow {
+            made: matches!(bracket(None, opener.event), Bracket::Call),
+            row: CallRow {
+                place: opener.event.place,
+                verdict: opener.verdict,
+                closer: opener.closer,
+            },
+        }
+    }
+}
+
+/// A refused send by the place of its error reply, and whether it is a oneway transaction; else it
+/// is a reply.
+#[derive(Clone, Copy, Debug)]
+pub(crate) struct SendRow {
+    pub place: u64,
+    pub oneway: bool,
+}
+
+impl SendRow {
+    fn of(sent: &RefusedSend<'_>) -> Self
+        ensures { result ≡ send_row (send_text sent.now) }
+    {
+        SendRow {
+            place: sent.event.place,
+            oneway: sent.oneway,
+        }
+    }
+}
+
+/// The rows of the calls of all threads, each list in rising place once it is sorted.
+#[derive(Drop)]
+pub(crate) struct ThreadRows {
+    /// The calls, made and served ones.
+    pub openers: Vec<OpenerRow>,
+    /// The places of the closers that match no opener.
+    pub strays: Vec<u64>,
+    /// The refused sends.
+    pub sends: Vec<SendRow>,
+}
+
+impl ThreadRows {
+    /// The rows of all threads, each list in rising place.
+    pub fn of(alloc: Global, ledger: ThreadLedger<'_>) -> Result<Self, AllocError>
+        ensures { IfOk result (λ rows. (events : List EventText) →
+            SumsThreadCalls ledger.entry events → RiseInPlace events → KeepRows rows events) }
+    {
+        let mut rows = ThreadRows::in_turn(alloc, ledger)?;
+        rows.sort();
+        Ok(rows)
+    }
+
+    /// The rows of each thread in turn. What a thread has is dropped once its rows are taken.
+    fn in_turn(alloc: Global, ledger: ThreadLedger<'_>) -> Result<Self, AllocError>
+        ensures { IfOk result (λ rows.
+            AreGatheredRows ledger.entry.threads.entries.entries rows) }
+    {
+        let mut rows = ThreadRows {
+            openers: Vec::new(alloc),
+            strays: Vec::new(alloc),
+            sends: Vec::new(alloc),
+        };
+        let InOrder { entries, .. } = ledger.threads;
+        for (_thread, calls) in entries {
+            let found = calls.finish()?;
+            rows.take_over(&found)?;
+        }
+        Ok(rows)
+    }
+
+    /// Takes over the calls of a thread.
+    fn take_over(&mut self, found: &CallFindings<'_>) -> Result<(), AllocError>
+        ensures { OnOk result (TakesOver self.old found.entry.now self.new) }
+    {
+        push_openers(&mut self.openers, found.openers.as_slice())?;
+        push_places(&mut self.strays, found.strays.as_slice())?;
+        push_sends(&mut self.sends, found.refused.as_slice())
+    }
+
+    /// Sorts each list by place.
+    fn sort(&mut self)
+        ensures { AreSortedRows self.old self.new }
+    {
+        self.openers.sort_unstable_by_key(|opener| opener.row.place);
+        self.strays.sort_unstable();
+        self.sends.sort_unstable_by_key(|sent| sent.place);
+    }
+}
+
+fn push_openers(rows: &mut Vec<OpenerRow>, openers: &[Opener<'_>]) -> Result<(), AllocError>
+    ensures { OnOk result (rows.new.items ≡
+        rows.old.items ++ map opener_row (map opener_text openers.entry.now)) }
+{
+    for opener in openers {
+        rows.push(OpenerRow::of(opener))?;
+    }
+    Ok(())
+}
+
+fn push_places(places: &mut Vec<u64>, events: &[Event<'_>]) -> Result<(), AllocError>
+    ensures { OnOk result (places.new.items ≡
+        places.old.items ++ map (λ (e : EventText). e.place) (map event_text events.entry.now)) }
+{
+    for event in events {
+        places.push(event.place)?;
+    }
+    Ok(())
+}
+
+fn push_sends(rows: &mut Vec<SendRow>, sends: &[RefusedSend<'_>]) -> Result<(), AllocError>
+    ensures { OnOk result (rows.new.items ≡
+        rows.old.items ++ map send_row (map send_text sends.entry.now)) }
+{
+    for sent in sends {
+        rows.push(SendRow::of(sent))?;
+    }
+    Ok(())
+}
