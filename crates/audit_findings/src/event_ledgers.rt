@@ -14,7 +14,8 @@ use event_core::Event;
 use std::alloc::{AllocError, Global};
 use summary_law::{Summary, Tally};
 
-/// How many events there are, and what `codes`, `oneway`, `objects`, `flags` and `threads` keep of them all.
+/// How many events there are, and what `codes`, `oneway`, `objects`, `flags` and the calls of
+/// threads keep of them all.
 #[derive(Drop)]
 pub(crate) struct EventLedgers<'c> {
     pub records: u64,
