@@ -10,11 +10,11 @@ ghost use Rattle.audit_findings.specs.Frames.{AreGoodFrames};
 ghost use Rattle.audit_join.specs.declared.limits.TheConstants.{CAPTURE_LIMIT};
 
 use crate::{
-    AuditError, BadRow, CAPTURE_LIMIT, CodeRow, Findings, ProcessHandle, RecordCounts, Sections,
-    SortCounts, audit_one,
+    AuditError, BadRow, CodeRow, Findings, ProcessHandle, RecordCounts, Sections, SortCounts,
+    audit_one,
 };
 use capture_frame::{Fault, FaultKind, Frame};
-use captures::{EIGHT_FRAMES, RETURN_IN_A_WRITE};
+use captures::{RETURN_IN_A_WRITE, within_limit};
 use object_view::{BadObject, Cause};
 use std::process::Abort;
 use std::test::Fail;
@@ -188,7 +188,7 @@ const MALFORMED: &[(&[u8], Fault)] = &[
 #[test]
 fn gives_the_first_fault(rt: HostRuntime) {
     for (capture, fault) in MALFORMED {
-        assert!(&rt; capture.len() <= CAPTURE_LIMIT);
+        let capture = within_limit(&rt, capture);
         let error = audit_one(&rt, rt.alloc(), capture).err();
         assert_eq!(&rt; error, Some(AuditError::Malformed(*fault)));
     }

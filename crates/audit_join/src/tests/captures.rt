@@ -1,5 +1,11 @@
 //! Captures for tests, byte by byte.
 
+ghost use Rattle.std.specs.Prelude.{◌≤◌, length};
+ghost use Rattle.audit_join.specs.declared.limits.TheConstants.{CAPTURE_LIMIT};
+
+use crate::CAPTURE_LIMIT;
+use std::process::Abort;
+
 /// Eight frames, each with its place and its sequence, and the places of what stands in it:
 ///
 /// - 16, sequence 5, a write: `BC_ACQUIRE` at 48.
@@ -51,6 +57,15 @@ pub(crate) const EIGHT_FRAMES: &[u8] = b"BNDRCAP1\x08\0\0\0\0\0\0\0\
     \x15\0\0\0\0\0\0\0\xc8\0\0\0\xca\0\0\0\x02\0\0\0\x08\0\0\0\0\0\0\0\0\0\0\0\
     \x06\x72\0\0\
     \xf0\x72\0\0";
+
+/// The capture, which is within the limit. A proof about a constant carries all its bytes along, and
+/// one about what this gives does not.
+pub(crate) fn within_limit<'c>(rt: &impl Abort, capture: &'c [u8]) -> &'c [u8]
+    ensures { length result.now ≤ CAPTURE_LIMIT }
+{
+    assert!(rt; capture.len() <= CAPTURE_LIMIT);
+    capture
+}
 
 /// A write with `BR_NOOP` at 48.
 pub(crate) const RETURN_IN_A_WRITE: &[u8] = b"BNDRCAP1\x08\0\0\0\0\0\0\0\

@@ -3,9 +3,9 @@
 ghost use Rattle.std.specs.Prelude.{All};
 ghost use Rattle.audit_findings.specs.Lookup.{HasRecordIn};
 
-use super::captures::EIGHT_FRAMES;
+use super::captures::{EIGHT_FRAMES, within_limit};
 use super::expect_sections;
-use crate::{CAPTURE_LIMIT, Findings, audit_one};
+use crate::{Findings, audit_one};
 use binder_code::Kind;
 use std::process::Abort;
 use std::test::Fail;
@@ -50,6 +50,12 @@ const RECORDS: &[(u64, Kind, u32, u32)] = &[
     (720, Kind::BcTransaction, 100, 0x82),
 ];
 
+/// The frame at a place has this sequence.
+fn expect_frame(rt: &impl Abort, found: &Findings<'_>, place: u64, sequence: Option<u64>) {
+    let frame = found.frame_at(place);
+    assert_eq!(rt; frame.map(|frame| frame.sequence), sequence, "at {place}");
+}
+
 /// The record at a place is the one of `RECORDS`.
 fn expect_record(rt: &impl Abort, found: &Findings<'_>, place: u64)
     requires { HasRecordIn found.now.frames place }
@@ -75,12 +81,11 @@ fn expect_records(rt: &impl Abort, found: &Findings<'_>, places: &[u64])
 
 #[test]
 fn finds_frames_and_records(rt: HostRuntime) -> Result<(), Fail> {
-    assert!(&rt; EIGHT_FRAMES.len() <= CAPTURE_LIMIT);
-    let found = audit_one(&rt, rt.alloc(), EIGHT_FRAMES)?;
+    let capture = within_limit(&rt, EIGHT_FRAMES);
+    let found = audit_one(&rt, rt.alloc(), capture)?;
     expect_sections(&rt, found.sections());
     for (place, sequence) in FRAMES {
-        let frame = found.frame_at(*place);
-        assert_eq!(&rt; frame.map(|frame| frame.sequence), *sequence, "at {place}");
+        expect_frame(&rt, &found, *place, *sequence);
     }
     expect_records(&rt, &found, found.sections().flags.as_slice());
     Ok(())

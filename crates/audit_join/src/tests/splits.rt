@@ -4,9 +4,9 @@ ghost use Rattle.std.specs.Prelude.{◌≤◌, ◌+◌, length, IfOk};
 ghost use Rattle.audit_findings.specs.Frames.{AreGoodFrames};
 ghost use Rattle.audit_findings.specs.Summary.{SumsPiece, CanSettle};
 
-use super::captures::EIGHT_FRAMES;
+use super::captures::{EIGHT_FRAMES, within_limit};
 use super::{expect_sections, frames_of};
-use crate::{CAPTURE_LIMIT, PieceSummary, audit_one};
+use crate::{PieceSummary, audit_one};
 use capture_frame::Frame;
 use std::alloc::{AllocError, Global};
 use std::process::Abort;
@@ -113,16 +113,29 @@ fn expect_parts(
     Ok(())
 }
 
+/// So do those of every split of them.
+fn expect_splits(
+    rt: &impl Abort,
+    alloc: Global,
+    frames: &[Frame<'_>],
+    most_kept: usize,
+) -> Result<(), AllocError>
+    requires { AreGoodFrames frames.now }
+{
+    for count in 0..frames.len() + 1 {
+        expect_parts(rt, alloc, frames, count, most_kept)?;
+    }
+    Ok(())
+}
+
 #[test]
 fn joins_every_split(rt: HostRuntime) -> Result<(), Fail> {
-    assert!(&rt; EIGHT_FRAMES.len() <= CAPTURE_LIMIT);
-    let found = audit_one(&rt, rt.alloc(), EIGHT_FRAMES)?;
-    let frames = frames_of(EIGHT_FRAMES, &found);
+    let capture = within_limit(&rt, EIGHT_FRAMES);
+    let found = audit_one(&rt, rt.alloc(), capture)?;
+    let frames = frames_of(capture, &found);
     assert_eq!(&rt; frames.len(), 8);
     for most_kept in [0, 1, 3] {
-        for count in 0..frames.len() + 1 {
-            expect_parts(&rt, rt.alloc(), frames, count, most_kept)?;
-        }
+        expect_splits(&rt, rt.alloc(), frames, most_kept)?;
     }
     Ok(())
 }
