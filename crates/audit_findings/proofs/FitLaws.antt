@@ -1,8 +1,6 @@
 -- What few frames feed to the ledgers of their processes can be summarised.
-use Rattle.std.proofs.Common.{◌≡◌, ℕ, ◌≤◌, ◌^◌, List, [], ◌∷◌, ◌++◌, length, map, Option, None, refl, sym, ap, ap₂, subst, ◌∙◌, arith, append_assoc}
-use Rattle.std.specs.List.{filter_map, flat_map}
+use Rattle.std.proofs.Common.{◌≡◌, ℕ, List, [], ◌∷◌, ◌++◌, map, Option, None, refl, sym, ap, ap₂, subst, ◌∙◌, arith, append_assoc}
 use Rattle.std.proofs.lemmas.List.{append-nil, map-append}
-use Rattle.std.proofs.lemmas.List.Concat.{flat_map-cons}
 use Rattle.std.proofs.lemmas.Simd.{map-map}
 use Rattle.capture_frame.specs.Envelope.{FrameText, frame_text, placed_frame}
 use Rattle.capture_frame.specs.Units.{Placed}
@@ -28,7 +26,7 @@ use Rattle.audit_findings.specs.InOrder.{SumsInOrder}
 use Rattle.audit_findings.specs.Buffers.{buffer_item_of}
 use Rattle.audit_findings.specs.Clears.{clear_item_of}
 use Rattle.audit_findings.specs.Deaths.{death_item_of}
-use Rattle.audit_findings.specs.Frames.{Show, IsWhole, events_of_wholes, placed_text}
+use Rattle.audit_findings.specs.Frames.{Show, events_of_wholes}
 use Rattle.audit_findings.specs.Handles.{handle_item_of}
 use Rattle.audit_findings.specs.Ledgers.{AreFewEvents, AreFewFrames}
 use Rattle.audit_findings.specs.Nodes.{node_item_of}

@@ -1,10 +1,8 @@
 -- The ledgers of what frames fed are those of the frames' processes.
-use Rattle.std.proofs.Common.{◌≡◌, ◌≢◌, ℕ, Bool, true, false, ◌&&◌, List, [], ◌∷◌, map, All, Option, Some, None, is_none, refl, sym, ap, subst, ◌∙◌}
+use Rattle.std.proofs.Common.{◌≢◌, List, [], map, Option, Some, None, refl, sym, ap, subst, ◌∙◌}
 use Rattle.std.proofs.Common.{Box, Global}
-use Rattle.std.specs.List.{filter_map, cons_option}
-use Rattle.std.specs.Map.{keys_of}
 use Rattle.std.specs.Ordering.{nat_cmp}
-use Rattle.std.proofs.lemmas.List.Elements.{All-head, All-tail, All-weaker}
+use Rattle.std.proofs.lemmas.List.Elements.{All-weaker}
 use Rattle.std.proofs.lemmas.Simd.{map-map}
 use Rattle.capture_frame.specs.Units.{Placed}
 use Rattle.handle_ledger.specs.Handles.{HandleLedgerSums}
@@ -13,7 +11,6 @@ use Rattle.pending_ledger.specs.Sums.{BuffersSums, PendingSums, RequestsSums}
 use Rattle.summary_law.specs.ByKey.{items_of}
 use Rattle.transaction_view.specs.Grammar.{WholeFrame}
 use Rattle.audit_findings.specs.declared.process.Process.{Process}
-use Rattle.audit_findings.specs.declared.process_items.ProcessItems.{ProcessItems}
 use Rattle.audit_findings.specs.declared.process_ledgers.ProcessLedgers.{ProcessLedgers}
 use Rattle.audit_findings.specs.declared.process_summary.ProcessSummary.{ProcessSummary}
 use Rattle.audit_findings.specs.Buffers.{buffer_item_of}
@@ -24,9 +21,9 @@ use Rattle.audit_findings.specs.Handles.{handle_item_of}
 use Rattle.audit_findings.specs.Nodes.{node_item_of}
 use Rattle.audit_findings.specs.Oneway.{oneway_item_of}
 use Rattle.audit_findings.specs.OnewayLedger.{OnewayLedgerSums}
-use Rattle.audit_findings.specs.ProcessItems.{is_no_items, fed_by_all}
+use Rattle.audit_findings.specs.ProcessItems.{fed_by_all}
 use Rattle.audit_findings.specs.ProcessLedgers.{SumsIfAny, SumsProcessItems, SumsProcesses, IsOfProcess, AreOfProcesses}
-use Rattle.audit_findings.specs.Processes.{same_process, processes_of}
+use Rattle.audit_findings.specs.Processes.{same_process}
 use Rattle.audit_findings.specs.Requests.{request_item_of}
 use Rattle.audit_findings.proofs.FedLaws.{fed_items, processes_fed}
 use Rattle.audit_findings.proofs.InOrderLaws.{each_sums}

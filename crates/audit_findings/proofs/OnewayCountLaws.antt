@@ -1,5 +1,5 @@
 -- How many oneway transactions there are among some events and others.
-use Rattle.std.proofs.Common.{◌≡◌, ℕ, ◌+◌, ◌<◌, ◌≤◌, ◌^◌, Bool, cond, List, [], ◌∷◌, ◌++◌, Option, Some, refl, length, ap, ap₂, sym, ◌∙◌, length-append, arith}
+use Rattle.std.proofs.Common.{◌≡◌, ℕ, ◌+◌, ◌<◌, ◌≤◌, ◌^◌, Bool, cond, List, [], ◌∷◌, ◌++◌, Option, Some, length, ap, ap₂, sym, ◌∙◌, length-append, arith}
 use Rattle.std.specs.Prelude.{count_by, not}
 use Rattle.std.specs.List.{filter_map, cons_option}
 use Rattle.std.proofs.lemmas.List.Elements.{filter_map-append}

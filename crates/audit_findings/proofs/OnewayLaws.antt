@@ -42,7 +42,8 @@ oneway_cmp_exact (Sent a) Received is = let no : ⊥ = cc in absurd no
 oneway_cmp_exact Received (Sent b) is = let no : ⊥ = cc in absurd no
 oneway_cmp_exact Received Received is = refl
 
-by_derived : (tally : Tally OnewayKey) (items : List OnewayItem) → TallySums oneway_cmp tally (map oneway_pair items) → TallySums key_cmp tally (map oneway_pair items)
+by_derived : (tally : Tally OnewayKey) (items : List OnewayItem) → TallySums oneway_cmp tally (map oneway_pair items)
+    → TallySums key_cmp tally (map oneway_pair items)
 by_derived tally items = subst (λ (cmp : OnewayKey → OnewayKey → Ordering). TallySums cmp tally (map oneway_pair items)) (sym order_is)
 
 -- what the derived order says of two lists of items, one behind the other, is so by the order of the section

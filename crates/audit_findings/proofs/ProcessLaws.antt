@@ -82,7 +82,8 @@ pub record Nothing (i : ProcessItems) : Type 0 where
 
 pub nothing : (i : ProcessItems) → is_no_items i ≡ true → Nothing i
 nothing i is =
-    let six = both_true (is_none i.handle && is_none i.node && is_none i.buffer && is_none i.request && is_none i.death && is_none i.clear) (is_none i.oneway) is in
+    let six =
+    both_true (is_none i.handle && is_none i.node && is_none i.buffer && is_none i.request && is_none i.death && is_none i.clear) (is_none i.oneway) is in
     let five = both_true (is_none i.handle && is_none i.node && is_none i.buffer && is_none i.request && is_none i.death) (is_none i.clear) six.0 in
     let four = both_true (is_none i.handle && is_none i.node && is_none i.buffer && is_none i.request) (is_none i.death) five.0 in
     let three = both_true (is_none i.handle && is_none i.node && is_none i.buffer) (is_none i.request) four.0 in

@@ -1,6 +1,5 @@
 -- Rows of handles, of nodes and of oneway transactions, of one process and of all in turn.
-use Rattle.std.proofs.Common.{◌≡◌, ℕ, true, List, [], map, Option, Some, None, IsSomeAnd, refl, sym, subst, arith}
-use Rattle.std.proofs.Common.{Box, Global}
+use Rattle.std.proofs.Common.{◌≡◌, ℕ, List, [], map, Some, None, IsSomeAnd, sym, subst, arith}
 use Rattle.std.specs.List.{AllZip, filter_map}
 use Rattle.std.specs.List.Sorted.{IsStrictlySortedBy}
 use Rattle.std.proofs.lemmas.List.Elements.{All-nil}
@@ -10,8 +9,8 @@ use Rattle.event_core.specs.declared.handle.HandleItem.{HandleItem}
 use Rattle.event_core.specs.declared.node.NodeItem.{NodeItem}
 use Rattle.event_core.specs.declared.oneway.OnewayItem.{OnewayItem}
 use Rattle.event_core.specs.declared.oneway.OnewayKey.{OnewayKey}
-use Rattle.handle_ledger.specs.Handles.{AreHandleRows, GivesHandleRows, IsHandleRow}
-use Rattle.handle_ledger.specs.Nodes.{AreNodeRows, GivesNodeRows, IsNodeRow}
+use Rattle.handle_ledger.specs.Handles.{AreHandleRows, GivesHandleRows}
+use Rattle.handle_ledger.specs.Nodes.{AreNodeRows, GivesNodeRows}
 use Rattle.handle_ledger.specs.declared.handle_row.HandleRow.{HandleRow}
 use Rattle.handle_ledger.specs.declared.node_row.NodeRow.{NodeRow}
 use Rattle.handle_ledger.proofs.HandleLaws.{read_handle_rows}
@@ -29,7 +28,7 @@ use Rattle.audit_findings.specs.Handles.{handle_item_of, process_handle, AreHand
 use Rattle.audit_findings.specs.Nodes.{node_item_of, process_node, AreNodesOf, AreNodeFindings}
 use Rattle.audit_findings.specs.Oneway.{oneway_cmp, oneway_item_of, oneway_pair, process_oneway, AreOnewayOf, AreOnewayRows}
 use Rattle.audit_findings.specs.OnewayLedger.{GivesTallyRows}
-use Rattle.audit_findings.specs.ProcessLedgers.{AreLedgersOf, AreOfProcesses, IsOfProcess, GivesHandles, GivesNodes, GivesOneway}
+use Rattle.audit_findings.specs.ProcessLedgers.{AreOfProcesses, IsOfProcess, GivesHandles, GivesNodes, GivesOneway}
 use Rattle.audit_findings.specs.Processes.{processes_of, read_of, items_of_process}
 use Rattle.audit_findings.proofs.ProcessLaws.{found_ledgers, no_ledgers}
 use Rattle.audit_findings.proofs.TurnLaws.{Turning, turned, turned_of, joined}

@@ -1,5 +1,5 @@
 -- What an event is to the ledgers of its process, and what frames are to those of all processes.
-use Rattle.std.specs.Prelude.{◌≡◌, ◌&&◌, Bool, List, [], ◌∷◌, ◌++◌, map, is_none, None}
+use Rattle.std.specs.Prelude.{◌&&◌, Bool, List, ◌∷◌, map, is_none, None}
 use Rattle.std.specs.List.{flat_map}
 use Rattle.capture_frame.specs.Units.{Placed}
 use Rattle.transaction_view.specs.Grammar.{WholeFrame}

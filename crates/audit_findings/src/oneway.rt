@@ -7,7 +7,8 @@ ghost use Rattle.event_core.specs.declared.oneway.OnewayKey.{OnewayKey};
 ghost use Rattle.audit_findings.specs.Frames.{events_of_wholes};
 ghost use Rattle.audit_findings.specs.Kept.{KeepsOneway};
 ghost use Rattle.audit_findings.specs.Ledgers.{CountsOneway};
-ghost use Rattle.audit_findings.specs.Oneway.{OnewayText, AreOnewayFindings, AreOnewayRows, process_oneway};
+ghost use Rattle.audit_findings.specs.Oneway.{OnewayText, AreOnewayFindings, AreOnewayRows};
+ghost use Rattle.audit_findings.specs.Oneway.{process_oneway};
 ghost use Rattle.audit_findings.specs.ProcessLedgers.{AreOfProcesses, GivesOneway};
 
 use crate::in_order::InOrder;
@@ -50,8 +51,8 @@ pub struct Oneway {
     pub sent: u64,
     /// How many are received.
     pub received: u64,
-    /// Those of each process in the order of first frames: by rising handle what it sends, then what
-    /// it receives.
+    /// Those of each process in the order of first frames: by rising handle what it sends, then
+    /// what it receives.
     pub rows: Rows<OnewayRow>,
 }
 

@@ -50,6 +50,8 @@ returns c =
       requests = read_added (λ (i : ProcessItems). i.request) items c.args.item RequestsSums (IsPlaced request_place) c.args.self.now.requests c.add_item-4.new.summary c.in_ok-add_item-4.ensures sums.requests fits.requests;
       deaths = read_added (λ (i : ProcessItems). i.death) items c.args.item (PendingSums nat_cmp) (IsPlaced place_of) c.args.self.now.deaths c.add_item-5.new.summary c.in_ok-add_item-5.ensures sums.deaths fits.deaths;
       clears = read_added (λ (i : ProcessItems). i.clear) items c.args.item (PendingSums nat_cmp) (IsPlaced place_of) c.args.self.now.clears c.add_item-6.new.summary c.in_ok-add_item-6.ensures sums.clears fits.clears;
-      oneway = read_added (λ (i : ProcessItems). i.oneway) items c.args.item OnewayLedgerSums IsShort c.args.self.now.oneway c.add_item-7.new.summary last sums.oneway fits.oneway;
+      oneway =
+          read_added (λ (i : ProcessItems). i.oneway) items c.args.item OnewayLedgerSums IsShort c.args.self.now.oneway c.add_item-7.new.summary
+          last sums.oneway fits.oneway;
     })
     c.add_item-7.ensures
