@@ -2,6 +2,7 @@
 #![tactic(auto)]
 
 mod buffers;
+mod call_sections;
 mod calls;
 mod clears;
 mod codes;
@@ -18,6 +19,7 @@ mod nodes;
 mod objects;
 mod oneway;
 mod open_and_stray;
+mod opener_row;
 mod piece_summary;
 mod places;
 mod process;
