@@ -25,6 +25,7 @@ pub mod ThreadFits
 mod SortedRows
 mod ThreadRowLaws
 mod ThreadTurns
+mod CallCounts
 pub mod OfProcesses
 pub mod EventsAt
 pub mod TurnLaws

@@ -18,8 +18,8 @@ use Rattle.call_stacks.specs.declared.thread_calls.ThreadCalls.{ThreadCalls}
 use Rattle.pending_ledger.proofs.ListLaws.{one_place, contains_none}
 use Rattle.summary_law.specs.ByKey.{items_of}
 use Rattle.audit_findings.specs.declared.thread.Thread.{Thread}
-use Rattle.audit_findings.specs.declared.thread_rows.OpenerRow.{OpenerRow}
-use Rattle.audit_findings.specs.declared.thread_rows.SendRow.{SendRow}
+use Rattle.audit_findings.specs.declared.opener_row.OpenerRow.{OpenerRow}
+use Rattle.audit_findings.specs.declared.refused.SendRow.{SendRow}
 use Rattle.audit_findings.specs.declared.thread_rows.ThreadRows.{ThreadRows}
 use Rattle.audit_findings.specs.Calls.{text_reads, judged_in_thread, AreOpeners, AreStrays, AreSends}
 use Rattle.audit_findings.specs.Places.{RiseInPlace}

@@ -6,8 +6,8 @@ use Rattle.call_stacks.specs.Calls.{GivesFindings}
 use Rattle.call_stacks.specs.declared.findings.CallFindings.{CallFindings}
 use Rattle.call_stacks.specs.declared.thread_calls.ThreadCalls.{ThreadCalls}
 use Rattle.audit_findings.specs.declared.thread.Thread.{Thread}
-use Rattle.audit_findings.specs.declared.thread_rows.OpenerRow.{OpenerRow}
-use Rattle.audit_findings.specs.declared.thread_rows.SendRow.{SendRow}
+use Rattle.audit_findings.specs.declared.opener_row.OpenerRow.{OpenerRow}
+use Rattle.audit_findings.specs.declared.refused.SendRow.{SendRow}
 use Rattle.audit_findings.specs.declared.thread_rows.ThreadRows.{ThreadRows}
 use Rattle.audit_findings.specs.ThreadRows.{openers_in, strays_in, sends_in, TakesOver, AreRowsInTurn, AreGatheredRows}
 

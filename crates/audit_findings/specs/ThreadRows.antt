@@ -1,5 +1,5 @@
--- The rows of the calls of all threads, before they are counted.
-use Rattle.std.specs.Prelude.{◌≡◌, ◌++◌, ℕ, List, map}
+-- The rows of the calls of all threads, and what is kept of them.
+use Rattle.std.specs.Prelude.{◌≡◌, ◌++◌, ◌&&◌, ℕ, if◌then◌else◌, not, Bool, true, false, List, map}
 use Rattle.std.specs.List.{AllZip, flat_map}
 use Rattle.std.specs.List.Sorted.{IsPermutation, IsNonDecreasingBy}
 use Rattle.event_core.specs.declared.event.Event.{Event}
@@ -10,12 +10,18 @@ use Rattle.call_stacks.specs.declared.findings.CallFindings.{CallFindings}
 use Rattle.call_stacks.specs.declared.findings.RefusedSend.{RefusedSend}
 use Rattle.call_stacks.specs.declared.opener.Opener.{Opener}
 use Rattle.call_stacks.specs.declared.thread_calls.ThreadCalls.{ThreadCalls}
+use Rattle.call_stacks.specs.declared.verdict.Verdict.{Verdict}
+use Rattle.call_stacks.specs.declared.verdict.Verdict.TheVariants.{Answered, Failed, Replied, Crossed, Open}
+use Rattle.audit_findings.specs.declared.call_sections.CallSections.{CallSections}
+use Rattle.audit_findings.specs.declared.opener_row.End.{End}
+use Rattle.audit_findings.specs.declared.opener_row.End.TheVariants.{Caller, Server}
 use Rattle.audit_findings.specs.declared.thread.Thread.{Thread}
-use Rattle.audit_findings.specs.declared.thread_rows.OpenerRow.{OpenerRow}
-use Rattle.audit_findings.specs.declared.thread_rows.SendRow.{SendRow}
+use Rattle.audit_findings.specs.declared.opener_row.OpenerRow.{OpenerRow}
+use Rattle.audit_findings.specs.declared.refused.SendRow.{SendRow}
 use Rattle.audit_findings.specs.declared.thread_rows.ThreadRows.{ThreadRows}
-use Rattle.audit_findings.specs.Calls.{is_call, AreOpeners, AreStrays, AreSends}
-use Rattle.audit_findings.specs.Kept.{kept_call}
+use Rattle.audit_findings.specs.Calls.{is_call, is_answered, is_failed, is_replied, is_crossed, is_open, AreOpeners, AreStrays, AreSends}
+use Rattle.audit_findings.specs.Calls.{CallsText, ServedText, RefusedText, AreCallFindings, AreRefused}
+use Rattle.audit_findings.specs.Kept.{kept_call, KeepsCalls, KeepsServed, KeepsRefused}
 
 -- what an opener and a refused send of a thread say
 abbrev pub opener_text : Opener → OpenerOf EventText
@@ -26,10 +32,32 @@ send_text sent = record { event = event_text sent.event; oneway = sent.oneway }
 
 -- their rows
 abbrev pub opener_row : OpenerOf EventText → OpenerRow
-opener_row o = record { made = is_call o; row = kept_call o }
+opener_row o = record { end = if is_call o then Caller else Server; row = kept_call o }
 
 abbrev pub send_row : RefusedOf EventText → SendRow
 send_row s = record { place = s.event.place; oneway = s.oneway }
+
+-- whether the thread of a call is at this end
+abbrev pub is_at : End → End → Bool
+is_at Caller Caller = true
+is_at Caller Server = false
+is_at Server Caller = false
+is_at Server Server = true
+
+-- whether the second verdict is the first
+abbrev pub is_verdict : Verdict → Verdict → Bool
+is_verdict Answered verdict = is_answered verdict
+is_verdict Failed verdict = is_failed verdict
+is_verdict Replied verdict = is_replied verdict
+is_verdict Crossed verdict = is_crossed verdict
+is_verdict Open verdict = is_open verdict
+
+-- whether the thread of a call is at this end, and the call has this verdict, or another one
+abbrev pub is_of : End → Verdict → OpenerRow → Bool
+is_of end verdict o = is_at end o.end && is_verdict verdict o.row.verdict
+
+abbrev pub is_but : End → Verdict → OpenerRow → Bool
+is_but end verdict o = is_at end o.end && not (is_verdict verdict o.row.verdict)
 
 -- the rows of the calls of a thread
 abbrev pub openers_in : CallFindings → List OpenerRow
@@ -79,3 +107,17 @@ pub record KeepRows (rows : ThreadRows) (events : List EventText) : Type 0 where
   pub sends : List (RefusedOf EventText)
   pub are_sends : AreSends events sends
   pub sends_kept : rows.sends.items ≡ map send_row sends
+
+-- the sections keep what the report says of the calls of all threads of these events
+pub record KeepCalls (sections : CallSections) (events : List EventText) : Type 0 where
+  pub calls : CallsText
+  pub served : ServedText
+  pub are_calls : AreCallFindings events calls served
+  pub calls_kept : KeepsCalls sections.calls calls
+  pub served_kept : KeepsServed sections.served served
+  pub strays : List EventText
+  pub are_strays : AreStrays events strays
+  pub strays_kept : sections.strays ≡ map (λ e. e.place) strays
+  pub refused : RefusedText
+  pub are_refused : AreRefused events refused
+  pub refused_kept : KeepsRefused sections.refused refused

@@ -1,7 +1,16 @@
 //! The section `calls`.
 
+ghost use Rattle.std.specs.Prelude.{◌≡◌, List, map, IfOk};
+ghost use Rattle.event_core.specs.Events.{EventText};
+ghost use Rattle.call_stacks.specs.Calls.{OpenerOf};
+ghost use Rattle.audit_findings.specs.Calls.{AreCalls, CallsText};
+ghost use Rattle.audit_findings.specs.Kept.{KeepsCalls};
+ghost use Rattle.audit_findings.specs.ThreadRows.{opener_row};
+
+use crate::opener_row::{End, OpenerRow, count_of, rows_but};
 use crate::rows::Rows;
 use call_stacks::Verdict;
+use std::alloc::{AllocError, Global};
 
 /// A call that its thread makes, or one that it gets to serve, with what became of it.
 #[derive(Clone, Copy, Debug, PartialEq, Eq)]
@@ -24,4 +33,23 @@ pub struct Calls {
     pub unanswered: u64,
     /// Those that are not answered, in rising place.
     pub rows: Rows<CallRow>,
+}
+
+impl Calls {
+    /// What is kept of the calls among these.
+    pub(crate) fn of(alloc: Global, openers: &[OpenerRow]) -> Result<Self, AllocError>
+        ensures { IfOk result (λ calls. (told : List (OpenerOf EventText)) →
+            openers.entry.now ≡ map opener_row told →
+            (said : CallsText) × AreCalls told said × KeepsCalls calls said) }
+    {
+        let crossed = count_of(openers, End::Caller, Verdict::Crossed);
+        let open = count_of(openers, End::Caller, Verdict::Open);
+        let rows = rows_but(alloc, openers, End::Caller, Verdict::Answered)?;
+        Ok(Calls {
+            answered: count_of(openers, End::Caller, Verdict::Answered),
+            failed: count_of(openers, End::Caller, Verdict::Failed),
+            unanswered: crossed + open,
+            rows: Rows::of(rows),
+        })
+    }
 }

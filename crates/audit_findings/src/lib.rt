@@ -2,6 +2,7 @@
 #![tactic(auto)]
 
 mod buffers;
+mod call_sections;
 mod calls;
 mod clears;
 mod codes;
@@ -20,6 +21,7 @@ mod oneway;
 mod oneway_counts;
 mod oneway_ledger;
 mod open_and_stray;
+mod opener_row;
 mod piece_summary;
 mod places;
 mod process;

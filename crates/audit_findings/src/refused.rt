@@ -1,6 +1,15 @@
 //! The section `refused`.
 
+ghost use Rattle.std.specs.Prelude.{◌≡◌, List, map, count_by, IfOk};
+ghost use Rattle.event_core.specs.Events.{EventText};
+ghost use Rattle.call_stacks.specs.Calls.{RefusedOf};
+ghost use Rattle.audit_findings.specs.Calls.{AreSends, AreRefused, RefusedText};
+ghost use Rattle.audit_findings.specs.Kept.{KeepsRefused};
+ghost use Rattle.audit_findings.specs.ThreadRows.{send_text, send_row};
+
 use crate::rows::Rows;
+use call_stacks::RefusedSend;
+use std::alloc::{AllocError, Global};
 
 /// The error replies that tell of refused sends.
 #[derive(Debug, Drop)]
@@ -9,4 +18,50 @@ pub struct Refused {
     pub oneway: u64,
     /// The places of all of them, rising.
     pub rows: Rows<u64>,
+}
+
+impl Refused {
+    /// What is kept of these refused sends.
+    pub(crate) fn of(alloc: Global, sends: &[SendRow]) -> Result<Self, AllocError>
+        ensures { IfOk result (λ kept. (events : List EventText) (told : List (RefusedOf EventText)) →
+            AreSends events told → sends.entry.now ≡ map send_row told →
+            (said : RefusedText) × AreRefused events said × KeepsRefused kept said) }
+    {
+        let places = places_of(alloc, sends)?;
+        Ok(Refused {
+            oneway: oneway_count(sends),
+            rows: Rows::of(places),
+        })
+    }
+}
+
+/// A refused send by the place of its error reply, and whether it is a oneway transaction; else it
+/// is a reply.
+#[derive(Clone, Copy, Debug)]
+pub(crate) struct SendRow {
+    pub place: u64,
+    pub oneway: bool,
+}
+
+impl SendRow {
+    pub fn of(sent: &RefusedSend<'_>) -> Self
+        ensures { result ≡ send_row (send_text sent.now) }
+    {
+        SendRow {
+            place: sent.event.place,
+            oneway: sent.oneway,
+        }
+    }
+}
+
+fn oneway_count(sends: &[SendRow]) -> u64
+    ensures { result ≡ count_by (λ (s : SendRow). s.oneway) sends.now }
+{
+    sends.iter().filter(|sent| sent.oneway).count() as u64
+}
+
+fn places_of(alloc: Global, sends: &[SendRow]) -> Result<Vec<u64>, AllocError>
+    ensures { IfOk result (λ places. places.items ≡ map (λ (s : SendRow). s.place) sends.entry.now) }
+{
+    sends.iter().map(|sent| sent.place).collect(alloc)
 }

@@ -7,53 +7,13 @@ ghost use Rattle.audit_findings.specs.Places.{RiseInPlace};
 ghost use Rattle.audit_findings.specs.ThreadLedger.{SumsThreadCalls};
 ghost use Rattle.audit_findings.specs.ThreadRows.{opener_text, opener_row, send_text, send_row, TakesOver, AreGatheredRows, AreSortedRows, KeepRows};
 
-use crate::calls::CallRow;
 use crate::in_order::InOrder;
+use crate::opener_row::OpenerRow;
+use crate::refused::SendRow;
 use crate::thread_ledger::ThreadLedger;
 use call_stacks::{CallFindings, Opener, RefusedSend};
-use event_core::{Bracket, Event, bracket};
+use event_core::Event;
 use std::alloc::{AllocError, Global};
-
-/// A call as a row, and whether its thread makes it; else its thread gets it to serve.
-#[derive(Clone, Copy, Debug)]
-pub(crate) struct OpenerRow {
-    pub made: bool,
-    pub row: CallRow,
-}
-
-impl OpenerRow {
-    fn of(opener: &Opener<'_>) -> Self
-        ensures { result ≡ opener_row (opener_text opener.now) }
-    {
-        OpenerRow {
-            made: matches!(bracket(None, opener.event), Bracket::Call),
-            row: CallRow {
-                place: opener.event.place,
-                verdict: opener.verdict,
-                closer: opener.closer,
-            },
-        }
-    }
-}
-
-/// A refused send by the place of its error reply, and whether it is a oneway transaction; else it
-/// is a reply.
-#[derive(Clone, Copy, Debug)]
-pub(crate) struct SendRow {
-    pub place: u64,
-    pub oneway: bool,
-}
-
-impl SendRow {
-    fn of(sent: &RefusedSend<'_>) -> Self
-        ensures { result ≡ send_row (send_text sent.now) }
-    {
-        SendRow {
-            place: sent.event.place,
-            oneway: sent.oneway,
-        }
-    }
-}
 
 /// The rows of the calls of all threads, each list in rising place once it is sorted.
 #[derive(Drop)]

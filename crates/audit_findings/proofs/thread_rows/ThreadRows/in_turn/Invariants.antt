@@ -1,6 +1,6 @@
 use Rattle.std.proofs.Common.{ℕ, List, ◌++◌}
-use Rattle.audit_findings.specs.declared.thread_rows.OpenerRow.{OpenerRow}
-use Rattle.audit_findings.specs.declared.thread_rows.SendRow.{SendRow}
+use Rattle.audit_findings.specs.declared.opener_row.OpenerRow.{OpenerRow}
+use Rattle.audit_findings.specs.declared.refused.SendRow.{SendRow}
 use Rattle.audit_findings.specs.ThreadRows.{AreRowsInTurn}
 use Rattle.audit_findings.proofs.thread_rows.ThreadRows.in_turn.Given as goal
 

@@ -1,7 +1,7 @@
 use Rattle.std.proofs.Common.{ℕ, rules}
 use Rattle.std.proofs.lemmas.List.Sorted.{IsNonDecreasingBy-from_sort, IsNonDecreasingBy-from_sort_by_key}
-use Rattle.audit_findings.specs.declared.thread_rows.OpenerRow.{OpenerRow}
-use Rattle.audit_findings.specs.declared.thread_rows.SendRow.{SendRow}
+use Rattle.audit_findings.specs.declared.opener_row.OpenerRow.{OpenerRow}
+use Rattle.audit_findings.specs.declared.refused.SendRow.{SendRow}
 use Rattle.audit_findings.proofs.thread_rows.ThreadRows.sort.Goals as goal
 
 pub returns : goal.returns
