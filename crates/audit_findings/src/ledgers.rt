@@ -5,6 +5,7 @@ ghost use Rattle.summary_law.specs.Summary.{CanJoin, Joins};
 ghost use Rattle.audit_findings.specs.Ledgers.{SumsLedgers, AreFewFrames, CanTake, Takes, AreOfFew, GiveSections};
 
 use crate::buffers::{Leaked, StrayFrees};
+use crate::call_sections::CallSections;
 use crate::clears::{StrayConfirmations, Unconfirmed};
 use crate::codes::code_rows;
 use crate::deaths::{StrayAcknowledgements, Unacknowledged};
@@ -13,6 +14,7 @@ use crate::findings::Sections;
 use crate::handles::handle_rows;
 use crate::in_order::InOrder;
 use crate::nodes::node_rows;
+use crate::oneway::oneway_of;
 use crate::open_and_stray::open_and_stray_of;
 use crate::places::places_of;
 use crate::process::Process;
@@ -92,7 +94,38 @@ impl<'c> Ledgers<'c> {
         requires { AreOfFew self }
         ensures { IfOk result (GiveSections self.entry) }
     {
-        let _ = (self, alloc);
-        Err(AllocError)
+        let EventLedgers {
+            records,
+            opaque,
+            codes,
+            oneway,
+            objects,
+            flags,
+            threads,
+        } = self.events;
+        let processes = &self.processes;
+        let found = CallSections::of(alloc, threads)?;
+        Ok(Sections {
+            records,
+            opaque,
+            missing: self.sequences.missing(),
+            codes: code_rows(alloc, &codes)?,
+            counts: record_counts(&codes),
+            calls: found.calls,
+            served: found.served,
+            strays: found.strays,
+            refused: found.refused,
+            handles: handle_rows(alloc, processes)?,
+            nodes: node_rows(alloc, processes)?,
+            leaked: Rows::of(places_of::<Leaked>(alloc, processes)?),
+            stray_frees: Rows::of(places_of::<StrayFrees>(alloc, processes)?),
+            standing: Rows::of(places_of::<Standing>(alloc, processes)?),
+            deaths: open_and_stray_of::<Unacknowledged, StrayAcknowledgements>(alloc, processes)?,
+            clears: open_and_stray_of::<Unconfirmed, StrayConfirmations>(alloc, processes)?,
+            oneway: oneway_of(alloc, oneway, processes)?,
+            objects: objects.counts,
+            bad_objects: Rows::of(objects.bad),
+            flags: Rows::of(flags.into_places()),
+        })
     }
 }
