@@ -6,7 +6,6 @@ use Rattle.event_core.specs.Events.{EventText}
 use Rattle.call_stacks.specs.Calls.{OpenerOf}
 use Rattle.call_stacks.specs.declared.verdict.Verdict.{Verdict}
 use Rattle.call_stacks.specs.declared.verdict.Verdict.TheVariants.{Answered, Failed, Replied, Crossed, Open}
-use Rattle.audit_findings.specs.declared.opener_row.End.{End}
 use Rattle.audit_findings.specs.declared.opener_row.End.TheVariants.{Caller, Server}
 use Rattle.audit_findings.specs.declared.opener_row.OpenerRow.{OpenerRow}
 use Rattle.audit_findings.specs.Calls.{is_call, is_crossed, is_open, is_unanswered}

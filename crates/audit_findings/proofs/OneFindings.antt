@@ -1,13 +1,15 @@
--- What is asked of the findings of a capture determines them: rows of each process in turn, rows that are events, and
--- counts.
+-- What is asked of the findings of a capture determines them: rows of each process in turn, rows that are events, calls,
+-- and counts.
 use Rattle.std.proofs.Common.{◌≡◌, ℕ, zero, suc, ◌<◌, List, [], ◌∷◌, length, map, ◌⊎◌, inl, inr, refl, sym, ap, ap₂, subst, ◌∙◌, arith}
-use Rattle.std.specs.Prelude.{All, AllPairs, Contains}
+use Rattle.std.specs.Prelude.{All, AllPairs, Contains, count_by}
 use Rattle.std.specs.List.{AllZip, flat_map}
 use Rattle.std.proofs.lemmas.Bool.{cases_lt}
 use Rattle.std.proofs.lemmas.List.Elements.{All-contains, All-head, All-tail}
 use Rattle.std.proofs.lemmas.List.Kept.{AllPairs-from_increasing}
 use Rattle.capture_frame.specs.Units.{Placed}
 use Rattle.transaction_view.specs.Grammar.{WholeFrame}
+use Rattle.call_stacks.proofs.Members.{only_list}
+use Rattle.call_stacks.specs.Calls.{OpenerOf, RefusedOf}
 use Rattle.event_core.specs.Events.{EventText}
 use Rattle.event_core.specs.declared.oneway.OnewayKey.{OnewayKey}
 use Rattle.handle_ledger.proofs.HandleLaws.{one_list_of_handle_rows}
@@ -18,6 +20,7 @@ use Rattle.audit_findings.specs.declared.handles.ProcessHandle.{ProcessHandle}
 use Rattle.audit_findings.specs.declared.nodes.ProcessNode.{ProcessNode}
 use Rattle.audit_findings.specs.declared.oneway.OnewayRow.{OnewayRow}
 use Rattle.audit_findings.specs.declared.record_counts.RecordCounts.{RecordCounts}
+use Rattle.audit_findings.specs.Calls.{CallsText, ServedText, RefusedText, AreCalls, AreServed, AreCallFindings, AreStrays, AreRefused}
 use Rattle.audit_findings.specs.Frames.{events_of_wholes}
 use Rattle.audit_findings.specs.Handles.{AreHandlesOf, AreHandleFindings, handle_item_of, process_handle}
 use Rattle.audit_findings.specs.Nodes.{AreNodesOf, AreNodeFindings, node_item_of, process_node}
@@ -167,6 +170,38 @@ one_open_and_stray IsOpen IsClose events said other rise a b =
     let closes = one_count_of_places IsClose said.strays other.strays a.strays b.strays in
     let rows = one_list_of_events (λ place. IsOpen place ⊎ IsClose place) events said.rows other.rows rise a.rows b.rows in
     ap₂ (λ (o c : ℕ). make o c said.rows) opens closes ∙ ap (make other.unclosed other.strays) rows
+
+-- ---- calls
+
+one_calls : (openers : List (OpenerOf EventText)) (calls others : CallsText) → AreCalls openers calls → AreCalls openers others → calls ≡ others
+one_calls openers calls others a b =
+    let make : ℕ → ℕ → ℕ → List (OpenerOf EventText) → CallsText = λ n f u r. record { answered = n; failed = f; unanswered = u; rows = r } in
+    ap₂ (λ (n f : ℕ). make n f calls.unanswered calls.rows) (a.answered ∙ sym b.answered) (a.failed ∙ sym b.failed)
+    ∙ ap₂ (make others.answered others.failed) (a.unanswered ∙ sym b.unanswered) (a.rows ∙ sym b.rows)
+
+one_served : (openers : List (OpenerOf EventText)) (served others : ServedText) → AreServed openers served → AreServed openers others → served ≡ others
+one_served openers served others a b =
+    let make : ℕ → ℕ → ℕ → List (OpenerOf EventText) → ServedText = λ n c o r. record { replied = n; crossed = c; left_open = o; rows = r } in
+    ap₂ (λ (n c : ℕ). make n c served.left_open served.rows) (a.replied ∙ sym b.replied) (a.crossed ∙ sym b.crossed)
+    ∙ ap₂ (make others.replied others.crossed) (a.left_open ∙ sym b.left_open) (a.rows ∙ sym b.rows)
+
+pub one_call_findings : (events : List EventText) (calls other_calls : CallsText) (served other_served : ServedText) → AreCallFindings events calls served
+    → AreCallFindings events other_calls other_served → (calls ≡ other_calls) × (served ≡ other_served)
+one_call_findings events calls other_calls served other_served a b =
+    let same = only_list (λ (o : OpenerOf EventText). o.event.place) _ b.0 a.0 b.1 a.1 in (
+      one_calls a.0 calls other_calls a.2 (subst (λ (os : List (OpenerOf EventText)). AreCalls os other_calls) same b.2),
+      one_served a.0 served other_served a.3 (subst (λ (os : List (OpenerOf EventText)). AreServed os other_served) same b.3),
+    )
+
+pub one_list_of_strays : (events said others : List EventText) → AreStrays events said → AreStrays events others → said ≡ others
+one_list_of_strays events said others a b = only_list (λ (e : EventText). e.place) _ said others a b
+
+pub one_refused : (events : List EventText) (said other : RefusedText) → AreRefused events said → AreRefused events other → said ≡ other
+one_refused events said other a b =
+    let same = only_list (λ (s : RefusedOf EventText). s.event.place) _ a.0 b.0 a.1 b.1 in
+    ap₂ (λ (n : ℕ) (r : List EventText). let made : RefusedText = record { oneway = n; rows = r } in made)
+    (a.2 ∙ ap (count_by (λ (s : RefusedOf EventText). s.oneway)) same ∙ sym b.2)
+    (a.3 ∙ ap (map (λ (s : RefusedOf EventText). s.event)) same ∙ sym b.3)
 
 -- ---- counts
 

@@ -1,5 +1,5 @@
 -- Rows of things of several lists, gathered and then sorted by their ranks.
-use Rattle.std.proofs.Common.{◌≡◌, ◌≢◌, ℕ, ◌<◌, ◌≤◌, Bool, true, false, List, [], ◌∷◌, ◌++◌, length, map, All, AllPairs, Contains, get_or, eqb, refl, sym, ap, subst, ◌∙◌, ⊎_elim, inl, inr, arith}
+use Rattle.std.proofs.Common.{◌≡◌, ◌≢◌, ℕ, ◌<◌, ◌≤◌, Bool, true, false, List, [], ◌∷◌, ◌++◌, map, All, AllPairs, Contains, get_or, eqb, refl, sym, ap, subst, ◌∙◌, ⊎_elim, inl, inr, arith}
 use Rattle.std.proofs.Common.{IsPermutation}
 use Rattle.std.specs.Prelude.{◌↔◌}
 use Rattle.std.proofs.lemmas.Bool.{true≢false, cases_lt}
@@ -69,8 +69,28 @@ module _ {X R : Type 0} (row : X → R) (key : R → ℕ) (things : List X) (apa
       (λ (more : key (get_or rows j d) ≤ key (get_or rows i d)). absurd (differ (omega (arith, least, more))))
       (cases_lt (key (get_or rows i d)) (key (get_or rows j d)))
 
+  abbrev AreSorted : List X → Type 0
+  AreSorted said = AllPairs (λ x y. key (row x) < key (row y)) said × ((x : X) → Contains said x ↔ Contains things x)
+
+  are_sorted : (said : List X) → All (Contains things) said → rows ≡ map row said → AreSorted said
+  are_sorted said told is = (
+    pairs_unmap (λ (a b : R). key a < key b) row said (subst (AllPairs (λ (a b : R). key a < key b)) is rows_rise),
+    λ x. (
+      λ here. All-contains (Contains things) said x told here,
+      λ there.
+          let made = contained (map row things) (row x) (map-in row things x (in_list things x there)) in
+          let among : Contains (map row said) (row x)
+          = subst (λ (rs : List R). Contains rs (row x)) is (Contains-permutation (map row things) rows (row x) moved made) in
+          let found = in-map row said (row x) (in_list (map row said) (row x) among) in
+          let mine = All-contains (Contains things) said found.0 told (contained said found.0 found.1) in
+          let same : x ≡ found.0
+          = one_of_rank (λ (y : X). key (row y)) things apart x found.0 (in_list things x there) (in_list things found.0 mine) (ap key found.2) in
+          contained said x (subst (λ (y : X). In y said) (sym same) found.1),
+    ),
+  )
+
   -- the sorted rows are those of the things in rising order
-  pub sorted_rows : (said : List X) × (rows ≡ map row said) × AllPairs (λ x y. key (row x) < key (row y)) said × ((x : X) → Contains said x ↔ Contains things x)
+  pub sorted_rows : (said : List X) × (rows ≡ map row said) × AreSorted said
   sorted_rows =
       let told = told_rows row (Contains things) rows
       (λ k d within.
@@ -78,24 +98,7 @@ module _ {X R : Type 0} (row : X → R) (key : R → ℕ) (things : List X) (apa
       let there = Contains-permutation rows (map row things) r (IsPermutation-sym (map row things) rows moved) (Contains-get_or rows k d within) in
       let found = in-map row things r (in_list (map row things) r there) in
       (found.0, contained things found.0 found.1, found.2)) in
-      let said = told.0 in
-      let is = told.2 in (
-        said,
-        is,
-        pairs_unmap (λ (a b : R). key a < key b) row said (subst (AllPairs (λ (a b : R). key a < key b)) is rows_rise),
-        λ x. (
-          λ here. All-contains (Contains things) said x told.1 here,
-          λ there.
-              let made = contained (map row things) (row x) (map-in row things x (in_list things x there)) in
-              let among : Contains (map row said) (row x)
-              = subst (λ (rs : List R). Contains rs (row x)) is (Contains-permutation (map row things) rows (row x) moved made) in
-              let found = in-map row said (row x) (in_list (map row said) (row x) among) in
-              let mine = All-contains (Contains things) said found.0 told.1 (contained said found.0 found.1) in
-              let same : x ≡ found.0
-              = one_of_rank (λ (y : X). key (row y)) things apart x found.0 (in_list things x there) (in_list things found.0 mine) (ap key found.2) in
-              contained said x (subst (λ (y : X). In y said) (sym same) found.1),
-        ),
-      )
+      (told.0, told.2, are_sorted told.0 told.1 told.2)
 
 -- ---- things of several lists, one list behind another
 
@@ -170,12 +173,12 @@ module _ {K E F X R : Type 0} (eq : K → K → Bool) (key : E → K) (Is : E �
       (subst (λ (t : List R). IsPermutation t rows) (is ∙ mapped_flat fs) moved) sorted in (
         found.0,
         record {
-          rising = found.2;
+          rising = found.2.0;
           exact = λ x. (
-            λ here. (each x).1 (from_lists eq key rank Is own one es fs zip x ((found.3 x).0 here)),
+            λ here. (each x).1 (from_lists eq key rank Is own one es fs zip x ((found.2.1 x).0 here)),
             λ whole.
                 let mine = (each x).0 whole in
-                (found.3 x).1 (into_lists eq key rank Is own one es fs zip mine.0 x mine.1 mine.2),
+                (found.2.1 x).1 (into_lists eq key rank Is own one es fs zip mine.0 x mine.1 mine.2),
           );
         },
         found.1,

@@ -1,5 +1,5 @@
 -- Views of few events can be summarised under their threads.
-use Rattle.std.proofs.Common.{◌≡◌, ◌<◌, List, [], ◌∷◌, ◌++◌, map, sym, ap, subst, ◌∙◌, arith}
+use Rattle.std.proofs.Common.{◌≡◌, ◌<◌, List, ◌++◌, map, sym, ap, subst, ◌∙◌, arith}
 use Rattle.std.proofs.lemmas.List.{length-map, map-append}
 use Rattle.call_stacks.specs.Calls.{event_place, ThreadCallsSum}
 use Rattle.call_stacks.specs.declared.thread_calls.ThreadCalls.{ThreadCalls}
@@ -13,7 +13,7 @@ use Rattle.summary_law.specs.Fits.{IsPlaced, PlacesRise}
 use Rattle.audit_findings.specs.declared.thread.Thread.{Thread}
 use Rattle.audit_findings.specs.InOrder.{SumsInOrder}
 use Rattle.audit_findings.specs.Ledgers.{AreFewEvents}
-use Rattle.audit_findings.specs.ThreadLedger.{same_key, fed_view, thread_key}
+use Rattle.audit_findings.specs.ThreadLedger.{same_key, fed_view}
 use Rattle.audit_findings.proofs.Rising.{pairs_map, pairs_unmap}
 
 -- the events of each thread can be summarised

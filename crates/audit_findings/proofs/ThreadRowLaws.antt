@@ -1,5 +1,5 @@
 -- The calls of each thread, as those of all threads.
-use Rattle.std.proofs.Common.{◌≡◌, ◌≢◌, ℕ, ◌<◌, Bool, true, false, cond, eqb, ◌&&◌, List, [], ◌∷◌, map, filter, Option, Some, None, refl, sym, ap, ap₂, subst, ◌∙◌, ⊎_elim, inl, inr}
+use Rattle.std.proofs.Common.{◌≡◌, ◌≢◌, ℕ, Bool, true, false, cond, eqb, ◌&&◌, List, [], ◌∷◌, map, filter, Some, None, refl, sym, ap, ap₂, subst, ◌∙◌, ⊎_elim, inl, inr}
 use Rattle.std.specs.Prelude.{◌↔◌, All, Contains}
 use Rattle.std.proofs.lemmas.Bool.{cases_Bool, eqb-true}
 use Rattle.std.proofs.lemmas.List.Elements.{All-head, All-tail}

@@ -2,7 +2,6 @@
 use Rattle.std.specs.Prelude.{◌≡◌, ◌++◌, ◌&&◌, ℕ, if◌then◌else◌, not, Bool, true, false, List, map}
 use Rattle.std.specs.List.{AllZip, flat_map}
 use Rattle.std.specs.List.Sorted.{IsPermutation, IsNonDecreasingBy}
-use Rattle.event_core.specs.declared.event.Event.{Event}
 use Rattle.event_core.specs.Events.{EventText}
 use Rattle.event_core.specs.Reading.{event_text}
 use Rattle.call_stacks.specs.Calls.{OpenerOf, RefusedOf, GivesFindings}

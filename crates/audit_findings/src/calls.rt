@@ -4,12 +4,12 @@ ghost use Rattle.std.specs.Prelude.{◌≡◌, List, map, IfOk};
 ghost use Rattle.event_core.specs.Events.{EventText};
 ghost use Rattle.call_stacks.specs.Calls.{OpenerOf};
 ghost use Rattle.audit_findings.specs.Calls.{AreCalls, CallsText};
-ghost use Rattle.audit_findings.specs.Kept.{KeepsCalls};
-ghost use Rattle.audit_findings.specs.ThreadRows.{opener_row};
+ghost use Rattle.audit_findings.specs.Kept.{kept_call, KeepsCalls};
+ghost use Rattle.audit_findings.specs.ThreadRows.{opener_text, opener_row};
 
 use crate::opener_row::{End, OpenerRow, count_of, rows_but};
 use crate::rows::Rows;
-use call_stacks::Verdict;
+use call_stacks::{Opener, Verdict};
 use std::alloc::{AllocError, Global};
 
 /// A call that its thread makes, or one that it gets to serve, with what became of it.
@@ -20,6 +20,18 @@ pub struct CallRow {
     pub verdict: Verdict,
     /// Where the record stands that closes it; None where nothing does.
     pub closer: Option<u64>,
+}
+
+impl CallRow {
+    pub(crate) fn of(opener: &Opener<'_>) -> Self
+        ensures { result ≡ kept_call (opener_text opener.now) }
+    {
+        CallRow {
+            place: opener.event.place,
+            verdict: opener.verdict,
+            closer: opener.closer,
+        }
+    }
 }
 
 /// The calls that threads make.

@@ -34,11 +34,7 @@ impl OpenerRow {
         };
         OpenerRow {
             end,
-            row: CallRow {
-                place: opener.event.place,
-                verdict: opener.verdict,
-                closer: opener.closer,
-            },
+            row: CallRow::of(opener),
         }
     }
 

@@ -5,6 +5,5 @@ pub mod Listed
 pub mod ObjectOwners
 pub mod CallEvents
 pub mod SameRows
-pub mod OneCalls
 pub mod OneText
 pub mod Vectors

@@ -17,12 +17,11 @@ use Rattle.audit_findings.specs.declared.sort_counts.SortCounts.{SortCounts}
 use Rattle.audit_findings.specs.Findings.{FindingsText, AreFindings}
 use Rattle.audit_findings.specs.Frames.{wholes_of, events_of_wholes}
 use Rattle.audit_findings.specs.Objects.{Attached, Outcome, IsOutcome, AreOutcomes, BadOwned, AreObjectFindings, count_of, times_of, good_objects, bad_objects}
-use Rattle.audit_findings.proofs.OneFindings.{one_counts, one_list_of_events, one_list_of_handles, one_list_of_nodes, one_open_and_stray, one_oneway}
+use Rattle.audit_findings.proofs.OneFindings.{one_call_findings, one_counts, one_list_of_events, one_list_of_handles, one_list_of_nodes, one_list_of_strays, one_open_and_stray, one_oneway, one_refused}
 use Rattle.audit_findings.proofs.PlacesRise.{events_rise}
 use Rattle.report_text.specs.Answers.{IsTextOf, report, malformed, IsLineOn, none, named}
 use Rattle.report_text.specs.Fault.{fault_line}
 use Rattle.report_text.specs.Text.{IsReportOn, report_text}
-use Rattle.report_text.proofs.OneCalls.{one_call_findings, one_list_of_strays, one_refused}
 use Rattle.report_text.proofs.SameRows.{one_list_of_rows}
 
 -- ---- the outcomes of attachments are one list

@@ -1,4 +1,3 @@
-use Rattle.std.proofs.Common.{subst}
 use Rattle.audit_findings.proofs.ThreadRowLaws.{rows_kept}
 use Rattle.audit_findings.proofs.thread_rows.ThreadRows.of.Goals as goal
 
