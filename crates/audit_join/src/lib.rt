@@ -9,8 +9,8 @@ mod limits;
 pub use audit::audit_one;
 pub use audit_error::AuditError;
 pub use audit_findings::{
-    BadRow, CodeRow, Findings, OpenAndStray, PieceSummary, ProcessHandle, ProcessNode,
-    RecordCounts, Rows, Sections, SortCounts,
+    BadRow, CallRow, Calls, CodeRow, Findings, Oneway, OnewayRow, OpenAndStray, PieceSummary,
+    ProcessHandle, ProcessNode, RecordCounts, Refused, Rows, Sections, Served, SortCounts,
 };
 pub use limits::CAPTURE_LIMIT;
 
