@@ -171,7 +171,8 @@ module _ (entries : List (Thread × ThreadCalls)) (events : List EventText) (sum
   strays_of : (e : Thread × ThreadCalls) (found : CallFindings) → SumsOwn e → Gives e found
       → ListsInOrder (λ t. t.place) (IsOfKey IsStrayEvent events e.0) (map event_text found.strays.items)
   strays_of e found own gives =
-      subst (λ (texts : List EventText). ListsInOrder (λ t. t.place) (IsStrayEvent (judged_of text_reads texts)) (map event_text found.strays.items)) (own_texts e)
+      subst (λ (texts : List EventText). ListsInOrder (λ t. t.place) (IsStrayEvent (judged_of text_reads texts))
+      (map event_text found.strays.items)) (own_texts e)
       (strays_told text_reads event_text texts_alike (own_views e) found (gives (own_views e) own.1))
 
   sends_of : (e : Thread × ThreadCalls) (found : CallFindings) → SumsOwn e → Gives e found
@@ -193,7 +194,8 @@ module _ (entries : List (Thread × ThreadCalls)) (events : List EventText) (sum
         let event : OpenerOf EventText → EventText = λ o. o.event in
         let Is = IsOpenerOf text_reads in
         gathered_rows same_key (λ (e : Thread × ThreadCalls). e.0) (λ e o. IsOfKey Is events e.0 o) (λ (f : CallFindings). map opener_text f.openers.items)
-        opener_row (λ (r : OpenerRow). r.row.place) (λ e other x y is_first is_other same. one_thread event Is opener_stands events rise e.0 other.0 x y is_first is_other same)
+        opener_row (λ (r : OpenerRow). r.row.place)
+        (λ e other x y is_first is_other same. one_thread event Is opener_stands events rise e.0 other.0 x y is_first is_other same)
         entries in_turn.founds (zip_stronger SumsOwn Gives _ openers_of entries in_turn.founds each_own in_turn.are) keys_differ
         (IsOfOwn event Is events) (of_entries event Is opener_stands entries events sums) gathered.openers.items rows.openers.items in_turn.openers_are
         sorted.openers sorted.openers_rise
@@ -201,7 +203,8 @@ module _ (entries : List (Thread × ThreadCalls)) (events : List EventText) (sum
     kept_strays : (said : List EventText) × AreStrays events said × (rows.strays.items ≡ map (λ e. e.place) said)
     kept_strays =
         let event : EventText → EventText = λ e. e in
-        gathered_rows same_key (λ (e : Thread × ThreadCalls). e.0) (λ e t. IsOfKey IsStrayEvent events e.0 t) (λ (f : CallFindings). map event_text f.strays.items)
+        gathered_rows same_key (λ (e : Thread × ThreadCalls). e.0) (λ e t. IsOfKey IsStrayEvent events e.0 t)
+        (λ (f : CallFindings). map event_text f.strays.items)
         (λ (e : EventText). e.place) (λ (n : ℕ). n)
         (λ e other x y is_first is_other same. one_thread event IsStrayEvent stray_stands events rise e.0 other.0 x y is_first is_other same)
         entries in_turn.founds (zip_stronger SumsOwn Gives _ strays_of entries in_turn.founds each_own in_turn.are) keys_differ
@@ -211,7 +214,8 @@ module _ (entries : List (Thread × ThreadCalls)) (events : List EventText) (sum
     kept_sends : (said : List (RefusedOf EventText)) × AreSends events said × (rows.sends.items ≡ map send_row said)
     kept_sends =
         let event : RefusedOf EventText → EventText = λ s. s.event in
-        gathered_rows same_key (λ (e : Thread × ThreadCalls). e.0) (λ e s. IsOfKey IsRefusedSend events e.0 s) (λ (f : CallFindings). map send_text f.refused.items)
+        gathered_rows same_key (λ (e : Thread × ThreadCalls). e.0) (λ e s. IsOfKey IsRefusedSend events e.0 s)
+        (λ (f : CallFindings). map send_text f.refused.items)
         send_row (λ (r : SendRow). r.place)
         (λ e other x y is_first is_other same. one_thread event IsRefusedSend send_stands events rise e.0 other.0 x y is_first is_other same)
         entries in_turn.founds (zip_stronger SumsOwn Gives _ sends_of entries in_turn.founds each_own in_turn.are) keys_differ

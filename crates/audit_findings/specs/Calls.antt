@@ -87,7 +87,8 @@ pub record AreServed (openers : List (OpenerOf EventText)) (said : ServedText) :
 -- the calls and the served calls of all threads
 abbrev pub AreCallFindings : List EventText → CallsText → ServedText → Type 0
 AreCallFindings events calls served =
-    (openers : List (OpenerOf EventText)) × AreOpeners events openers × AreCalls openers calls × AreServed openers served
+    (openers : List (OpenerOf EventText)) × AreOpeners events openers × AreCalls openers calls
+    × AreServed openers served
 
 -- the closers of all threads that match no opener of their thread, in rising place
 abbrev pub AreStrays : List EventText → List EventText → Type 0

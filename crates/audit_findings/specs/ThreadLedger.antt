@@ -25,7 +25,8 @@ fed_view found = (thread_key (event_text found), found)
 -- of some views of these events the entries have, for each thread with an event and no other, the calls of its views
 abbrev pub SumsThreads : List (Thread × ThreadCalls) → List EventText → Type 0
 SumsThreads entries events =
-    (views : List Event) × (events ≡ map event_text views) × SumsInOrder same_key ThreadCallsSum entries (map fed_view views)
+    (views : List Event) × (events ≡ map event_text views)
+    × SumsInOrder same_key ThreadCallsSum entries (map fed_view views)
 
 -- the ledger has the calls of the threads of these events
 abbrev pub SumsThreadCalls : ThreadLedger → List EventText → Type 0

@@ -128,8 +128,8 @@ fn ledgers_or_none<'c>(
     alloc: Global,
     ledgers: Option<Box<Ledgers<'c>>>,
 ) -> Result<Box<Ledgers<'c>>, AllocError>
-    ensures { IfOk result (λ all. (wholes : List (Placed WholeFrame)) → SumsPut ledgers.entry wholes →
-        SumsLedgers all.value wholes) }
+    ensures { IfOk result (λ all. (wholes : List (Placed WholeFrame)) →
+        SumsPut ledgers.entry wholes → SumsLedgers all.value wholes) }
 {
     match ledgers {
         Some(ledgers) => Ok(ledgers),

@@ -23,8 +23,9 @@ pub struct Refused {
 impl Refused {
     /// What is kept of these refused sends.
     pub(crate) fn of(alloc: Global, sends: &[SendRow]) -> Result<Self, AllocError>
-        ensures { IfOk result (λ kept. (events : List EventText) (told : List (RefusedOf EventText)) →
-            AreSends events told → sends.entry.now ≡ map send_row told →
+        ensures { IfOk result (λ kept. (events : List EventText) →
+            (told : List (RefusedOf EventText)) → AreSends events told →
+            sends.entry.now ≡ map send_row told →
             (said : RefusedText) × AreRefused events said × KeepsRefused kept said) }
     {
         let places = places_of(alloc, sends)?;
@@ -61,7 +62,8 @@ fn oneway_count(sends: &[SendRow]) -> u64
 }
 
 fn places_of(alloc: Global, sends: &[SendRow]) -> Result<Vec<u64>, AllocError>
-    ensures { IfOk result (λ places. places.items ≡ map (λ (s : SendRow). s.place) sends.entry.now) }
+    ensures { IfOk result (λ places.
+        places.items ≡ map (λ (s : SendRow). s.place) sends.entry.now) }
 {
     sends.iter().map(|sent| sent.place).collect(alloc)
 }
