@@ -1,3 +1,6 @@
 pub mod CaptureLaws
 pub mod PartLaws
 pub mod ListedThere
+pub mod RunLaws
+pub mod JobLaws
+pub mod FaultLaws
