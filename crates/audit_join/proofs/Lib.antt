@@ -4,3 +4,4 @@ pub mod ListedThere
 pub mod RunLaws
 pub mod JobLaws
 pub mod FaultLaws
+pub mod ShareLaws

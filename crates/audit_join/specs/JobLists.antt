@@ -14,7 +14,7 @@ use Rattle.transaction_view.specs.Attachments.{entry_format}
 use Rattle.transaction_view.specs.FirstFault.{HasGoodContent, HasContentFault, ContentFails, in_records, in_entries}
 use Rattle.transaction_view.proofs.EntryLaws.{entries_decided}
 use Rattle.claim_board.specs.declared.job.Job.{Job}
-use Rattle.audit_join.specs.Jobs.{AreSound, AreApart, IsFirstIn, IsFaultOf, IsJobOf, IsOfBytes, AreRunsOfBytes, HaveJobs}
+use Rattle.audit_join.specs.Jobs.{AreSound, AreCut, IsFirstIn, IsFaultOf, IsJobOf, IsOfBytes, AreJobRuns, HaveJobs}
 
 -- the content of a frame is good, or has a first fault
 data Judged (frame : Frame) : Type 0 where
@@ -94,16 +94,15 @@ job_of (f ∷ frames) some fault = (
 )
 
 -- each run is a job
-pub jobs_of : (runs : List (List Frame)) → AreRunsOfBytes runs → HaveJobs runs
+pub jobs_of : (runs : List (List Frame)) → AreJobRuns runs → HaveJobs runs
 jobs_of [] can = record { jobs = []; each = tt }
 jobs_of (run ∷ runs) can =
     let job = job_of run (All-head (λ (list : List Frame). 1 ≤ length list) run runs can.some)
-    (fault_of run (All-head (All IsOfBytes) run runs can.bytes)) in
+    (fault_of run (All-head AreCut run runs can.cut).bytes) in
     let few = can.few in
     let others = jobs_of runs (record {
       few = omega (arith, few);
       some = All-tail (λ (list : List Frame). 1 ≤ length list) run runs can.some;
-      bytes = All-tail (All IsOfBytes) run runs can.bytes;
-      apart = All-tail AreApart run runs can.apart;
+      cut = All-tail AreCut run runs can.cut;
     }) in
     record { jobs = job.0 ∷ others.jobs; each = (job.1, others.each) }

@@ -22,15 +22,25 @@ pub record IsFirstIn (frames : List Frame) (fault : Fault) : Type 0 where
   pub sound : AreSound before
   pub fails : HasContentFault frame fault
 
--- frames of at most 2^32 bytes together, each of which ends before every later one begins
-pub record AreApart (frames : List Frame) : Type 0 where
+-- what stands in a frame are bytes
+abbrev pub IsOfBytes : Frame → Type 0
+IsOfBytes frame = IsBytes frame.commands.now × IsBytes frame.attachments.now
+
+-- frames as they are cut from a capture: of bytes, at most 2^32 together, each of which ends before every later one
+-- begins
+pub record AreCut (frames : List Frame) : Type 0 where
   pub few : sum_by span_of frames ≤ 2 ^ 32
   pub apart : AllPairs StandApart frames
+  pub bytes : All IsOfBytes frames
+
+-- the first fault of these frames is at this place
+abbrev pub HasFirstAt : List Frame → ℕ → Type 0
+HasFirstAt frames place = (fault : Fault) × IsFirstIn frames fault × (place ≡ fault.place)
 
 -- there is no fault in these frames, or the first one is at this place
 abbrev pub IsFaultOf : List Frame → Option ℕ → Type 0
 IsFaultOf frames None = AreSound frames
-IsFaultOf frames (Some place) = (fault : Fault) × IsFirstIn frames fault × (place ≡ fault.place)
+IsFaultOf frames (Some place) = HasFirstAt frames place
 
 -- the frames begin where the job starts, and its fault is their first
 pub record IsJobOf (frames : List Frame) (job : Job) : Type 0 where
@@ -40,16 +50,11 @@ pub record IsJobOf (frames : List Frame) (job : Job) : Type 0 where
   pub start : job.start ≡ first.place
   pub fault : IsFaultOf frames job.fault
 
--- what stands in a frame are bytes
-abbrev pub IsOfBytes : Frame → Type 0
-IsOfBytes frame = IsBytes frame.commands.now × IsBytes frame.attachments.now
-
--- at most 2^32 runs of some frames each, which are of bytes
-pub record AreRunsOfBytes (runs : List (List Frame)) : Type 0 where
+-- at most 2^32 runs of some frames each
+pub record AreJobRuns (runs : List (List Frame)) : Type 0 where
   pub few : length runs ≤ 2 ^ 32
   pub some : All (λ run. 1 ≤ length run) runs
-  pub bytes : All (λ run. All IsOfBytes run) runs
-  pub apart : All AreApart runs
+  pub cut : All AreCut runs
 
 -- the jobs that these runs are
 pub record HaveJobs (runs : List (List Frame)) : Type 0 where

@@ -1,7 +1,7 @@
 //! What a worker does with a run of frames.
 
 ghost use Rattle.std.specs.Prelude.{map};
-ghost use Rattle.audit_join.specs.Jobs.{AreRunsOfBytes};
+ghost use Rattle.audit_join.specs.Jobs.{AreJobRuns};
 
 use crate::run_checks::{first_in, start_of, summary_of};
 use audit_findings::PieceSummary;
@@ -14,7 +14,7 @@ use std::alloc::{AllocError, Global};
 pub(crate) struct PieceWork<'f, 'c> {
     pub runs: &'f [&'f [Frame<'c>]],
     pub most_kept: usize,
-    ghost can_judge: { AreRunsOfBytes (map (λ run. run.now) runs.now) },
+    ghost can_judge: { AreJobRuns (map (λ run. run.now) runs.now) },
 }
 
 impl<'f, 'c> Work for PieceWork<'f, 'c> {

@@ -1,12 +1,12 @@
 //! Of some frames: where they begin, their first fault, and their summary.
 
-ghost use Rattle.std.specs.Prelude.{◌≡◌, ◌≤◌, List, ◌∷◌, length, IfOk, MatchOption};
+ghost use Rattle.std.specs.Prelude.{◌≡◌, ◌≤◌, List, ◌∷◌, length, AllPairs, IfOk, MatchOption};
 ghost use Rattle.capture_frame.specs.declared.frame.Frame.{Frame};
-ghost use Rattle.audit_findings.specs.Frames.{AreGoodFrames};
+ghost use Rattle.audit_findings.specs.Frames.{AreGoodFrames, StandApart};
 ghost use Rattle.audit_findings.specs.Summary.{SumsPiece};
-ghost use Rattle.audit_join.specs.Jobs.{AreSound, IsFirstIn};
+ghost use Rattle.audit_join.specs.Jobs.{AreSound, IsFirstIn, HasFirstAt};
 
-use audit_findings::PieceSummary;
+use audit_findings::{PieceSummary, frame_at};
 use capture_frame::{Fault, Frame};
 use std::alloc::{AllocError, Global};
 use summary_law::Summary;
@@ -31,6 +31,17 @@ pub(crate) fn first_in(frames: &[Frame<'_>]) -> Option<Fault>
         }
     }
     None
+}
+
+/// The first fault of these frames, which stands at this place.
+pub(crate) fn fault_at(frames: &[Frame<'_>], place: u64) -> Fault
+    requires apart { AllPairs StandApart frames.now }
+    requires there { HasFirstAt frames.now place }
+    ensures { IsFirstIn frames.now result }
+{
+    // A frame holds it, and has it.
+    let frame = frame_at(frames, place).unwrap();
+    check_frame(frame).unwrap()
 }
 
 /// The summary of these frames, which keeps no more than so many as they are.
