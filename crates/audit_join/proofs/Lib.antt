@@ -3,5 +3,6 @@ pub mod PartLaws
 pub mod ListedThere
 pub mod RunLaws
 pub mod JobLaws
+pub mod CutLaws
 pub mod FaultLaws
 pub mod ShareLaws
