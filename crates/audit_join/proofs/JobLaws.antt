@@ -4,7 +4,6 @@ use Rattle.std.specs.List.{AllZip}
 use Rattle.std.proofs.lemmas.Slice.Zip.{AllZip-long}
 use Rattle.std.proofs.lemmas.List.{length-map, get_or-map}
 use Rattle.capture_frame.specs.declared.frame.Frame.{Frame}
-use Rattle.claim_board.specs.declared.job.Job.{Job}
 use Rattle.claim_board.specs.Running.{job_at}
 use Rattle.audit_join.specs.Jobs.{AreCut, IsJobOf, AreJobRuns, run_at}
 use Rattle.audit_join.specs.JobLists.{jobs_of}

@@ -1,5 +1,5 @@
 -- Frames that are cut into runs, one after another.
-use Rattle.std.proofs.Common.{◌≡◌, ℕ, ◌+◌, ◌-◌, ◌<◌, ◌≤◌, min, List, [], ◌∷◌, ◌++◌, length, take, drop, refl, sym, ap, ◌∙◌, length-append, arith}
+use Rattle.std.proofs.Common.{◌≡◌, ℕ, ◌+◌, ◌-◌, ◌<◌, ◌≤◌, min, List, [], ◌∷◌, ◌++◌, length, take, drop, sym, ap, ◌∙◌, length-append, arith}
 use Rattle.std.specs.Prelude.{All, slice_index_or}
 use Rattle.std.proofs.Math.Seq.{take-add}
 use Rattle.std.proofs.lemmas.List.{append-nil, get_or_append_left, length-drop, length-take-le}
@@ -7,7 +7,6 @@ use Rattle.std.proofs.lemmas.List.Elements.{All-append, All-cons, All-nil}
 use Rattle.std.proofs.lemmas.Grind.{flat_map-append}
 use Rattle.capture_frame.specs.declared.frame.Frame.{Frame}
 use Rattle.summary_law.specs.Parts.{all_items}
-use Rattle.audit_join.specs.Runs.{AreRuns}
 
 -- the runs are the first frames up to a place in the list, and as long as there are more, each has n of them
 pub record AreRunsUpTo (n : ℕ) (frames : List Frame) (runs : List (List Frame)) (start : ℕ) : Type 0 where

@@ -1,5 +1,5 @@
 -- Frames in runs, which workers share as jobs: the jobs are as the board asks, and what is said of them is said of the frames.
-use Rattle.std.proofs.Common.{◌≡◌, ℕ, zero, suc, ◌+◌, ◌<◌, ◌≤◌, ◌^◌, List, [], ◌∷◌, ◌++◌, length, get_or, Option, Some, None, refl, sym, ap, subst, ◌∙◌, append_assoc, length-append, arith}
+use Rattle.std.proofs.Common.{◌≡◌, ℕ, zero, suc, ◌<◌, ◌≤◌, List, [], ◌∷◌, ◌++◌, length, get_or, Option, Some, None, refl, sym, ap, subst, ◌∙◌, append_assoc, length-append, arith}
 use Rattle.std.specs.Prelude.{All, AllPairs, IfSome, slice_get}
 use Rattle.std.specs.List.{AllZip, sum_by}
 use Rattle.std.proofs.lemmas.List.Elements.{All-append, All-cons, All-head, All-tail, All-nil, All-weaker}
@@ -19,7 +19,7 @@ use Rattle.audit_findings.specs.declared.piece_summary.PieceSummary.{PieceSummar
 use Rattle.audit_findings.specs.Frames.{span_of, StandApart}
 use Rattle.audit_findings.specs.Summary.{SumsPiece}
 use Rattle.audit_findings.proofs.FrameLaws.{first_same}
-use Rattle.audit_join.specs.Jobs.{AreSound, IsFirstIn, HasFirstAt, IsFaultOf, IsJobOf, IsOfBytes, AreCut, AreJobRuns, run_at}
+use Rattle.audit_join.specs.Jobs.{AreSound, HasFirstAt, IsFaultOf, IsJobOf, IsOfBytes, AreCut, AreJobRuns, run_at}
 use Rattle.audit_join.specs.JobLists.{jobs_of}
 use Rattle.audit_join.specs.Runs.{AreRuns}
 use Rattle.audit_join.specs.Summaries.{AreSummaries}

@@ -1,11 +1,11 @@
 -- The jobs that runs of frames are, each with the place of its first fault, or none.
-use Rattle.std.specs.Prelude.{◌≡◌, ℕ, ◌+◌, ◌≤◌, List, [], ◌∷◌, length, All, Option, Some, None}
-use Rattle.std.proofs.Common.{refl, ap, sym, arith}
+use Rattle.std.specs.Prelude.{ℕ, ◌+◌, ◌≤◌, List, [], ◌∷◌, length, All, Option, Some, None}
+use Rattle.std.proofs.Common.{refl, ap, arith}
 use Rattle.std.proofs.lemmas.List.Elements.{All-nil, All-cons, All-head, All-tail}
 use Rattle.capture_frame.specs.declared.fault.Fault.{Fault}
 use Rattle.capture_frame.specs.declared.fault.FaultKind.{FaultKind}
 use Rattle.capture_frame.specs.declared.frame.Frame.{Frame}
-use Rattle.capture_frame.specs.Envelope.{FrameText, frame_text}
+use Rattle.capture_frame.specs.Envelope.{frame_text}
 use Rattle.capture_frame.specs.Units.{IsBytes}
 use Rattle.capture_frame.proofs.UnitLaws.{Outcome, read, failed, outcome}
 use Rattle.record_view.specs.Records.{HasReadableRecords, format_of, protocol_of}
@@ -14,7 +14,7 @@ use Rattle.transaction_view.specs.Attachments.{entry_format}
 use Rattle.transaction_view.specs.FirstFault.{HasGoodContent, HasContentFault, ContentFails, in_records, in_entries}
 use Rattle.transaction_view.proofs.EntryLaws.{entries_decided}
 use Rattle.claim_board.specs.declared.job.Job.{Job}
-use Rattle.audit_join.specs.Jobs.{AreSound, AreCut, IsFirstIn, IsFaultOf, IsJobOf, IsOfBytes, AreJobRuns, HaveJobs}
+use Rattle.audit_join.specs.Jobs.{AreCut, IsFaultOf, IsJobOf, IsOfBytes, AreJobRuns, HaveJobs}
 
 -- the content of a frame is good, or has a first fault
 data Judged (frame : Frame) : Type 0 where

@@ -1,5 +1,5 @@
 -- The first fault of what stands in frames, and the jobs that runs of frames are.
-use Rattle.std.specs.Prelude.{◌≡◌, ℕ, ◌≤◌, ◌^◌, List, length, ◌∷◌, ◌++◌, map, All, AllPairs, Option, Some, None, slice_index_or, []}
+use Rattle.std.specs.Prelude.{◌≡◌, ℕ, ◌≤◌, ◌^◌, List, length, ◌∷◌, ◌++◌, All, AllPairs, Option, Some, None, slice_index_or, []}
 use Rattle.std.specs.List.{AllZip, sum_by}
 use Rattle.capture_frame.specs.declared.fault.Fault.{Fault}
 use Rattle.capture_frame.specs.declared.frame.Frame.{Frame}

@@ -1,5 +1,5 @@
 -- Frames that are cut into runs.
-use Rattle.std.specs.Prelude.{◌≡◌, ℕ, ◌+◌, ◌<◌, ◌≤◌, List, length, map, All, slice_index_or}
+use Rattle.std.specs.Prelude.{◌≡◌, ℕ, ◌+◌, ◌<◌, ◌≤◌, List, length, All, slice_index_or}
 use Rattle.capture_frame.specs.declared.frame.Frame.{Frame}
 use Rattle.summary_law.specs.Parts.{all_items}
 

@@ -1,5 +1,4 @@
-use Rattle.std.proofs.Common.{sym, arith, subst, List}
-use Rattle.capture_frame.specs.declared.frame.Frame.{Frame}
+use Rattle.std.proofs.Common.{sym, arith, subst}
 use Rattle.audit_findings.specs.Summary.{SumsPiece}
 use Rattle.audit_join.proofs.FaultLaws.{place_found, none_found}
 use Rattle.audit_join.proofs.JobLaws.{number_fits, number_within, run_is, job_here, some_here}
