@@ -140,7 +140,6 @@ some_held frames place None other is there holds = absurd (All-contains (λ (f :
 some_held frames place (Some found) other is there holds = refl
 
 -- an element is the same whatever stands for one that is missing
-pub element_is : (list other : List Frame) (n : ℕ) (found missing : Frame) → list ≡ other → found ≡ slice_index_or list n missing → n < length other
-    → (d : Frame) → found ≡ slice_index_or other n d
-element_is list other n found missing same is within d =
-    is ∙ ap (λ (t : List Frame). slice_index_or t n missing) same ∙ get_or_default other n missing d within
+pub element_is : (frames : List Frame) (n : ℕ) (found missing : Frame) → found ≡ slice_index_or frames n missing → n < length frames → (d : Frame)
+    → found ≡ slice_index_or frames n d
+element_is frames n found missing is within d = is ∙ get_or_default frames n missing d within

@@ -5,7 +5,7 @@ ghost use Rattle.std.specs.Prelude.{◌≡◌};
 use crate::calls::Calls;
 use crate::codes::CodeRow;
 use crate::handles::ProcessHandle;
-use crate::lookup::{count_up_to, end_of};
+use crate::lookup::frame_at;
 use crate::nodes::ProcessNode;
 use crate::objects::BadRow;
 use crate::oneway::Oneway;
@@ -114,17 +114,7 @@ impl<'c> Findings<'c> {
     pub fn frame_at(&self, place: u64) -> Option<Frame<'c>>
         ensures { IsFrameAt self.now.frames place result }
     {
-        let frames = self.frames.as_slice();
-        let count = count_up_to(frames, place);
-        if count == 0 {
-            return None;
-        }
-        let frame = frames[count - 1];
-        if place < end_of(frame) {
-            Some(frame)
-        } else {
-            None
-        }
+        frame_at(self.frames.as_slice(), place)
     }
 
     /// The event of the record that begins at a place of the capture, with the attachment left out.

@@ -1,13 +1,31 @@
-//! Which of the frames of a capture stand before a place.
+//! Which of the frames of a capture holds a place.
 
 ghost use Rattle.std.specs.Prelude.{◌≡◌, ◌+◌, length, AllPairs};
 ghost use Rattle.audit_findings.specs.Frames.{span_of, StandApart};
-ghost use Rattle.audit_findings.specs.Lookup.{IsSplitAt};
+ghost use Rattle.audit_findings.specs.Lookup.{IsFrameAt, IsSplitAt};
 
 use capture_frame::Frame;
 
+/// Which of these frames, each of which ends before every later one begins, holds the byte at a
+/// place of the capture; None where none does.
+pub fn frame_at<'c>(frames: &[Frame<'c>], place: u64) -> Option<Frame<'c>>
+    requires { AllPairs StandApart frames.now }
+    ensures { IsFrameAt frames.entry.now place result }
+{
+    let count = count_up_to(frames, place);
+    if count == 0 {
+        return None;
+    }
+    let frame = frames[count - 1];
+    if place < end_of(frame) {
+        Some(frame)
+    } else {
+        None
+    }
+}
+
 /// How many of these frames begin at a place of the capture or before it.
-pub(crate) fn count_up_to(frames: &[Frame<'_>], place: u64) -> usize
+fn count_up_to(frames: &[Frame<'_>], place: u64) -> usize
     requires { AllPairs StandApart frames.now }
     ensures { IsSplitAt frames.entry.now place result }
 {
@@ -25,7 +43,7 @@ pub(crate) fn count_up_to(frames: &[Frame<'_>], place: u64) -> usize
 }
 
 /// Where the frame ends in the capture.
-pub(crate) fn end_of(frame: Frame<'_>) -> u64
+fn end_of(frame: Frame<'_>) -> u64
     ensures { result ≡ frame.entry.place + span_of frame.entry }
 {
     frame.attachments_place() + frame.attachments.len() as u64

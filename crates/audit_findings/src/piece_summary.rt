@@ -14,8 +14,8 @@ use capture_frame::Frame;
 use std::alloc::{AllocError, Global};
 use summary_law::Summary;
 
-/// How many frames are kept as they are before they are put into ledgers.
-const MOST_KEPT: usize = 65_536;
+/// How many frames a summary keeps as they are before they are put into ledgers.
+pub const MOST_KEPT: usize = 65_536;
 
 /// What the report needs of some frames, one behind another. The last of them are kept as they are,
 /// so that the summary of few frames takes little memory and is made and joined in little time; the

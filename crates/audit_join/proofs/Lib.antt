@@ -1,3 +1,8 @@
 pub mod CaptureLaws
 pub mod PartLaws
 pub mod ListedThere
+pub mod RunLaws
+pub mod JobLaws
+pub mod CutLaws
+pub mod FaultLaws
+pub mod ShareLaws

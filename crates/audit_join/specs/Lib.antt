@@ -1,1 +1,5 @@
 pub mod Audit
+pub mod Runs
+pub mod Jobs
+pub mod JobLists
+pub mod Summaries

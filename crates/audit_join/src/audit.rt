@@ -1,24 +1,45 @@
 //! From a capture to its findings.
 
-ghost use Rattle.std.specs.Prelude.{◌≡◌, ◌≤◌, ◌++◌, ◌∷◌, [], length, IfErr, IfOk, OnOk};
-ghost use Rattle.summary_law.specs.Summary.{CanAdd, Adds};
-ghost use Rattle.audit_findings.specs.Frames.{AreGoodFrames};
-ghost use Rattle.audit_findings.specs.Summary.{SumsPiece};
+ghost use Rattle.std.specs.Prelude.{◌≡◌, ◌≤◌, List, length, IfErr, IfOk};
+ghost use Rattle.transaction_view.specs.Grammar.{WholeFrame};
+ghost use Rattle.audit_findings.specs.Frames.{AreGoodFrames, Show, wholes_of};
+ghost use Rattle.audit_findings.specs.Findings.{FindingsText};
+ghost use Rattle.audit_findings.specs.Kept.{Tell};
 ghost use Rattle.audit_join.specs.Audit.{IsAudited, IsMalformed};
+ghost use Rattle.audit_join.specs.Summaries.{AreSummaries};
 ghost use Rattle.audit_join.specs.declared.limits.TheConstants.{CAPTURE_LIMIT};
 
 use crate::audit_error::AuditError;
 use crate::limits::CAPTURE_LIMIT;
-use audit_findings::{Findings, PieceSummary};
-use capture_frame::{Frame, Frames};
+use crate::piece::Piece;
+use crate::summaries::summaries_of;
+use audit_findings::{Findings, MOST_KEPT, PieceSummary};
+use capture_frame::{Cut, Frame, cut};
+use claim_board::{Gate, NoGate, Workers};
 use std::alloc::{AllocError, Global};
 use std::thread::Threads;
-use summary_law::Summary;
-use transaction_view::check_frame;
+use summary_law::join_all;
 
-/// The findings of a capture, or its first fault. One thread does all the work.
+/// The findings of a capture, or its first fault. The frames are shared among so many workers, a
+/// piece at a time.
+pub fn audit<'c, T: Threads + Sync, G: Gate + Sync>(
+    rt: &T,
+    alloc: Global,
+    capture: &'c [u8],
+    workers: Workers,
+    piece: Piece,
+    gate: &G,
+) -> Result<Findings<'c>, AuditError>
+    requires { length capture.now ≤ CAPTURE_LIMIT }
+    ensures found { IfOk result (λ found. IsAudited capture.now found) }
+    ensures malformed { IfErr result (IsMalformed capture.now) }
+{
+    audit_keeping(rt, alloc, capture, workers, piece, gate, MOST_KEPT)
+}
+
+/// The same by one worker.
 pub fn audit_one<'c, T: Threads + Sync>(
-    _rt: &T,
+    rt: &T,
     alloc: Global,
     capture: &'c [u8],
 ) -> Result<Findings<'c>, AuditError>
@@ -26,30 +47,57 @@ pub fn audit_one<'c, T: Threads + Sync>(
     ensures found { IfOk result (λ found. IsAudited capture.now found) }
     ensures malformed { IfErr result (IsMalformed capture.now) }
 {
-    let mut reader = Frames::new(capture)?;
-    let mut frames = Vec::new(alloc);
-    let mut summary = PieceSummary::empty(alloc);
-    while let Some(frame) = reader.next_frame()? {
-        if let Some(fault) = check_frame(frame) {
-            return Err(AuditError::Malformed(fault));
-        }
-        take_frame(&mut frames, &mut summary, frame)?;
-    }
-    let sections = summary.sections()?;
-    Ok(Findings::new(frames, sections))
+    let workers = Workers::new(1).unwrap();
+    let piece = Piece::new(256).unwrap();
+    audit(rt, alloc, capture, workers, piece, &NoGate)
 }
 
-/// Takes a frame into the list of frames, and into their summary.
-fn take_frame<'c>(
-    frames: &mut Vec<Frame<'c>>,
-    summary: &mut PieceSummary<'c>,
-    frame: Frame<'c>,
-) -> Result<(), AllocError>
-    requires { CanAdd SumsPiece AreGoodFrames summary.old frame }
-    ensures frames { OnOk result (frames.new.items ≡ frames.old.items ++ frame.entry ∷ []) }
-    ensures summary { OnOk result
-        (Adds SumsPiece AreGoodFrames summary.old frame.entry summary.new) }
+/// The same as `audit`, where a summary keeps no more than so many frames as they are.
+fn audit_keeping<'c, T: Threads + Sync, G: Gate + Sync>(
+    rt: &T,
+    alloc: Global,
+    capture: &'c [u8],
+    workers: Workers,
+    piece: Piece,
+    gate: &G,
+    most_kept: usize,
+) -> Result<Findings<'c>, AuditError>
+    requires { length capture.now ≤ CAPTURE_LIMIT }
+    ensures found { IfOk result (λ found. IsAudited capture.now found) }
+    ensures malformed { IfErr result (IsMalformed capture.now) }
 {
-    frames.push(frame)?;
-    summary.add(frame)
+    match cut(alloc, capture) {
+        Ok(frames) => {
+            let slice = frames.as_slice();
+            let parts = summaries_of(rt, alloc, slice, workers, piece, gate, most_kept)?;
+            Ok(findings_of(rt, alloc, frames, parts, workers)?)
+        }
+        Err(Cut::Memory) => Err(AuditError::Memory),
+        Err(Cut::Bad { fault, before }) => {
+            // A fault of the frames before it comes first.
+            let slice = before.as_slice();
+            summaries_of(rt, alloc, slice, workers, piece, gate, most_kept)?;
+            Err(AuditError::Malformed(fault))
+        }
+    }
+}
+
+/// The findings of frames, from the summaries of their runs.
+fn findings_of<'c, T: Threads + Sync>(
+    rt: &T,
+    alloc: Global,
+    frames: Vec<Frame<'c>>,
+    parts: Vec<PieceSummary<'c>>,
+    workers: Workers,
+) -> Result<Findings<'c>, AllocError>
+    requires parts { AreSummaries frames.items parts.items }
+    requires good { AreGoodFrames frames.items }
+    requires shown { (wholes : List WholeFrame) × Show frames.items (wholes_of wholes) }
+    ensures { IfOk result (λ found. (wholes : List WholeFrame) →
+        Show frames.entry.items (wholes_of wholes) →
+        (said : FindingsText) × Tell wholes said found.frames found.sections) }
+{
+    let whole = join_all(rt, alloc, parts, workers.get())?;
+    let sections = whole.sections()?;
+    Ok(Findings::new(frames, sections))
 }

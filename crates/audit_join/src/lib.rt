@@ -5,6 +5,11 @@ mod audit;
 mod audit_error;
 pub mod laws;
 mod limits;
+mod piece;
+mod piece_work;
+mod plan;
+mod run_checks;
+mod summaries;
 
 pub use audit::audit_one;
 pub use audit_error::AuditError;
@@ -13,6 +18,8 @@ pub use audit_findings::{
     ProcessHandle, ProcessNode, RecordCounts, Refused, Rows, Sections, Served, SortCounts,
 };
 pub use limits::CAPTURE_LIMIT;
+pub use piece::Piece;
+pub use plan::Plan;
 
 #[cfg(test)]
 mod tests;

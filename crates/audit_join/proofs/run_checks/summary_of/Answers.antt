@@ -3,7 +3,7 @@ use Rattle.std.proofs.lemmas.List.{take_more, take-append-drop}
 use Rattle.capture_frame.specs.declared.frame.Frame.{Frame}
 use Rattle.audit_findings.specs.Frames.{AreGoodFrames, good_frames_parts}
 use Rattle.audit_findings.specs.Summary.{SumsPiece}
-use Rattle.audit_join.proofs.tests.splits.summary_of.Goals as goal
+use Rattle.audit_join.proofs.run_checks.summary_of.Goals as goal
 
 pub add-requires : goal.add-requires
 add-requires c =

@@ -1,0 +1,61 @@
+//! Of some frames: where they begin, their first fault, and their summary.
+
+ghost use Rattle.std.specs.Prelude.{◌≡◌, ◌≤◌, List, ◌∷◌, length, AllPairs, IfOk, MatchOption};
+ghost use Rattle.capture_frame.specs.declared.frame.Frame.{Frame};
+ghost use Rattle.audit_findings.specs.Frames.{AreGoodFrames, StandApart};
+ghost use Rattle.audit_findings.specs.Summary.{SumsPiece};
+ghost use Rattle.audit_join.specs.Jobs.{AreSound, IsFirstIn, HasFirstAt};
+
+use audit_findings::{PieceSummary, frame_at};
+use capture_frame::{Fault, Frame};
+use std::alloc::{AllocError, Global};
+use summary_law::Summary;
+use transaction_view::check_frame;
+
+/// Where the first of these frames begins.
+pub(crate) fn start_of(frames: &[Frame<'_>]) -> u64
+    requires { 1 ≤ length frames.now }
+    ensures { (first : Frame) (others : List Frame) → frames.now ≡ first ∷ others →
+        result ≡ first.place }
+{
+    frames[0].place
+}
+
+/// The first fault of the records and entries of these frames.
+pub(crate) fn first_in(frames: &[Frame<'_>]) -> Option<Fault>
+    ensures { MatchOption result (AreSound frames.now) (IsFirstIn frames.now) }
+{
+    for frame in frames {
+        if let Some(fault) = check_frame(*frame) {
+            return Some(fault);
+        }
+    }
+    None
+}
+
+/// The first fault of these frames, which stands at this place.
+pub(crate) fn fault_at(frames: &[Frame<'_>], place: u64) -> Fault
+    requires apart { AllPairs StandApart frames.now }
+    requires there { HasFirstAt frames.now place }
+    ensures { IsFirstIn frames.now result }
+{
+    // A frame holds it, and has it.
+    let frame = frame_at(frames, place).unwrap();
+    check_frame(frame).unwrap()
+}
+
+/// The summary of these frames, which keeps no more than so many as they are.
+pub(crate) fn summary_of<'c>(
+    alloc: Global,
+    frames: &[Frame<'c>],
+    most_kept: usize,
+) -> Result<PieceSummary<'c>, AllocError>
+    requires { AreGoodFrames frames.now }
+    ensures { IfOk result (λ summary. SumsPiece summary frames.now) }
+{
+    let mut summary = PieceSummary::with_room(alloc, frames.len(), most_kept)?;
+    for frame in frames {
+        summary.add(*frame)?;
+    }
+    Ok(summary)
+}
