@@ -6,28 +6,13 @@ ghost use Rattle.audit_findings.specs.Summary.{SumsPiece, CanSettle};
 
 use super::captures::{EIGHT_FRAMES, within_limit};
 use super::{expect_sections, frames_of};
+use crate::run_checks::summary_of;
 use crate::{PieceSummary, audit_one};
 use capture_frame::Frame;
 use std::alloc::{AllocError, Global};
 use std::process::Abort;
 use std::test::Fail;
 use summary_law::Summary;
-
-/// The summary of these frames, which keeps no more than so many.
-fn summary_of<'c>(
-    alloc: Global,
-    frames: &[Frame<'c>],
-    most_kept: usize,
-) -> Result<PieceSummary<'c>, AllocError>
-    requires { AreGoodFrames frames.now }
-    ensures { IfOk result (λ summary. SumsPiece summary frames.now) }
-{
-    let mut summary = PieceSummary::with_room(alloc, frames.len(), most_kept)?;
-    for frame in frames {
-        summary.add(*frame)?;
-    }
-    Ok(summary)
-}
 
 /// The summary of these frames, joined from that of the first so many and that of the others.
 fn joined<'c>(
