@@ -1,5 +1,5 @@
 -- What is asked of the calls of threads determines them.
-use Rattle.std.proofs.Common.{◌≡◌, List, count_by, map, refl, sym, ap, subst, ◌∙◌}
+use Rattle.std.proofs.Common.{◌≡◌, List, count_by, map, sym, ap, subst, ◌∙◌}
 use Rattle.event_core.specs.Events.{EventText}
 use Rattle.call_stacks.specs.Calls.{OpenerOf, RefusedOf}
 use Rattle.call_stacks.proofs.Members.{only_list}
