@@ -7,7 +7,6 @@ use crate::line::{Row, push_decimal};
 use capture_frame::{Fault, FaultKind};
 
 /// The line that names a fault, with its line feed.
-#[tactic(auto, unfolding(crate::specs::Fault::fault_line))]
 pub fn fault_text(fault: Fault) -> Row
     ensures line { result.bytes ≡ fault_line fault }
     ensures short { length result.bytes ≤ 256 }

@@ -3,12 +3,14 @@
 use crate::codes::{self, CodeRows};
 use crate::shown::push_rows;
 use crate::{Row, fault_text, handles, nodes, objects, rows, text};
-use audit_findings::{CodeRow, ProcessHandle, ProcessNode, SortCounts};
+use audit_findings::{CodeRow, Findings, ProcessHandle, ProcessNode, SortCounts};
 use audit_join::audit_one;
 use capture_frame::{Fault, FaultKind};
 use object_view::Cause;
+use std::alloc::{AllocError, Global};
 use std::process::Abort;
 use std::test::Fail;
+use std::thread::Threads;
 
 /// A fault of each kind at the greatest place.
 const FAULT_LINES: &[(FaultKind, &str)] = &[
@@ -125,56 +127,82 @@ const CAUSES: &[(Cause, &str)] = &[
 #[test]
 fn names_each_cause(rt: HostRuntime) {
     for (cause, name) in CAUSES {
-        assert_eq!(rt; objects::cause_name(*cause), *name);
+        check_cause(&rt, *cause, name);
     }
-    let most = SortCounts {
-        binder: u64::MAX,
-        weak_binder: u64::MAX,
-        handle: u64::MAX,
-        weak_handle: u64::MAX,
-        fd: u64::MAX,
-        fda: u64::MAX,
-        ptr: u64::MAX,
-    };
-    assert_eq!(rt;
-        objects::head_line(most, usize::MAX).as_str(),
+}
+
+fn check_cause<R: Abort>(rt: &R, cause: Cause, name: &str) {
+    assert_eq!(rt; objects::cause_name(cause), name);
+}
+
+const MOST_OBJECTS: SortCounts = SortCounts {
+    binder: u64::MAX,
+    weak_binder: u64::MAX,
+    handle: u64::MAX,
+    weak_handle: u64::MAX,
+    fd: u64::MAX,
+    fda: u64::MAX,
+    ptr: u64::MAX,
+};
+
+#[test]
+fn spells_the_widest_head(rt: HostRuntime) {
+    check_objects(
+        &rt,
+        MOST_OBJECTS,
         "objects \
         binder 18446744073709551615 weak_binder 18446744073709551615 \
         handle 18446744073709551615 weak_handle 18446744073709551615 \
         fd 18446744073709551615 fda 18446744073709551615 \
-        ptr 18446744073709551615 bad 18446744073709551615"
+        ptr 18446744073709551615 bad 18446744073709551615",
     );
 }
 
+fn check_objects<R: Abort>(rt: &R, counts: SortCounts, line: &str) {
+    assert_eq!(rt; objects::head_line(counts, usize::MAX).as_str(), line);
+}
+
+const HANDLE: ProcessHandle = ProcessHandle {
+    process: u32::MAX,
+    handle: 0,
+    strong: -1,
+    strong_low: i64::MIN,
+    weak: i64::MAX,
+    weak_low: 0,
+};
+
+const NODE: ProcessNode = ProcessNode {
+    process: 7,
+    ptr: 0,
+    cookie: u64::MAX,
+    strong: 10,
+    strong_low: -10,
+    weak: 2,
+    weak_low: -3,
+    strong_due: 4,
+    weak_due: i64::MIN,
+};
+
 #[test]
 fn spells_references(rt: HostRuntime) {
-    let handle = ProcessHandle {
-        process: u32::MAX,
-        handle: 0,
-        strong: -1,
-        strong_low: i64::MIN,
-        weak: i64::MAX,
-        weak_low: 0,
-    };
-    assert_eq!(rt;
-        handles::row_line(handle).as_str(),
-        "  4294967295 0 -1 -9223372036854775808 9223372036854775807 0"
+    check_handle(
+        &rt,
+        HANDLE,
+        "  4294967295 0 -1 -9223372036854775808 9223372036854775807 0",
     );
-    let node = ProcessNode {
-        process: 7,
-        ptr: 0,
-        cookie: u64::MAX,
-        strong: 10,
-        strong_low: -10,
-        weak: 2,
-        weak_low: -3,
-        strong_due: 4,
-        weak_due: i64::MIN,
-    };
-    assert_eq!(rt;
-        nodes::row_line(node).as_str(),
-        "  7 0x0 0xffffffffffffffff 10 -10 2 -3 4 -9223372036854775808"
+    check_node(
+        &rt,
+        NODE,
+        "  7 0x0 0xffffffffffffffff 10 -10 2 -3 4 -9223372036854775808",
     );
+}
+
+fn check_handle<R: Abort>(rt: &R, row: ProcessHandle, line: &str) {
+    assert_eq!(rt; handles::row_line(row).as_str(), line);
+}
+
+fn check_node<R: Abort>(rt: &R, row: ProcessNode, line: &str) {
+    assert_eq!(rt; nodes::row_line(row).as_str(), line);
 }
 
 /// One more than the rows that are held at a time.
@@ -182,25 +210,35 @@ const MANY: u64 = 65_537;
 
 #[test]
 fn pushes_more_rows_than_it_holds(rt: HostRuntime) -> Result<(), Fail> {
-    let mut rows = Vec::new(rt.alloc());
-    for i in 0..MANY {
-        rows.push(CodeRow {
-            word: u32::MAX,
-            count: 100_000 + i,
-        })?;
-    }
+    let rows = many_rows(rt.alloc())?;
     let mut text = String::new(rt.alloc());
     push_rows(&rt, rt.alloc(), CodeRows, rows.as_slice(), &mut text)?;
-    assert_eq!(rt; text.len(), 65_537 * 21);
-    assert!(rt;
-        text.as_str()
-            .starts_with("  0xffffffff  100000\n  0xffffffff  100001\n")
-    );
-    assert!(rt;
-        text.as_str()
-            .ends_with("  0xffffffff  165535\n  0xffffffff  165536\n")
-    );
+    check_many(&rt, text.as_str());
     Ok(())
+}
+
+fn many_rows(alloc: Global) -> Result<Vec<CodeRow>, AllocError> {
+    let mut rows = Vec::new(alloc);
+    for i in 0..MANY {
+        let word = u32::MAX;
+        let count = 100_000 + i;
+        rows.push(CodeRow { word, count })?;
+    }
+    Ok(rows)
+}
+
+fn check_many<R: Abort>(rt: &R, text: &str) {
+    assert_eq!(rt; text.len(), 65_537 * 21);
+    check_start(rt, text, "  0xffffffff  100000\n  0xffffffff  100001\n");
+    check_end(rt, text, "  0xffffffff  165535\n  0xffffffff  165536\n");
+}
+
+fn check_start<R: Abort>(rt: &R, text: &str, start: &str) {
+    assert!(rt; text.starts_with(start));
+}
+
+fn check_end<R: Abort>(rt: &R, text: &str, end: &str) {
+    assert!(rt; text.ends_with(end));
 }
 
 /// A read of thread 101 of process 100 with a transaction at 48 whose one object is misaligned. Two
@@ -228,6 +266,11 @@ const REPORT: &str = "BINDER AUDIT 1\n\
     \x20\x200x400c6313 OPAQUE 1\n\
     \x20\x200x40406300 BC_TRANSACTION 1\n\
     \x20\x200x80407202 BR_TRANSACTION 1\n\
+    calls 1 answered 0 failed 0 unanswered 1\n\
+    \x20\x20196 7 8 1 0 open -\n\
+    served 0 replied 0 crossed 0 open 0\n\
+    strays 0\n\
+    refused 0\n\
     handles 0 unbalanced 0\n\
     nodes 0 unbalanced 0\n\
     buffers 1 leaked 1\n\
@@ -236,6 +279,8 @@ const REPORT: &str = "BINDER AUDIT 1\n\
     requests 0 standing 0\n\
     deaths 0 unacknowledged 0 stray 0\n\
     clears 0 unconfirmed 0 stray 0\n\
+    oneway sent 0 received 1 refused 0\n\
+    \x20\x20100 received 1 28\n\
     objects binder 0 weak_binder 0 handle 0 weak_handle 0 fd 0 fda 0 ptr 0 bad 1\n\
     \x20\x2048 100 0 2 Misaligned\n\
     flags 1\n\
@@ -244,14 +289,39 @@ const REPORT: &str = "BINDER AUDIT 1\n\
 #[test]
 fn reports_a_capture(rt: HostRuntime) -> Result<(), Fail> {
     let found = audit_one(&rt, rt.alloc(), CAPTURE)?;
-    check_lines(&rt, rows(&rt, rt.alloc(), &found)?.as_slice());
-    assert_eq!(rt; text(&rt, rt.alloc(), &found)?.as_str(), REPORT);
+    check_rows(&rt, rt.alloc(), &found, REPORT)?;
+    check_text(&rt, rt.alloc(), &found, REPORT)
+}
+
+fn check_rows<R: Abort + Threads + Sync>(
+    rt: &R,
+    alloc: Global,
+    found: &Findings<'_>,
+    report: &str,
+) -> Result<(), Fail> {
+    let rows = rows(rt, alloc, found)?;
+    check_lines(rt, rows.as_slice(), report);
     Ok(())
 }
 
-fn check_lines<R: Abort>(rt: &R, rows: &[Row]) {
-    assert_eq!(rt; rows.len(), 18);
-    for (row, line) in rows.iter().zip(REPORT.lines()) {
-        assert_eq!(rt; row.as_str(), line);
+fn check_text<R: Abort + Threads + Sync>(
+    rt: &R,
+    alloc: Global,
+    found: &Findings<'_>,
+    report: &str,
+) -> Result<(), Fail> {
+    let text = text(rt, alloc, found)?;
+    check_same(rt, text.as_str(), report);
+    Ok(())
+}
+
+fn check_lines<R: Abort>(rt: &R, rows: &[Row], report: &str) {
+    assert_eq!(rt; rows.len(), 25);
+    for (row, line) in rows.iter().zip(report.lines()) {
+        check_same(rt, row.as_str(), line);
     }
+}
+
+fn check_same<R: Abort>(rt: &R, text: &str, expected: &str) {
+    assert_eq!(rt; text, expected);
 }
