@@ -85,7 +85,7 @@ spans_are [] = refl
 spans_are (f ∷ frames) =
     let others = spans_are frames in
     let whole = ap length (flat_map-cons frame_bytes (frame_text f) (texts_of frames))
-        ∙ length-append (frame_bytes (frame_text f)) (flat_map frame_bytes (texts_of frames)) in
+    ∙ length-append (frame_bytes (frame_text f)) (flat_map frame_bytes (texts_of frames)) in
     let spans = sum_by-append span_of (f ∷ []) frames in
     omega (arith, others, whole, spans, length-frame_bytes (frame_text f))
 

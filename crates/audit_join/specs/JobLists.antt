@@ -53,33 +53,39 @@ behind_good : (frame : Frame) (frames : List Frame) → HasGoodContent (frame_te
     → IsFaultOf frames fault → HasFault (frame ∷ frames)
 behind_good frame frames whole None sound =
     (None, All-cons (λ (f : Frame). HasGoodContent (frame_text f)) frame frames whole sound)
-behind_good frame frames whole (Some place) (fault, first, is) = (Some place, (
-  fault,
-  record {
-    before = frame ∷ first.before;
-    frame = first.frame;
-    behind = first.behind;
-    are = ap (λ (t : List Frame). frame ∷ t) first.are;
-    sound = All-cons (λ (f : Frame). HasGoodContent (frame_text f)) frame first.before whole first.sound;
-    fails = first.fails;
-  },
-  is,
-))
+behind_good frame frames whole (Some place) (fault, first, is) = (
+  Some place,
+  (
+    fault,
+    record {
+      before = frame ∷ first.before;
+      frame = first.frame;
+      behind = first.behind;
+      are = ap (λ (t : List Frame). frame ∷ t) first.are;
+      sound = All-cons (λ (f : Frame). HasGoodContent (frame_text f)) frame first.before whole first.sound;
+      fails = first.fails;
+    },
+    is,
+  ),
+)
 
 by_first : (frame : Frame) (frames : List Frame) → Judged frame → HasFault frames → HasFault (frame ∷ frames)
 by_first frame frames (good whole) others = behind_good frame frames whole others.0 others.1
-by_first frame frames (bad fault fails) others = (Some fault.place, (
-  fault,
-  record {
-    before = [];
-    frame = frame;
-    behind = frames;
-    are = refl;
-    sound = All-nil (λ (f : Frame). HasGoodContent (frame_text f));
-    fails = fails;
-  },
-  refl,
-))
+by_first frame frames (bad fault fails) others = (
+  Some fault.place,
+  (
+    fault,
+    record {
+      before = [];
+      frame = frame;
+      behind = frames;
+      are = refl;
+      sound = All-nil (λ (f : Frame). HasGoodContent (frame_text f));
+      fails = fails;
+    },
+    refl,
+  ),
+)
 
 fault_of : (frames : List Frame) → All IsOfBytes frames → HasFault frames
 fault_of [] bytes = (None, All-nil (λ (f : Frame). HasGoodContent (frame_text f)))
