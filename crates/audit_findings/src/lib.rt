@@ -54,6 +54,3 @@ pub use refused::Refused;
 pub use rows::Rows;
 pub use served::Served;
 pub use sort_counts::SortCounts;
-
-#[cfg(test)]
-mod tests;
