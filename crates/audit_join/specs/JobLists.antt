@@ -90,7 +90,8 @@ by_first frame frames (bad fault fails) others = (
 fault_of : (frames : List Frame) → All IsOfBytes frames → HasFault frames
 fault_of [] bytes = (None, All-nil (λ (f : Frame). HasGoodContent (frame_text f)))
 fault_of (f ∷ frames) bytes =
-    by_first f frames (judged f (All-head IsOfBytes f frames bytes)) (fault_of frames (All-tail IsOfBytes f frames bytes))
+    by_first f frames (judged f (All-head IsOfBytes f frames bytes))
+    (fault_of frames (All-tail IsOfBytes f frames bytes))
 
 job_of : (frames : List Frame) → 1 ≤ length frames → HasFault frames → (job : Job) × IsJobOf frames job
 job_of [] some fault = absurd (omega (arith, some))

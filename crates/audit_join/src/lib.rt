@@ -1,8 +1,8 @@
 //! From a capture to its findings, or to its first fault.
 #![tactic(auto)]
 
-mod audit;
 mod audit_error;
+mod audits;
 pub mod laws;
 mod limits;
 mod piece;
@@ -11,12 +11,12 @@ mod plan;
 mod run_checks;
 mod summaries;
 
-pub use audit::audit_one;
 pub use audit_error::AuditError;
 pub use audit_findings::{
     BadRow, CallRow, Calls, CodeRow, Findings, Oneway, OnewayRow, OpenAndStray, PieceSummary,
     ProcessHandle, ProcessNode, RecordCounts, Refused, Rows, Sections, Served, SortCounts,
 };
+pub use audits::{audit, audit_one};
 pub use limits::CAPTURE_LIMIT;
 pub use piece::Piece;
 pub use plan::Plan;

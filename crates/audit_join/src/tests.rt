@@ -2,7 +2,9 @@
 
 mod captures;
 mod lookup;
+mod one_pass;
 mod splits;
+mod workers;
 
 ghost use Rattle.std.specs.Prelude.{◌≤◌, length};
 ghost use Rattle.audit_join.specs.Audit.{IsAudited};

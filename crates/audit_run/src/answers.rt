@@ -3,8 +3,8 @@ ghost use Rattle.std.specs.Prelude.{ℕ, List, IfErr, IfOk, IfSome, IsErrOf, IsO
 ghost use Rattle.audit_run.specs.Request.{Answers, IsAnswer};
 ghost use Rattle.audit_run.specs.Run.{IsRead, IsOfRead, IsRunFault, IsTooLarge, StaysOrBegins};
 
-use crate::limits::Piece;
 use crate::runs::{Written, run, run_first_fault};
+use audit_join::Piece;
 use audit_streams::RunError;
 use claim_board::Workers;
 use std::alloc::Global;

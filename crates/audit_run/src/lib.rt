@@ -3,14 +3,14 @@
 #![tactic(auto)]
 
 mod answers;
-mod limits;
+#[cfg(test)]
+mod gate_tests;
 #[cfg(test)]
 mod memory_tests;
 mod runs;
 
 pub use crate::answers::{Request, answer, answer_file};
-pub use crate::limits::Piece;
-pub use crate::runs::{Written, run, run_first_fault, write_first_fault};
-pub use audit_join::CAPTURE_LIMIT;
+pub use crate::runs::{Written, run, run_first_fault, run_gated, write_first_fault};
+pub use audit_join::{CAPTURE_LIMIT, Piece};
 pub use audit_streams::{RunError, read_capture, write_text};
-pub use claim_board::Workers;
+pub use claim_board::{Gate, NoGate, Workers};

@@ -10,11 +10,10 @@ ghost use Rattle.report_text.specs.Text.{IsReportOn};
 ghost use Rattle.audit_join.specs.Audit.{IsMalformed};
 ghost use Rattle.audit_join.specs.declared.limits.TheConstants.{CAPTURE_LIMIT};
 
-use crate::limits::Piece;
-use audit_join::{AuditError, CAPTURE_LIMIT, audit_one};
+use audit_join::{AuditError, CAPTURE_LIMIT, Piece, audit};
 use audit_streams::{RunError, read_capture, write_text};
 use capture_frame::Fault;
-use claim_board::Workers;
+use claim_board::{Gate, NoGate, Workers};
 use report_text::{fault_text, text};
 use std::alloc::Global;
 use std::io::{Read, Write};
@@ -30,15 +29,48 @@ pub enum Written {
     Malformed(Fault),
 }
 
-/// Reads a capture to its end, and writes its report, or the line that names its first fault. One
-/// thread makes the findings, whatever the number of workers and the size of a piece.
+/// Reads a capture to its end, and writes its report, or the line that names its first fault. So
+/// many workers share its frames, a piece at a time.
 pub fn run<T: Threads + Sync, R: Read, W: Write>(
     rt: &T,
     alloc: Global,
     reader: &mut R,
     writer: &mut W,
-    _workers: Workers,
-    _piece: Piece,
+    workers: Workers,
+    piece: Piece,
+) -> Result<Written, RunError>
+    // What is written is the definitions' text of what was read, and nothing else.
+    ensures written { IfOk result (λ written. IfSome (R.remaining reader.old) (λ capture.
+        Reports capture (W.contents writer.old) (W.contents writer.new) written)) }
+    ensures within { OnOk result (IfSome (R.remaining reader.old) (λ capture.
+        length capture ≤ CAPTURE_LIMIT)) }
+
+    // Of a reader whose bytes nobody knows beforehand, the same of some capture.
+    ensures read { IfOk result
+        (λ written. (capture : List ℕ) × IsRead (R.remaining reader.old) capture
+        × Reports capture (W.contents writer.old) (W.contents writer.new) written) }
+
+    // After a failed write a prefix of the text stands written, and after another fault nothing.
+    ensures failed { IfErr result (λ error. IfSome (R.remaining reader.old) (λ capture.
+        StaysOrBegins (IsTextOf capture) (W.contents writer.old) (W.contents writer.new) error)) }
+    ensures begun { IfErr result (StaysOrBegins (IsOfRead IsTextOf (R.remaining reader.old))
+        (W.contents writer.old) (W.contents writer.new)) }
+    ensures too_large { IsErrOf result RunError.TooLarge
+        → IfSome (R.remaining reader.old) (λ capture. CAPTURE_LIMIT < length capture) }
+    ensures fault { IfErr result IsRunFault }
+{
+    run_gated(rt, alloc, reader, writer, workers, piece, &NoGate)
+}
+
+/// The same, where a gate is told of each piece that is begun and ended.
+pub fn run_gated<T: Threads + Sync, R: Read, W: Write, G: Gate + Sync>(
+    rt: &T,
+    alloc: Global,
+    reader: &mut R,
+    writer: &mut W,
+    workers: Workers,
+    piece: Piece,
+    gate: &G,
 ) -> Result<Written, RunError>
     // What is written is the definitions' text of what was read, and nothing else.
     ensures written { IfOk result (λ written. IfSome (R.remaining reader.old) (λ capture.
@@ -61,15 +93,18 @@ pub fn run<T: Threads + Sync, R: Read, W: Write>(
     ensures fault { IfErr result IsRunFault }
 {
     let capture = read_capture(alloc, reader, CAPTURE_LIMIT)?;
-    write_answer(rt, alloc, capture.as_slice(), writer)
+    write_answer(rt, alloc, capture.as_slice(), writer, workers, piece, gate)
 }
 
 /// Writes the report on a capture, or the line that names its first fault.
-fn write_answer<T: Threads + Sync, W: Write>(
+fn write_answer<T: Threads + Sync, W: Write, G: Gate + Sync>(
     rt: &T,
     alloc: Global,
     capture: &[u8],
     writer: &mut W,
+    workers: Workers,
+    piece: Piece,
+    gate: &G,
 ) -> Result<Written, RunError>
     requires { length capture.now ≤ CAPTURE_LIMIT }
     ensures written { IfOk result
@@ -78,7 +113,7 @@ fn write_answer<T: Threads + Sync, W: Write>(
         (StaysOrBegins (IsTextOf capture.now) (W.contents writer.old) (W.contents writer.new)) }
     ensures fault { IfErr result IsAnswerFault }
 {
-    match report_on(rt, alloc, capture) {
+    match report_on(rt, alloc, capture, workers, piece, gate) {
         Ok(text) => {
             write_text(writer, text.as_bytes())?;
             Ok(Written::Report)
@@ -94,12 +129,19 @@ fn write_answer<T: Threads + Sync, W: Write>(
 }
 
 /// The report on a capture.
-fn report_on<T: Threads + Sync>(rt: &T, alloc: Global, capture: &[u8]) -> Result<String, AuditError>
+fn report_on<T: Threads + Sync, G: Gate + Sync>(
+    rt: &T,
+    alloc: Global,
+    capture: &[u8],
+    workers: Workers,
+    piece: Piece,
+    gate: &G,
+) -> Result<String, AuditError>
     requires { length capture.now ≤ CAPTURE_LIMIT }
     ensures report { IfOk result (λ text. IsReportOn capture.now (string_bytes text)) }
     ensures malformed { IfErr result (IsMalformed capture.now) }
 {
-    let found = audit_one(rt, alloc, capture)?;
+    let found = audit(rt, alloc, capture, workers, piece, gate)?;
     Ok(text(rt, alloc, &found)?)
 }
 

@@ -1,7 +1,7 @@
 use Rattle.std.proofs.Common.{sym, subst}
 use Rattle.audit_findings.specs.Frames.{AreGoodFrames, wholes_of}
 use Rattle.audit_findings.specs.Summary.{SumsPiece}
-use Rattle.audit_join.proofs.audit.findings_of.Goals as goal
+use Rattle.audit_join.proofs.audits.findings_of.Goals as goal
 
 pub new-requires : goal.new-requires
 new-requires g c =

@@ -53,7 +53,7 @@ pub fn audit_one<'c, T: Threads + Sync>(
 }
 
 /// The same as `audit`, where a summary keeps no more than so many frames as they are.
-fn audit_keeping<'c, T: Threads + Sync, G: Gate + Sync>(
+pub(crate) fn audit_keeping<'c, T: Threads + Sync, G: Gate + Sync>(
     rt: &T,
     alloc: Global,
     capture: &'c [u8],

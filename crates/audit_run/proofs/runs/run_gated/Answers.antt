@@ -2,7 +2,7 @@ use Rattle.std.proofs.Common.{arith}
 use Rattle.audit_run.specs.Run.{Reports}
 use Rattle.report_text.specs.Answers.{IsTextOf}
 use Rattle.audit_run.proofs.RunLaws.{answer_known, answer_read, failure_read}
-use Rattle.audit_run.proofs.runs.run.Goals as goal
+use Rattle.audit_run.proofs.runs.run_gated.Goals as goal
 
 pub returns-clause-written : goal.returns-clause-written
 returns-clause-written g c =
