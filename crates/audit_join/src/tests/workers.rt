@@ -7,7 +7,7 @@ use super::captures::{EIGHT_FRAMES, within_limit};
 use super::expect_sections;
 use super::one_pass::one_pass;
 use crate::audits::audit_keeping;
-use crate::{AuditError, Piece, ProcessHandle, audit, audit_one};
+use crate::{AuditError, Findings, Piece, ProcessHandle, audit, audit_one};
 use capture_frame::{Fault, FaultKind};
 use claim_board::{Gate, NoGate, Workers};
 use std::alloc::{AllocError, Global};
@@ -27,7 +27,13 @@ fn shares(workers: u64, piece: u64) -> Result<(Workers, Piece), &'static str> {
     Ok((workers, piece))
 }
 
-// The findings of the eight frames are theirs, however these are shared.
+// These are the findings of the eight frames.
+fn expect_findings(rt: &impl Abort, found: &Findings<'_>) {
+    assert_eq!(rt; found.frames().len(), 8);
+    expect_sections(rt, found.sections());
+}
+
+// They are, however the frames are shared.
 fn expect_eight<T: Threads + Sync + Abort>(
     rt: &T,
     alloc: Global,
@@ -39,8 +45,7 @@ fn expect_eight<T: Threads + Sync + Abort>(
 {
     let (workers, piece) = shares;
     let found = audit_keeping(rt, alloc, capture, workers, piece, &NoGate, most_kept)?;
-    assert_eq!(rt; found.frames().len(), 8);
-    expect_sections(rt, found.sections());
+    expect_findings(rt, &found);
     Ok(())
 }
 
@@ -70,23 +75,39 @@ fn pieces_change_nothing(rt: HostRuntime) -> Result<(), Fail> {
     Ok(())
 }
 
-/// One pass gives the sections that `audit_one` gives.
+fn expect_audit_one<T: Threads + Sync + Abort>(
+    rt: &T,
+    alloc: Global,
+    capture: &[u8],
+) -> Result<(), AuditError>
+    requires { length capture.now ≤ CAPTURE_LIMIT }
+{
+    let found = audit_one(rt, alloc, capture)?;
+    expect_findings(rt, &found);
+    Ok(())
+}
+
+fn expect_one_pass(rt: &impl Abort, alloc: Global, capture: &[u8]) -> Result<(), AuditError>
+    requires { length capture.now ≤ CAPTURE_LIMIT }
+{
+    let found = one_pass(alloc, capture)?;
+    expect_findings(rt, &found);
+    Ok(())
+}
+
+/// One pass gives what `audit_one` gives. Two findings in one function are dear to prove.
 #[test]
 fn one_pass_gives_the_same(rt: HostRuntime) -> Result<(), Fail> {
     let capture = within_limit(&rt, EIGHT_FRAMES);
-    let found = audit_one(&rt, rt.alloc(), capture)?;
-    let passed = one_pass(rt.alloc(), capture)?;
-    assert_eq!(rt; passed.frames().len(), found.frames().len());
-    expect_sections(&rt, found.sections());
-    expect_sections(&rt, passed.sections());
+    expect_audit_one(&rt, rt.alloc(), capture)?;
+    expect_one_pass(&rt, rt.alloc(), capture)?;
     Ok(())
 }
 
 const HEADER: &[u8] = b"BNDRCAP1\x08\0\0\0\0\0\0\0";
 
 /// A frame header behind its sequence: a write of process 1 and thread 1, of four command bytes.
-const WRITE: &[u8] =
-    b"\0\0\0\0\0\0\0\x01\0\0\0\x01\0\0\0\x01\0\0\0\x04\0\0\0\0\0\0\0\0\0\0\0";
+const WRITE: &[u8] = b"\0\0\0\0\0\0\0\x01\0\0\0\x01\0\0\0\x01\0\0\0\x04\0\0\0\0\0\0\0\0\0\0\0";
 
 const BC_ENTER_LOOPER: &[u8] = b"\x0c\x63\0\0";
 
@@ -172,11 +193,7 @@ fn least_of_all_pieces(rt: HostRuntime) -> Result<(), Fail> {
 }
 
 /// Three writes. The second one's header has an unknown direction; the others have these records.
-fn broken_in_the_middle(
-    alloc: Global,
-    first: &[u8],
-    third: &[u8],
-) -> Result<Vec<u8>, AllocError> {
+fn broken_in_the_middle(alloc: Global, first: &[u8], third: &[u8]) -> Result<Vec<u8>, AllocError> {
     let mut capture = Vec::new(alloc);
     capture.extend_from_slice(HEADER)?;
     push_write(&mut capture, 1, first)?;

@@ -8,7 +8,7 @@ use Rattle.audit_join.proofs.CaptureLaws.{shown_at_start, shown_next, shown_are_
 use Rattle.audit_join.proofs.tests.one_pass.one_pass.Goals as goal
 
 pub loop-summary-init : goal.loop-summary-init
-loop-summary-init g c =
+loop-summary-init c =
     let none = sym c.new-frames.ensures.items in (
       [],
       stands_at_start c.args.capture.now c.in_ok-reader.reader c.in_ok-reader.ensures.0 c.in_ok-reader.ensures.1,
@@ -17,19 +17,19 @@ loop-summary-init g c =
     )
 
 pub returns-in_err-frame-clause-malformed : goal.returns-in_err-frame-clause-malformed
-returns-in_err-frame-clause-malformed g c =
+returns-in_err-frame-clause-malformed c =
     let p = err_from_is_err_and c.from_residual-in_err-frame.result c.from_residual-in_err-frame.ensures.1 in
     let done = c.loop-summary.invariant in
     rw (p.1, p.2) (header_fails c.args.capture.now c.loop-summary.reader done.0 done.1 c.in_err-frame.field-0.0 c.next_frame.new.self c.in_err-frame.ensures)
 
 pub returns-in-Some-check_frame-clause-malformed : goal.returns-in-Some-check_frame-clause-malformed
-returns-in-Some-check_frame-clause-malformed g c =
+returns-in-Some-check_frame-clause-malformed c =
     let done = c.loop-summary.invariant in
     content_fails c.args.capture.now c.loop-summary.reader done.0 done.1 c.in-Some.frame c.next_frame.new.self c.in-Some-check_frame.fault
     (rw c.in-Some.is at c.in_ok-frame.ensures) c.in-Some-check_frame.ensures.first
 
 pub take_frame-requires : goal.take_frame-requires
-take_frame-requires g c =
+take_frame-requires c =
     let done = c.loop-summary.invariant in
     let found = c.in-Some.frame in
     let steps = rw c.in-Some.is at c.in_ok-frame.ensures in
@@ -45,12 +45,12 @@ take_frame-requires g c =
     )
 
 pub loop-summary-smaller : goal.loop-summary-smaller
-loop-summary-smaller g c =
+loop-summary-smaller c =
     let done = c.loop-summary.invariant in
     left_falls c.args.capture.now c.loop-summary.reader done.0 done.1 c.in-Some.frame c.next_frame.new.self (rw c.in-Some.is at c.in_ok-frame.ensures)
 
 pub loop-summary-preserved : goal.loop-summary-preserved
-loop-summary-preserved g c =
+loop-summary-preserved c =
     let done = c.loop-summary.invariant in
     let found = c.in-Some.frame in
     let steps = rw c.in-Some.is at c.in_ok-frame.ensures in
@@ -69,13 +69,13 @@ loop-summary-preserved g c =
     )
 
 pub sections-requires : goal.sections-requires
-sections-requires g c =
+sections-requires c =
     let done = c.loop-summary.invariant in
     let short = within_limit c.args.capture.now c.loop-summary.reader done.0 done.1 c.requires in
     (c.loop-summary.frames.items, done.3, shown_are_good c.loop-summary.frames.items done.0 done.2 short)
 
 pub new-requires-2 : goal.new-requires-2
-new-requires-2 g c =
+new-requires-2 c =
     let done = c.loop-summary.invariant in
     let short = within_limit c.args.capture.now c.loop-summary.reader done.0 done.1 c.requires in
     let frames = c.loop-summary.frames.items in
@@ -83,7 +83,7 @@ new-requires-2 g c =
     (done.0, said.0, record { show = done.2; are = said.1; keep = said.2 })
 
 pub returns-clause-found : goal.returns-clause-found
-returns-clause-found g c =
+returns-clause-found c =
     let done = c.loop-summary.invariant in
     let short = within_limit c.args.capture.now c.loop-summary.reader done.0 done.1 c.requires in
     let frames = c.loop-summary.frames.items in

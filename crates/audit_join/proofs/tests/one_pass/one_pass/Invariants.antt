@@ -7,8 +7,8 @@ use Rattle.audit_join.proofs.tests.one_pass.one_pass.Given as goal
 
 -- the reader stands behind these frames, which the views show, and the summary is theirs
 abbrev pub invariant-loop-summary : goal.invariant-loop-summary
-invariant-loop-summary g l =
+invariant-loop-summary l =
     (done : List WholeFrame) × StandsBehind l.fn.capture l.reader done × Show l.frames.items (wholes_of done) × SumsPiece l.summary l.frames.items
 
 abbrev pub decreases-loop-summary : goal.decreases-loop-summary
-decreases-loop-summary g l = left_of l.reader
+decreases-loop-summary l = left_of l.reader
