@@ -6,7 +6,7 @@ use Rattle.std.proofs.lemmas.Bool.{eqb-true}
 use Rattle.std.proofs.lemmas.Bool.Decides.{Decides-eqb}
 use Rattle.std.proofs.lemmas.Cmp.{nat_eq_equiv}
 use Rattle.std.proofs.lemmas.List.Concat.{flat_map-cons}
-use Rattle.std.proofs.lemmas.List.Elements.{All-append, All-cons, All-contains, All-contains_itself, All-head, All-map, All-nil, All-tail, All-weaker, Contains-append_cases, Contains-append_left, Contains-append_right}
+use Rattle.std.proofs.lemmas.List.Elements.{All-append, All-contains, All-head, All-map, All-nil, All-tail, All-weaker, Contains-append_cases, Contains-append_left, Contains-append_right}
 use Rattle.std.proofs.lemmas.List.Kept.{AllPairs-from_increasing}
 use Rattle.std.proofs.lemmas.Map.Made.{AllPairs-from_IsDistinct}
 use Rattle.std.proofs.lemmas.Map.Views.{Contains-from_any}
@@ -24,7 +24,7 @@ use Rattle.audit_findings.specs.declared.process_summary.ProcessSummary.{Process
 use Rattle.audit_findings.specs.declared.open_and_stray.OpenAndStray.{OpenAndStray}
 use Rattle.audit_findings.specs.Frames.{events_of_wholes}
 use Rattle.audit_findings.specs.Kept.{KeepsOpenAndStray}
-use Rattle.audit_findings.specs.Places.{AreEventsAt, RiseInPlace, StandsInProcess, ExcludeEachOther, OpenAndStrayText, AreOpenAndStray}
+use Rattle.audit_findings.specs.Places.{RiseInPlace, StandsInProcess, ExcludeEachOther, OpenAndStrayText, AreOpenAndStray}
 use Rattle.audit_findings.specs.Processes.{process_of, processes_of}
 use Rattle.audit_findings.specs.ProcessLedgers.{NeedsItems, AreLedgersOf, IsOfProcess, AreOfProcesses}
 use Rattle.audit_findings.proofs.InOrderLaws.{each_among_firsts, firsts_distinct}
