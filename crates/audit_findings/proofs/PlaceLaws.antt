@@ -1,5 +1,5 @@
 -- The places that the ledgers of all processes list, gathered and sorted, and the events that stand at them.
-use Rattle.std.proofs.Common.{◌≡◌, ◌≢◌, ℕ, suc, ◌⊎◌, ⊎_elim, inl, inr, true, eqb, List, [], ◌∷◌, ◌++◌, length, map, All, AllPairs, Contains, Option, Some, None, refl, sym, ap, subst, ◌∙◌, arith}
+use Rattle.std.proofs.Common.{◌≡◌, ◌≢◌, ℕ, suc, ◌⊎◌, ⊎_elim, inl, inr, true, eqb, List, [], ◌∷◌, ◌++◌, length, map, All, AllPairs, Contains, Option, Some, None, refl, sym, ap, subst, append_assoc, ◌∙◌, arith}
 use Rattle.std.proofs.Common.{IsPermutation, IsSorted, nat_cmp, Box, Global}
 use Rattle.std.specs.List.Sorted.{IsStrictlyIncreasing}
 use Rattle.std.proofs.lemmas.Bool.{eqb-true}
@@ -34,6 +34,12 @@ use Rattle.audit_findings.proofs.EventsAt.{events_at}
 rising_apart : (places : List ℕ) → IsStrictlyIncreasing places → AllPairs (λ x y. x ≢ y) places
 rising_apart places rising i j d below within =
     λ same. let less = AllPairs-from_increasing places rising i j d below within in absurd (omega arith)
+
+-- places with more behind them, one list and then another
+pub longer_list : (places own behind longer : List ℕ) {more : List ℕ} → longer ≡ places ++ more → more ≡ own
+    → places ++ (own ++ behind) ≡ longer ++ behind
+longer_list places own behind longer is same =
+    sym (ap (λ (t : List ℕ). t ++ behind) (is ∙ ap (λ (t : List ℕ). places ++ t) same) ∙ append_assoc places own behind)
 
 -- ---- the places at which something is so of each of some keys, one list behind another
 
