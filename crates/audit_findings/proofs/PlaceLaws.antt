@@ -35,11 +35,15 @@ rising_apart : (places : List ℕ) → IsStrictlyIncreasing places → AllPairs 
 rising_apart places rising i j d below within =
     λ same. let less = AllPairs-from_increasing places rising i j d below within in absurd (omega arith)
 
+-- places with more behind them
+pub extended_by : (places own longer : List ℕ) {more : List ℕ} → longer ≡ places ++ more → more ≡ own → longer ≡ places ++ own
+extended_by places own longer is same = is ∙ ap (λ (t : List ℕ). places ++ t) same
+
 -- places with more behind them, one list and then another
 pub longer_list : (places own behind longer : List ℕ) {more : List ℕ} → longer ≡ places ++ more → more ≡ own
     → places ++ (own ++ behind) ≡ longer ++ behind
 longer_list places own behind longer is same =
-    sym (ap (λ (t : List ℕ). t ++ behind) (is ∙ ap (λ (t : List ℕ). places ++ t) same) ∙ append_assoc places own behind)
+    sym (ap (λ (t : List ℕ). t ++ behind) (extended_by places own longer is same) ∙ append_assoc places own behind)
 
 -- ---- the places at which something is so of each of some keys, one list behind another
 
