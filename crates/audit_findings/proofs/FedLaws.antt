@@ -1,15 +1,13 @@
 -- What frames feed to the ledgers of their processes: of each process, what is read from its events.
-use Rattle.std.proofs.Common.{◌≡◌, ℕ, Bool, true, false, cond, eqb, List, [], ◌∷◌, ◌++◌, map, All, Option, Some, None, refl, sym, ap, ap₂, subst, ◌∙◌}
-use Rattle.std.specs.List.{filter_map, flat_map, cons_option}
+use Rattle.std.proofs.Common.{◌≡◌, Bool, true, false, cond, eqb, List, [], ◌∷◌, ◌++◌, map, Option, Some, None, refl, sym, ap, ap₂, ◌∙◌}
+use Rattle.std.specs.List.{filter_map, cons_option}
 use Rattle.std.specs.Map.{keys_of}
 use Rattle.std.specs.Prelude.{nat_eq}
 use Rattle.std.proofs.lemmas.Grind.{flat_map-append}
-use Rattle.std.proofs.lemmas.List.{map-append}
 use Rattle.std.proofs.lemmas.List.Concat.{flat_map-cons}
 use Rattle.std.proofs.lemmas.List.Elements.{filter_map-append}
 use Rattle.std.proofs.lemmas.Simd.{map-map}
-use Rattle.capture_frame.specs.Envelope.{FrameText}
-use Rattle.capture_frame.specs.Units.{Placed, placed_at}
+use Rattle.capture_frame.specs.Units.{Placed}
 use Rattle.event_core.specs.Events.{EventText, event_of, events_of_whole, placed_records}
 use Rattle.record_view.specs.Records.{RecordText}
 use Rattle.summary_law.specs.ByKey.{items_of, items_of-append}

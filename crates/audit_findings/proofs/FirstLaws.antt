@@ -9,6 +9,8 @@ use Rattle.std.proofs.lemmas.Map.Views.{any-filter_same}
 use Rattle.std.specs.Cmp.{IsEquivalence}
 use Rattle.std.specs.List.{list_any, AllByRecursion}
 use Rattle.std.specs.Map.{lookup, keys_of}
+use Rattle.indexmap.specs.IndexMap.{IndexMap, insert_entry}
+use Rattle.indexmap.proofs.CallerLemmas.{insert_entry-new}
 use Rattle.audit_findings.specs.InOrder.{firsts}
 
 not_or : (a b : Bool) → not (a || b) ≡ (not b && not a)
@@ -67,6 +69,28 @@ module _ {K : Type 0} (eq : K → K → Bool) where
   pub old_passed : (seen rest : List K) (key : K) → list_any (eq key) seen ≡ true → unseen seen (key ∷ rest) ≡ unseen seen rest
   old_passed seen rest key there = rw there refl
 
+  -- the entries once a new key is inserted
+  pub inserted : {X H : Type 0} (map : IndexMap K X H) (old new : List (K × X)) (key : K) (part : X) → map.entries ≡ old
+      → lookup (eq key) old ≡ None → new ≡ insert_entry eq map.entries key part → new ≡ old ++ (key, part) ∷ []
+  inserted {X} map old new key part same found is =
+      is ∙ insert_entry-new eq map key part (ap (λ (es : List (K × X)). lookup (eq key) es) same ∙ found)
+      ∙ ap (λ (es : List (K × X)). es ++ (key, part) ∷ []) same
+
+  -- the keys so far and those to come, past an entry whose key is there already
+  pub order_stays : {X : Type 0} (now new : List K) (entries rest : List (K × X)) (key : K) (part : X) (all : List K)
+      → new ≡ now → entries ≡ (key, part) ∷ rest → list_any (eq key) now ≡ true
+      → now ++ unseen now (keys_of entries) ≡ all → new ++ unseen new (keys_of rest) ≡ all
+  order_stays {X} now new entries rest key part all same is there order =
+      ap (λ (ks : List K). ks ++ unseen ks (keys_of rest)) same
+      ∙ ap (λ (ks : List K). now ++ ks) (sym (old_passed now (keys_of rest) key there))
+      ∙ sym (ap (λ (es : List (K × X)). now ++ unseen now (keys_of es)) is) ∙ order
+
+  -- the keys so far where no entry is to come
+  pub order_ends : {X : Type 0} (now : List K) (entries : List (K × X)) (all : List K)
+      → entries ≡ [] → now ++ unseen now (keys_of entries) ≡ all → now ≡ all
+  order_ends {X} now entries all is order =
+      sym (append-nil now) ∙ sym (ap (λ (es : List (K × X)). now ++ unseen now (keys_of es)) is) ∙ order
+
   module _ (laws : IsEquivalence eq) where
     -- a key is among the firsts where it is in the list
     pub list_any-firsts : (key : K) (keys : List K) → list_any (eq key) (firsts eq keys) ≡ list_any (eq key) keys
@@ -105,6 +129,17 @@ module _ {K : Type 0} (eq : K → K → Bool) where
         ∙ ap (λ t. seen ++ key ∷ t) (unseen_apart seen rest key apart)
         ∙ ap (λ b. seen ++ cond (not b) (key ∷ unseen seen rest) (unseen seen rest)) (sym missing)
 
+    -- the keys so far and those to come, past an entry whose key is new
+    pub order_grows : {X : Type 0} (old new entries rest : List (K × X)) (key : K) (part : X) (all : List K)
+        → new ≡ old ++ (key, part) ∷ [] → entries ≡ (key, part) ∷ rest → list_any (eq key) (keys_of old) ≡ false
+        → AllByRecursion (λ other. eq key other ≡ false) (keys_of rest)
+        → keys_of old ++ unseen (keys_of old) (keys_of entries) ≡ all → keys_of new ++ unseen (keys_of new) (keys_of rest) ≡ all
+    order_grows {X} old new entries rest key part all more is missing apart order =
+        ap (λ (ks : List K). ks ++ unseen ks (keys_of rest))
+        (ap keys_of more ∙ map-append (λ (e : K × X). e.0) old ((key, part) ∷ []))
+        ∙ new_passed (keys_of old) (keys_of rest) key missing apart
+        ∙ sym (ap (λ (es : List (K × X)). keys_of old ++ unseen (keys_of old) (keys_of es)) is) ∙ order
+
     module _ {I : Type 0} (keys : List K) (items : List (K × I)) (key : K) (item : I) (are : keys ≡ firsts eq (keys_of items)) where
       one_more : keys_of (items ++ (key, item) ∷ []) ≡ keys_of items ++ key ∷ []
       one_more = map-append (λ (e : K × I). e.0) items ((key, item) ∷ [])
@@ -120,6 +155,13 @@ module _ {K : Type 0} (eq : K → K → Bool) where
       pub firsts_grow : list_any (eq key) keys ≡ false → keys ++ key ∷ [] ≡ firsts eq (keys_of (items ++ (key, item) ∷ []))
       firsts_grow missing =
           ap (λ (t : List K). t ++ key ∷ []) are ∙ sym (ap (firsts eq) one_more ∙ firsts-new (keys_of items) key (sym among ∙ missing))
+
+    -- the keys of entries with one more, for the first item of its key
+    pub entries_grow : {X I : Type 0} (old new : List (K × X)) (items : List (K × I)) (key : K) (part : X) (item : I)
+        → new ≡ old ++ (key, part) ∷ [] → keys_of old ≡ firsts eq (keys_of items) → list_any (eq key) (keys_of old) ≡ false
+        → keys_of new ≡ firsts eq (keys_of (items ++ (key, item) ∷ []))
+    entries_grow {X} old new items key part item more are missing =
+        ap keys_of more ∙ map-append (λ (e : K × X). e.0) old ((key, part) ∷ []) ∙ firsts_grow (keys_of old) items key item are missing
 
     -- the keys of two lists of items, joined
     pub firsts_join : {I : Type 0} (earlier later : List K) (first second : List (K × I))

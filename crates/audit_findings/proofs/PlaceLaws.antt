@@ -1,12 +1,12 @@
 -- The places that the ledgers of all processes list, gathered and sorted, and the events that stand at them.
-use Rattle.std.proofs.Common.{◌≡◌, ◌≢◌, ℕ, suc, ◌⊎◌, ⊎_elim, inl, inr, true, eqb, List, [], ◌∷◌, ◌++◌, length, map, All, AllPairs, Contains, Option, Some, None, refl, sym, ap, subst, ◌∙◌, arith}
+use Rattle.std.proofs.Common.{◌≡◌, ◌≢◌, ℕ, suc, ◌⊎◌, ⊎_elim, inl, inr, true, eqb, List, [], ◌∷◌, ◌++◌, length, map, All, AllPairs, Contains, Option, Some, None, refl, sym, ap, subst, append_assoc, ◌∙◌, arith}
 use Rattle.std.proofs.Common.{IsPermutation, IsSorted, nat_cmp, Box, Global}
 use Rattle.std.specs.List.Sorted.{IsStrictlyIncreasing}
 use Rattle.std.proofs.lemmas.Bool.{eqb-true}
 use Rattle.std.proofs.lemmas.Bool.Decides.{Decides-eqb}
 use Rattle.std.proofs.lemmas.Cmp.{nat_eq_equiv}
 use Rattle.std.proofs.lemmas.List.Concat.{flat_map-cons}
-use Rattle.std.proofs.lemmas.List.Elements.{All-append, All-cons, All-contains, All-contains_itself, All-head, All-map, All-nil, All-tail, All-weaker, Contains-append_cases, Contains-append_left, Contains-append_right}
+use Rattle.std.proofs.lemmas.List.Elements.{All-append, All-contains, All-head, All-map, All-nil, All-tail, All-weaker, Contains-append_cases, Contains-append_left, Contains-append_right}
 use Rattle.std.proofs.lemmas.List.Kept.{AllPairs-from_increasing}
 use Rattle.std.proofs.lemmas.Map.Made.{AllPairs-from_IsDistinct}
 use Rattle.std.proofs.lemmas.Map.Views.{Contains-from_any}
@@ -24,7 +24,7 @@ use Rattle.audit_findings.specs.declared.process_summary.ProcessSummary.{Process
 use Rattle.audit_findings.specs.declared.open_and_stray.OpenAndStray.{OpenAndStray}
 use Rattle.audit_findings.specs.Frames.{events_of_wholes}
 use Rattle.audit_findings.specs.Kept.{KeepsOpenAndStray}
-use Rattle.audit_findings.specs.Places.{AreEventsAt, RiseInPlace, StandsInProcess, ExcludeEachOther, OpenAndStrayText, AreOpenAndStray}
+use Rattle.audit_findings.specs.Places.{RiseInPlace, StandsInProcess, ExcludeEachOther, OpenAndStrayText, AreOpenAndStray}
 use Rattle.audit_findings.specs.Processes.{process_of, processes_of}
 use Rattle.audit_findings.specs.ProcessLedgers.{NeedsItems, AreLedgersOf, IsOfProcess, AreOfProcesses}
 use Rattle.audit_findings.proofs.InOrderLaws.{each_among_firsts, firsts_distinct}
@@ -34,6 +34,16 @@ use Rattle.audit_findings.proofs.EventsAt.{events_at}
 rising_apart : (places : List ℕ) → IsStrictlyIncreasing places → AllPairs (λ x y. x ≢ y) places
 rising_apart places rising i j d below within =
     λ same. let less = AllPairs-from_increasing places rising i j d below within in absurd (omega arith)
+
+-- places with more behind them
+pub extended_by : (places own longer : List ℕ) {more : List ℕ} → longer ≡ places ++ more → more ≡ own → longer ≡ places ++ own
+extended_by places own longer is same = is ∙ ap (λ (t : List ℕ). places ++ t) same
+
+-- places with more behind them, one list and then another
+pub longer_list : (places own behind longer : List ℕ) {more : List ℕ} → longer ≡ places ++ more → more ≡ own
+    → places ++ (own ++ behind) ≡ longer ++ behind
+longer_list places own behind longer is same =
+    sym (ap (λ (t : List ℕ). t ++ behind) (extended_by places own longer is same) ∙ append_assoc places own behind)
 
 -- ---- the places at which something is so of each of some keys, one list behind another
 

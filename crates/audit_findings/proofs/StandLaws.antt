@@ -1,19 +1,13 @@
 -- Where a ledger of a process lists a place, an event of the process stands; of an open and a close not both stand at one
 -- place; and where no event is an item of a ledger, none lists a place.
-use Rattle.std.proofs.Common.{◌≡◌, ◌≢◌, ℕ, Bool, true, false, cond, eqb, List, [], ◌∷◌, ◌++◌, map, Contains, Option, Some, None, refl, sym, ap, subst, ◌∙◌}
+use Rattle.std.proofs.Common.{◌≡◌, ℕ, Bool, true, false, cond, eqb, List, [], ◌∷◌, ◌++◌, map, Contains, Option, Some, None, refl, sym, ap, subst, ◌∙◌}
 use Rattle.std.specs.List.{cons_option}
 use Rattle.std.specs.Option.{option_map, unwrap_or}
 use Rattle.std.proofs.lemmas.Bool.{eqb-true}
-use Rattle.binder_code.specs.declared.record_kind.Kind.{Kind}
-use Rattle.binder_code.specs.declared.record_kind.Kind.TheVariants.{BcFreeBuffer, BrTransaction, BrTransactionSecCtx, BrReply, BcClearDeathNotification, BrClearDeathNotificationDone}
-use Rattle.event_core.specs.Buffers.{buffer_item, buffer_pending}
-use Rattle.event_core.specs.Clears.{clear_item}
-use Rattle.event_core.specs.Deaths.{death_item, death_change}
+use Rattle.event_core.specs.Buffers.{buffer_pending}
 use Rattle.event_core.specs.Events.{EventText}
-use Rattle.event_core.specs.Requests.{request_item, request_change}
 use Rattle.event_core.specs.declared.pending.PendingChange.TheVariants.{Open, Close}
 use Rattle.event_core.specs.declared.pending.PendingItem.{PendingItem}
-use Rattle.event_core.specs.declared.request.RequestItem.{RequestItem}
 use Rattle.pending_ledger.proofs.ListLaws.{contains_none, contains_read, contains_middle, one_place}
 use Rattle.pending_ledger.specs.Pending.{IsOutstanding, IsStray, place_of}
 use Rattle.pending_ledger.specs.Requests.{IsStanding, request_place}
@@ -21,7 +15,7 @@ use Rattle.std.specs.Ordering.{eq_by_cmp, nat_cmp}
 use Rattle.audit_findings.specs.Buffers.{buffer_item_of, buffer_pending_of}
 use Rattle.audit_findings.specs.Clears.{clear_item_of}
 use Rattle.audit_findings.specs.Deaths.{death_item_of}
-use Rattle.audit_findings.specs.Places.{RiseInPlace, StandsInProcess, ExcludeEachOther}
+use Rattle.audit_findings.specs.Places.{StandsInProcess, ExcludeEachOther}
 use Rattle.audit_findings.specs.ProcessLedgers.{HasNoItems, NeedsItems}
 use Rattle.audit_findings.specs.Processes.{read_of, items_of_process}
 use Rattle.audit_findings.specs.Requests.{request_item_of}

@@ -2,7 +2,6 @@
 use Rattle.std.proofs.Common.{◌≡◌, ℕ, zero, suc, List, [], ◌∷◌, map, refl, sym, ap, ap₂, subst, ◌∙◌, arith}
 use Rattle.std.specs.Prelude.{All, Option}
 use Rattle.capture_frame.specs.declared.fault.Fault.{Fault}
-use Rattle.capture_frame.specs.Units.{Placed}
 use Rattle.capture_frame.proofs.CaptureLaws.{capture_one_reading, capture_one_fault, capture_never_both}
 use Rattle.transaction_view.specs.Grammar.{WholeFrame, IsInGrammar, HasFirstFault, whole_format}
 use Rattle.transaction_view.proofs.GrammarLaws.{whole_decided}
@@ -11,8 +10,6 @@ use Rattle.object_view.specs.declared.sort.Sort.{Sort}
 use Rattle.object_view.specs.declared.sort.Sort.TheVariants.{Binder, WeakBinder, Handle, WeakHandle, Fd, Fda, Ptr}
 use Rattle.object_view.specs.Objects.{ObjectText, AreObjects}
 use Rattle.object_view.proofs.ListLaws.{one_list}
-use Rattle.event_core.specs.Events.{EventText}
-use Rattle.audit_findings.specs.declared.codes.CodeRow.{CodeRow}
 use Rattle.audit_findings.specs.declared.sort_counts.SortCounts.{SortCounts}
 use Rattle.audit_findings.specs.Findings.{FindingsText, AreFindings}
 use Rattle.audit_findings.specs.Frames.{wholes_of, events_of_wholes}

@@ -4,7 +4,7 @@ use crate::codes::{self, CodeRows};
 use crate::shown::push_rows;
 use crate::{Row, fault_text, handles, nodes, objects, rows, text};
 use audit_findings::{CodeRow, Findings, ProcessHandle, ProcessNode, SortCounts};
-use audit_join::audit_one;
+use audit_join::{CAPTURE_LIMIT, audit_one};
 use capture_frame::{Fault, FaultKind};
 use object_view::Cause;
 use std::alloc::{AllocError, Global};
@@ -288,9 +288,19 @@ const REPORT: &str = "BINDER AUDIT 1\n\
 
 #[test]
 fn reports_a_capture(rt: HostRuntime) -> Result<(), Fail> {
-    let found = audit_one(&rt, rt.alloc(), CAPTURE)?;
-    check_rows(&rt, rt.alloc(), &found, REPORT)?;
-    check_text(&rt, rt.alloc(), &found, REPORT)
+    check_report(&rt, rt.alloc(), CAPTURE, REPORT)
+}
+
+fn check_report<R: Abort + Threads + Sync>(
+    rt: &R,
+    alloc: Global,
+    capture: &[u8],
+    report: &str,
+) -> Result<(), Fail> {
+    assert!(rt; capture.len() <= CAPTURE_LIMIT);
+    let found = audit_one(rt, alloc, capture)?;
+    check_rows(rt, alloc, &found, report)?;
+    check_text(rt, alloc, &found, report)
 }
 
 fn check_rows<R: Abort + Threads + Sync>(

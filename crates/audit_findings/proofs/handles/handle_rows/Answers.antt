@@ -1,5 +1,4 @@
 use Rattle.std.proofs.Common.{◌≡◌, List, [], ◌∷◌, refl, sym, subst, rules}
-use Rattle.audit_findings.specs.declared.handles.ProcessHandle.{ProcessHandle}
 use Rattle.audit_findings.specs.declared.process.Process.{Process}
 use Rattle.audit_findings.specs.declared.process_summary.ProcessSummary.{ProcessSummary}
 use Rattle.audit_findings.specs.Handles.{AreHandleFindings}

@@ -1,6 +1,6 @@
-use Rattle.std.proofs.Common.{◌≡◌, ℕ, List, ◌++◌, length, IsPermutation, IsSorted, nat_cmp, sym, ap, subst, ◌∙◌, rules}
+use Rattle.std.proofs.Common.{◌≡◌, ℕ, List, ◌++◌, length, IsPermutation, IsSorted, nat_cmp, sym, subst, rules}
 use Rattle.audit_findings.specs.Frames.{events_of_wholes}
-use Rattle.audit_findings.proofs.PlaceLaws.{open_and_stray_kept}
+use Rattle.audit_findings.proofs.PlaceLaws.{extended_by, open_and_stray_kept}
 use Rattle.audit_findings.proofs.open_and_stray.open_and_stray_of.Goals as goal
 
 pub returns : goal.returns
@@ -8,7 +8,7 @@ returns g c = λ open_stands close_stands open_needs close_needs exclude wholes 
     let opens = c.in_ok-places.places.items in
     let closes = c.in_ok-closes.closes.items in
     let joined : c.extend_from_slice.new.self.items ≡ opens ++ closes
-    = c.in_ok-extend_from_slice.ensures.items ∙ ap (λ (t : List ℕ). opens ++ t) c.as_slice.ensures.value in
+    = extended_by opens closes c.extend_from_slice.new.self.items c.in_ok-extend_from_slice.ensures.items c.as_slice.ensures.value in
     let moved : IsPermutation (opens ++ closes) c.of.result
     = subst (λ (rows : List ℕ). IsPermutation (opens ++ closes) rows) (sym c.of.ensures)
     (subst (λ (places : List ℕ). IsPermutation places c.sort_unstable.new.self.items) joined c.sort_unstable.ensures.permutation) in

@@ -1,5 +1,5 @@
-use Rattle.std.proofs.Common.{◌≡◌, ℕ, List, [], ◌∷◌, ◌++◌, Option, IsPermutation, sym, ap, subst, refl, ◌∙◌, append-nil, append_assoc, rules}
-use Rattle.audit_findings.proofs.PlaceLaws.{GivesOwn, AreGathered, given_own, gathered_sorted}
+use Rattle.std.proofs.Common.{◌≡◌, ℕ, List, [], ◌∷◌, ◌++◌, Option, IsPermutation, sym, subst, refl, append-nil, rules}
+use Rattle.audit_findings.proofs.PlaceLaws.{GivesOwn, AreGathered, longer_list, given_own, gathered_sorted}
 use Rattle.audit_findings.proofs.places.places_of.Goals as goal
 
 pub loop-process-init : goal.loop-process-init
@@ -19,10 +19,8 @@ loop-process-preserved-in-Some-ledgers g c = λ behind are.
     let gives : GivesOwn IsSo summary.ledgers own
     = given_own IsSo c.in-Some-ledgers.ledgers.now own (λ events process of. c.in_ok-own.ensures events process of) summary.ledgers
     c.in-Some-ledgers.ensures.some in
-    let longer : c.extend_from_slice.new.self.items ≡ places ++ own
-    = c.in_ok-extend_from_slice.ensures.items ∙ ap (λ (t : List ℕ). places ++ t) c.as_slice.ensures.value in
     subst (λ (t : List ℕ). AreGathered IsSo c.args.processes.now.entries.entries t)
-    (sym (ap (λ (t : List ℕ). t ++ behind) longer ∙ append_assoc places own behind))
+    (longer_list places own behind c.extend_from_slice.new.self.items c.in_ok-extend_from_slice.ensures.items c.as_slice.ensures.value)
     (c.loop-process.invariant (own ++ behind) (subst (λ (es : List _). AreGathered IsSo es (own ++ behind)) (sym rest) (own, behind, refl, gives, are)))
 
 pub loop-process-preserved : goal.loop-process-preserved

@@ -1,6 +1,6 @@
-use Rattle.std.proofs.Common.{◌≡◌, ℕ, ◌+◌, length, arith}
+use Rattle.std.proofs.Common.{◌≡◌, length, arith}
 use Rattle.std.proofs.lemmas.List.{length-map}
-use Rattle.binder_code.specs.declared.record_kind.Kind.TheVariants.{BcFreeBuffer, BcRequestDeathNotification, BcClearDeathNotification, BrTransaction, BrTransactionSecCtx, BrReply, BrDeadBinder}
+use Rattle.binder_code.specs.declared.record_kind.Kind.TheVariants.{BrTransaction, BrTransactionSecCtx, BrReply}
 use Rattle.event_core.specs.Events.{EventText}
 use Rattle.audit_findings.specs.Codes.{code_words}
 use Rattle.audit_findings.specs.RecordCounts.{times}

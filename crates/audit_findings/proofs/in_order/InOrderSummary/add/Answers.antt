@@ -1,13 +1,11 @@
 use Rattle.std.proofs.Common.{List, ◌∷◌, ◌++◌, ◌≡◌, [], Some, None, Option, subst, ap, ◌∙◌, rules}
-use Rattle.std.proofs.lemmas.List.{map-append}
 use Rattle.std.proofs.lemmas.Result.{on_ok_weaker}
 use Rattle.std.specs.HashMap.Eq.{lookup_congr}
-use Rattle.std.specs.Map.{lookup, keys_of}
+use Rattle.std.specs.Map.{lookup}
 use Rattle.indexmap.specs.IndexMap.{get, keys}
-use Rattle.indexmap.proofs.CallerLemmas.{insert_entry-new}
 use Rattle.summary_law.specs.ByKey.{items_of, IsPart}
 use Rattle.summary_law.proofs.ByKeyLaws.{fits_at, added_part, rewritten}
-use Rattle.audit_findings.proofs.FirstLaws.{key_there, key_missing, firsts_stay, firsts_grow}
+use Rattle.audit_findings.proofs.FirstLaws.{key_there, key_missing, inserted, firsts_stay, entries_grow}
 use Rattle.audit_findings.proofs.in_order.InOrderSummary.add.Goals as goal
 
 pub add-requires : goal.add-requires
@@ -69,19 +67,17 @@ returns-in_ok-insert-in-None g c = λ items before fits.
     let old = c.args.self.now.entries in
     let found : get eq old key ≡ None = search rules in
     let same : c.get_mut.follows.lender-at-none.entries ≡ old.entries = search rules in
-    let absent : get eq c.get_mut.follows.lender-at-none key ≡ None = ap (λ (es : List _). lookup (eq key) es) same ∙ found in
     let entries : c.insert.new.self.entries ≡ old.entries ++ (key, part) ∷ []
-    = c.in_ok-insert-in-None.ensures.entries ∙ insert_entry-new eq c.get_mut.follows.lender-at-none key part absent
-    ∙ ap (λ (es : List _). es ++ (key, part) ∷ []) same in
+    = inserted eq c.get_mut.follows.lender-at-none old.entries c.insert.new.self.entries key part same found c.in_ok-insert-in-None.ensures.entries in
     record {
       order =
-          ap keys_of entries ∙ map-append _ old.entries ((key, part) ∷ [])
-          ∙ firsts_grow eq laws (keys old) items key c.args.item.1 before.order (key_missing eq key old.entries found);
+          entries_grow eq laws old.entries c.insert.new.self.entries items key part c.args.item.1 entries before.order
+          (key_missing eq key old.entries found);
       parts =
           added_part eq laws sums g.S.Summary.fits (get eq old) (get eq c.insert.new.self)
           (λ x y e. lookup_congr eq laws.congr old.entries x y e)
           key c.args.item.1 part
-          (λ q. rewritten (eq key q) _ (c.in_ok-insert-in-None.ensures.updates.0 q) (ap (λ (es : List _). lookup (eq q) es) same))
+          (λ q. rewritten (eq key q) {x = get eq c.insert.new.self q} _ (c.in_ok-insert-in-None.ensures.updates.0 q) (ap (λ (es : List _). lookup (eq q) es) same))
           (λ front mine step.
           let nil : front ≡ [] = subst (λ (o : Option _). IsPart sums o front) found mine in
           rw nil (c.in_ok-add-in-None.ensures [] c.empty-part.ensures (rw nil at step)))

@@ -1,13 +1,11 @@
 use Rattle.std.proofs.Common.{List, ◌∷◌, ◌++◌, ◌≡◌, [], Some, None, sym, subst, ap, ◌∙◌, rules}
-use Rattle.std.proofs.lemmas.List.{append-nil, map-append}
 use Rattle.std.proofs.lemmas.Map.Keys.{IsDistinct-head, IsDistinct-tail}
 use Rattle.std.specs.HashMap.Eq.{lookup_congr}
 use Rattle.std.specs.List.{IsDistinct}
 use Rattle.std.specs.Map.{lookup, keys_of}
 use Rattle.indexmap.specs.IndexMap.{get, keys}
-use Rattle.indexmap.proofs.CallerLemmas.{insert_entry-new}
 use Rattle.summary_law.proofs.ByKeyLaws.{Merging, merging_starts, merging_goes_on, join_asks, alone, together, merged_all, rewritten}
-use Rattle.audit_findings.proofs.FirstLaws.{unseen, key_there, key_missing, old_passed, new_passed, firsts_join}
+use Rattle.audit_findings.proofs.FirstLaws.{unseen, key_there, key_missing, inserted, order_stays, order_grows, order_ends, firsts_join}
 use Rattle.audit_findings.proofs.in_order.InOrderSummary.join.Goals as goal
 
 pub loop-key-init : goal.loop-key-init
@@ -58,10 +56,9 @@ loop-key-preserved-in-Some-get_mut g c =
       is_finite = tt;
       distinct = IsDistinct-tail eq key (keys_of c.next.new.self) distinct;
       order =
-          ap (λ (ks : List _). ks ++ unseen eq ks (keys_of c.next.new.self)) written.1
-          ∙ ap (λ (ks : List _). keys old ++ ks)
-          (sym (old_passed eq (keys old) (keys_of c.next.new.self) key (key_there eq key c.in-Some-get_mut.slot.now old.entries found)))
-          ∙ sym (ap (λ (es : List _). keys old ++ unseen eq (keys old) (keys_of es)) rest) ∙ c.loop-key.invariant.order;
+          order_stays eq (keys old) (keys (c.get_mut.follows.lender merged)) c.loop-key.key-iterator c.next.new.self key c.in-Some.part
+          (keys c.args.self.entries ++ unseen eq (keys c.args.self.entries) (keys c.args.later.entries))
+          written.1 rest (key_there eq key c.in-Some-get_mut.slot.now old.entries found) c.loop-key.invariant.order;
       merging =
           merging_goes_on eq laws sums fits earlier later now (get eq (c.get_mut.follows.lender merged)) key c.in-Some.part merged c.next.new.self
           (λ x y e. lookup_congr eq laws.congr old.entries x y e)
@@ -86,25 +83,24 @@ loop-key-preserved g c =
     let now = get eq old in
     let same : c.get_mut.follows.lender-at-none.entries ≡ old.entries = search rules in
     let found : now key ≡ None = search rules in
-    let absent : get eq c.get_mut.follows.lender-at-none key ≡ None = ap (λ (es : List _). lookup (eq key) es) same ∙ found in
     let distinct = subst (λ (es : List _). IsDistinct eq (keys_of es)) rest c.loop-key.invariant.distinct in
     let entries : c.insert.new.self.entries ≡ old.entries ++ (key, c.in-Some.part) ∷ []
-    = c.in_ok-insert-in-None-get_mut.ensures.entries ∙ insert_entry-new eq c.get_mut.follows.lender-at-none key c.in-Some.part absent
-    ∙ ap (λ (es : List _). es ++ (key, c.in-Some.part) ∷ []) same in
+    = inserted eq c.get_mut.follows.lender-at-none old.entries c.insert.new.self.entries key c.in-Some.part same found
+    c.in_ok-insert-in-None-get_mut.ensures.entries in
     record {
       can_next = tt;
       is_finite = tt;
       distinct = IsDistinct-tail eq key (keys_of c.next.new.self) distinct;
       order =
-          ap (λ (ks : List _). ks ++ unseen eq ks (keys_of c.next.new.self)) (ap keys_of entries ∙ map-append _ old.entries ((key, c.in-Some.part) ∷ []))
-          ∙ new_passed eq laws (keys old) (keys_of c.next.new.self) key (key_missing eq key old.entries found)
-          (IsDistinct-head eq key (keys_of c.next.new.self) distinct)
-          ∙ sym (ap (λ (es : List _). keys old ++ unseen eq (keys old) (keys_of es)) rest) ∙ c.loop-key.invariant.order;
+          order_grows eq laws old.entries c.insert.new.self.entries c.loop-key.key-iterator c.next.new.self key c.in-Some.part
+          (keys c.args.self.entries ++ unseen eq (keys c.args.self.entries) (keys c.args.later.entries))
+          entries rest (key_missing eq key old.entries found) (IsDistinct-head eq key (keys_of c.next.new.self) distinct)
+          c.loop-key.invariant.order;
       merging =
           merging_goes_on eq laws sums fits earlier later now (get eq c.insert.new.self) key c.in-Some.part c.in-Some.part c.next.new.self
           (λ x y e. lookup_congr eq laws.congr old.entries x y e)
           distinct
-          (λ q. rewritten (eq key q) _ (c.in_ok-insert-in-None-get_mut.ensures.updates.0 q) (ap (λ (es : List _). lookup (eq q) es) same))
+          (λ q. rewritten (eq key q) {x = get eq c.insert.new.self q} _ (c.in_ok-insert-in-None-get_mut.ensures.updates.0 q) (ap (λ (es : List _). lookup (eq q) es) same))
           (alone eq laws sums fits (now key) c.in-Some.part found)
           (subst (λ (es : List _). Merging eq sums fits earlier later now es) rest c.loop-key.invariant.merging);
     }
@@ -119,8 +115,8 @@ returns g c = λ firsts seconds mine theirs fits.
     let joined = c.loop-key.joined.entries in
     record {
       order =
-          sym (append-nil (keys joined)) ∙ sym (ap (λ (es : List _). keys joined ++ unseen eq (keys joined) (keys_of es)) rest)
-          ∙ c.loop-key.invariant.order
+          order_ends eq (keys joined) c.loop-key.key-iterator
+          (keys c.args.self.entries ++ unseen eq (keys c.args.self.entries) (keys c.args.later.entries)) rest c.loop-key.invariant.order
           ∙ firsts_join eq laws (keys c.args.self.entries) (keys c.args.later.entries) firsts seconds mine.order theirs.order;
       parts =
           merged_all eq laws g.S.Summary.sums g.S.Summary.fits earlier later (get eq joined)

@@ -1,9 +1,7 @@
-use Rattle.std.proofs.Common.{ℕ, refl, ◌∙◌, length, arith}
-use Rattle.event_core.specs.Events.{EventText}
+use Rattle.std.proofs.Common.{refl, ◌∙◌, length, arith}
 use Rattle.audit_findings.specs.Findings.{FindingsText}
 use Rattle.audit_findings.specs.Flags.{flagged}
 use Rattle.audit_findings.specs.Frames.{events_of_wholes}
-use Rattle.audit_findings.specs.Places.{StandsInProcess}
 use Rattle.audit_findings.proofs.EventsAt.{events_at, stands_somewhere}
 use Rattle.audit_findings.proofs.OfProcesses.{are_of_processes}
 use Rattle.audit_findings.proofs.StandLaws.{leaked_needs, stray_free_needs, request_needs, open_death_needs, stray_acknowledgement_needs, open_clear_needs, stray_confirmation_needs}

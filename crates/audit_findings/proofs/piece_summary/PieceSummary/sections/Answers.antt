@@ -1,5 +1,5 @@
 use Rattle.std.proofs.lemmas.Result.{IfOk-weaker}
-use Rattle.audit_findings.specs.Ledgers.{GiveSections, AreOfFew}
+use Rattle.audit_findings.specs.Ledgers.{GiveSections}
 use Rattle.audit_findings.specs.Summary.{GiveSectionsOf}
 use Rattle.audit_findings.proofs.EventSizes.{few_frames}
 use Rattle.audit_findings.proofs.FrameLaws.{good_shown}

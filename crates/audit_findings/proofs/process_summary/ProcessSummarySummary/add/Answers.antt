@@ -1,4 +1,4 @@
-use Rattle.std.proofs.Common.{◌≡◌, [], ◌∷◌, ◌++◌, true, None, Option, Box, sym, subst, ◌∙◌, rules}
+use Rattle.std.proofs.Common.{◌≡◌, [], ◌∷◌, ◌++◌, true, None, Option, sym, subst, ◌∙◌, rules}
 use Rattle.audit_findings.specs.declared.process_ledgers.ProcessLedgers.{ProcessLedgers}
 use Rattle.audit_findings.specs.ProcessItems.{is_no_items}
 use Rattle.audit_findings.specs.ProcessLedgers.{SumsProcess, SumsIfAny}
