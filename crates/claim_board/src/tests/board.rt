@@ -1,10 +1,11 @@
 //! The board of one thread: worked steps, and all orders of the steps of few jobs and workers.
 
-ghost use Rattle.std.specs.Prelude.{◌≡◌, ◌≤◌, ℕ, length};
+ghost use Rattle.std.specs.Prelude.{◌≡◌, ◌≤◌, ℕ, length, IfOk};
 
 use super::jobs::jobs_by_bits;
-use crate::{Act, Board, BoardFault, Job, JobState, Step, Workers};
+use crate::{Act, Board, BoardFault, JobState, Step, Workers};
 use std::alloc::{AllocError, Global};
+use std::process::Abort;
 use std::test::Fail;
 
 fn make(board: &mut Board, worker: u64, act: Act) -> Result<(), BoardFault>
@@ -37,27 +38,44 @@ const TO_THE_END: &[(u64, Act)] = &[
     (1, Act::Claim),
 ];
 
+/// Two workers and two jobs, at 16 and 32, of which those have a fault, 5 above their start, whose
+/// bit is set.
+fn board_of(alloc: Global, bits: u64) -> Result<Board, Fail>
+    ensures jobs { IfOk result (λ board. length board.states ≡ 2) }
+    ensures workers { IfOk result (λ board. length board.stopped ≡ 2) }
+{
+    let two = Workers::new(2).ok_or("workers")?;
+    let jobs = jobs_by_bits(alloc, 2, bits)?;
+    Ok(Board::new(alloc, jobs, two)?)
+}
+
+fn expect_refused(rt: &impl Abort, found: Result<(), BoardFault>, fault: BoardFault) {
+    assert_eq!(rt; found, Err(fault));
+}
+
+fn expect_states(rt: &impl Abort, board: &Board, first: JobState, second: JobState, least: u64)
+    requires { length board.now.states ≡ 2 }
+{
+    assert!(rt; board.state(0) == first);
+    assert!(rt; board.state(1) == second);
+    assert!(rt; board.least() == Some(least));
+}
+
+fn expect_stopped(rt: &impl Abort, board: &Board, stopped: bool)
+    requires { length board.now.stopped ≡ 2 }
+{
+    assert!(rt; board.stopped(0) == stopped);
+    assert!(rt; board.stopped(1) == stopped);
+}
+
 #[test]
 fn a_fault_below_skips(rt: HostRuntime) -> Result<(), Fail> {
-    let jobs = vec![in rt.alloc();
-        Job {
-            start: 16,
-            fault: Some(48)
-        },
-        Job {
-            start: 52,
-            fault: Some(84)
-        },
-    ]?;
-    let two = Workers::new(2).ok_or("workers")?;
-    let mut board = Board::new(rt.alloc(), jobs, two)?;
+    let mut board = board_of(rt.alloc(), 3)?;
     assert!(rt; make_all(&mut board, TO_THE_END));
-    assert_eq!(rt; make(&mut board, 0, Act::Claim), Err(BoardFault::Order));
-    assert_eq!(rt; make(&mut board, 2, Act::Claim), Err(BoardFault::Worker));
-    assert_eq!(rt; board.state(0), JobState::Lowered(0));
-    assert_eq!(rt; board.state(1), JobState::Skipped(1));
-    assert_eq!(rt; board.least(), Some(48));
-    assert!(rt; board.stopped(0) && board.stopped(1));
+    expect_refused(&rt, make(&mut board, 0, Act::Claim), BoardFault::Order);
+    expect_refused(&rt, make(&mut board, 2, Act::Claim), BoardFault::Worker);
+    expect_states(&rt, &board, JobState::Lowered(0), JobState::Skipped(1), 21);
+    expect_stopped(&rt, &board, true);
     Ok(())
 }
 
@@ -71,24 +89,11 @@ const TO_THE_MIDDLE: &[(u64, Act)] = &[
 
 #[test]
 fn a_fault_above_skips_nothing(rt: HostRuntime) -> Result<(), Fail> {
-    let jobs = vec![in rt.alloc();
-        Job {
-            start: 16,
-            fault: None
-        },
-        Job {
-            start: 52,
-            fault: Some(84)
-        },
-    ]?;
-    let two = Workers::new(2).ok_or("workers")?;
-    let mut board = Board::new(rt.alloc(), jobs, two)?;
+    let mut board = board_of(rt.alloc(), 2)?;
     assert!(rt; make_all(&mut board, TO_THE_MIDDLE));
-    assert_eq!(rt; make(&mut board, 0, Act::Look), Err(BoardFault::Order));
-    assert_eq!(rt; board.state(0), JobState::Done(0));
-    assert_eq!(rt; board.state(1), JobState::Lowered(1));
-    assert_eq!(rt; board.least(), Some(84));
-    assert!(rt; !board.stopped(0) && !board.stopped(1));
+    expect_refused(&rt, make(&mut board, 0, Act::Look), BoardFault::Order);
+    expect_states(&rt, &board, JobState::Done(0), JobState::Lowered(1), 37);
+    expect_stopped(&rt, &board, false);
     Ok(())
 }
 
