@@ -1,9 +1,10 @@
 //! The board of one thread: worked steps, and all orders of the steps of few jobs and workers.
 
-ghost use Rattle.std.specs.Prelude.{◌≡◌, ◌≤◌, ℕ, length, IfOk};
+ghost use Rattle.std.specs.Prelude.{◌≡◌, ◌≤◌, ℕ, length, IfOk, IfSome};
+ghost use Rattle.claim_board.specs.Board.{AreJobs};
 
 use super::jobs::jobs_by_bits;
-use crate::{Act, Board, BoardFault, JobState, Step, Workers};
+use crate::{Act, Board, BoardFault, Job, JobState, Step, Workers};
 use std::alloc::{AllocError, Global};
 use std::process::Abort;
 use std::test::Fail;
@@ -38,14 +39,30 @@ const TO_THE_END: &[(u64, Act)] = &[
     (1, Act::Claim),
 ];
 
-/// Two workers and two jobs, at 16 and 32, of which those have a fault, 5 above their start, whose
-/// bit is set.
-fn board_of(alloc: Global, bits: u64) -> Result<Board, Fail>
+/// The jobs of the worked orders, the first with this fault.
+fn worked_jobs(alloc: Global, fault: Option<u64>) -> Result<Vec<Job>, AllocError>
+    requires { IfSome fault (λ x. x ≡ 48) }
+    ensures jobs { IfOk result (λ jobs. AreJobs jobs.items) }
+    ensures count { IfOk result (λ jobs. length jobs.items ≡ 2) }
+{
+    let jobs = vec![in alloc;
+        Job { start: 16, fault },
+        Job {
+            start: 52,
+            fault: Some(84)
+        },
+    ]?;
+    Ok(jobs)
+}
+
+/// Two workers and those jobs.
+fn board_of(alloc: Global, fault: Option<u64>) -> Result<Board, Fail>
+    requires { IfSome fault (λ x. x ≡ 48) }
     ensures jobs { IfOk result (λ board. length board.states ≡ 2) }
     ensures workers { IfOk result (λ board. length board.stopped ≡ 2) }
 {
     let two = Workers::new(2).ok_or("workers")?;
-    let jobs = jobs_by_bits(alloc, 2, bits)?;
+    let jobs = worked_jobs(alloc, fault)?;
     Ok(Board::new(alloc, jobs, two)?)
 }
 
@@ -70,11 +87,11 @@ fn expect_stopped(rt: &impl Abort, board: &Board, stopped: bool)
 
 #[test]
 fn a_fault_below_skips(rt: HostRuntime) -> Result<(), Fail> {
-    let mut board = board_of(rt.alloc(), 3)?;
+    let mut board = board_of(rt.alloc(), Some(48))?;
     assert!(rt; make_all(&mut board, TO_THE_END));
     expect_refused(&rt, make(&mut board, 0, Act::Claim), BoardFault::Order);
     expect_refused(&rt, make(&mut board, 2, Act::Claim), BoardFault::Worker);
-    expect_states(&rt, &board, JobState::Lowered(0), JobState::Skipped(1), 21);
+    expect_states(&rt, &board, JobState::Lowered(0), JobState::Skipped(1), 48);
     expect_stopped(&rt, &board, true);
     Ok(())
 }
@@ -89,10 +106,10 @@ const TO_THE_MIDDLE: &[(u64, Act)] = &[
 
 #[test]
 fn a_fault_above_skips_nothing(rt: HostRuntime) -> Result<(), Fail> {
-    let mut board = board_of(rt.alloc(), 2)?;
+    let mut board = board_of(rt.alloc(), None)?;
     assert!(rt; make_all(&mut board, TO_THE_MIDDLE));
     expect_refused(&rt, make(&mut board, 0, Act::Look), BoardFault::Order);
-    expect_states(&rt, &board, JobState::Done(0), JobState::Lowered(1), 37);
+    expect_states(&rt, &board, JobState::Done(0), JobState::Lowered(1), 84);
     expect_stopped(&rt, &board, false);
     Ok(())
 }
