@@ -1,6 +1,7 @@
 //! Whole captures at once: good ones, and one with each fault that a file header or a frame header
 //! has.
 
+use super::tests::{expect_bytes, expect_number};
 use super::*;
 use std::alloc::Global;
 use std::process::Abort;
@@ -146,15 +147,19 @@ const ROWS: &[Row] = &[
     },
 ];
 
+fn expect_frame(rt: &impl Abort, frame: Frame<'_>, place: u64, sequence: u64) {
+    expect_number(rt, frame.place, place);
+    expect_number(rt, frame.sequence, sequence);
+    expect_bytes(rt, frame.commands, b"\x0c\x63\0\0");
+}
+
 /// So many frames, each behind the one before it.
 fn expect_frames(rt: &impl Abort, frames: &[Frame<'_>], count: usize) {
     assert_eq!(rt; frames.len(), count);
-    let mut place = 16;
-    let mut sequence = 1;
+    let mut place = 16u64;
+    let mut sequence = 1u64;
     for frame in frames {
-        assert_eq!(rt; frame.place, place);
-        assert_eq!(rt; frame.sequence, sequence);
-        assert_eq!(rt; frame.commands, b"\x0c\x63\0\0".as_slice());
+        expect_frame(rt, *frame, place, sequence);
         place = place.saturating_add(36);
         sequence = sequence.saturating_add(1);
     }

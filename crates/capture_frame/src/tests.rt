@@ -106,40 +106,62 @@ fn judges_a_frame_header(rt: HostRuntime) -> Result<(), Fail> {
     Ok(())
 }
 
+pub(crate) fn expect_number(rt: &impl Abort, found: u64, expected: u64) {
+    assert_eq!(rt; found, expected);
+}
+
+pub(crate) fn expect_bytes(rt: &impl Abort, found: &[u8], expected: &[u8]) {
+    assert_eq!(rt; found, expected);
+}
+
+fn expect_first(rt: &impl Abort, frame: Frame<'_>) {
+    expect_number(rt, frame.place, 16);
+    expect_number(rt, frame.sequence, 7);
+    assert!(rt; frame.direction == Direction::Write);
+    expect_bytes(rt, frame.commands, b"\x0c\x63\0\0");
+}
+
+fn expect_second(rt: &impl Abort, frame: Frame<'_>) {
+    expect_number(rt, frame.place, 52);
+    expect_number(rt, frame.sequence, 0x0102_0304_0506_0708);
+    expect_number(rt, u64::from(frame.process), 0x090a_0b0c);
+    expect_number(rt, u64::from(frame.thread), 0x0d0e_0f10);
+    assert!(rt; frame.direction == Direction::Read);
+    expect_bytes(rt, frame.commands, b"commands");
+    expect_bytes(rt, frame.attachments, b"end");
+    expect_number(rt, frame.commands_place(), 84);
+    expect_number(rt, frame.attachments_place(), 92);
+}
+
+fn expect_end(rt: &impl Abort, reader: &mut Frames<'_>) -> Result<(), Fault> {
+    assert!(rt; reader.next_frame()?.is_none());
+    Ok(())
+}
+
+/// The next frame, so that what its call promises is not held by a test.
+fn next<'c>(reader: &mut Frames<'c>) -> Result<Frame<'c>, Fail> {
+    Ok(reader.next_frame()?.ok_or("a frame is missing")?)
+}
+
 #[test]
 fn reads_frame_by_frame(rt: HostRuntime) -> Result<(), Fail> {
     let capture = capture_with(rt.alloc(), READ)?;
     let mut reader = Frames::new(capture.as_slice())?;
-    let first = reader.next_frame()?.ok_or("no first frame")?;
-    assert_eq!(rt; (first.place, first.sequence), (16, 7));
-    assert_eq!(rt; first.direction, Direction::Write);
-    let second = reader.next_frame()?.ok_or("no second frame")?;
-    assert_eq!(rt;
-        (second.place, second.sequence),
-        (52, 0x0102_0304_0506_0708)
-    );
-    assert_eq!(rt; (second.process, second.thread), (0x090a_0b0c, 0x0d0e_0f10));
-    assert_eq!(rt; second.direction, Direction::Read);
-    assert_eq!(rt; second.commands, b"commands".as_slice());
-    assert_eq!(rt; second.attachments, b"end".as_slice());
-    assert_eq!(rt;
-        (second.commands_place(), second.attachments_place()),
-        (84, 92)
-    );
+    expect_first(&rt, next(&mut reader)?);
+    expect_second(&rt, next(&mut reader)?);
     for _ in 0..2 {
-        assert!(rt; reader.next_frame()?.is_none());
+        expect_end(&rt, &mut reader)?;
     }
     Ok(())
 }
 
-fn first_frame(capture: &[u8]) -> Result<Option<Frame<'_>>, Fault> {
+fn first_frame(capture: &[u8]) -> Result<Frame<'_>, Fail> {
     let mut reader = Frames::new(capture)?;
-    reader.next_frame()
+    next(&mut reader)
 }
 
 #[test]
 fn leaves_a_frame_that_outlives_its_reader(rt: HostRuntime) -> Result<(), Fail> {
-    let frame = first_frame(BEFORE)?.ok_or("no frame")?;
-    assert_eq!(rt; frame.commands, b"\x0c\x63\0\0".as_slice());
+    expect_first(&rt, first_frame(BEFORE)?);
     Ok(())
 }

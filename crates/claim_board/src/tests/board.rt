@@ -1,10 +1,12 @@
 //! The board of one thread: worked steps, and all orders of the steps of few jobs and workers.
 
-ghost use Rattle.std.specs.Prelude.{◌≡◌, ◌≤◌, ℕ, length};
+ghost use Rattle.std.specs.Prelude.{◌≡◌, ◌≤◌, ℕ, length, IfOk, IfSome};
+ghost use Rattle.claim_board.specs.Board.{AreJobs};
 
 use super::jobs::jobs_by_bits;
 use crate::{Act, Board, BoardFault, Job, JobState, Step, Workers};
 use std::alloc::{AllocError, Global};
+use std::process::Abort;
 use std::test::Fail;
 
 fn make(board: &mut Board, worker: u64, act: Act) -> Result<(), BoardFault>
@@ -37,27 +39,60 @@ const TO_THE_END: &[(u64, Act)] = &[
     (1, Act::Claim),
 ];
 
-#[test]
-fn a_fault_below_skips(rt: HostRuntime) -> Result<(), Fail> {
-    let jobs = vec![in rt.alloc();
-        Job {
-            start: 16,
-            fault: Some(48)
-        },
+/// The jobs of the worked orders, the first with this fault.
+fn worked_jobs(alloc: Global, fault: Option<u64>) -> Result<Vec<Job>, AllocError>
+    requires { IfSome fault (λ x. x ≡ 48) }
+    ensures jobs { IfOk result (λ jobs. AreJobs jobs.items) }
+    ensures count { IfOk result (λ jobs. length jobs.items ≡ 2) }
+{
+    let jobs = vec![in alloc;
+        Job { start: 16, fault },
         Job {
             start: 52,
             fault: Some(84)
         },
     ]?;
+    Ok(jobs)
+}
+
+/// Two workers and those jobs.
+fn board_of(alloc: Global, fault: Option<u64>) -> Result<Board, Fail>
+    requires { IfSome fault (λ x. x ≡ 48) }
+    ensures jobs { IfOk result (λ board. length board.states ≡ 2) }
+    ensures workers { IfOk result (λ board. length board.stopped ≡ 2) }
+{
     let two = Workers::new(2).ok_or("workers")?;
-    let mut board = Board::new(rt.alloc(), jobs, two)?;
+    let jobs = worked_jobs(alloc, fault)?;
+    Ok(Board::new(alloc, jobs, two)?)
+}
+
+fn expect_refused(rt: &impl Abort, found: Result<(), BoardFault>, fault: BoardFault) {
+    assert_eq!(rt; found, Err(fault));
+}
+
+fn expect_states(rt: &impl Abort, board: &Board, first: JobState, second: JobState, least: u64)
+    requires { length board.now.states ≡ 2 }
+{
+    assert!(rt; board.state(0) == first);
+    assert!(rt; board.state(1) == second);
+    assert!(rt; board.least() == Some(least));
+}
+
+fn expect_stopped(rt: &impl Abort, board: &Board, stopped: bool)
+    requires { length board.now.stopped ≡ 2 }
+{
+    assert!(rt; board.stopped(0) == stopped);
+    assert!(rt; board.stopped(1) == stopped);
+}
+
+#[test]
+fn a_fault_below_skips(rt: HostRuntime) -> Result<(), Fail> {
+    let mut board = board_of(rt.alloc(), Some(48))?;
     assert!(rt; make_all(&mut board, TO_THE_END));
-    assert_eq!(rt; make(&mut board, 0, Act::Claim), Err(BoardFault::Order));
-    assert_eq!(rt; make(&mut board, 2, Act::Claim), Err(BoardFault::Worker));
-    assert_eq!(rt; board.state(0), JobState::Lowered(0));
-    assert_eq!(rt; board.state(1), JobState::Skipped(1));
-    assert_eq!(rt; board.least(), Some(48));
-    assert!(rt; board.stopped(0) && board.stopped(1));
+    expect_refused(&rt, make(&mut board, 0, Act::Claim), BoardFault::Order);
+    expect_refused(&rt, make(&mut board, 2, Act::Claim), BoardFault::Worker);
+    expect_states(&rt, &board, JobState::Lowered(0), JobState::Skipped(1), 48);
+    expect_stopped(&rt, &board, true);
     Ok(())
 }
 
@@ -71,24 +106,11 @@ const TO_THE_MIDDLE: &[(u64, Act)] = &[
 
 #[test]
 fn a_fault_above_skips_nothing(rt: HostRuntime) -> Result<(), Fail> {
-    let jobs = vec![in rt.alloc();
-        Job {
-            start: 16,
-            fault: None
-        },
-        Job {
-            start: 52,
-            fault: Some(84)
-        },
-    ]?;
-    let two = Workers::new(2).ok_or("workers")?;
-    let mut board = Board::new(rt.alloc(), jobs, two)?;
+    let mut board = board_of(rt.alloc(), None)?;
     assert!(rt; make_all(&mut board, TO_THE_MIDDLE));
-    assert_eq!(rt; make(&mut board, 0, Act::Look), Err(BoardFault::Order));
-    assert_eq!(rt; board.state(0), JobState::Done(0));
-    assert_eq!(rt; board.state(1), JobState::Lowered(1));
-    assert_eq!(rt; board.least(), Some(84));
-    assert!(rt; !board.stopped(0) && !board.stopped(1));
+    expect_refused(&rt, make(&mut board, 0, Act::Look), BoardFault::Order);
+    expect_states(&rt, &board, JobState::Done(0), JobState::Lowered(1), 84);
+    expect_stopped(&rt, &board, false);
     Ok(())
 }
 
