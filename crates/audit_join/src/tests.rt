@@ -3,6 +3,7 @@
 mod captures;
 mod lookup;
 mod one_pass;
+mod small_captures;
 mod splits;
 mod workers;
 

@@ -21,7 +21,7 @@ const WORKERS: &[u64] = &[1, 3, 64];
 const PIECES: &[u64] = &[1, 3, 20];
 
 // So many workers, and so large a piece.
-fn shares(workers: u64, piece: u64) -> Result<(Workers, Piece), &'static str> {
+pub(crate) fn shares(workers: u64, piece: u64) -> Result<(Workers, Piece), &'static str> {
     let workers = Workers::new(workers).ok_or("workers")?;
     let piece = Piece::new(piece).ok_or("piece")?;
     Ok((workers, piece))
@@ -104,7 +104,7 @@ fn one_pass_gives_the_same(rt: HostRuntime) -> Result<(), Fail> {
     Ok(())
 }
 
-const HEADER: &[u8] = b"BNDRCAP1\x08\0\0\0\0\0\0\0";
+pub(crate) const HEADER: &[u8] = b"BNDRCAP1\x08\0\0\0\0\0\0\0";
 
 /// A frame header behind its sequence: a write of process 1 and thread 1, of four command bytes.
 const WRITE: &[u8] = b"\0\0\0\0\0\0\0\x01\0\0\0\x01\0\0\0\x01\0\0\0\x04\0\0\0\0\0\0\0\0\0\0\0";
