@@ -20,7 +20,7 @@ use std::process::Abort;
 /// - 612, sequence 20, a write: `BC_TRANSACTION_SG` at 644 with the flags 0x11, and a good pointer;
 ///   `BC_TRANSACTION` at 720 with the flags 0x82, and a good binder before an unknown sort.
 /// - 924, sequence 21, a read: `BR_TRANSACTION_COMPLETE` at 956; an opaque record at 960.
-pub(crate) const EIGHT_FRAMES: &[u8] = b"BNDRCAP1\x08\0\0\0\0\0\0\0\
+const EIGHT_FRAMES: &[u8] = b"BNDRCAP1\x08\0\0\0\0\0\0\0\
     \x05\0\0\0\0\0\0\0\x64\0\0\0\x65\0\0\0\x01\0\0\0\x08\0\0\0\0\0\0\0\0\0\0\0\
     \x05\x63\x04\x40\x01\0\0\0\
     \x06\0\0\0\0\0\0\0\x64\0\0\0\x65\0\0\0\x01\0\0\0\x48\0\0\0\x2c\0\0\0\0\0\0\0\
@@ -65,6 +65,13 @@ pub(crate) fn within_limit<'c>(rt: &impl Abort, capture: &'c [u8]) -> &'c [u8]
 {
     assert!(rt; capture.len() <= CAPTURE_LIMIT);
     capture
+}
+
+/// The eight frames. Nothing else names their bytes, since each proof that does carries them along.
+pub(crate) fn eight_frames(rt: &impl Abort) -> &'static [u8]
+    ensures { length result.now ≤ CAPTURE_LIMIT }
+{
+    within_limit(rt, EIGHT_FRAMES)
 }
 
 /// A write with `BR_NOOP` at 48.

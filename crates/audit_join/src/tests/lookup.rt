@@ -3,7 +3,7 @@
 ghost use Rattle.std.specs.Prelude.{All};
 ghost use Rattle.audit_findings.specs.Lookup.{HasRecordIn};
 
-use super::captures::{EIGHT_FRAMES, within_limit};
+use super::captures::eight_frames;
 use super::expect_sections;
 use crate::{Findings, audit_one};
 use binder_code::Kind;
@@ -81,7 +81,7 @@ fn expect_records(rt: &impl Abort, found: &Findings<'_>, places: &[u64])
 
 #[test]
 fn finds_frames_and_records(rt: HostRuntime) -> Result<(), Fail> {
-    let capture = within_limit(&rt, EIGHT_FRAMES);
+    let capture = eight_frames(&rt);
     let found = audit_one(&rt, rt.alloc(), capture)?;
     expect_sections(&rt, found.sections());
     for (place, sequence) in FRAMES {

@@ -4,7 +4,7 @@ ghost use Rattle.std.specs.Prelude.{◌≤◌, ◌+◌, length, IfOk};
 ghost use Rattle.audit_findings.specs.Frames.{AreGoodFrames};
 ghost use Rattle.audit_findings.specs.Summary.{SumsPiece, CanSettle};
 
-use super::captures::{EIGHT_FRAMES, within_limit};
+use super::captures::eight_frames;
 use super::{expect_sections, frames_of};
 use crate::run_checks::summary_of;
 use crate::{PieceSummary, audit_one};
@@ -115,7 +115,7 @@ fn expect_splits(
 
 #[test]
 fn joins_every_split(rt: HostRuntime) -> Result<(), Fail> {
-    let capture = within_limit(&rt, EIGHT_FRAMES);
+    let capture = eight_frames(&rt);
     let found = audit_one(&rt, rt.alloc(), capture)?;
     let frames = frames_of(capture, &found);
     assert_eq!(&rt; frames.len(), 8);

@@ -3,7 +3,7 @@
 ghost use Rattle.std.specs.Prelude.{◌≤◌, length};
 ghost use Rattle.audit_join.specs.declared.limits.TheConstants.{CAPTURE_LIMIT};
 
-use super::captures::{EIGHT_FRAMES, within_limit};
+use super::captures::{eight_frames, within_limit};
 use super::expect_sections;
 use super::one_pass::one_pass;
 use crate::audits::audit_keeping;
@@ -68,7 +68,7 @@ fn expect_pieces<T: Threads + Sync + Abort>(
 
 #[test]
 fn pieces_change_nothing(rt: HostRuntime) -> Result<(), Fail> {
-    let capture = within_limit(&rt, EIGHT_FRAMES);
+    let capture = eight_frames(&rt);
     for most_kept in [0, 1, 3] {
         expect_pieces(&rt, rt.alloc(), capture, most_kept)?;
     }
@@ -98,7 +98,7 @@ fn expect_one_pass(rt: &impl Abort, alloc: Global, capture: &[u8]) -> Result<(),
 /// One pass gives what `audit_one` gives. Two findings in one function are dear to prove.
 #[test]
 fn one_pass_gives_the_same(rt: HostRuntime) -> Result<(), Fail> {
-    let capture = within_limit(&rt, EIGHT_FRAMES);
+    let capture = eight_frames(&rt);
     expect_audit_one(&rt, rt.alloc(), capture)?;
     expect_one_pass(&rt, rt.alloc(), capture)?;
     Ok(())
