@@ -113,14 +113,21 @@ fn expect_splits(
     Ok(())
 }
 
+/// So do those of every split, however many frames a summary keeps.
+fn expect_all_splits(rt: &impl Abort, alloc: Global, frames: &[Frame<'_>]) -> Result<(), AllocError>
+    requires { AreGoodFrames frames.now }
+{
+    assert_eq!(rt; frames.len(), 8);
+    for most_kept in [0, 1, 3] {
+        expect_splits(rt, alloc, frames, most_kept)?;
+    }
+    Ok(())
+}
+
 #[test]
 fn joins_every_split(rt: HostRuntime) -> Result<(), Fail> {
     let capture = eight_frames(&rt);
     let found = audit_one(&rt, rt.alloc(), capture)?;
     let frames = frames_of(capture, &found);
-    assert_eq!(&rt; frames.len(), 8);
-    for most_kept in [0, 1, 3] {
-        expect_splits(&rt, rt.alloc(), frames, most_kept)?;
-    }
-    Ok(())
+    expect_all_splits(&rt, rt.alloc(), frames).map_err(Fail::from)
 }
