@@ -1,5 +1,6 @@
-//! Want of memory: once a capture is read, naming its first fault takes none. The test builds what it
-//! needs without growth, so it stands under `rt try --test --fail-alloc 1`, which refuses the first.
+//! Want of memory: once a capture is read, naming its first fault takes none. The test builds what
+//! it needs without growth, so it stands under `rt try --test --fail-alloc 1`, which refuses the
+//! first.
 
 use crate::runs::write_first_fault;
 use std::test::Fail;

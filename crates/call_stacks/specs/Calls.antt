@@ -69,7 +69,8 @@ pub record OpenerOf (E : Type 0) : Type 0 where
   pub closer : Option ℕ
 
 -- what becomes of the opener at a position: the closer that matches it says so, or there is none
-pub data HasVerdict {E : Type 0} (reads : Reads E) (judged : List (JudgedOf E)) (i : ℕ) (call : OpenerOf E) : Type 0 where
+pub data HasVerdict {E : Type 0} (reads : Reads E) (judged : List (JudgedOf E)) (i : ℕ)
+    (call : OpenerOf E) : Type 0 where
   closed_by : (j : ℕ) (answer : JudgedOf E) → Match (sides_of judged) i j → slice_get judged j ≡ Some answer
       → call.verdict ≡ verdict_read reads call.event answer.event → call.closer ≡ Some (reads.place answer.event)
       → HasVerdict reads judged i call

@@ -33,8 +33,8 @@ record_fields other_side e =
 -- a row: place, process, thread, these fields, what became of the call, its closer
 abbrev pub call_row : (List ℕ → List ℕ) → OpenerOf EventText → List ℕ
 call_row other_side call =
-    thread_start call.event ++ record_fields other_side call.event ++ codes " " ++ verdict_name call.verdict ++ codes " "
-    ++ closer_field call.closer
+    thread_start call.event ++ record_fields other_side call.event
+    ++ codes " " ++ verdict_name call.verdict ++ codes " " ++ closer_field call.closer
 
 -- the row of a call that is kept so, by its event
 abbrev pub row_of_kept : (List ℕ → List ℕ) → CallRow → EventText → List ℕ

@@ -9,7 +9,8 @@ use Rattle.audit_findings.specs.Findings.{FindingsText}
 -- the head: how many oneway transactions are sent and received, and how many of the sent ones are refused
 abbrev pub oneway_head : ℕ → ℕ → ℕ → List ℕ
 oneway_head sent received refused =
-    codes "oneway sent " ++ decimal sent ++ codes " received " ++ decimal received ++ codes " refused " ++ decimal refused
+    codes "oneway sent " ++ decimal sent ++ codes " received " ++ decimal received
+    ++ codes " refused " ++ decimal refused
 
 -- whether they are sent, and to which handle; or received
 abbrev pub key_fields : OnewayKey → List ℕ

@@ -44,7 +44,8 @@ impl OtherSide for Sender {
 }
 
 fn head_line(served: &Served) -> Row
-    ensures { result.bytes ≡ served_head served.now.replied served.now.crossed served.now.left_open }
+    ensures { result.bytes ≡
+        served_head served.now.replied served.now.crossed served.now.left_open }
 {
     let mut line = Row::new();
     line.push_str("served ");

@@ -58,8 +58,8 @@ const EIGHT_FRAMES: &[u8] = b"BNDRCAP1\x08\0\0\0\0\0\0\0\
     \x06\x72\0\0\
     \xf0\x72\0\0";
 
-/// The capture, which is within the limit. A proof about a constant carries all its bytes along, and
-/// one about what this gives does not.
+/// The capture, which is within the limit. A proof about a constant carries all its bytes along,
+/// and one about what this gives does not.
 pub(crate) fn within_limit<'c>(rt: &impl Abort, capture: &'c [u8]) -> &'c [u8]
     ensures { length result.now ≤ CAPTURE_LIMIT }
 {
