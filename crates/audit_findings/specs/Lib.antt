@@ -22,6 +22,7 @@ pub mod ProcessItems
 pub mod ProcessLedgers
 pub mod ThreadLedger
 pub mod ThreadRows
+pub mod ProcessSections
 pub mod Ledgers
 pub mod Summary
 pub mod Lookup

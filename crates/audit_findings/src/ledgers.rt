@@ -4,24 +4,17 @@ ghost use Rattle.std.specs.Prelude.{◌≡◌, [], ◌∷◌, IfOk, OnOk};
 ghost use Rattle.summary_law.specs.Summary.{CanJoin, Joins};
 ghost use Rattle.audit_findings.specs.Ledgers.{SumsLedgers, AreFewFrames, CanTake, Takes, AreOfFew, GiveSections};
 
-use crate::buffers::{Leaked, StrayFrees};
 use crate::call_sections::CallSections;
-use crate::clears::{StrayConfirmations, Unconfirmed};
 use crate::codes::code_rows;
-use crate::deaths::{StrayAcknowledgements, Unacknowledged};
 use crate::event_ledgers::EventLedgers;
 use crate::findings::Sections;
-use crate::handles::handle_rows;
 use crate::in_order::InOrder;
-use crate::nodes::node_rows;
 use crate::oneway::oneway_of;
-use crate::open_and_stray::open_and_stray_of;
-use crate::places::places_of;
 use crate::process::Process;
 use crate::process_items::ProcessItems;
+use crate::process_sections::ProcessSections;
 use crate::process_summary::ProcessSummary;
 use crate::record_counts::record_counts;
-use crate::requests::Standing;
 use crate::rows::Rows;
 use crate::sequences::Sequences;
 use capture_frame::Frame;
@@ -94,35 +87,38 @@ impl<'c> Ledgers<'c> {
         requires { AreOfFew self }
         ensures { IfOk result (GiveSections self.entry) }
     {
+        // What needs no ledger for itself comes first: until then there is one thing to drop.
+        let own = ProcessSections::of(alloc, &self.processes)?;
+        let codes = code_rows(alloc, &self.events.codes)?;
         let EventLedgers {
             records,
             opaque,
-            codes,
+            codes: tally,
             oneway,
             objects,
             flags,
             threads,
         } = self.events;
-        let processes = &self.processes;
         let found = CallSections::of(alloc, threads)?;
+        let oneway = oneway_of(alloc, oneway, &self.processes)?;
         Ok(Sections {
             records,
             opaque,
             missing: self.sequences.missing(),
-            codes: code_rows(alloc, &codes)?,
-            counts: record_counts(&codes),
+            codes,
+            counts: record_counts(&tally),
             calls: found.calls,
             served: found.served,
             strays: found.strays,
             refused: found.refused,
-            handles: handle_rows(alloc, processes)?,
-            nodes: node_rows(alloc, processes)?,
-            leaked: Rows::of(places_of::<Leaked>(alloc, processes)?),
-            stray_frees: Rows::of(places_of::<StrayFrees>(alloc, processes)?),
-            standing: Rows::of(places_of::<Standing>(alloc, processes)?),
-            deaths: open_and_stray_of::<Unacknowledged, StrayAcknowledgements>(alloc, processes)?,
-            clears: open_and_stray_of::<Unconfirmed, StrayConfirmations>(alloc, processes)?,
-            oneway: oneway_of(alloc, oneway, processes)?,
+            handles: own.handles,
+            nodes: own.nodes,
+            leaked: own.leaked,
+            stray_frees: own.stray_frees,
+            standing: own.standing,
+            deaths: own.deaths,
+            clears: own.clears,
+            oneway,
             objects: objects.counts,
             bad_objects: Rows::of(objects.bad),
             flags: Rows::of(flags.into_places()),

@@ -27,6 +27,7 @@ mod places;
 mod process;
 mod process_items;
 mod process_ledgers;
+mod process_sections;
 mod process_summary;
 mod record_counts;
 mod refused;

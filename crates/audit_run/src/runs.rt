@@ -1,21 +1,25 @@
 //! From the bytes of a reader to the bytes of a writer.
 
-ghost use Rattle.std.specs.Prelude.{◌<◌, ◌≤◌, ℕ, List, length, IfOk, IfErr, IfSome, OnOk, OnErr, IsErrOf, IsOkUnless, string_bytes};
+ghost use Rattle.std.specs.Prelude.{◌≡◌, ◌<◌, ◌≤◌, ℕ, List, length, IfOk, IfErr, IfSome, OnOk, OnErr, IsErrOf, IsOkUnless, string_bytes};
 ghost use Rattle.std.specs.Io.KnownBytes.{Appends};
 ghost use Rattle.audit_streams.specs.KnownBytes.{AppendsPrefix};
 ghost use Rattle.report_text.specs.Fault.{fault_line};
 ghost use Rattle.audit_run.specs.Run.{Reports, NamesFirstFault, IsRead, IsOfRead, StaysOrBegins, IsRunFault, IsAnswerFault};
 ghost use Rattle.report_text.specs.Answers.{IsTextOf, IsLineOn};
-ghost use Rattle.report_text.specs.Text.{IsReportOn};
+ghost use Rattle.report_text.specs.Text.{IsReportOn, report_text};
+ghost use Rattle.transaction_view.specs.Grammar.{WholeFrame};
+ghost use Rattle.audit_findings.specs.Findings.{FindingsText};
+ghost use Rattle.audit_findings.specs.Kept.{Tell};
 ghost use Rattle.audit_join.specs.Audit.{IsMalformed};
 ghost use Rattle.audit_join.specs.declared.limits.TheConstants.{CAPTURE_LIMIT};
 
+use audit_findings::Findings;
 use audit_join::{AuditError, CAPTURE_LIMIT, Piece, audit};
 use audit_streams::{RunError, read_capture, write_text};
 use capture_frame::Fault;
 use claim_board::{Gate, NoGate, Workers};
 use report_text::{fault_text, text};
-use std::alloc::Global;
+use std::alloc::{AllocError, Global};
 use std::io::{Read, Write};
 use std::thread::Threads;
 use transaction_view::first_fault;
@@ -142,7 +146,21 @@ fn report_on<T: Threads + Sync, G: Gate + Sync>(
     ensures malformed { IfErr result (IsMalformed capture.now) }
 {
     let found = audit(rt, alloc, capture, workers, piece, gate)?;
-    Ok(text(rt, alloc, &found)?)
+    Ok(report_of(rt, alloc, found)?)
+}
+
+/// The report of findings, which end here: they are large, and dear to prove where other values
+/// are dropped beside them.
+fn report_of<T: Threads + Sync>(
+    rt: &T,
+    alloc: Global,
+    found: Findings<'_>,
+) -> Result<String, AllocError>
+    ensures { IfOk result (λ text. (wholes : List WholeFrame) (said : FindingsText)
+        → Tell wholes said found.entry.frames found.entry.sections
+        → string_bytes text ≡ report_text said) }
+{
+    text(rt, alloc, &found)
 }
 
 /// Reads a capture to its end, and writes the line that names its first fault, or that there is
