@@ -4,6 +4,7 @@
     checks/captures.py FOLDER           writes them into the folder
     checks/captures.py --check FOLDER   compares the folder with them: silent where all is well,
                                         else names each file that differs, with status 1
+    checks/captures.py --copies FOLDER  the same of a folder that has copies of some of them
 
 The format is in docs/ENVELOPE.md, the code words, fields and objects in docs/COMMANDS.md. The
 captures of samples/ lie in the folder too, and have to be the same bytes as there. What the program
@@ -833,10 +834,17 @@ def differences(folder):
     return sorted(name for name in files | wanted if files.get(name) != wanted.get(name))
 
 
+def other_copies(folder):
+    """The names of the files that are another capture than the one of that name, or no copy at all."""
+    wanted = expected()
+    return sorted(path.name for path in folder.iterdir() if path.read_bytes() != wanted.get(path.name))
+
+
 def main(words):
     match words:
-        case ["--check", folder]:
-            names = differences(pathlib.Path(folder))
+        case ["--check" | "--copies" as how, folder]:
+            judge = differences if how == "--check" else other_copies
+            names = judge(pathlib.Path(folder))
             for name in names:
                 print(f"{folder}/{name}: not the capture that {sys.argv[0]} makes")
             return 1 if names else 0
