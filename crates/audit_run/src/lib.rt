@@ -4,6 +4,10 @@
 
 mod answers;
 #[cfg(test)]
+mod device_tests;
+#[cfg(test)]
+mod devices;
+#[cfg(test)]
 mod gate_tests;
 #[cfg(test)]
 mod memory_tests;

@@ -51,7 +51,7 @@ pub(crate) struct Sink {
     /// The number of the write that fails, from 1; 0 for none.
     fails_at: u64,
     fault: WriteFault,
-    flush_fails: bool,
+    flush_fault: Option<ErrorKind>,
     pub(crate) writes: u64,
     pub(crate) flushes: u64,
 }
@@ -61,7 +61,7 @@ impl Sink {
         Sink {
             fails_at: 0,
             fault: WriteFault::TakesNothing,
-            flush_fails: false,
+            flush_fault: None,
             writes: 0,
             flushes: 0,
         }
@@ -77,9 +77,9 @@ impl Sink {
     }
 
     /// Takes all, and fails at each flush.
-    pub(crate) fn unflushed() -> Sink {
+    pub(crate) fn unflushed(kind: ErrorKind) -> Sink {
         Sink {
-            flush_fails: true,
+            flush_fault: Some(kind),
             ..Sink::new()
         }
     }
@@ -99,9 +99,9 @@ impl Write for Sink {
 
     fn flush(&mut self) -> io::Result<()> {
         self.flushes = self.flushes.saturating_add(1);
-        if self.flush_fails {
-            return Err(io::Error::from(ErrorKind::Other));
+        match self.flush_fault {
+            Some(kind) => Err(io::Error::from(kind)),
+            None => Ok(()),
         }
-        Ok(())
     }
 }

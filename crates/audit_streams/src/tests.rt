@@ -71,7 +71,9 @@ fn expect_writing<T: Abort>(
 #[test]
 fn writes_byte_by_byte(rt: HostRuntime) {
     expect_writing(&rt, Sink::new(), Ok(()), 5, 1);
-    expect_writing(&rt, Sink::unflushed(), Err(RunError::Write), 5, 1);
+    for kind in [ErrorKind::Other, ErrorKind::Interrupted] {
+        expect_writing(&rt, Sink::unflushed(kind), Err(RunError::Write), 5, 1);
+    }
 }
 
 #[test]
