@@ -4,10 +4,10 @@ ghost use Rattle.std.specs.Prelude.{◌≤◌};
 use audit_run::{Piece, RunError, Workers, run, run_first_fault};
 use std::alloc::{AllocError, Global};
 use std::io;
-use std::io::Write;
 use std::thread::Threads;
 
 const TITLE: &[u8] = b"BINDER AUDIT 1\n";
+
 const NO_FAULT: &[u8] = b"no malformed record\n";
 
 /// What `run` writes of a capture by one worker and by more, and what `run_first_fault` writes.

@@ -1,10 +1,9 @@
 //! What is changed of a capture.
 ghost use Rattle.std.specs.Prelude.{◌≡◌, ◌+◌, ◌++◌, length, take, drop, IfOk};
 
-use std::alloc::{AllocError, Global};
-use std::fmt;
-use std::io;
+use std::alloc::Global;
 use std::io::ErrorKind;
+use std::{fmt, io};
 
 /// One change of a capture.
 #[derive(Clone, Copy)]

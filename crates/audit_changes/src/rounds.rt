@@ -3,11 +3,10 @@ use crate::answers::Answers;
 use crate::changes::Change;
 use crate::lines::{Asked, Line};
 use std::alloc::Global;
-use std::fs;
 use std::fs::Files;
-use std::io;
 use std::io::{ErrorKind, Read, Write};
 use std::thread::Threads;
+use std::{fs, io};
 
 /// Prints a line, judges all captures that it asks for, and prints how many these were.
 pub(crate) fn run_line<T: Files + Threads + Sync, W: Write>(
