@@ -1,0 +1,195 @@
+#!/usr/bin/env python3
+"""A large capture of made-up traffic, as checks/limits and checks/load need.
+
+    checks/traffic.py BYTES FILE    writes into the file a capture of at most so many bytes
+
+Forty processes of eight threads each talk to one another: calls, some of them served within others, oneway
+transactions, attachments, buffers that are freed or forgotten, references to handles and nodes, requests to be told of
+a death with their clears and deaths, a few error replies, bad objects, unknown flags and gaps in the sequences. The
+same number of bytes gives the same capture. `captures.py` has the frames and records.
+"""
+
+import random
+import sys
+
+sys.dont_write_bytecode = True
+from captures import *  # noqa: E402
+
+PROCESSES, THREADS, AT_ONCE = 40, 8, 60
+
+REFERENCES = ((BC_INCREFS, BC_DECREFS), (BC_ACQUIRE, BC_RELEASE))
+NODES = ((BR_INCREFS, BR_DECREFS, BC_INCREFS_DONE), (BR_ACQUIRE, BR_RELEASE, BC_ACQUIRE_DONE))
+OBJECTS = (BINDER, WEAK_BINDER, HANDLE, HANDLE, HANDLE, HANDLE, WEAK_HANDLE, FD, FDA, PTR)
+
+
+class World:
+    """The threads that do nothing, and the buffers that may be delivered into."""
+
+    def __init__(self):
+        self.random = random.Random(1)
+        self.idle = [(process, thread) for process in range(PROCESSES) for thread in range(THREADS)]
+        self.buffers = [[] for _ in range(PROCESSES)]
+        self.next_buffer = [0x7000_0000_0000] * PROCESSES
+
+    def often(self, thousandths):
+        return self.random.random() * 1000 < thousandths
+
+    def thread(self, but=None):
+        """A thread that does nothing, of another process than `but`; None where none is found at once."""
+        for _ in range(8):
+            if self.idle:
+                at = self.random.randrange(len(self.idle))
+                if self.idle[at][0] != but:
+                    self.idle[at], self.idle[-1] = self.idle[-1], self.idle[at]
+                    return self.idle.pop()
+        return None
+
+    def buffer(self, process):
+        if self.buffers[process]:
+            return self.buffers[process].pop()
+        self.next_buffer[process] += 0x1000
+        return self.next_buffer[process]
+
+    def data(self):
+        """The body of a transaction and its list of offsets: numbers, and here and there an object."""
+        body, listed = b"", b""
+        for _ in range(self.random.randint(1, 4)):
+            body += self.random.randbytes(8)
+            if self.often(300):
+                listed += u64(len(body) + (2 if self.often(1) else 0))
+                body += self.random.choice(OBJECTS)
+        return body, listed
+
+    def flags(self, known):
+        return known | 0x100 if self.often(1) else known
+
+    def free(self, process, buffer):
+        """The record that frees a buffer, but for two in a thousand that stay."""
+        if self.often(2):
+            return []
+        self.buffers[process].append(buffer)
+        return each_long(BC_FREE_BUFFER, buffer)
+
+    def references(self):
+        """Now and then a write takes a reference to a handle or lets one go."""
+        if not self.often(300):
+            return []
+        return each(self.random.choice(self.random.choice(REFERENCES)), self.random.randrange(120))
+
+
+def shown(world, records, kind, data, **fields):
+    """The records and behind them a transaction of this data, which the frame mostly shows: its entry besides."""
+    body, listed = data
+    at = sum(map(len, records))
+    records = records + [transaction(kind, sizes=(len(body), len(listed)), **fields)]
+    return records, [entry(at, body, listed)] if world.often(600) else []
+
+
+def call(world, client, depth=0):
+    """The frames of a call and its reply: the direction, the thread, the records and the entries of each."""
+    target, code = world.random.randrange(40), world.random.randint(1, 60)
+    data = world.data()
+    kind = BC_TRANSACTION_SG if world.often(50) else BC_TRANSACTION
+    yield 1, client, *shown(world, world.references(), kind, data, target=target, code=code, flags=world.flags(0x10))
+    server = None if world.often(5) else world.thread(client[0])
+    if server is None:
+        yield 2, client, [record(BR_NOOP), record(BR_DEAD_REPLY)], []
+        return
+    yield 2, client, [record(BR_NOOP), record(BR_TRANSACTION_COMPLETE)], []
+    buffer, answered = world.buffer(server[0]), world.buffer(client[0])
+    nodes, thanks = [], []
+    if world.often(100):
+        take, let_go, done = world.random.choice(NODES)
+        which = 0x5000 + 0x40 * world.random.randrange(500), server[0]
+        nodes = [node(world.random.choice((take, let_go)), *which)]
+        thanks = [node(done, *which)]
+    yield 2, server, *shown(world, [record(BR_NOOP), *nodes], BR_TRANSACTION, data, target=target, code=code,
+                            flags=0x10, sender=1000 + 7 * client[0], buffer=buffer)
+    if thanks:
+        yield 1, server, thanks, []
+    if depth < 3 and world.often(120):
+        yield from call(world, server, depth + 1)
+    if not world.often(1):
+        data = world.data()
+        records = world.free(server[0], buffer) + world.references()
+        yield 1, server, *shown(world, records, BC_REPLY, data, flags=world.flags(0))
+        yield 2, server, [record(BR_NOOP), record(BR_TRANSACTION_COMPLETE)], []
+        yield 2, client, *shown(world, [record(BR_NOOP)], BR_REPLY, data, buffer=answered)
+        yield 1, client, world.free(client[0], answered), []
+    world.idle.append(server)
+
+
+def oneway_call(world, client):
+    """The frames of a oneway transaction."""
+    data = world.data()
+    yield 1, client, *shown(world, [], BC_TRANSACTION, data, target=world.random.randrange(40), code=9, flags=0x11)
+    if world.often(5):
+        yield 2, client, [record(BR_NOOP), record(BR_FAILED_REPLY)], []
+        return
+    yield 2, client, [record(BR_NOOP), record(BR_TRANSACTION_COMPLETE)], []
+    server = world.thread(client[0])
+    if server is not None:
+        buffer = world.buffer(server[0])
+        kind = BR_TRANSACTION_SEC_CTX if world.often(200) else BR_TRANSACTION
+        yield 2, server, *shown(world, [record(BR_NOOP)], kind, data, code=9, flags=0x11, buffer=buffer)
+        yield 1, server, world.free(server[0], buffer), []
+        world.idle.append(server)
+
+
+def death(world, client):
+    """The frames of a request to be told of a death: it is told of, taken back, or stands."""
+    handle, cookie = world.random.randrange(120), 0x9000 + 8 * world.random.randrange(4000)
+    yield 1, client, [watch(BC_REQUEST_DEATH_NOTIFICATION, handle, cookie)], []
+    if world.often(300):
+        yield 2, client, [record(BR_NOOP), *each_long(BR_DEAD_BINDER, cookie)], []
+        yield 1, client, each_long(BC_DEAD_BINDER_DONE, cookie), []
+    elif world.often(900):
+        yield 1, client, [watch(BC_CLEAR_DEATH_NOTIFICATION, handle, cookie)], []
+        yield 2, client, [record(BR_NOOP), *each_long(BR_CLEAR_DEATH_NOTIFICATION_DONE, cookie)], []
+
+
+def begun(world):
+    """What a thread does next, and the thread; None where none is free."""
+    client = world.thread()
+    if client is None:
+        return None
+    kinds = (call, oneway_call, death)
+    return world.random.choices(kinds, (75, 20, 5))[0](world, client), client
+
+
+def frames():
+    """Frames without end, of many conversations at once."""
+    world, open_now, sequence = World(), [], 0
+    while True:
+        while len(open_now) < AT_ONCE and (new := begun(world)) is not None:
+            open_now.append(new)
+        at = world.random.randrange(len(open_now))
+        conversation, client = open_now[at]
+        drawn = next(conversation, None)
+        if drawn is None:
+            open_now[at] = open_now[-1]
+            open_now.pop()
+            world.idle.append(client)
+            continue
+        direction, (process, thread), records, entries = drawn
+        sequence += 2 if world.often(1) else 1
+        number = 1000 + 7 * process
+        yield frame(direction, sequence, number, number + thread, records, entries)
+
+
+def write_traffic(path, most):
+    """Writes a capture of at most so many bytes, and gives the number of frames."""
+    with open(path, "wb") as out:
+        length, count = out.write(HEADER), 0
+        for one in frames():
+            length += len(one)
+            if length > most:
+                return count
+            out.write(one)
+            count += 1
+
+
+if __name__ == "__main__":
+    if len(sys.argv) != 3:
+        sys.exit("usage: checks/traffic.py BYTES FILE")
+    print(write_traffic(sys.argv[2], int(sys.argv[1])))
