@@ -298,9 +298,27 @@ fn check_report<R: Abort + Threads + Sync>(
     report: &str,
 ) -> Result<(), Fail> {
     assert!(rt; capture.len() <= CAPTURE_LIMIT);
-    let found = audit_one(rt, alloc, capture)?;
-    check_rows(rt, alloc, &found, report)?;
-    check_text(rt, alloc, &found, report)
+    check_found(rt, alloc, audit_one(rt, alloc, capture)?, report)
+}
+
+/// The findings end here: they are large, and dear to prove where a test may end beside them.
+fn check_found<R: Abort + Threads + Sync>(
+    rt: &R,
+    alloc: Global,
+    found: Findings<'_>,
+    report: &str,
+) -> Result<(), Fail> {
+    check_rows_and_text(rt, alloc, &found, report)
+}
+
+fn check_rows_and_text<R: Abort + Threads + Sync>(
+    rt: &R,
+    alloc: Global,
+    found: &Findings<'_>,
+    report: &str,
+) -> Result<(), Fail> {
+    check_rows(rt, alloc, found, report)?;
+    check_text(rt, alloc, found, report)
 }
 
 fn check_rows<R: Abort + Threads + Sync>(

@@ -31,3 +31,12 @@ returns-then-is_of-clause-size c =
     (λ r. (r ≡ Err Size) ↔
     (IsOf c.args.protocol c.args.code.0 × ListsNumber c.args.protocol (number c.args.code.0) × ¬ ListsCode c.args.protocol c.args.code.0))
     (sym same) (kind_of-size c.args.protocol c.args.code.0)
+
+pub returns-else-is_of-clause-exact : goal.returns-else-is_of-clause-exact
+returns-else-is_of-clause-exact c = search rules
+
+pub returns-else-is_of-clause-direction : goal.returns-else-is_of-clause-direction
+returns-else-is_of-clause-direction c = search rules
+
+pub returns-else-is_of-clause-size : goal.returns-else-is_of-clause-size
+returns-else-is_of-clause-size c = search rules

@@ -27,3 +27,6 @@ loop-i-preserved g c =
     let done = takes gives n i old c.loop-i.all.items c.in-Some.out lt here c.loop-i.invariant in
     subst (λ l. AreTaken gives n (i + 1) (set old i c.take.new.self) l) (search rules)
     (subst (λ q. AreTaken gives n (i + 1) (set old i q) (c.loop-i.all.items ++ c.in-Some.out ∷ [])) (sym c.take.ensures.after) done)
+
+pub returns : goal.returns
+returns c = search rules

@@ -1,4 +1,4 @@
-use Rattle.std.proofs.Common.{◌≡◌, ℕ, inr, List, length, take, drop, sym, ap, subst, ◌∙◌, arith}
+use Rattle.std.proofs.Common.{◌≡◌, ℕ, inr, List, length, take, drop, sym, ap, subst, ◌∙◌, arith, rules}
 use Rattle.std.proofs.lemmas.List.{take_rest, length-drop}
 use Rattle.transaction_view.specs.Envelope.{number_at}
 use Rattle.object_view.specs.Objects.{IsUnknown, sort_at}
@@ -50,3 +50,12 @@ returns-clause-found c =
           ∙ ap (λ (t : List ℕ). take c.length-2.result t) (take_rest body c.args.offset)
           ∙ ap (λ (n : ℕ). take n (drop c.args.offset body)) c.length-2.ensures;
     }
+
+pub returns-then-offset-end-clause-fails : goal.returns-then-offset-end-clause-fails
+returns-then-offset-end-clause-fails c = search rules
+
+pub slice_bounds-rest-count : goal.slice_bounds-rest-count
+slice_bounds-rest-count c = search rules
+
+pub slice_bounds-rest-start : goal.slice_bounds-rest-start
+slice_bounds-rest-start c = search rules

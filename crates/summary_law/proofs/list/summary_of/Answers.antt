@@ -1,3 +1,4 @@
+use Rattle.std.proofs.lemmas.Grind.{common_steps}
 use Rattle.std.proofs.Common.{◌≡◌, ◌+◌, ◌∷◌, ◌++◌, [], take, drop, sym, subst, ap, ◌∙◌, arith}
 use Rattle.std.proofs.lemmas.List.{take_more, take-append-drop}
 use Rattle.summary_law.proofs.list.summary_of.Goals as goal
@@ -21,3 +22,6 @@ loop-item-preserved g c =
     let fits = (g.met.S.Summary.fits_parts (take (i + 1) items) (drop (i + 1) items)
     (subst g.S.Summary.fits (sym (take-append-drop (i + 1) items)) c.requires)).0 in
     subst (g.S.Summary.sums c.add.new.self) (sym more) (c.in_ok-add.ensures (take i items) c.loop-item.invariant (subst g.S.Summary.fits more fits))
+
+pub returns : goal.returns
+returns c = grind (arith, common_steps)

@@ -24,3 +24,6 @@ returns-in-Look-clause-same_size c =
 pub returns-in-Lower-clause-same_size : goal.returns-in-Lower-clause-same_size
 returns-in-Lower-clause-same_size c =
     let e = c.lower.ensures in same_size c.args.self.now c.lower.new.self Lower c.args.step.worker c.lower.result e.made e.unchanged
+
+pub returns-then-w-len-clause-refused : goal.returns-then-w-len-clause-refused
+returns-then-w-len-clause-refused c = search rules

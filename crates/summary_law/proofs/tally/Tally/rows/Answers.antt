@@ -1,4 +1,5 @@
-use Rattle.std.proofs.Common.{◌≡◌, ◌++◌, [], map, sym, ap, ◌∙◌, rules}
+use Rattle.std.proofs.lemmas.Grind.{common_steps}
+use Rattle.std.proofs.Common.{◌≡◌, ◌++◌, [], map, sym, ap, ◌∙◌, rules, arith}
 use Rattle.std.proofs.lemmas.List.{append-nil}
 use Rattle.std.specs.BTreeMap.{IsOrdered}
 use Rattle.summary_law.proofs.TallyLaws.{row_of, map_rows}
@@ -12,3 +13,6 @@ returns g c = λ items sums.
     let whole : c.loop-key.rows.items ≡ map row_of entries.entries
     = sym (append-nil c.loop-key.rows.items) ∙ sym (ap (λ es. c.loop-key.rows.items ++ map row_of es) rest) ∙ c.loop-key.invariant in
     map_rows g.K.Ord.cmp g.met.K.Ord.total entries ordered items sums c.loop-key.rows.items whole
+
+pub loop-key-preserved : goal.loop-key-preserved
+loop-key-preserved c = grind (arith, common_steps)

@@ -1,0 +1,5 @@
+use Rattle.std.proofs.Common.{rules}
+use Rattle.binder_code.proofs.code.Code.direction.Goals as goal
+
+pub returns : goal.returns
+returns c = search rules
