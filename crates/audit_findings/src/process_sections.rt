@@ -22,7 +22,8 @@ use crate::requests::Standing;
 use crate::rows::Rows;
 use std::alloc::{AllocError, Global};
 
-/// What the sections `handles`, `nodes`, `buffers`, `frees`, `requests`, `deaths` and `clears` keep.
+/// What the sections `handles`, `nodes`, `buffers`, `frees`, `requests`, `deaths` and `clears`
+/// keep.
 #[derive(Drop)]
 pub(crate) struct ProcessSections {
     pub handles: Rows<ProcessHandle>,

@@ -1,3 +1,4 @@
+use Rattle.std.proofs.lemmas.Grind.{common_steps}
 use Rattle.std.proofs.Common.{◌++◌, take, arith}
 use Rattle.std.proofs.KnownBytes.{Consumes-trans}
 use Rattle.audit_streams.proofs.reading.read_through.Goals as goal
@@ -6,3 +7,6 @@ use Rattle.audit_streams.proofs.reading.read_through.Goals as goal
 pub returns-in_err-append_within-clause-left : goal.returns-in_err-append_within-clause-left
 returns-in_err-append_within-clause-left g c =
     (c.loop.capture.items ++ take c.in_ok-count.count c.read.new.buf, grind (arith, Consumes-trans))
+
+pub loop-preserved : goal.loop-preserved
+loop-preserved c = grind (arith, common_steps)

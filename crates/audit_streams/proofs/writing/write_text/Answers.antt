@@ -1,3 +1,4 @@
+use Rattle.std.proofs.lemmas.Grind.{common_steps}
 use Rattle.std.proofs.Common.{ℕ, ◌-◌, ◌≤◌, length, arith, length-drop, length-take}
 use Rattle.std.proofs.lemmas.List.{take-take}
 use Rattle.std.proofs.Math.Seq.{take-add}
@@ -11,3 +12,6 @@ loop-written-preserved g c =
     omega (arith, c.in-Ok.ensures.bound, length-take {A = ℕ}, length-drop {A = ℕ}) in
     let taken = rw take-take at c.in-Ok.ensures.bytes in
     (rw take-add (Appends-trans _ _ _ _ _ c.loop-written.invariant.0 taken), omega arith)
+
+pub returns-clause-ok : goal.returns-clause-ok
+returns-clause-ok c = grind (arith, common_steps)
