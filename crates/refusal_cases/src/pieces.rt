@@ -1,7 +1,6 @@
 //! The frames of a capture in runs, and their summaries.
 
-ghost use Rattle.std.specs.Bool.{OnTrue};
-ghost use Rattle.std.specs.Prelude.{IfOk};
+ghost use Rattle.std.specs.Prelude.{IfOk, OnOk};
 ghost use Rattle.audit_findings.specs.Frames.{AreGoodFrames};
 ghost use Rattle.audit_findings.specs.Summary.{SumsPiece, CanSettle};
 ghost use Rattle.audit_join.specs.Jobs.{AreSound};
@@ -26,16 +25,16 @@ pub(crate) fn plan<W: Write>(alloc: Global, capture: &[u8], out: &mut W) -> Resu
     Ok(())
 }
 
-/// Whether the records and entries of these frames have no fault.
-fn are_sound(frames: &[Frame<'_>]) -> bool
-    ensures { OnTrue result (AreSound frames.now) }
+/// Looks whether the records and entries of these frames have no fault.
+fn check_all(frames: &[Frame<'_>]) -> Result<(), NoAnswer>
+    ensures { OnOk result (AreSound frames.now) }
 {
     for frame in frames {
         if let Some(_) = check_frame(*frame) {
-            return false;
+            return Err(NoAnswer::Unfit);
         }
     }
-    true
+    Ok(())
 }
 
 /// The frames of a capture without a fault.
@@ -46,9 +45,7 @@ fn good_frames<'c>(alloc: Global, capture: &'c [u8]) -> Result<Vec<Frame<'c>>, N
         return Err(NoAnswer::Unfit);
     }
     let frames = frames_of(alloc, capture)?;
-    if !are_sound(frames.as_slice()) {
-        return Err(NoAnswer::Unfit);
-    }
+    check_all(frames.as_slice())?;
     Ok(frames)
 }
 

@@ -8,4 +8,4 @@ pub returns : goal.returns
 returns c =
     let bytes : IsBytes c.args.capture.now = λ i. omega (arith, c.type_inv.capture i) in
     good_frames c.args.capture.now c.in_ok-frames.frames.items c.in_ok-frames.ensures (omega arith) bytes
-    (subst AreSound c.as_slice.ensures.value c.are_sound.ensures)
+    (subst AreSound c.as_slice.ensures.value c.in_ok-check_all.ensures)

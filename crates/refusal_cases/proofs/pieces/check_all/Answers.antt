@@ -5,7 +5,7 @@ use Rattle.capture_frame.specs.declared.frame.Frame.{Frame}
 use Rattle.capture_frame.specs.Envelope.{frame_text}
 use Rattle.transaction_view.specs.FirstFault.{HasGoodContent}
 use Rattle.audit_join.specs.Jobs.{AreSound}
-use Rattle.refusal_cases.proofs.pieces.are_sound.Goals as goal
+use Rattle.refusal_cases.proofs.pieces.check_all.Goals as goal
 
 pub loop-frame-preserved : goal.loop-frame-preserved
 loop-frame-preserved c =
