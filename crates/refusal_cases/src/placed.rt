@@ -14,6 +14,9 @@ use event_core::{BufferItem, Event, PendingItem, RequestItem};
 /// How many items a list may have that is summed.
 const MOST_ITEMS: usize = 4_294_967_296;
 
+/// A weight that no length of a payload passes.
+const MOST_WEIGHT: u64 = 65_535;
+
 /// An item that stands at a place.
 pub(crate) trait Placed: Copy {
     /// Where it stands.
@@ -80,9 +83,18 @@ pub(crate) fn is_short<T: Copy>(items: &[T]) -> bool
     items.len() <= MOST_ITEMS
 }
 
-/// Whether there are at most 2^32 items; a weight of 64 bits is never too great.
+/// Whether there are at most 2^32 items, and no weight is above `MOST_WEIGHT`.
 pub(crate) fn is_weighted(items: &[(u32, u64)]) -> bool
     ensures { OnTrue result (AreWeighted items.now) }
 {
-    items.len() <= MOST_ITEMS
+    if items.len() > MOST_ITEMS {
+        return false;
+    }
+    for item in items {
+        let weight = item.1;
+        if weight > MOST_WEIGHT {
+            return false;
+        }
+    }
+    true
 }
