@@ -25,10 +25,7 @@ pub(crate) fn cut_all<W: Write>(
 }
 
 /// The frames of a capture whose headers are good.
-pub(crate) fn frames_of<'c>(
-    alloc: Global,
-    capture: &'c [u8],
-) -> Result<Vec<Frame<'c>>, NoAnswer>
+pub(crate) fn frames_of<'c>(alloc: Global, capture: &'c [u8]) -> Result<Vec<Frame<'c>>, NoAnswer>
     ensures { IfOk result (λ frames. AreFrames capture.now frames.items) }
 {
     match cut(alloc, capture) {

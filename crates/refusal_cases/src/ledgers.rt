@@ -143,6 +143,11 @@ pub(crate) fn buffers<W: Write>(
         return Err(NoAnswer::Unfit);
     }
     let ledger: Buffers = summed(alloc, items.as_slice(), way)?;
+    tell_buffers(alloc, &ledger, out)
+}
+
+/// Prints the deliveries that are not freed, and the frees of what is not delivered.
+fn tell_buffers<W: Write>(alloc: Global, ledger: &Buffers, out: &mut W) -> Result<(), NoAnswer> {
     let outstanding = ledger.outstanding(alloc)?;
     let strays = ledger.strays(alloc)?;
     writeln!(out, "{outstanding:?} {strays:?}")?;
@@ -182,6 +187,15 @@ fn pending<W: Write>(
         return Err(NoAnswer::Unfit);
     }
     let ledger: Pending<u64> = summed(alloc, items, way)?;
+    tell_pending(alloc, &ledger, out)
+}
+
+/// Prints what is open, and what closes nothing.
+fn tell_pending<W: Write>(
+    alloc: Global,
+    ledger: &Pending<u64>,
+    out: &mut W,
+) -> Result<(), NoAnswer> {
     let outstanding = ledger.outstanding(alloc)?;
     let strays = ledger.strays(alloc)?;
     writeln!(out, "{outstanding:?} {strays:?}")?;
@@ -212,10 +226,19 @@ pub(crate) fn calls<W: Write>(
     out: &mut W,
 ) -> Result<(), NoAnswer> {
     let events = events_of_thread(alloc, capture)?;
-    if !is_placed(events.as_slice()) {
+    tell_calls(alloc, events.as_slice(), way, out)
+}
+
+fn tell_calls<W: Write>(
+    alloc: Global,
+    events: &[Event<'_>],
+    way: Way,
+    out: &mut W,
+) -> Result<(), NoAnswer> {
+    if !is_placed(events) {
         return Err(NoAnswer::Unfit);
     }
-    let calls: ThreadCalls<'_> = summed(alloc, events.as_slice(), way)?;
+    let calls: ThreadCalls<'_> = summed(alloc, events, way)?;
     let found = calls.finish()?;
     let (openers, strays, refused) = (&found.openers, &found.strays, &found.refused);
     writeln!(out, "{openers:?} {strays:?} {refused:?}")?;

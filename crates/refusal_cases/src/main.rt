@@ -16,13 +16,7 @@ use std::process::ExitCode;
 
 fn main(rt: HostRuntime) -> ExitCode {
     let mut out = rt.stdout();
-    let answered = table::answer(
-        &rt,
-        rt.alloc(),
-        &mut rt.stdin(),
-        &mut out,
-        &mut rt.stderr(),
-    );
+    let answered = table::answer(&rt, rt.alloc(), &mut rt.stdin(), &mut out, &mut rt.stderr());
     let Err(no_answer) = answered else {
         return ExitCode::from(0);
     };

@@ -7,7 +7,7 @@ ghost use Rattle.audit_join.specs.Jobs.{AreSound};
 
 use crate::events::frames_of;
 use crate::no_answer::NoAnswer;
-use audit_findings::PieceSummary;
+use audit_findings::{PieceSummary, Sections};
 use audit_join::{CAPTURE_LIMIT, Piece, Plan};
 use capture_frame::Frame;
 use std::alloc::{AllocError, Global};
@@ -85,6 +85,10 @@ fn tell<W: Write>(summary: PieceSummary<'_>, out: &mut W) -> Result<(), NoAnswer
     requires { CanSettle summary }
 {
     let sections = summary.sections()?;
+    tell_sections(&sections, out)
+}
+
+fn tell_sections<W: Write>(sections: &Sections, out: &mut W) -> Result<(), NoAnswer> {
     writeln!(out, "{sections:?}")?;
     Ok(())
 }

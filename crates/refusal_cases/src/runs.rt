@@ -6,8 +6,9 @@ ghost use Rattle.audit_join.specs.declared.limits.TheConstants.{CAPTURE_LIMIT};
 use crate::no_answer::NoAnswer;
 use audit_join::{AuditError, CAPTURE_LIMIT, Findings, Piece, audit, audit_one};
 use audit_program::program;
-use audit_run::{Request, answer, answer_file, run, run_first_fault, run_gated};
+use audit_run::{run, run_first_fault, run_gated};
 use audit_streams::read_capture;
+use capture_frame::Fault;
 use claim_board::{NoGate, Workers};
 use report_text::{rows, text};
 use std::alloc::{AllocError, Global};
@@ -24,15 +25,21 @@ pub(crate) fn read<W: Write>(alloc: Global, bytes: &[u8], out: &mut W) -> Result
 }
 
 /// Prints findings, or a fault.
-fn tell<W: Write>(
-    audited: Result<Findings<'_>, AuditError>,
-    out: &mut W,
-) -> Result<(), NoAnswer> {
+fn tell<W: Write>(audited: Result<Findings<'_>, AuditError>, out: &mut W) -> Result<(), NoAnswer> {
     match audited {
-        Ok(found) => writeln!(out, "{found:?}")?,
-        Err(AuditError::Memory) => return Err(NoAnswer::Memory),
-        Err(malformed) => writeln!(out, "{malformed:?}")?,
+        Ok(found) => tell_findings(&found, out),
+        Err(AuditError::Memory) => Err(NoAnswer::Memory),
+        Err(AuditError::Malformed(fault)) => tell_fault(fault, out),
     }
+}
+
+fn tell_findings<W: Write>(found: &Findings<'_>, out: &mut W) -> Result<(), NoAnswer> {
+    writeln!(out, "{found:?}")?;
+    Ok(())
+}
+
+fn tell_fault<W: Write>(fault: Fault, out: &mut W) -> Result<(), NoAnswer> {
+    writeln!(out, "{fault:?}")?;
     Ok(())
 }
 
@@ -85,7 +92,16 @@ pub(crate) fn rows_told<T: Threads + Sync, W: Write>(
     out: &mut W,
 ) -> Result<(), NoAnswer> {
     let found = findings(rt, alloc, capture)?;
-    let rows = rows(rt, alloc, &found)?;
+    tell_rows(rt, alloc, &found, out)
+}
+
+fn tell_rows<T: Threads + Sync, W: Write>(
+    rt: &T,
+    alloc: Global,
+    found: &Findings<'_>,
+    out: &mut W,
+) -> Result<(), NoAnswer> {
+    let rows = rows(rt, alloc, found)?;
     for row in &rows {
         let row = row.as_str();
         writeln!(out, "{row}")?;
@@ -100,7 +116,16 @@ pub(crate) fn text_told<T: Threads + Sync, W: Write>(
     out: &mut W,
 ) -> Result<(), NoAnswer> {
     let found = findings(rt, alloc, capture)?;
-    let text = text(rt, alloc, &found)?;
+    tell_text(rt, alloc, &found, out)
+}
+
+fn tell_text<T: Threads + Sync, W: Write>(
+    rt: &T,
+    alloc: Global,
+    found: &Findings<'_>,
+    out: &mut W,
+) -> Result<(), NoAnswer> {
+    let text = text(rt, alloc, found)?;
     writeln!(out, "{text}")?;
     Ok(())
 }
@@ -141,45 +166,6 @@ pub(crate) fn ran_first_fault<W: Write>(
     let mut reader = capture;
     let fault = run_first_fault(alloc, &mut reader, out)?;
     writeln!(out, "{fault:?}")?;
-    Ok(())
-}
-
-/// The request for a report on a file, by so many workers and in pieces of one frame.
-fn report_on(file: &str, workers: Workers) -> Request<'_> {
-    let piece = Piece::new(1).unwrap();
-    Request::Report {
-        workers,
-        piece,
-        file,
-    }
-}
-
-pub(crate) fn answered<T: Threads + Sync, W: Write>(
-    rt: &T,
-    alloc: Global,
-    capture: &[u8],
-    workers: Workers,
-    out: &mut W,
-) -> Result<(), NoAnswer> {
-    let mut reader = capture;
-    let status = answer(rt, alloc, report_on("", workers), &mut reader, out)?;
-    writeln!(out, "status {status}")?;
-    Ok(())
-}
-
-/// The bytes are the name of a file.
-pub(crate) fn answered_file<T: Files + Threads + Sync, W: Write>(
-    rt: &T,
-    alloc: Global,
-    bytes: &[u8],
-    workers: Workers,
-    out: &mut W,
-) -> Result<(), NoAnswer> {
-    let Ok(file) = str::from_utf8(bytes) else {
-        return Err(NoAnswer::Unfit);
-    };
-    let status = answer_file(rt, alloc, report_on(file, workers), out)?;
-    writeln!(out, "status {status}")?;
     Ok(())
 }
 

@@ -34,7 +34,18 @@ pub(crate) fn answer<T: Files + Threads + Sync, R: Read, W: Write, E: Write>(
     err: &mut E,
 ) -> Result<(), NoAnswer> {
     let input = read_capture(alloc, input, CAPTURE_LIMIT)?;
-    let (name, bytes) = first_line(input.as_slice());
+    answer_to(rt, alloc, input.as_slice(), out, err)
+}
+
+/// The same, where the input is read.
+fn answer_to<T: Files + Threads + Sync, W: Write, E: Write>(
+    rt: &T,
+    alloc: Global,
+    input: &[u8],
+    out: &mut W,
+    err: &mut E,
+) -> Result<(), NoAnswer> {
+    let (name, bytes) = first_line(input);
     let Ok(name) = str::from_utf8(name) else {
         return Err(NoAnswer::Unknown);
     };
@@ -80,8 +91,6 @@ pub(crate) fn answer<T: Files + Threads + Sync, R: Read, W: Write, E: Write>(
         "run by 4" => runs::ran(rt, alloc, bytes, four, out),
         "run_gated by 1" => runs::ran_gated(rt, alloc, bytes, one, out),
         "run_first_fault" => runs::ran_first_fault(alloc, bytes, out),
-        "answer" => runs::answered(rt, alloc, bytes, one, out),
-        "answer_file" => runs::answered_file(rt, alloc, bytes, one, out),
         "program" => runs::programmed(rt, alloc, bytes, out, err),
     }
 }

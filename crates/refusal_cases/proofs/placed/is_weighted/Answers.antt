@@ -1,4 +1,4 @@
-use Rattle.std.proofs.Common.{◌≡◌, ℕ, ◌+◌, ◌<◌, ◌^◌, ◌∷◌, ◌++◌, [], All, take, take_all, sym, subst, ap, ◌∙◌, arith}
+use Rattle.std.proofs.Common.{◌≡◌, ℕ, ◌+◌, ◌<◌, ◌^◌, ◌∷◌, ◌++◌, [], All, take, take_all, slice_index_or, sym, subst, arith}
 use Rattle.std.proofs.lemmas.List.{take_more}
 use Rattle.std.proofs.lemmas.List.Elements.{All-push}
 use Rattle.refusal_cases.proofs.placed.is_weighted.Goals as goal
@@ -7,10 +7,8 @@ pub loop-item-preserved : goal.loop-item-preserved
 loop-item-preserved c =
     let items = c.args.items.now in
     let i = c.loop-item.item-index in
-    let item = c.item-item.result in
-    let more : take (i + 1) items ≡ take i items ++ item ∷ []
-    = take_more items i item (omega arith) ∙ ap (λ (x : ℕ × ℕ). take i items ++ x ∷ []) (sym c.item-item.is) in
-    subst (All (λ (x : ℕ × ℕ). x.1 < 2 ^ 64)) (sym more)
+    let item = slice_index_or items i (0, 0) in
+    subst (All (λ (x : ℕ × ℕ). x.1 < 2 ^ 64)) (sym (take_more items i (0, 0) (omega arith)))
     (All-push (λ (x : ℕ × ℕ). x.1 < 2 ^ 64) (take i items) item c.loop-item.invariant (omega arith))
 
 pub returns : goal.returns
