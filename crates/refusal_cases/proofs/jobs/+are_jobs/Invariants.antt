@@ -1,0 +1,5 @@
+use Rattle.std.proofs.Common.{length}
+use Rattle.refusal_cases.proofs.jobs.+are_jobs.Given as goal
+
+abbrev pub decreases-are_jobs : goal.decreases-are_jobs
+decreases-are_jobs l = length l.jobs.now

@@ -1,0 +1,80 @@
+//! The frames and the events of a capture.
+
+ghost use Rattle.std.specs.Prelude.{IfOk};
+ghost use Rattle.capture_frame.specs.Cut.{AreFrames};
+
+use crate::no_answer::NoAnswer;
+use capture_frame::{Cut, Frame, cut};
+use event_core::{Event, Events};
+use std::alloc::{AllocError, Global};
+use std::io::Write;
+use transaction_view::check_frame;
+
+/// Prints the frames of a capture, or its first fault and the frames before.
+pub(crate) fn cut_all<W: Write>(
+    alloc: Global,
+    capture: &[u8],
+    out: &mut W,
+) -> Result<(), NoAnswer> {
+    match cut(alloc, capture) {
+        Ok(frames) => writeln!(out, "{frames:?}")?,
+        Err(Cut::Memory) => return Err(NoAnswer::Memory),
+        Err(bad) => writeln!(out, "{bad:?}")?,
+    }
+    Ok(())
+}
+
+/// The frames of a capture whose headers are good.
+pub(crate) fn frames_of<'c>(alloc: Global, capture: &'c [u8]) -> Result<Vec<Frame<'c>>, NoAnswer>
+    ensures { IfOk result (λ frames. AreFrames capture.now frames.items) }
+{
+    match cut(alloc, capture) {
+        Ok(frames) => Ok(frames),
+        Err(Cut::Memory) => Err(NoAnswer::Memory),
+        Err(_) => Err(NoAnswer::Unfit),
+    }
+}
+
+/// The events of the process that the first frame is of.
+pub(crate) fn events_of_process<'c>(
+    alloc: Global,
+    capture: &'c [u8],
+) -> Result<Vec<Event<'c>>, NoAnswer> {
+    let frames = frames_of(alloc, capture)?;
+    let process = frames.first().map(|frame| frame.process);
+    let mut events = Vec::new(alloc);
+    for frame in &frames {
+        if Some(frame.process) == process {
+            push_events(*frame, &mut events)?;
+        }
+    }
+    Ok(events)
+}
+
+/// The events of the thread that the first frame is of.
+pub(crate) fn events_of_thread<'c>(
+    alloc: Global,
+    capture: &'c [u8],
+) -> Result<Vec<Event<'c>>, NoAnswer> {
+    let frames = frames_of(alloc, capture)?;
+    let thread = frames.first().map(|frame| (frame.process, frame.thread));
+    let mut events = Vec::new(alloc);
+    for frame in &frames {
+        if Some((frame.process, frame.thread)) == thread {
+            push_events(*frame, &mut events)?;
+        }
+    }
+    Ok(events)
+}
+
+/// Puts the events of a frame, which may have no fault, behind the others.
+fn push_events<'c>(frame: Frame<'c>, events: &mut Vec<Event<'c>>) -> Result<(), NoAnswer> {
+    if let Some(_) = check_frame(frame) {
+        return Err(NoAnswer::Unfit);
+    }
+    let mut reader = Events::of(frame);
+    while let Some(event) = reader.next_event() {
+        events.push(event).map_err(AllocError::from)?;
+    }
+    Ok(())
+}

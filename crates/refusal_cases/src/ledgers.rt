@@ -1,0 +1,246 @@
+//! The ledgers, and what each tells of its items.
+
+use crate::events::{events_of_process, events_of_thread};
+use crate::no_answer::NoAnswer;
+use crate::placed::{is_placed, is_short, is_weighted};
+use crate::sums::{Way, one_by_one, summed};
+use call_stacks::ThreadCalls;
+use event_core::{
+    BufferItem, Event, HandleItem, NodeItem, PendingItem, RequestItem, buffer_step, clear_step,
+    death_step, handle_step, node_step, request_step,
+};
+use handle_ledger::{HandleLedger, NodeLedger};
+use pending_ledger::{Buffers, Pending, Requests};
+use std::alloc::{AllocError, Global};
+use std::io::Write;
+use std::thread::Threads;
+use summary_law::Tally;
+
+/// The items that some events are.
+macro_rules! items {
+    ($alloc:expr, $events:expr, $step:ident) => {{
+        let mut items = Vec::new($alloc);
+        for event in $events {
+            if let Some(item) = $step(*event) {
+                items.push(item)?;
+            }
+        }
+        Ok(items)
+    }};
+}
+
+fn handle_items(alloc: Global, events: &[Event<'_>]) -> Result<Vec<HandleItem>, AllocError> {
+    items!(alloc, events, handle_step)
+}
+
+fn node_items(alloc: Global, events: &[Event<'_>]) -> Result<Vec<NodeItem>, AllocError> {
+    items!(alloc, events, node_step)
+}
+
+fn buffer_items(alloc: Global, events: &[Event<'_>]) -> Result<Vec<BufferItem>, AllocError> {
+    items!(alloc, events, buffer_step)
+}
+
+fn death_items(alloc: Global, events: &[Event<'_>]) -> Result<Vec<PendingItem<u64>>, AllocError> {
+    items!(alloc, events, death_step)
+}
+
+fn clear_items(alloc: Global, events: &[Event<'_>]) -> Result<Vec<PendingItem<u64>>, AllocError> {
+    items!(alloc, events, clear_step)
+}
+
+fn request_items(alloc: Global, events: &[Event<'_>]) -> Result<Vec<RequestItem>, AllocError> {
+    items!(alloc, events, request_step)
+}
+
+/// The code word of each record, with the length of its payload.
+fn code_items(alloc: Global, capture: &[u8]) -> Result<Vec<(u32, u64)>, NoAnswer> {
+    let events = events_of_process(alloc, capture)?;
+    let mut items = Vec::new(alloc);
+    for event in &events {
+        let item = (event.code.0, event.payload.len() as u64);
+        items.push(item).map_err(AllocError::from)?;
+    }
+    Ok(items)
+}
+
+pub(crate) fn tally<W: Write>(
+    alloc: Global,
+    capture: &[u8],
+    way: Way,
+    out: &mut W,
+) -> Result<(), NoAnswer> {
+    let items = code_items(alloc, capture)?;
+    if !is_weighted(items.as_slice()) {
+        return Err(NoAnswer::Unfit);
+    }
+    let tally: Tally<u32> = summed(alloc, items.as_slice(), way)?;
+    let rows = tally.rows()?;
+    writeln!(out, "{rows:?}")?;
+    Ok(())
+}
+
+pub(crate) fn tally_all<R: Threads + Sync, W: Write>(
+    rt: &R,
+    alloc: Global,
+    capture: &[u8],
+    workers: u64,
+    out: &mut W,
+) -> Result<(), NoAnswer> {
+    let items = code_items(alloc, capture)?;
+    if !is_weighted(items.as_slice()) {
+        return Err(NoAnswer::Unfit);
+    }
+    let tally: Tally<u32> = one_by_one(rt, alloc, items.as_slice(), workers)?;
+    let rows = tally.rows()?;
+    writeln!(out, "{rows:?}")?;
+    Ok(())
+}
+
+pub(crate) fn handles<W: Write>(
+    alloc: Global,
+    capture: &[u8],
+    way: Way,
+    out: &mut W,
+) -> Result<(), NoAnswer> {
+    let events = events_of_process(alloc, capture)?;
+    let items = handle_items(alloc, events.as_slice())?;
+    if !is_short(items.as_slice()) {
+        return Err(NoAnswer::Unfit);
+    }
+    let ledger: HandleLedger = summed(alloc, items.as_slice(), way)?;
+    let rows = ledger.rows(alloc)?;
+    writeln!(out, "{rows:?}")?;
+    Ok(())
+}
+
+pub(crate) fn nodes<W: Write>(
+    alloc: Global,
+    capture: &[u8],
+    way: Way,
+    out: &mut W,
+) -> Result<(), NoAnswer> {
+    let events = events_of_process(alloc, capture)?;
+    let items = node_items(alloc, events.as_slice())?;
+    if !is_short(items.as_slice()) {
+        return Err(NoAnswer::Unfit);
+    }
+    let ledger: NodeLedger = summed(alloc, items.as_slice(), way)?;
+    let rows = ledger.rows(alloc)?;
+    writeln!(out, "{rows:?}")?;
+    Ok(())
+}
+
+pub(crate) fn buffers<W: Write>(
+    alloc: Global,
+    capture: &[u8],
+    way: Way,
+    out: &mut W,
+) -> Result<(), NoAnswer> {
+    let events = events_of_process(alloc, capture)?;
+    let items = buffer_items(alloc, events.as_slice())?;
+    if !is_placed(items.as_slice()) {
+        return Err(NoAnswer::Unfit);
+    }
+    let ledger: Buffers = summed(alloc, items.as_slice(), way)?;
+    tell_buffers(alloc, &ledger, out)
+}
+
+/// Prints the deliveries that are not freed, and the frees of what is not delivered.
+fn tell_buffers<W: Write>(alloc: Global, ledger: &Buffers, out: &mut W) -> Result<(), NoAnswer> {
+    let outstanding = ledger.outstanding(alloc)?;
+    let strays = ledger.strays(alloc)?;
+    writeln!(out, "{outstanding:?} {strays:?}")?;
+    Ok(())
+}
+
+pub(crate) fn deaths<W: Write>(
+    alloc: Global,
+    capture: &[u8],
+    way: Way,
+    out: &mut W,
+) -> Result<(), NoAnswer> {
+    let events = events_of_process(alloc, capture)?;
+    let items = death_items(alloc, events.as_slice())?;
+    pending(alloc, items.as_slice(), way, out)
+}
+
+pub(crate) fn clears<W: Write>(
+    alloc: Global,
+    capture: &[u8],
+    way: Way,
+    out: &mut W,
+) -> Result<(), NoAnswer> {
+    let events = events_of_process(alloc, capture)?;
+    let items = clear_items(alloc, events.as_slice())?;
+    pending(alloc, items.as_slice(), way, out)
+}
+
+/// Deaths and clears are both this.
+fn pending<W: Write>(
+    alloc: Global,
+    items: &[PendingItem<u64>],
+    way: Way,
+    out: &mut W,
+) -> Result<(), NoAnswer> {
+    if !is_placed(items) {
+        return Err(NoAnswer::Unfit);
+    }
+    let ledger: Pending<u64> = summed(alloc, items, way)?;
+    tell_pending(alloc, &ledger, out)
+}
+
+/// Prints what is open, and what closes nothing.
+fn tell_pending<W: Write>(
+    alloc: Global,
+    ledger: &Pending<u64>,
+    out: &mut W,
+) -> Result<(), NoAnswer> {
+    let outstanding = ledger.outstanding(alloc)?;
+    let strays = ledger.strays(alloc)?;
+    writeln!(out, "{outstanding:?} {strays:?}")?;
+    Ok(())
+}
+
+pub(crate) fn requests<W: Write>(
+    alloc: Global,
+    capture: &[u8],
+    way: Way,
+    out: &mut W,
+) -> Result<(), NoAnswer> {
+    let events = events_of_process(alloc, capture)?;
+    let items = request_items(alloc, events.as_slice())?;
+    if !is_placed(items.as_slice()) {
+        return Err(NoAnswer::Unfit);
+    }
+    let ledger: Requests = summed(alloc, items.as_slice(), way)?;
+    let outstanding = ledger.outstanding(alloc)?;
+    writeln!(out, "{outstanding:?}")?;
+    Ok(())
+}
+
+pub(crate) fn calls<W: Write>(
+    alloc: Global,
+    capture: &[u8],
+    way: Way,
+    out: &mut W,
+) -> Result<(), NoAnswer> {
+    let events = events_of_thread(alloc, capture)?;
+    tell_calls(alloc, events.as_slice(), way, out)
+}
+
+fn tell_calls<W: Write>(
+    alloc: Global,
+    events: &[Event<'_>],
+    way: Way,
+    out: &mut W,
+) -> Result<(), NoAnswer> {
+    if !is_placed(events) {
+        return Err(NoAnswer::Unfit);
+    }
+    let calls: ThreadCalls<'_> = summed(alloc, events, way)?;
+    let found = calls.finish()?;
+    let (openers, strays, refused) = (&found.openers, &found.strays, &found.refused);
+    writeln!(out, "{openers:?} {strays:?} {refused:?}")?;
+    Ok(())
+}

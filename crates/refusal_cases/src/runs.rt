@@ -1,0 +1,199 @@
+//! From a capture, or a command line, to findings, to text and to streams.
+
+ghost use Rattle.std.specs.Prelude.{◌≤◌, length};
+ghost use Rattle.audit_join.specs.declared.limits.TheConstants.{CAPTURE_LIMIT};
+
+use crate::no_answer::NoAnswer;
+use audit_join::{AuditError, CAPTURE_LIMIT, Findings, Piece, audit, audit_one};
+use audit_program::program;
+use audit_run::{run, run_first_fault, run_gated};
+use audit_streams::read_capture;
+use capture_frame::Fault;
+use claim_board::{NoGate, Workers};
+use report_text::{rows, text};
+use std::alloc::{AllocError, Global};
+use std::fs::Files;
+use std::io::Write;
+use std::thread::Threads;
+
+/// Prints the bytes that are read.
+pub(crate) fn read<W: Write>(alloc: Global, bytes: &[u8], out: &mut W) -> Result<(), NoAnswer> {
+    let mut reader = bytes;
+    let capture = read_capture(alloc, &mut reader, CAPTURE_LIMIT)?;
+    writeln!(out, "{capture:?}")?;
+    Ok(())
+}
+
+/// Prints findings, or a fault.
+fn tell<W: Write>(audited: Result<Findings<'_>, AuditError>, out: &mut W) -> Result<(), NoAnswer> {
+    match audited {
+        Ok(found) => tell_findings(&found, out),
+        Err(AuditError::Memory) => Err(NoAnswer::Memory),
+        Err(AuditError::Malformed(fault)) => tell_fault(fault, out),
+    }
+}
+
+fn tell_findings<W: Write>(found: &Findings<'_>, out: &mut W) -> Result<(), NoAnswer> {
+    writeln!(out, "{found:?}")?;
+    Ok(())
+}
+
+fn tell_fault<W: Write>(fault: Fault, out: &mut W) -> Result<(), NoAnswer> {
+    writeln!(out, "{fault:?}")?;
+    Ok(())
+}
+
+pub(crate) fn audited<T: Threads + Sync, W: Write>(
+    rt: &T,
+    alloc: Global,
+    capture: &[u8],
+    workers: Workers,
+    out: &mut W,
+) -> Result<(), NoAnswer> {
+    if capture.len() > CAPTURE_LIMIT {
+        return Err(NoAnswer::Unfit);
+    }
+    let piece = Piece::new(1).unwrap();
+    tell(audit(rt, alloc, capture, workers, piece, &NoGate), out)
+}
+
+pub(crate) fn audited_by_one<T: Threads + Sync, W: Write>(
+    rt: &T,
+    alloc: Global,
+    capture: &[u8],
+    out: &mut W,
+) -> Result<(), NoAnswer> {
+    if capture.len() > CAPTURE_LIMIT {
+        return Err(NoAnswer::Unfit);
+    }
+    tell(audit_one(rt, alloc, capture), out)
+}
+
+/// The findings of a capture without a fault.
+fn findings<'c, T: Threads + Sync>(
+    rt: &T,
+    alloc: Global,
+    capture: &'c [u8],
+) -> Result<Findings<'c>, NoAnswer> {
+    if capture.len() > CAPTURE_LIMIT {
+        return Err(NoAnswer::Unfit);
+    }
+    match audit_one(rt, alloc, capture) {
+        Ok(found) => Ok(found),
+        Err(AuditError::Memory) => Err(NoAnswer::Memory),
+        Err(AuditError::Malformed(_)) => Err(NoAnswer::Unfit),
+    }
+}
+
+pub(crate) fn rows_told<T: Threads + Sync, W: Write>(
+    rt: &T,
+    alloc: Global,
+    capture: &[u8],
+    out: &mut W,
+) -> Result<(), NoAnswer> {
+    let found = findings(rt, alloc, capture)?;
+    tell_rows(rt, alloc, &found, out)
+}
+
+fn tell_rows<T: Threads + Sync, W: Write>(
+    rt: &T,
+    alloc: Global,
+    found: &Findings<'_>,
+    out: &mut W,
+) -> Result<(), NoAnswer> {
+    let rows = rows(rt, alloc, found)?;
+    for row in &rows {
+        let row = row.as_str();
+        writeln!(out, "{row}")?;
+    }
+    Ok(())
+}
+
+pub(crate) fn text_told<T: Threads + Sync, W: Write>(
+    rt: &T,
+    alloc: Global,
+    capture: &[u8],
+    out: &mut W,
+) -> Result<(), NoAnswer> {
+    let found = findings(rt, alloc, capture)?;
+    tell_text(rt, alloc, &found, out)
+}
+
+fn tell_text<T: Threads + Sync, W: Write>(
+    rt: &T,
+    alloc: Global,
+    found: &Findings<'_>,
+    out: &mut W,
+) -> Result<(), NoAnswer> {
+    let text = text(rt, alloc, found)?;
+    writeln!(out, "{text}")?;
+    Ok(())
+}
+
+pub(crate) fn ran<T: Threads + Sync, W: Write>(
+    rt: &T,
+    alloc: Global,
+    capture: &[u8],
+    workers: Workers,
+    out: &mut W,
+) -> Result<(), NoAnswer> {
+    let mut reader = capture;
+    let piece = Piece::new(1).unwrap();
+    let written = run(rt, alloc, &mut reader, out, workers, piece)?;
+    writeln!(out, "{written:?}")?;
+    Ok(())
+}
+
+pub(crate) fn ran_gated<T: Threads + Sync, W: Write>(
+    rt: &T,
+    alloc: Global,
+    capture: &[u8],
+    workers: Workers,
+    out: &mut W,
+) -> Result<(), NoAnswer> {
+    let mut reader = capture;
+    let piece = Piece::new(1).unwrap();
+    let written = run_gated(rt, alloc, &mut reader, out, workers, piece, &NoGate)?;
+    writeln!(out, "{written:?}")?;
+    Ok(())
+}
+
+pub(crate) fn ran_first_fault<W: Write>(
+    alloc: Global,
+    capture: &[u8],
+    out: &mut W,
+) -> Result<(), NoAnswer> {
+    let mut reader = capture;
+    let fault = run_first_fault(alloc, &mut reader, out)?;
+    writeln!(out, "{fault:?}")?;
+    Ok(())
+}
+
+/// The words of a command line, which are parted by one tab each.
+fn words_of(alloc: Global, line: &str) -> Result<Vec<String>, AllocError> {
+    let mut words = Vec::new(alloc);
+    for word in line.split('\t') {
+        words.push(String::from_str(alloc, word)?)?;
+    }
+    Ok(words)
+}
+
+/// The bytes are a command line. Status 3 tells that memory was refused.
+pub(crate) fn programmed<T: Files + Threads + Sync, W: Write, E: Write>(
+    rt: &T,
+    alloc: Global,
+    bytes: &[u8],
+    out: &mut W,
+    err: &mut E,
+) -> Result<(), NoAnswer> {
+    let Ok(line) = str::from_utf8(bytes) else {
+        return Err(NoAnswer::Unfit);
+    };
+    let words = words_of(alloc, line)?;
+    let status = program(rt, alloc, words.as_slice(), out, err);
+    if status == 3 {
+        return Err(NoAnswer::Memory);
+    }
+    writeln!(out, "status {status}")?;
+    Ok(())
+}

@@ -1,0 +1,114 @@
+//! The names of the calls, and what each of them is.
+
+use crate::no_answer::NoAnswer;
+use crate::sums::Way;
+use crate::{events, jobs, ledgers, pieces, runs};
+use audit_findings::MOST_KEPT;
+use audit_join::CAPTURE_LIMIT;
+use audit_streams::read_capture;
+use claim_board::Workers;
+use std::alloc::Global;
+use std::fs::Files;
+use std::io;
+use std::io::{Read, Write};
+use std::thread::Threads;
+
+/// What is done for a name: all names are listed for an empty one.
+macro_rules! by_name {
+    ($name:expr, $out:expr; $($known:literal => $call:expr,)*) => {
+        match $name {
+            "" => Ok(list(&[$($known),*], $out)?),
+            $($known => $call,)*
+            _ => Err(NoAnswer::Unknown),
+        }
+    };
+}
+
+/// Makes the call that the first line of the input names, on the bytes behind that line, and prints
+/// its answer. Without input the names are listed.
+pub(crate) fn answer<T: Files + Threads + Sync, R: Read, W: Write, E: Write>(
+    rt: &T,
+    alloc: Global,
+    input: &mut R,
+    out: &mut W,
+    err: &mut E,
+) -> Result<(), NoAnswer> {
+    let input = read_capture(alloc, input, CAPTURE_LIMIT)?;
+    answer_to(rt, alloc, input.as_slice(), out, err)
+}
+
+/// The same, where the input is read.
+fn answer_to<T: Files + Threads + Sync, W: Write, E: Write>(
+    rt: &T,
+    alloc: Global,
+    input: &[u8],
+    out: &mut W,
+    err: &mut E,
+) -> Result<(), NoAnswer> {
+    let (name, bytes) = first_line(input);
+    let Ok(name) = str::from_utf8(name) else {
+        return Err(NoAnswer::Unknown);
+    };
+    let one = Workers::new(1).unwrap();
+    let four = Workers::new(4).unwrap();
+    by_name! { name, out;
+        "read_capture" => runs::read(alloc, bytes, out),
+        "cut" => events::cut_all(alloc, bytes, out),
+        "Tally: add, rows" => ledgers::tally(alloc, bytes, Way::Add, out),
+        "Tally: join, rows" => ledgers::tally(alloc, bytes, Way::Join, out),
+        "join_all by 1" => ledgers::tally_all(rt, alloc, bytes, 1, out),
+        "join_all by 4" => ledgers::tally_all(rt, alloc, bytes, 4, out),
+        "HandleLedger: add, rows" => ledgers::handles(alloc, bytes, Way::Add, out),
+        "HandleLedger: join, rows" => ledgers::handles(alloc, bytes, Way::Join, out),
+        "NodeLedger: add, rows" => ledgers::nodes(alloc, bytes, Way::Add, out),
+        "NodeLedger: join, rows" => ledgers::nodes(alloc, bytes, Way::Join, out),
+        "Buffers: add, outstanding, strays" => ledgers::buffers(alloc, bytes, Way::Add, out),
+        "Buffers: join, outstanding, strays" => ledgers::buffers(alloc, bytes, Way::Join, out),
+        "Deaths: add, outstanding, strays" => ledgers::deaths(alloc, bytes, Way::Add, out),
+        "Deaths: join, outstanding, strays" => ledgers::deaths(alloc, bytes, Way::Join, out),
+        "Clears: add, outstanding, strays" => ledgers::clears(alloc, bytes, Way::Add, out),
+        "Clears: join, outstanding, strays" => ledgers::clears(alloc, bytes, Way::Join, out),
+        "Requests: add, outstanding" => ledgers::requests(alloc, bytes, Way::Add, out),
+        "Requests: join, outstanding" => ledgers::requests(alloc, bytes, Way::Join, out),
+        "ThreadCalls: add, finish" => ledgers::calls(alloc, bytes, Way::Add, out),
+        "ThreadCalls: join, finish" => ledgers::calls(alloc, bytes, Way::Join, out),
+        "Board::new" => jobs::board(alloc, bytes, out),
+        "run_all by 1" => jobs::shared(rt, alloc, bytes, one, out),
+        "run_all by 4" => jobs::shared(rt, alloc, bytes, four, out),
+        "Plan::new" => pieces::plan(alloc, bytes, out),
+        "PieceSummary keeping 0: add, sections" => pieces::added(alloc, bytes, 0, out),
+        "PieceSummary keeping 1: add, sections" => pieces::added(alloc, bytes, 1, out),
+        "PieceSummary keeping all: add, sections" => pieces::added(alloc, bytes, MOST_KEPT, out),
+        "PieceSummary keeping 0: join, sections" => pieces::joined(alloc, bytes, 0, out),
+        "PieceSummary keeping 1: join, sections" => pieces::joined(alloc, bytes, 1, out),
+        "PieceSummary keeping all: join, sections" => pieces::joined(alloc, bytes, MOST_KEPT, out),
+        "audit by 1" => runs::audited(rt, alloc, bytes, one, out),
+        "audit by 4" => runs::audited(rt, alloc, bytes, four, out),
+        "audit_one" => runs::audited_by_one(rt, alloc, bytes, out),
+        "rows" => runs::rows_told(rt, alloc, bytes, out),
+        "text" => runs::text_told(rt, alloc, bytes, out),
+        "run by 1" => runs::ran(rt, alloc, bytes, one, out),
+        "run by 4" => runs::ran(rt, alloc, bytes, four, out),
+        "run_gated by 1" => runs::ran_gated(rt, alloc, bytes, one, out),
+        "run_first_fault" => runs::ran_first_fault(alloc, bytes, out),
+        "program" => runs::programmed(rt, alloc, bytes, out, err),
+    }
+}
+
+/// The bytes of the first line, and those behind it.
+fn first_line(input: &[u8]) -> (&[u8], &[u8]) {
+    for at in 0..input.len() {
+        if input[at] == b'\n' {
+            let (line, behind) = input.split_at(at);
+            return (line, &behind[1..]);
+        }
+    }
+    input.split_at(input.len())
+}
+
+fn list<W: Write>(names: &[&str], out: &mut W) -> io::Result<()> {
+    for name in names {
+        writeln!(out, "{name}")?;
+    }
+    Ok(())
+}
