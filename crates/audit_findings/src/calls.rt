@@ -35,7 +35,7 @@ impl CallRow {
 }
 
 /// The calls that threads make.
-#[derive(Debug, Drop)]
+#[derive(Drop)]
 pub struct Calls {
     /// How many got their reply.
     pub answered: u64,

@@ -20,7 +20,7 @@ use event_core::{Event, bare_event_at};
 use std::marker::Model;
 
 /// The numbers and the rows of the report, apart from the number of frames.
-#[derive(Debug, Drop)]
+#[derive(Drop)]
 pub struct Sections {
     /// How many records there are, opaque ones included.
     pub records: u64,
@@ -66,7 +66,7 @@ pub struct Sections {
 
 /// What the report says of a capture: its frames, numbers, and rows. A listed record is kept by its
 /// place; the rest of its row is read from the frames again.
-#[derive(Debug, Drop)]
+#[derive(Drop)]
 pub struct Findings<'c> {
     frames: Vec<Frame<'c>>,
     sections: Sections,

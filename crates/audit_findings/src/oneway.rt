@@ -45,7 +45,7 @@ impl OnewayRow {
 }
 
 /// Oneway transactions.
-#[derive(Debug, Drop)]
+#[derive(Drop)]
 pub struct Oneway {
     /// How many are sent, refused ones included.
     pub sent: u64,

@@ -17,7 +17,7 @@ use std::alloc::{AllocError, Global};
 
 /// Opens that no later close of their process has the key of, and stray closes: those whose latest
 /// earlier item of their key, in their process, is no open.
-#[derive(Debug, Drop)]
+#[derive(Drop)]
 pub struct OpenAndStray {
     /// How many such opens there are.
     pub unclosed: u64,

@@ -18,7 +18,7 @@ pub(crate) enum End {
 }
 
 /// A call as a row.
-#[derive(Clone, Copy, Debug)]
+#[derive(Clone, Copy)]
 pub(crate) struct OpenerRow {
     pub end: End,
     pub row: CallRow,

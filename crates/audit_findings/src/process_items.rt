@@ -10,7 +10,7 @@ use event_core::{
 };
 
 /// The item of each ledger that one event is, if it is one.
-#[derive(Clone, Copy, Debug)]
+#[derive(Clone, Copy)]
 pub(crate) struct ProcessItems {
     pub handle: Option<HandleItem>,
     pub node: Option<NodeItem>,

@@ -12,7 +12,7 @@ use call_stacks::RefusedSend;
 use std::alloc::{AllocError, Global};
 
 /// The error replies that tell of refused sends.
-#[derive(Debug, Drop)]
+#[derive(Drop)]
 pub struct Refused {
     /// How many of the refused sends were oneway transactions; the section `oneway` says it.
     pub oneway: u64,
@@ -38,7 +38,7 @@ impl Refused {
 
 /// A refused send by the place of its error reply, and whether it is a oneway transaction; else it
 /// is a reply.
-#[derive(Clone, Copy, Debug)]
+#[derive(Clone, Copy)]
 pub(crate) struct SendRow {
     pub place: u64,
     pub oneway: bool,

@@ -5,7 +5,7 @@ ghost use Rattle.std.specs.Prelude.{◌≡◌, length};
 use std::marker::Model;
 
 /// The rows of a section, in their order.
-#[derive(Debug, Drop)]
+#[derive(Drop)]
 pub struct Rows<T> {
     rows: Vec<T>,
 }

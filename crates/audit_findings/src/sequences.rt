@@ -7,7 +7,7 @@ ghost use Rattle.audit_findings.specs.Findings.{missing_count};
 ghost use Rattle.audit_findings.specs.Ledgers.{SumsFrames};
 
 /// How many frames there are, and the sequences of the first and the last of them.
-#[derive(Clone, Copy, Debug)]
+#[derive(Clone, Copy)]
 pub(crate) struct Sequences {
     pub frames: u64,
     pub first: u64,

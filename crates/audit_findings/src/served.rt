@@ -14,7 +14,7 @@ use call_stacks::Verdict;
 use std::alloc::{AllocError, Global};
 
 /// The calls that threads get to serve.
-#[derive(Debug, Drop)]
+#[derive(Drop)]
 pub struct Served {
     /// How many the thread replied to.
     pub replied: u64,

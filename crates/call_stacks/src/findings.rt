@@ -4,7 +4,7 @@ use crate::opener::Opener;
 use event_core::Event;
 
 /// An error reply that refuses what its thread sent last.
-#[derive(Clone, Copy, Debug)]
+#[derive(Clone, Copy)]
 pub struct RefusedSend<'c> {
     /// The error reply.
     pub event: Event<'c>,

@@ -7,7 +7,7 @@ use crate::verdict::{Verdict, verdict_between};
 use event_core::{Event, bracket};
 
 /// A call that a thread made or got to serve, and what became of it.
-#[derive(Clone, Copy, Debug)]
+#[derive(Clone, Copy)]
 pub struct Opener<'c> {
     /// The record that opens it.
     pub event: Event<'c>,

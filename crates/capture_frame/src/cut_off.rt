@@ -2,7 +2,7 @@ use crate::fault::Fault;
 use crate::frame::Frame;
 
 /// Why not all frames of a capture are given.
-#[derive(Debug, Drop)]
+#[derive(Drop)]
 pub enum Cut<'c> {
     /// A growth of memory was refused.
     Memory,

@@ -17,7 +17,7 @@ pub(crate) const FRAME_HEADER: usize = 32;
 
 /// Where a reader stands: before a frame, so far behind the file header and after the frame with
 /// the sequence `before`; or at the fault that ended it.
-#[derive(Clone, Copy, Debug)]
+#[derive(Clone, Copy)]
 enum State {
     At { offset: usize, before: Option<u64> },
     Failed(Fault),
@@ -25,7 +25,7 @@ enum State {
 
 /// Reads the frames of a capture in order. A reader that has failed gives its fault again at every
 /// later call, and one that has ended gives `None`.
-#[derive(Debug, Drop)]
+#[derive(Drop)]
 pub struct Frames<'c> {
     /// The capture behind its file header.
     bytes: &'c [u8],

@@ -8,7 +8,7 @@ use transaction_view::{Entry, Transaction};
 
 /// A record of a capture, with the process and the thread that wrote or read it. The payload and
 /// the attachment are the capture's own bytes.
-#[derive(Clone, Copy, Debug)]
+#[derive(Clone, Copy)]
 pub struct Event<'c> {
     /// Where the record's code begins in the capture, in bytes.
     pub place: u64,

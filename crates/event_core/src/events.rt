@@ -14,7 +14,7 @@ use transaction_view::{Attachments, Entry};
 
 /// Reads the events of a frame in order: its records, each with its attachment. Records and
 /// attachments are passed once, side by side. One that has ended gives nothing more.
-#[derive(Debug, Drop)]
+#[derive(Drop)]
 pub struct Events<'c> {
     frame: Frame<'c>,
     records: Records<'c>,

@@ -8,7 +8,7 @@ use crate::sort::Sort;
 use transaction_view::{u32_at, u64_at};
 
 /// An object of an attachment. Its bytes are the capture's own.
-#[derive(Clone, Copy, Debug)]
+#[derive(Clone, Copy)]
 pub struct Object<'c> {
     /// What it is.
     pub sort: Sort,

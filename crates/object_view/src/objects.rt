@@ -19,7 +19,7 @@ const SORT: usize = 4;
 
 /// Where a reader stands: before the offset of this number, behind an object that ends there in the
 /// data; or behind a bad object, where it has ended.
-#[derive(Clone, Copy, Debug)]
+#[derive(Clone, Copy)]
 enum State {
     At { index: usize, end: usize },
     Ended,
@@ -27,7 +27,7 @@ enum State {
 
 /// Reads the objects of an attachment in the order of its offsets, up to the first bad one. One
 /// that has ended gives nothing more.
-#[derive(Debug, Drop)]
+#[derive(Drop)]
 pub struct Objects<'c> {
     body: &'c [u8],
     offsets: &'c [u8],

@@ -6,7 +6,7 @@ ghost use Rattle.binder_code.specs.Commands.{kind_of, protocol_of_word, row_of};
 use binder_code::{Code, Kind};
 
 /// A record of a frame's command bytes. Its payload is the capture's own bytes.
-#[derive(Clone, Copy, Debug)]
+#[derive(Clone, Copy)]
 pub struct Record<'c> {
     /// Where the record's code begins in the capture, in bytes.
     pub place: u64,

@@ -15,7 +15,7 @@ const CODE: usize = 4;
 
 /// Where a reader stands: before the record at an offset into the command bytes, or at the fault
 /// that ended it.
-#[derive(Clone, Copy, Debug)]
+#[derive(Clone, Copy)]
 enum State {
     At { offset: usize },
     Failed(Fault),
@@ -23,7 +23,7 @@ enum State {
 
 /// Reads the records of a frame in order. A reader that has failed gives its fault again at every
 /// later call, and one that has ended gives `None`.
-#[derive(Debug, Drop)]
+#[derive(Drop)]
 pub struct Records<'c> {
     frame: Frame<'c>,
     state: State,

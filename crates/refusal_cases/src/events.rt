@@ -4,6 +4,7 @@ ghost use Rattle.std.specs.Prelude.{IfOk};
 ghost use Rattle.capture_frame.specs.Cut.{AreFrames};
 
 use crate::no_answer::NoAnswer;
+use crate::told;
 use capture_frame::{Cut, Frame, cut};
 use event_core::{Event, Events};
 use std::alloc::{AllocError, Global};
@@ -17,11 +18,13 @@ pub(crate) fn cut_all<W: Write>(
     out: &mut W,
 ) -> Result<(), NoAnswer> {
     match cut(alloc, capture) {
-        Ok(frames) => writeln!(out, "{frames:?}")?,
-        Err(Cut::Memory) => return Err(NoAnswer::Memory),
-        Err(bad) => writeln!(out, "{bad:?}")?,
+        Ok(frames) => told::frames(frames.as_slice(), out),
+        Err(Cut::Memory) => Err(NoAnswer::Memory),
+        Err(Cut::Bad { fault, before }) => {
+            writeln!(out, "{fault:?}")?;
+            told::frames(before.as_slice(), out)
+        }
     }
-    Ok(())
 }
 
 /// The frames of a capture whose headers are good.

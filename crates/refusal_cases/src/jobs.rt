@@ -7,7 +7,7 @@ ghost use Rattle.claim_board.specs.Running.{no_place};
 
 use crate::events::frames_of;
 use crate::no_answer::NoAnswer;
-use claim_board::{Board, Job, JobStop, NoGate, Work, Workers, run_all};
+use claim_board::{Board, Job, JobState, JobStop, NoGate, Work, Workers, run_all};
 use std::alloc::{AllocError, Global};
 use std::io::Write;
 use std::thread::Threads;
@@ -113,8 +113,8 @@ pub(crate) fn board<W: Write>(alloc: Global, capture: &[u8], out: &mut W) -> Res
     let count = jobs.len() as u64;
     let board = Board::new(alloc, jobs, Workers::new(2).unwrap())?;
     for i in 0..count {
-        let state = board.state(i);
-        writeln!(out, "{state:?}")?;
+        let is_untouched = board.state(i) == JobState::Untouched;
+        writeln!(out, "{is_untouched}")?;
     }
     let (first, second) = (board.stopped(0), board.stopped(1));
     let least = board.least();

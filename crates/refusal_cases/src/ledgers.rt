@@ -4,6 +4,7 @@ use crate::events::{events_of_process, events_of_thread};
 use crate::no_answer::NoAnswer;
 use crate::placed::{is_placed, is_short, is_weighted};
 use crate::sums::{Way, one_by_one, summed};
+use crate::told;
 use call_stacks::ThreadCalls;
 use event_core::{
     BufferItem, Event, HandleItem, NodeItem, PendingItem, RequestItem, buffer_step, clear_step,
@@ -110,8 +111,7 @@ pub(crate) fn handles<W: Write>(
     }
     let ledger: HandleLedger = summed(alloc, items.as_slice(), way)?;
     let rows = ledger.rows(alloc)?;
-    writeln!(out, "{rows:?}")?;
-    Ok(())
+    told::handles(rows.as_slice(), out)
 }
 
 pub(crate) fn nodes<W: Write>(
@@ -127,8 +127,7 @@ pub(crate) fn nodes<W: Write>(
     }
     let ledger: NodeLedger = summed(alloc, items.as_slice(), way)?;
     let rows = ledger.rows(alloc)?;
-    writeln!(out, "{rows:?}")?;
-    Ok(())
+    told::nodes(rows.as_slice(), out)
 }
 
 pub(crate) fn buffers<W: Write>(
@@ -240,7 +239,5 @@ fn tell_calls<W: Write>(
     }
     let calls: ThreadCalls<'_> = summed(alloc, events, way)?;
     let found = calls.finish()?;
-    let (openers, strays, refused) = (&found.openers, &found.strays, &found.refused);
-    writeln!(out, "{openers:?} {strays:?} {refused:?}")?;
-    Ok(())
+    told::calls(&found, out)
 }

@@ -10,6 +10,7 @@ mod placed;
 mod runs;
 mod sums;
 mod table;
+mod told;
 
 use std::io::Write;
 use std::process::ExitCode;

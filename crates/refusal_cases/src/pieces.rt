@@ -7,7 +7,8 @@ ghost use Rattle.audit_join.specs.Jobs.{AreSound};
 
 use crate::events::frames_of;
 use crate::no_answer::NoAnswer;
-use audit_findings::{PieceSummary, Sections};
+use crate::told;
+use audit_findings::PieceSummary;
 use audit_join::{CAPTURE_LIMIT, Piece, Plan};
 use capture_frame::Frame;
 use std::alloc::{AllocError, Global};
@@ -20,8 +21,9 @@ pub(crate) fn plan<W: Write>(alloc: Global, capture: &[u8], out: &mut W) -> Resu
     let frames = frames_of(alloc, capture)?;
     let piece = Piece::new(1).unwrap();
     let plan = Plan::new(alloc, frames.as_slice(), piece)?;
-    let runs = plan.runs();
-    writeln!(out, "{runs:?}")?;
+    for run in plan.runs() {
+        told::frames(run, out)?;
+    }
     Ok(())
 }
 
@@ -85,12 +87,7 @@ fn tell<W: Write>(summary: PieceSummary<'_>, out: &mut W) -> Result<(), NoAnswer
     requires { CanSettle summary }
 {
     let sections = summary.sections()?;
-    tell_sections(&sections, out)
-}
-
-fn tell_sections<W: Write>(sections: &Sections, out: &mut W) -> Result<(), NoAnswer> {
-    writeln!(out, "{sections:?}")?;
-    Ok(())
+    told::sections(&sections, out)
 }
 
 pub(crate) fn added<W: Write>(

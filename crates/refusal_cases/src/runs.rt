@@ -4,9 +4,10 @@ ghost use Rattle.std.specs.Prelude.{◌≤◌, length};
 ghost use Rattle.audit_join.specs.declared.limits.TheConstants.{CAPTURE_LIMIT};
 
 use crate::no_answer::NoAnswer;
+use crate::told;
 use audit_join::{AuditError, CAPTURE_LIMIT, Findings, Piece, audit, audit_one};
 use audit_program::program;
-use audit_run::{run, run_first_fault, run_gated};
+use audit_run::{Written, run, run_first_fault, run_gated};
 use audit_streams::read_capture;
 use capture_frame::Fault;
 use claim_board::{NoGate, Workers};
@@ -34,7 +35,15 @@ fn tell<W: Write>(audited: Result<Findings<'_>, AuditError>, out: &mut W) -> Res
 }
 
 fn tell_findings<W: Write>(found: &Findings<'_>, out: &mut W) -> Result<(), NoAnswer> {
-    writeln!(out, "{found:?}")?;
+    told::frames(found.frames(), out)?;
+    told::sections(found.sections(), out)
+}
+
+fn tell_written<W: Write>(written: Written, out: &mut W) -> Result<(), NoAnswer> {
+    match written {
+        Written::Report => writeln!(out, "a report")?,
+        Written::Malformed(fault) => tell_fault(fault, out)?,
+    }
     Ok(())
 }
 
@@ -140,8 +149,7 @@ pub(crate) fn ran<T: Threads + Sync, W: Write>(
     let mut reader = capture;
     let piece = Piece::new(1).unwrap();
     let written = run(rt, alloc, &mut reader, out, workers, piece)?;
-    writeln!(out, "{written:?}")?;
-    Ok(())
+    tell_written(written, out)
 }
 
 pub(crate) fn ran_gated<T: Threads + Sync, W: Write>(
@@ -154,8 +162,7 @@ pub(crate) fn ran_gated<T: Threads + Sync, W: Write>(
     let mut reader = capture;
     let piece = Piece::new(1).unwrap();
     let written = run_gated(rt, alloc, &mut reader, out, workers, piece, &NoGate)?;
-    writeln!(out, "{written:?}")?;
-    Ok(())
+    tell_written(written, out)
 }
 
 pub(crate) fn ran_first_fault<W: Write>(
