@@ -14,6 +14,3 @@ pub use flags::{TransactionFlags, unknown_bits};
 pub use judge::kind;
 pub use protocol::Protocol;
 pub use record_kind::Kind;
-
-#[cfg(test)]
-mod tests;

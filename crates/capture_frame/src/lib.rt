@@ -4,8 +4,6 @@
 
 mod all_frames;
 mod cut_off;
-#[cfg(test)]
-mod cut_tests;
 mod direction;
 mod fault;
 mod frame;
@@ -21,6 +19,3 @@ pub use fault::{Fault, FaultKind};
 pub use frame::Frame;
 pub use frames::Frames;
 pub use number::{u32_at, u64_at};
-
-#[cfg(test)]
-mod tests;

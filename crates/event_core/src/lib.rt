@@ -4,8 +4,6 @@
 
 mod brackets;
 mod buffer;
-#[cfg(test)]
-mod captures;
 mod clear;
 mod death;
 mod event;
@@ -35,6 +33,3 @@ pub use oneway::{OnewayItem, OnewayKey, oneway_step};
 pub use pending::{PendingChange, PendingItem};
 pub use request::{RequestChange, RequestItem, RequestKey, request_step};
 pub use strength::Strength;
-
-#[cfg(test)]
-mod tests;

@@ -11,6 +11,3 @@ pub use bad_object::{BadObject, Cause};
 pub use object::Object;
 pub use objects::Objects;
 pub use sort::Sort;
-
-#[cfg(test)]
-mod tests;

@@ -1,5 +1,6 @@
 //! Code words that the header's macros make, and their neighbours.
 
+use crate::expect::{holds, same};
 use binder_code::{Code, CodeFault, Kind, Protocol, TransactionFlags, kind, laws, unknown_bits};
 use bitflags::Flags;
 use std::process::Abort;
@@ -43,32 +44,33 @@ fn judges_code_words(rt: HostRuntime) {
 
 #[test]
 fn names_kinds(rt: HostRuntime) {
-    assert_eq!(rt; Kind::BcTransaction.name(), "BC_TRANSACTION");
-    assert_eq!(rt;
+    same(&rt, Kind::BcTransaction.name(), "BC_TRANSACTION");
+    same(
+        &rt,
         Kind::BrClearDeathNotificationDone.name(),
-        "BR_CLEAR_DEATH_NOTIFICATION_DONE"
+        "BR_CLEAR_DEATH_NOTIFICATION_DONE",
     );
-    assert_eq!(rt; Kind::Opaque.name(), "OPAQUE");
+    same(&rt, Kind::Opaque.name(), "OPAQUE");
 }
 
 #[test]
 fn reads_the_fields_of_a_code(rt: HostRuntime) {
     let code = Code(0x80ab_72cd);
-    assert_eq!(rt; code.number(), 0xcd);
-    assert_eq!(rt; code.letter(), b'r');
-    assert_eq!(rt; code.size(), 0xab);
-    assert_eq!(rt; code.direction(), 2);
+    same(&rt, code.number(), 0xcd);
+    same(&rt, code.letter(), b'r');
+    same(&rt, code.size(), 0xab);
+    same(&rt, code.direction(), 2);
 }
 
 #[test]
 fn parts_the_flags(rt: HostRuntime) {
-    assert_eq!(rt; TransactionFlags::all().bits(), 0x7d);
-    assert_eq!(rt; unknown_bits(0x7d), 0);
-    assert_eq!(rt; unknown_bits(0xffff_ff93), 0xffff_ff82);
-    assert!(rt; TransactionFlags::from_bits(0x11).is_some());
-    assert!(rt; TransactionFlags::from_bits(0x02).is_none());
+    same(&rt, TransactionFlags::all().bits(), 0x7d);
+    same(&rt, unknown_bits(0x7d), 0);
+    same(&rt, unknown_bits(0xffff_ff93), 0xffff_ff82);
+    holds(&rt, TransactionFlags::from_bits(0x11).is_some());
+    holds(&rt, TransactionFlags::from_bits(0x02).is_none());
     let flags = TransactionFlags::from_bits_truncate(0xffff_ff93);
-    assert_eq!(rt; flags.bits(), 0x11);
-    assert!(rt; flags.contains(TransactionFlags::TF_ONE_WAY));
-    assert_eq!(rt; TransactionFlags::from_bits_retain(0x02).bits(), 0x02);
+    same(&rt, flags.bits(), 0x11);
+    holds(&rt, flags.contains(TransactionFlags::TF_ONE_WAY));
+    same(&rt, TransactionFlags::from_bits_retain(0x02).bits(), 0x02);
 }

@@ -8,6 +8,3 @@ mod records;
 
 pub use record::Record;
 pub use records::Records;
-
-#[cfg(test)]
-mod tests;

@@ -12,6 +12,3 @@ pub use capture_frame::{u32_at, u64_at};
 pub use check::{check_frame, first_fault};
 pub use entry::Entry;
 pub use transaction::Transaction;
-
-#[cfg(test)]
-mod tests;

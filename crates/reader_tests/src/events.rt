@@ -1,12 +1,18 @@
 //! Every kind of record through each step, as a mark and as a bracket; and the events of a frame by
 //! their places.
 
+mod captures;
 mod rows;
 
-use super::*;
-use crate::captures::{COMMANDS, RETURNS, WITH_ATTACHMENTS};
+use crate::expect::{holds, same, same_at};
 use binder_code::Kind;
 use capture_frame::{Frame, Frames};
+use captures::{COMMANDS, RETURNS, WITH_ATTACHMENTS};
+use event_core::{
+    BufferItem, Event, Events, Mark, OnewayItem, PendingChange, PendingItem, bare_event_at,
+    bracket, buffer_step, clear_step, death_step, event_at, handle_step, mark, node_step,
+    oneway_step, request_step,
+};
 use rows::{Buffer, COMMAND_ROWS, COOKIE, DATA_SIZE, HANDLE, NODE, RETURN_ROWS, Row};
 use std::process::Abort;
 use std::test::Fail;
@@ -80,42 +86,42 @@ fn expect_at(rt: &impl Abort, frame: Frame<'_>, place: u64) {
     }
     let start = STARTS.iter().find(|start| start.place == place).copied();
     let event = event_at(frame, place);
-    assert_eq!(rt; event.is_some(), start.is_some(), "at {place}");
+    same_at(rt, place, event.is_some(), start.is_some());
     if let (Some(event), Some(start)) = (event, start) {
         expect_start(rt, event, start);
         let bare = bare_event_at(frame, place);
-        assert_eq!(rt; bare.place, place);
-        assert_eq!(rt; bare.kind, start.kind, "at {place}");
-        assert_eq!(rt; bare.payload, event.payload, "at {place}");
-        assert!(rt; bare.entry.is_none());
+        same(rt, bare.place, place);
+        same_at(rt, place, bare.kind, start.kind);
+        same_at(rt, place, bare.payload, event.payload);
+        holds(rt, bare.entry.is_none());
     }
 }
 
 /// The event is that of a record of `WITH_ATTACHMENTS`.
 fn expect_start(rt: &impl Abort, event: Event<'_>, start: Start) {
-    assert_eq!(rt; event.place, start.place);
-    assert_eq!(rt; event.process, 2);
-    assert_eq!(rt; event.thread, 3);
-    assert_eq!(rt; event.kind, start.kind);
-    assert_eq!(rt; event.entry.map(|entry| entry.place), start.entry);
+    same(rt, event.place, start.place);
+    same(rt, event.process, 2);
+    same(rt, event.thread, 3);
+    same(rt, event.kind, start.kind);
+    same(rt, event.entry.map(|entry| entry.place), start.entry);
 }
 
 /// What an event does to the counts of handles and nodes.
 fn expect_counts(rt: &impl Abort, event: Event<'_>, row: &Row) {
     let handle = handle_step(event).map(|item| (item.strength, item.change));
-    assert_eq!(rt; handle, row.handle, "at {}", row.place);
+    same_at(rt, row.place, handle, row.handle);
     if let Some(item) = handle_step(event) {
-        assert_eq!(rt; item.handle, HANDLE);
+        same(rt, item.handle, HANDLE);
     }
     let node = node_step(event).map(|item| (item.strength, item.change));
-    assert_eq!(rt; node, row.node, "at {}", row.place);
+    same_at(rt, row.place, node, row.node);
     if let Some(item) = node_step(event) {
-        assert_eq!(rt; item.node, NODE);
+        same(rt, item.node, NODE);
     }
     let oneway = oneway_step(event).map(|item| item.key);
-    assert_eq!(rt; oneway, row.oneway, "at {}", row.place);
+    same_at(rt, row.place, oneway, row.oneway);
     if let Some(item) = oneway_step(event) {
-        assert_eq!(rt; item.data_size, DATA_SIZE);
+        same(rt, item.data_size, DATA_SIZE);
     }
 }
 
@@ -132,7 +138,7 @@ fn expect_buffer(rt: &impl Abort, event: Event<'_>, row: &Row) {
         Some(Buffer::Free) => Some(BufferItem::Free { place, address }),
         None => None,
     };
-    assert_eq!(rt; buffer_step(event), wanted, "at {place}");
+    same_at(rt, place, buffer_step(event), wanted);
 }
 
 /// The open or close of the cookie.
@@ -148,33 +154,31 @@ fn pending(place: u64, change: Option<PendingChange>) -> Option<PendingItem<u64>
 fn expect_pending(rt: &impl Abort, event: Event<'_>, row: &Row) {
     let place = row.place;
     let request = request_step(event);
-    assert_eq!(rt; request.map(|item| item.change), row.request, "at {place}");
+    same_at(rt, place, request.map(|item| item.change), row.request);
     if let Some(item) = request {
-        assert_eq!(rt; item.place, place);
+        same(rt, item.place, place);
     }
-    assert_eq!(rt; death_step(event), pending(place, row.death), "at {place}");
-    assert_eq!(rt; clear_step(event), pending(place, row.clear), "at {place}");
+    same_at(rt, place, death_step(event), pending(place, row.death));
+    same_at(rt, place, clear_step(event), pending(place, row.clear));
 }
 
 /// What an event is among the calls of its thread.
 fn expect_bracket(rt: &impl Abort, event: Event<'_>, row: &Row) {
     let place = row.place;
-    assert_eq!(rt; mark(event), row.mark, "at {place}");
-    assert_eq!(rt; bracket(None, event), row.bracket, "at {place}");
-    assert_eq!(rt;
-        bracket(Some(Mark::Other), event),
-        row.bracket,
-        "at {place}"
-    );
-    assert_eq!(rt;
+    same_at(rt, place, mark(event), row.mark);
+    same_at(rt, place, bracket(None, event), row.bracket);
+    same_at(rt, place, bracket(Some(Mark::Other), event), row.bracket);
+    same_at(
+        rt,
+        place,
         bracket(Some(Mark::Oneway), event),
         row.after_send,
-        "at {place}"
     );
-    assert_eq!(rt;
+    same_at(
+        rt,
+        place,
         bracket(Some(Mark::SentReply), event),
         row.after_send,
-        "at {place}"
     );
 }
 
@@ -183,14 +187,14 @@ fn expect_rows(rt: &impl Abort, capture: &[u8], rows: &[Row]) -> Result<(), Fail
     let mut events = events_of(capture)?;
     for row in rows {
         let event = events.next_event().ok_or("an event is missing")?;
-        assert_eq!(rt; event.place, row.place);
-        assert_eq!(rt; event.kind, row.kind);
+        same(rt, event.place, row.place);
+        same(rt, event.kind, row.kind);
         expect_counts(rt, event, row);
         expect_buffer(rt, event, row);
         expect_pending(rt, event, row);
         expect_bracket(rt, event, row);
     }
-    assert!(rt; events.next_event().is_none());
+    holds(rt, events.next_event().is_none());
     Ok(())
 }
 
@@ -212,7 +216,7 @@ fn gives_each_attachment_to_its_own_record(rt: HostRuntime) -> Result<(), Fail> 
         expect_start(&rt, event, *start);
     }
     for _ in 0..3 {
-        assert!(rt; events.next_event().is_none());
+        holds(&rt, events.next_event().is_none());
     }
     Ok(())
 }

@@ -1,6 +1,7 @@
 //! Objects by hand: each sort, and the edges of what is refused.
 
-use super::*;
+use crate::expect::{holds, same};
+use object_view::{BadObject, Cause, Object, Objects, Sort};
 use std::process::Abort;
 use transaction_view::Entry;
 
@@ -130,7 +131,7 @@ const NO_LISTS: &[&[u8]] = &[
 ];
 
 fn reader_of<'c>(rt: &impl Abort, body: &'c [u8], offsets: &'c [u8]) -> Objects<'c> {
-    assert!(rt; body.len() < 4096 && offsets.len() < 4096);
+    holds(rt, body.len() < 4096 && offsets.len() < 4096);
     Objects::of(Entry {
         place: 116,
         owner: 48,
@@ -144,13 +145,13 @@ fn reader_of<'c>(rt: &impl Abort, body: &'c [u8], offsets: &'c [u8]) -> Objects<
 fn expect(rt: &impl Abort, body: &[u8], offsets: &[u8], good: u64, bad: Option<BadObject>) {
     let mut reader = reader_of(rt, body, offsets);
     for _ in 0..good {
-        assert!(rt; matches!(reader.next_object(), Some(Ok(_))));
+        holds(rt, matches!(reader.next_object(), Some(Ok(_))));
     }
     if bad.is_some() {
-        assert_eq!(rt; reader.next_object().and_then(Result::err), bad);
+        same(rt, reader.next_object().and_then(Result::err), bad);
     }
     for _ in 0..2 {
-        assert!(rt; reader.next_object().is_none());
+        holds(rt, reader.next_object().is_none());
     }
 }
 
@@ -181,8 +182,8 @@ fn first_object<'c>(rt: &impl Abort, body: &'c [u8]) -> Object<'c> {
 
 fn expect_sort(rt: &impl Abort, (bytes, sort): (&[u8], Sort)) {
     let object = first_object(rt, bytes);
-    assert_eq!(rt; object.sort, sort);
-    assert_eq!(rt; object.bytes, bytes);
+    same(rt, object.sort, sort);
+    same(rt, object.bytes, bytes);
 }
 
 #[test]
@@ -195,20 +196,20 @@ fn reads_an_object_of_each_sort(rt: HostRuntime) {
 #[test]
 fn reads_the_fields(rt: HostRuntime) {
     let binder = first_object(&rt, BINDER);
-    assert_eq!(rt; binder.flags(), Some(0xa3a2_a1a0));
-    assert_eq!(rt; binder.binder(), Some(0xabaa_a9a8_a7a6_a5a4));
-    assert_eq!(rt; binder.cookie(), Some(0xb3b2_b1b0_afae_adac));
-    assert_eq!(rt; first_object(&rt, HANDLE).handle(), Some(0xa7a6_a5a4));
-    assert_eq!(rt; first_object(&rt, FD).fd(), Some(0xa7a6_a5a4));
+    same(&rt, binder.flags(), Some(0xa3a2_a1a0));
+    same(&rt, binder.binder(), Some(0xabaa_a9a8_a7a6_a5a4));
+    same(&rt, binder.cookie(), Some(0xb3b2_b1b0_afae_adac));
+    same(&rt, first_object(&rt, HANDLE).handle(), Some(0xa7a6_a5a4));
+    same(&rt, first_object(&rt, FD).fd(), Some(0xa7a6_a5a4));
     let array = first_object(&rt, FDA);
-    assert_eq!(rt; array.num_fds(), Some(0xabaa_a9a8_a7a6_a5a4));
-    assert_eq!(rt; array.parent(), Some(0xb3b2_b1b0_afae_adac));
-    assert_eq!(rt; array.parent_offset(), Some(0xbbba_b9b8_b7b6_b5b4));
+    same(&rt, array.num_fds(), Some(0xabaa_a9a8_a7a6_a5a4));
+    same(&rt, array.parent(), Some(0xb3b2_b1b0_afae_adac));
+    same(&rt, array.parent_offset(), Some(0xbbba_b9b8_b7b6_b5b4));
     let buffer = first_object(&rt, PTR);
-    assert_eq!(rt; buffer.buffer(), Some(0xabaa_a9a8_a7a6_a5a4));
-    assert_eq!(rt; buffer.length(), Some(0xb3b2_b1b0_afae_adac));
-    assert_eq!(rt; buffer.parent(), Some(0xbbba_b9b8_b7b6_b5b4));
-    assert_eq!(rt; buffer.parent_offset(), Some(0xc3c2_c1c0_bfbe_bdbc));
+    same(&rt, buffer.buffer(), Some(0xabaa_a9a8_a7a6_a5a4));
+    same(&rt, buffer.length(), Some(0xb3b2_b1b0_afae_adac));
+    same(&rt, buffer.parent(), Some(0xbbba_b9b8_b7b6_b5b4));
+    same(&rt, buffer.parent_offset(), Some(0xc3c2_c1c0_bfbe_bdbc));
 }
 
 #[test]

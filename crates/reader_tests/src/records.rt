@@ -1,8 +1,9 @@
 //! Records by their bytes, and the edges of what is refused.
 
-use super::*;
+use crate::expect::{holds, same};
 use binder_code::{Code, Kind};
 use capture_frame::{Direction, Fault, FaultKind, Frame};
+use record_view::{Record, Records};
 use std::process::Abort;
 use std::test::Fail;
 
@@ -72,14 +73,14 @@ fn expect_fault(
     rt: &impl Abort,
     (commands, records, kind): (&[u8], u64, FaultKind),
 ) -> Result<(), Fault> {
-    assert!(rt; records < 3);
+    holds(rt, records < 3);
     let place = 132 + 4 * records;
     let mut reader = Records::of(frame_of(Direction::Write, commands));
     for _ in 0..records {
-        assert!(rt; reader.next_record()?.is_some());
+        holds(rt, reader.next_record()?.is_some());
     }
     for _ in 0..2 {
-        assert_eq!(rt; reader.next_record().err(), Some(Fault { kind, place }));
+        same(rt, reader.next_record().err(), Some(Fault { kind, place }));
     }
     Ok(())
 }
@@ -90,10 +91,10 @@ fn expect_record(
     (place, kind, code, payload): (u64, Kind, u32, &[u8]),
 ) -> Result<(), Fail> {
     let record = reader.next_record()?.ok_or("a record is missing")?;
-    assert_eq!(rt; record.place, place);
-    assert_eq!(rt; record.kind, kind);
-    assert_eq!(rt; record.code, Code(code));
-    assert_eq!(rt; record.payload, payload);
+    same(rt, record.place, place);
+    same(rt, record.kind, kind);
+    same(rt, record.code, Code(code));
+    same(rt, record.payload, payload);
     Ok(())
 }
 
@@ -104,7 +105,7 @@ fn reads_record_by_record(rt: HostRuntime) -> Result<(), Fail> {
         expect_record(&rt, &mut reader, *row)?;
     }
     for _ in 0..2 {
-        assert!(rt; reader.next_record()?.is_none());
+        holds(&rt, reader.next_record()?.is_none());
     }
     Ok(())
 }
@@ -125,7 +126,7 @@ fn first_return(commands: &[u8]) -> Result<Option<Record<'_>>, Fault> {
 #[test]
 fn leaves_a_record_that_outlives_its_reader(rt: HostRuntime) -> Result<(), Fail> {
     let record = first_return(b"\x04\x72\x04\x80\x01\0\0\0")?.ok_or("no record")?;
-    assert_eq!(rt; record.kind, Kind::BrAcquireResult);
-    assert_eq!(rt; record.payload, b"\x01\0\0\0".as_slice());
+    same(&rt, record.kind, Kind::BrAcquireResult);
+    same(&rt, record.payload, b"\x01\0\0\0".as_slice());
     Ok(())
 }

@@ -1,7 +1,10 @@
 //! What each kind of record is expected to do, written out.
 
-use crate::*;
 use binder_code::Kind;
+use event_core::{
+    Bracket, HandleChange, Mark, NodeChange, NodeKey, OnewayKey, PendingChange, RequestChange,
+    RequestKey, Strength,
+};
 
 /// The first four bytes of most payloads.
 pub(super) const HANDLE: u32 = 0xa3a2_a1a0;

@@ -1,6 +1,7 @@
 //! File headers and frames by their bytes, and the edges of what is refused.
 
-use super::*;
+use crate::expect::{holds, same};
+use capture_frame::{Direction, Fault, FaultKind, Frame, Frames};
 use std::alloc::{AllocError, Global};
 use std::process::Abort;
 use std::test::Fail;
@@ -72,7 +73,7 @@ fn capture_with(alloc: Global, rest: &[u8]) -> Result<Vec<u8>, AllocError> {
 }
 
 fn expect_header_fault(rt: &impl Abort, (capture, kind, place): (&[u8], FaultKind, u64)) {
-    assert_eq!(rt; Frames::new(capture).err(), Some(Fault { kind, place }));
+    same(rt, Frames::new(capture).err(), Some(Fault { kind, place }));
 }
 
 /// The reader gives the first frame, and then the fault at each call.
@@ -83,9 +84,13 @@ fn expect_fault(
 ) -> Result<(), Fail> {
     let capture = capture_with(alloc, rest)?;
     let mut reader = Frames::new(capture.as_slice())?;
-    assert!(rt; reader.next_frame()?.is_some());
+    holds(rt, reader.next_frame()?.is_some());
     for _ in 0..2 {
-        assert_eq!(rt; reader.next_frame().err(), Some(Fault { kind, place: 52 }));
+        same(
+            rt,
+            reader.next_frame().err(),
+            Some(Fault { kind, place: 52 }),
+        );
     }
     Ok(())
 }
@@ -95,7 +100,7 @@ fn judges_the_file_header(rt: HostRuntime) {
     for row in HEADERS {
         expect_header_fault(&rt, *row);
     }
-    assert!(rt; Frames::new(&BEFORE[..16]).is_ok());
+    holds(&rt, Frames::new(&BEFORE[..16]).is_ok());
 }
 
 #[test]
@@ -107,17 +112,17 @@ fn judges_a_frame_header(rt: HostRuntime) -> Result<(), Fail> {
 }
 
 pub(crate) fn expect_number(rt: &impl Abort, found: u64, expected: u64) {
-    assert_eq!(rt; found, expected);
+    same(rt, found, expected);
 }
 
 pub(crate) fn expect_bytes(rt: &impl Abort, found: &[u8], expected: &[u8]) {
-    assert_eq!(rt; found, expected);
+    same(rt, found, expected);
 }
 
 fn expect_first(rt: &impl Abort, frame: Frame<'_>) {
     expect_number(rt, frame.place, 16);
     expect_number(rt, frame.sequence, 7);
-    assert!(rt; frame.direction == Direction::Write);
+    holds(rt, frame.direction == Direction::Write);
     expect_bytes(rt, frame.commands, b"\x0c\x63\0\0");
 }
 
@@ -126,7 +131,7 @@ fn expect_second(rt: &impl Abort, frame: Frame<'_>) {
     expect_number(rt, frame.sequence, 0x0102_0304_0506_0708);
     expect_number(rt, u64::from(frame.process), 0x090a_0b0c);
     expect_number(rt, u64::from(frame.thread), 0x0d0e_0f10);
-    assert!(rt; frame.direction == Direction::Read);
+    holds(rt, frame.direction == Direction::Read);
     expect_bytes(rt, frame.commands, b"commands");
     expect_bytes(rt, frame.attachments, b"end");
     expect_number(rt, frame.commands_place(), 84);
@@ -134,7 +139,7 @@ fn expect_second(rt: &impl Abort, frame: Frame<'_>) {
 }
 
 fn expect_end(rt: &impl Abort, reader: &mut Frames<'_>) -> Result<(), Fault> {
-    assert!(rt; reader.next_frame()?.is_none());
+    holds(rt, reader.next_frame()?.is_none());
     Ok(())
 }
 

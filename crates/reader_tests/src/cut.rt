@@ -1,8 +1,9 @@
 //! Whole captures at once: good ones, and one with each fault that a file header or a frame header
 //! has.
 
-use super::tests::{expect_bytes, expect_number};
-use super::*;
+use crate::expect::same;
+use crate::frames::{expect_bytes, expect_number};
+use capture_frame::{Cut, Fault, FaultKind, Frame, cut};
 use std::alloc::Global;
 use std::process::Abort;
 use std::test::Fail;
@@ -155,7 +156,7 @@ fn expect_frame(rt: &impl Abort, frame: Frame<'_>, place: u64, sequence: u64) {
 
 /// So many frames, each behind the one before it.
 fn expect_frames(rt: &impl Abort, frames: &[Frame<'_>], count: usize) {
-    assert_eq!(rt; frames.len(), count);
+    same(rt, frames.len(), count);
     let mut place = 16u64;
     let mut sequence = 1u64;
     for frame in frames {
@@ -168,11 +169,11 @@ fn expect_frames(rt: &impl Abort, frames: &[Frame<'_>], count: usize) {
 fn expect_cut(rt: &impl Abort, alloc: Global, row: Row) -> Result<(), Fail> {
     match cut(alloc, row.capture) {
         Ok(frames) => {
-            assert_eq!(rt; row.fault, None);
+            same(rt, row.fault, None);
             expect_frames(rt, &frames, row.frames);
         }
         Err(Cut::Bad { fault, before }) => {
-            assert_eq!(rt; row.fault, Some(fault));
+            same(rt, row.fault, Some(fault));
             expect_frames(rt, &before, row.frames);
         }
         Err(Cut::Memory) => return Err("no memory")?,

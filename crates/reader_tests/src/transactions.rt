@@ -1,12 +1,13 @@
 //! Transactions, attachment entries and whole captures by their bytes, and the edges of what is
 //! refused.
 
-use super::*;
+use crate::expect::{holds, same};
 use capture_frame::{Direction, Fault, FaultKind, Frame};
 use record_view::{Record, Records};
 use std::alloc::{AllocError, Global};
 use std::process::Abort;
 use std::test::Fail;
+use transaction_view::{Attachments, Entry, Transaction, check_frame, first_fault};
 
 // ---- transactions
 
@@ -40,7 +41,7 @@ const OPAQUE: &[u8] = b"\
 
 /// A write at 16, so that its records begin at 48.
 fn frame_of<'c>(rt: &impl Abort, commands: &'c [u8], attachments: &'c [u8]) -> Frame<'c> {
-    assert!(rt; commands.len() < 4096 && attachments.len() < 4096);
+    holds(rt, commands.len() < 4096 && attachments.len() < 4096);
     Frame {
         place: 16,
         sequence: 1,
@@ -64,26 +65,26 @@ fn first_record(rt: &impl Abort, commands: &'static [u8]) -> Record<'static> {
 fn reads_each_field(rt: HostRuntime) {
     let carrier = first_record(&rt, NUMBERED);
     let transaction = Transaction::of(carrier).expect(&rt, "no transaction");
-    assert_eq!(rt; transaction.carrier.place, 48);
-    assert_eq!(rt; transaction.target_handle(), 0x8382_8180);
-    assert_eq!(rt; transaction.target_ptr(), 0x8786_8584_8382_8180);
-    assert_eq!(rt; transaction.cookie(), 0x8f8e_8d8c_8b8a_8988);
-    assert_eq!(rt; transaction.code(), 0x9392_9190);
-    assert_eq!(rt; transaction.flags(), 0x9796_9594);
-    assert_eq!(rt; transaction.sender_pid(), -0x6465_6668);
-    assert_eq!(rt; transaction.sender_euid(), 0x9f9e_9d9c);
-    assert_eq!(rt; transaction.data_size(), 0xa7a6_a5a4_a3a2_a1a0);
-    assert_eq!(rt; transaction.offsets_size(), 0xafae_adac_abaa_a9a8);
-    assert_eq!(rt; transaction.buffer(), 0xb7b6_b5b4_b3b2_b1b0);
-    assert_eq!(rt; transaction.offsets(), 0xbfbe_bdbc_bbba_b9b8);
-    assert_eq!(rt; transaction.extra(), Some(0xc7c6_c5c4_c3c2_c1c0));
+    same(&rt, transaction.carrier.place, 48);
+    same(&rt, transaction.target_handle(), 0x8382_8180);
+    same(&rt, transaction.target_ptr(), 0x8786_8584_8382_8180);
+    same(&rt, transaction.cookie(), 0x8f8e_8d8c_8b8a_8988);
+    same(&rt, transaction.code(), 0x9392_9190);
+    same(&rt, transaction.flags(), 0x9796_9594);
+    same(&rt, transaction.sender_pid(), -0x6465_6668);
+    same(&rt, transaction.sender_euid(), 0x9f9e_9d9c);
+    same(&rt, transaction.data_size(), 0xa7a6_a5a4_a3a2_a1a0);
+    same(&rt, transaction.offsets_size(), 0xafae_adac_abaa_a9a8);
+    same(&rt, transaction.buffer(), 0xb7b6_b5b4_b3b2_b1b0);
+    same(&rt, transaction.offsets(), 0xbfbe_bdbc_bbba_b9b8);
+    same(&rt, transaction.extra(), Some(0xc7c6_c5c4_c3c2_c1c0));
 }
 
 #[test]
 fn tells_transactions_from_others(rt: HostRuntime) {
     let plain = Transaction::of(first_record(&rt, TRANSACTIONS)).expect(&rt, "no transaction");
-    assert_eq!(rt; plain.extra(), None);
-    assert!(rt; Transaction::of(first_record(&rt, OPAQUE)).is_none());
+    same(&rt, plain.extra(), None);
+    holds(&rt, Transaction::of(first_record(&rt, OPAQUE)).is_none());
 }
 
 // ---- entries
@@ -207,38 +208,38 @@ fn expect_entry(
     offsets: &[u8],
 ) -> Result<(), Fail> {
     let entry = reader.next_entry()?.ok_or("an entry is missing")?;
-    assert_eq!(rt; (entry.place, entry.owner), places);
-    assert_eq!(rt; entry.body, body);
-    assert_eq!(rt; entry.offsets, offsets);
+    same(rt, (entry.place, entry.owner), places);
+    same(rt, entry.body, body);
+    same(rt, entry.offsets, offsets);
     Ok(())
 }
 
 #[test]
 fn reads_entry_by_entry(rt: HostRuntime) -> Result<(), Fail> {
     let frame = frame_of(&rt, TRANSACTIONS, ENTRIES);
-    assert_eq!(rt; check_frame(frame), None);
+    same(&rt, check_frame(frame), None);
     let mut reader = reader_of(frame).ok_or("a record fails")?;
     expect_entry(&rt, &mut reader, (200, 48), b"body", b"\0\0\0\0\0\0\0\0")?;
     expect_entry(&rt, &mut reader, (224, 124), b"text", b"\x01\0\0\0\0\0\0\0")?;
     for _ in 0..2 {
-        assert!(rt; reader.next_entry()?.is_none());
+        holds(&rt, reader.next_entry()?.is_none());
     }
     Ok(())
 }
 
 /// The fault is that of the frame and, at each call behind the good entries, of the reader.
 fn expect_fault(rt: &impl Abort, (commands, attachments, good, kind): Row) -> Result<(), Fail> {
-    assert!(rt; good < 2 && commands.len() < 200);
+    holds(rt, good < 2 && commands.len() < 200);
     let place = 48 + commands.len() as u64 + 24 * good;
     let fault = Fault { kind, place };
     let frame = frame_of(rt, commands, attachments);
-    assert_eq!(rt; check_frame(frame), Some(fault));
+    same(rt, check_frame(frame), Some(fault));
     let mut reader = reader_of(frame).ok_or("a record fails")?;
     for _ in 0..good {
-        assert!(rt; reader.next_entry()?.is_some());
+        holds(rt, reader.next_entry()?.is_some());
     }
     for _ in 0..2 {
-        assert_eq!(rt; reader.next_entry().err(), Some(fault));
+        same(rt, reader.next_entry().err(), Some(fault));
     }
     Ok(())
 }
@@ -260,7 +261,7 @@ fn first_entry(frame: Frame<'_>) -> Result<Option<Entry<'_>>, Fail> {
 fn leaves_an_entry_that_outlives_its_reader(rt: HostRuntime) -> Result<(), Fail> {
     let frame = frame_of(&rt, TRANSACTIONS, ENTRIES);
     let entry = first_entry(frame)?.ok_or("no entry")?;
-    assert_eq!(rt; entry.body, b"body".as_slice());
+    same(&rt, entry.body, b"body".as_slice());
     Ok(())
 }
 
@@ -319,16 +320,16 @@ fn expect_first(
 ) -> Result<(), AllocError> {
     let mut capture = Vec::from_slice(alloc, CAPTURE)?;
     for (at, byte) in bytes {
-        assert!(rt; *at < capture.len());
+        holds(rt, *at < capture.len());
         capture[*at] = *byte;
     }
-    assert_eq!(rt; first_fault(&capture), Some(Fault { kind, place }));
+    same(rt, first_fault(&capture), Some(Fault { kind, place }));
     Ok(())
 }
 
 fn expect_cut(rt: &impl Abort, length: usize, kind: FaultKind, place: u64) {
     let cut = &CAPTURE[..length.min(CAPTURE.len())];
-    assert_eq!(rt; first_fault(cut), Some(Fault { kind, place }));
+    same(rt, first_fault(cut), Some(Fault { kind, place }));
 }
 
 #[test]
@@ -344,6 +345,6 @@ fn names_the_first_fault_of_a_cut_capture(rt: HostRuntime) {
     for (length, kind, place) in CUTS {
         expect_cut(&rt, *length, *kind, *place);
     }
-    assert_eq!(rt; first_fault(&CAPTURE[..140]), None);
-    assert_eq!(rt; first_fault(CAPTURE), None);
+    same(&rt, first_fault(&CAPTURE[..140]), None);
+    same(&rt, first_fault(CAPTURE), None);
 }
