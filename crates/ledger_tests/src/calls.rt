@@ -1,22 +1,20 @@
 //! Threads that are written out record by record, in one piece and in every two and three parts:
 //! against answers from outside, and against matching pair by pair.
 
-ghost use Rattle.std.specs.Prelude.{◌≤◌, length};
 ghost use Rattle.summary_law.specs.Fits.{IsPlaced};
 ghost use Rattle.call_stacks.specs.Calls.{event_place};
 
 mod captures;
 mod found;
-mod parts;
 mod plain;
 
+use crate::parts::{in_three_from_the_back, in_three_from_the_front, in_two, is_placed};
 use call_stacks::{ThreadCalls, Verdict};
 use captures::{Record, a_frame_each, events_of, two_frames};
 use event_core::Event;
 use found::{Found, expect_found};
-use parts::{are_placed, in_three_from_the_back, in_three_from_the_front, in_two};
 use plain::plain_calls;
-use std::alloc::Global;
+use std::alloc::{AllocError, Global};
 use std::process::Abort;
 use std::test::Fail;
 use summary_law::summary_of;
@@ -311,12 +309,10 @@ fn expect_in_three(
     next: usize,
 ) -> Result<(), Fail>
     requires placed { IsPlaced event_place events.now }
-    requires order { index ≤ next }
-    requires inside { next ≤ length events.now }
 {
-    let front = in_three_from_the_front(alloc, events, index, next)?;
+    let front: ThreadCalls<'_> = in_three_from_the_front(alloc, events, index, next)?;
     expect_found(rt, events, found, &front.finish()?);
-    let back = in_three_from_the_back(alloc, events, index, next)?;
+    let back: ThreadCalls<'_> = in_three_from_the_back(alloc, events, index, next)?;
     expect_found(rt, events, found, &back.finish()?);
     Ok(())
 }
@@ -330,9 +326,9 @@ fn expect_cut(
     index: usize,
 ) -> Result<(), Fail>
     requires placed { IsPlaced event_place events.now }
-    requires inside { index ≤ length events.now }
 {
-    expect_found(rt, events, found, &in_two(alloc, events, index)?.finish()?);
+    let calls: ThreadCalls<'_> = in_two(alloc, events, index)?;
+    expect_found(rt, events, found, &calls.finish()?);
     for next in index..=events.len() {
         expect_in_three(rt, alloc, events, found, index, next)?;
     }
@@ -346,7 +342,7 @@ fn expect_in_parts(
     events: &[Event<'_>],
     found: Found<'_>,
 ) -> Result<(), Fail> {
-    assert!(rt; are_placed(events));
+    assert!(rt; is_placed(events));
     let whole: ThreadCalls<'_> = summary_of(alloc, events)?;
     expect_found(rt, events, found, &whole.finish()?);
     for index in 0..=events.len() {
@@ -362,14 +358,19 @@ fn expect_thread(rt: &impl Abort, alloc: Global, thread: &Thread) -> Result<(), 
     expect_in_parts(rt, alloc, &events, thread.found)
 }
 
+/// The places of the events.
+fn expect_places(rt: &impl Abort, events: &[Event<'_>], places: &[u64]) {
+    assert_eq!(rt; events.len(), places.len());
+    for (event, place) in events.iter().zip(places) {
+        assert_eq!(rt; event.place, *place);
+    }
+}
+
 /// The calls of a thread of two frames.
 fn expect_joined(rt: &impl Abort, alloc: Global, row: &Joined) -> Result<(), Fail> {
     let capture = two_frames(alloc, row.first, row.second)?;
     let events = events_of(alloc, &capture)?;
-    assert_eq!(rt; events.len(), row.places.len());
-    for (event, place) in events.iter().zip(row.places) {
-        assert_eq!(rt; event.place, *place);
-    }
+    expect_places(rt, &events, row.places);
     expect_in_parts(rt, alloc, &events, row.found)
 }
 
@@ -434,16 +435,26 @@ fn matches_long_lists(rt: HostRuntime) -> Result<(), Fail> {
     Ok(())
 }
 
+/// A thousand calls that are answered, the innermost one first.
+fn nested(alloc: Global) -> Result<Vec<(usize, Verdict, Option<usize>)>, AllocError> {
+    let mut openers = Vec::new(alloc);
+    for index in 0..1000 {
+        openers.push((index, Verdict::Answered, Some(1999 - index)))?;
+    }
+    Ok(openers)
+}
+
 /// A thousand calls in one frame, each closed by one of a thousand replies in the next one.
 fn expect_nested(rt: &impl Abort, alloc: Global, events: &[Event<'_>]) -> Result<(), Fail> {
     assert_eq!(rt; events.len(), 2000);
-    assert!(rt; are_placed(events));
-    let found = in_two(alloc, events, 1000)?.finish()?;
-    assert_eq!(rt; found.openers.len(), 1000);
-    for (opener, closer) in found.openers.iter().zip(events.iter().rev()) {
-        assert_eq!(rt; opener.verdict, Verdict::Answered);
-        assert_eq!(rt; opener.closer, Some(closer.place));
-    }
+    assert!(rt; is_placed(events));
+    let calls: ThreadCalls<'_> = in_two(alloc, events, 1000)?;
+    let openers = nested(alloc)?;
+    let wanted = Found {
+        openers: &openers,
+        ..NONE
+    };
+    expect_found(rt, events, wanted, &calls.finish()?);
     Ok(())
 }
 

@@ -6,6 +6,8 @@
 #[cfg(test)]
 mod calls;
 #[cfg(test)]
+mod parts;
+#[cfg(test)]
 mod pending;
 #[cfg(test)]
 mod references;

@@ -1,11 +1,9 @@
 //! Opens and closes, requests, and their joins, at lists written by hand and at large ones.
 
-mod placed;
-
-use pending_ledger::{Buffers, Deaths, Requests};
+use crate::parts::{in_three_from_the_front, is_placed};
 use binder_code::Kind;
 use event_core::{BufferItem, PendingChange, PendingItem, RequestChange, RequestItem, RequestKey};
-use placed::{is_placed, joined_in_three};
+use pending_ledger::{Buffers, Deaths, Requests};
 use std::alloc::{AllocError, Global};
 use std::process::Abort;
 use std::test::Fail;
@@ -314,15 +312,15 @@ fn expect_parts(
 ) -> Result<(), AllocError> {
     let items = deaths_of(alloc, &DOZEN)?;
     assert!(rt; is_placed(items.as_slice()));
-    let deaths: Deaths = joined_in_three(alloc, items.as_slice(), first, second)?;
+    let deaths: Deaths = in_three_from_the_front(alloc, items.as_slice(), first, second)?;
     expect_deaths(rt, &deaths, &DOZEN, alloc)?;
     let items = buffers_of(alloc, &DOZEN)?;
     assert!(rt; is_placed(items.as_slice()));
-    let buffers: Buffers = joined_in_three(alloc, items.as_slice(), first, second)?;
+    let buffers: Buffers = in_three_from_the_front(alloc, items.as_slice(), first, second)?;
     expect_buffers(rt, &buffers, &DOZEN, alloc)?;
     let items = requests_of(alloc, &DOZEN_ASKED)?;
     assert!(rt; is_placed(items.as_slice()));
-    let requests: Requests = joined_in_three(alloc, items.as_slice(), first, second)?;
+    let requests: Requests = in_three_from_the_front(alloc, items.as_slice(), first, second)?;
     expect_requests(rt, &requests, &DOZEN_ASKED, alloc)
 }
 

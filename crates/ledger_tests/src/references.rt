@@ -2,4 +2,3 @@
 
 mod handles;
 mod nodes;
-mod parts;

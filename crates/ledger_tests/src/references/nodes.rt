@@ -1,11 +1,8 @@
 //! Nodes.
 
-ghost use Rattle.std.specs.Prelude.{◌++◌};
-ghost use Rattle.summary_law.specs.Fits.{IsShort};
-
-use super::parts::in_three;
-use handle_ledger::{NodeLedger, NodeRow};
+use crate::parts::in_three_from_the_front;
 use event_core::{NodeChange, NodeItem, NodeKey, Strength};
+use handle_ledger::{NodeLedger, NodeRow};
 use std::alloc::{AllocError, Global};
 use std::process::Abort;
 use std::test::Fail;
@@ -80,17 +77,14 @@ const ROWS: &[NodeRow] = &[
     row!(18446744073709551615, 18446744073709551615, 0, 0, 1, 0, 0, 0),
 ];
 
-/// The ledger of three parts of the items has the rows of all.
+/// The ledger of the three parts of the items that end at these has the rows of all.
 fn expect_rows(
     rt: &impl Abort,
     alloc: Global,
-    first: &[NodeItem],
-    second: &[NodeItem],
-    third: &[NodeItem],
-) -> Result<(), AllocError>
-    requires { IsShort (first.now ++ second.now ++ third.now) }
-{
-    let ledger: NodeLedger = in_three(alloc, first, second, third)?;
+    first_end: usize,
+    second_end: usize,
+) -> Result<(), AllocError> {
+    let ledger: NodeLedger = in_three_from_the_front(alloc, ITEMS, first_end, second_end)?;
     let rows = ledger.rows(alloc)?;
     assert!(rt; rows.as_slice() == ROWS);
     Ok(())
@@ -98,11 +92,9 @@ fn expect_rows(
 
 #[test]
 fn every_split_has_the_rows_of_the_whole(rt: HostRuntime) -> Result<(), Fail> {
-    for end in 0..=ITEMS.len() {
-        let (front, third) = ITEMS.split_at(end);
-        for middle in 0..=front.len() {
-            let (first, second) = front.split_at(middle);
-            expect_rows(&rt, rt.alloc(), first, second, third)?;
+    for second in 0..=ITEMS.len() {
+        for first in 0..=second {
+            expect_rows(&rt, rt.alloc(), first, second)?;
         }
     }
     Ok(())

@@ -4,9 +4,9 @@ ghost use Rattle.std.specs.Prelude.{if◌then◌else◌};
 ghost use Rattle.summary_law.specs.Count.{raises, lowers, IsCountOf};
 ghost use Rattle.summary_law.specs.Fits.{IsShort, short_parts};
 
-use summary_law::{ByKey, Count, Summary, summary_of};
 use std::alloc::{AllocError, Global};
 use std::test::Fail;
+use summary_law::{ByKey, Count, Summary, summary_of};
 
 /// The count of references that are taken, `true`, and let go, `false`.
 #[derive(Drop)]

@@ -5,11 +5,11 @@ ghost use Rattle.std.specs.Ordering.{nat_cmp};
 ghost use Rattle.summary_law.specs.Fits.{IsShort, short_parts};
 ghost use Rattle.summary_law.specs.Tally.{TallySums};
 
-use summary_law::{Summary, Tally, join_all};
 use std::alloc::{AllocError, Global};
 use std::process::Abort;
 use std::test::Fail;
 use std::thread::Threads;
+use summary_law::{Summary, Tally, join_all};
 
 /// A number and bytes of a capture.
 #[derive(Clone, Copy)]

@@ -3,9 +3,9 @@
 ghost use Rattle.std.specs.Prelude.{◌≡◌, ◌≤◌, [], All, Contains, MatchOption};
 ghost use Rattle.summary_law.specs.Fits.{IsPlaced, placed_parts};
 
-use summary_law::Summary;
 use std::alloc::{AllocError, Global};
 use std::test::Fail;
+use summary_law::Summary;
 
 /// The greatest place, which is the last item's since places rise.
 #[derive(Drop)]

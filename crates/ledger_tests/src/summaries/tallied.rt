@@ -3,11 +3,11 @@
 ghost use Rattle.std.specs.Prelude.{◌++◌};
 ghost use Rattle.summary_law.specs.Tally.{AreWeighted};
 
-use summary_law::{Amount, Count, Summary, Tally, join_all, summary_of};
 use std::alloc::{AllocError, Global};
 use std::process::Abort;
 use std::test::Fail;
 use std::thread::Threads;
+use summary_law::{Amount, Count, Summary, Tally, join_all, summary_of};
 
 /// Two sends of the greatest size to one handle.
 const GREATEST: &[(u32, u64)] = &[(2, 18446744073709551615), (2, 18446744073709551615)];

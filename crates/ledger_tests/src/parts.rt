@@ -1,18 +1,19 @@
-//! Lists whose places rise, looked at as they come, and their parts.
+//! Lists whose places rise, looked at as they come, and summaries of lists from those of their parts.
 
 ghost use Rattle.std.specs.Bool.{OnTrue};
 ghost use Rattle.std.specs.Prelude.{◌≡◌, ℕ};
+ghost use Rattle.call_stacks.specs.Calls.{event_place};
 ghost use Rattle.pending_ledger.specs.Ledgers.{buffer_place};
 ghost use Rattle.pending_ledger.specs.Pending.{place_of};
 ghost use Rattle.pending_ledger.specs.Requests.{request_place};
 ghost use Rattle.summary_law.specs.Fits.{IsPlaced};
 
-use event_core::{BufferItem, PendingItem, RequestItem};
+use event_core::{BufferItem, Event, PendingItem, RequestItem};
 use std::alloc::{AllocError, Global};
 use summary_law::{Summary, summary_of};
 
 /// An item that stands at a place.
-pub trait Placed: Copy {
+pub(crate) trait Placed: Copy {
     /// Where it stands.
     ghost place_in: { Self → ℕ };
 
@@ -44,8 +45,16 @@ impl Placed for RequestItem {
     }
 }
 
+impl<'c> Placed for Event<'c> {
+    ghost place_in = { event_place };
+
+    fn place(self) -> u64 {
+        self.place
+    }
+}
+
 /// Whether there are at most 2^32 items, and their places rise.
-pub fn is_placed<T: Placed>(items: &[T]) -> bool
+pub(crate) fn is_placed<T: Placed>(items: &[T]) -> bool
     ensures { OnTrue result (IsPlaced T.place_in items.now) }
 {
     if items.len() > 4_294_967_296 {
@@ -62,9 +71,25 @@ pub fn is_placed<T: Placed>(items: &[T]) -> bool
     true
 }
 
-/// The summary of three parts of the items, joined: of those before the first end, those before the
-/// second, and the rest.
-pub fn joined_in_three<S: Summary>(
+/// The summary of the items before an end and that of the rest, joined.
+pub(crate) fn in_two<S: Summary>(
+    alloc: Global,
+    items: &[S::Item],
+    end: usize,
+) -> Result<S, AllocError>
+where
+    S::Item: Copy,
+    requires { S.fits items.now }
+{
+    let (front, back) = items.split_at(end.min(items.len()));
+    let earlier: S = summary_of(alloc, front)?;
+    let later: S = summary_of(alloc, back)?;
+    earlier.join(later)
+}
+
+/// The summary of three parts of the items, the first two joined first: of those before the first
+/// end, those before the second, and the rest.
+pub(crate) fn in_three_from_the_front<S: Summary>(
     alloc: Global,
     items: &[S::Item],
     first_end: usize,
@@ -81,4 +106,24 @@ where
     let both = earlier.join(later)?;
     let last: S = summary_of(alloc, third)?;
     both.join(last)
+}
+
+/// The same, the last two joined first.
+pub(crate) fn in_three_from_the_back<S: Summary>(
+    alloc: Global,
+    items: &[S::Item],
+    first_end: usize,
+    second_end: usize,
+) -> Result<S, AllocError>
+where
+    S::Item: Copy,
+    requires { S.fits items.now }
+{
+    let (first, back) = items.split_at(first_end.min(items.len()));
+    let (second, third) = back.split_at(second_end.saturating_sub(first_end).min(back.len()));
+    let earlier: S = summary_of(alloc, second)?;
+    let later: S = summary_of(alloc, third)?;
+    let both = earlier.join(later)?;
+    let earliest: S = summary_of(alloc, first)?;
+    earliest.join(both)
 }

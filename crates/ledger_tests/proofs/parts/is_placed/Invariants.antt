@@ -1,6 +1,6 @@
 use Rattle.std.proofs.Common.{◌<◌, All, take}
 use Rattle.summary_law.specs.Fits.{PlacesRise}
-use Rattle.ledger_tests.proofs.pending.placed.is_placed.Given as goal
+use Rattle.ledger_tests.proofs.parts.is_placed.Given as goal
 
 abbrev pub invariant-loop-item : goal.invariant-loop-item
 invariant-loop-item g l = record {
