@@ -9,5 +9,4 @@ pub mod Steps
 pub mod Sums
 pub mod Joins
 pub mod JoinedMatch
-pub mod PartLaws
 pub mod Retold

@@ -11,6 +11,3 @@ pub use findings::{CallFindings, RefusedSend};
 pub use opener::Opener;
 pub use thread_calls::ThreadCalls;
 pub use verdict::Verdict;
-
-#[cfg(test)]
-mod tests;

@@ -13,6 +13,3 @@ pub use handle_row::HandleRow;
 pub use handles::HandleLedger;
 pub use node_row::NodeRow;
 pub use nodes::NodeLedger;
-
-#[cfg(test)]
-mod tests;

@@ -14,6 +14,3 @@ mod strays;
 pub use buffers::Buffers;
 pub use pending::{Clears, Deaths, Pending};
 pub use requests::Requests;
-
-#[cfg(test)]
-mod tests;

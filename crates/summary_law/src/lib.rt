@@ -18,6 +18,3 @@ pub use halves::join_all;
 pub use list::summary_of;
 pub use summary::Summary;
 pub use tally::Tally;
-
-#[cfg(test)]
-mod tests;

@@ -1,0 +1,400 @@
+//! Opens and closes, requests, and their joins, at lists written by hand and at large ones.
+
+use crate::parts::{in_three_from_the_front, is_placed};
+use binder_code::Kind;
+use event_core::{BufferItem, PendingChange, PendingItem, RequestChange, RequestItem, RequestKey};
+use pending_ledger::{Buffers, Deaths, Requests};
+use std::alloc::{AllocError, Global};
+use std::process::Abort;
+use std::test::Fail;
+use summary_law::summary_of;
+
+/// Opens and closes of keys, whose places are 0, 1 and so on, and the places that they leave.
+#[derive(Clone, Copy)]
+struct Pairs {
+    steps: &'static [(PendingChange, u64)],
+    outstanding: &'static [u64],
+    strays: &'static [u64],
+}
+
+const OPEN: PendingChange = PendingChange::Open;
+
+const CLOSE: PendingChange = PendingChange::Close;
+
+const PAIRS: &[Pairs] = &[
+    // two deliveries of one address and one free, and two frees
+    Pairs {
+        steps: &[(OPEN, 16), (OPEN, 16), (CLOSE, 16)],
+        outstanding: &[],
+        strays: &[],
+    },
+    Pairs {
+        steps: &[(OPEN, 16), (OPEN, 16), (CLOSE, 16), (CLOSE, 16)],
+        outstanding: &[],
+        strays: &[3],
+    },
+    // a free before the deliveries, and one after
+    Pairs {
+        steps: &[(CLOSE, 16), (OPEN, 16), (OPEN, 16)],
+        outstanding: &[1, 2],
+        strays: &[0],
+    },
+    Pairs {
+        steps: &[(OPEN, 16), (CLOSE, 16)],
+        outstanding: &[],
+        strays: &[],
+    },
+    // done before dead
+    Pairs {
+        steps: &[(CLOSE, 1), (OPEN, 1)],
+        outstanding: &[1],
+        strays: &[0],
+    },
+    // confirmed twice
+    Pairs {
+        steps: &[(OPEN, 1), (CLOSE, 1), (CLOSE, 1)],
+        outstanding: &[],
+        strays: &[2],
+    },
+    // other keys
+    Pairs {
+        steps: &[(OPEN, 9), (OPEN, 3), (CLOSE, 4), (OPEN, 9), (CLOSE, 2)],
+        outstanding: &[0, 1, 3],
+        strays: &[2, 4],
+    },
+    // opened again
+    Pairs {
+        steps: &[(OPEN, 9), (CLOSE, 9), (OPEN, 9)],
+        outstanding: &[2],
+        strays: &[],
+    },
+    Pairs {
+        steps: &[],
+        outstanding: &[],
+        strays: &[],
+    },
+];
+
+/// A dozen opens and closes of four keys.
+const DOZEN: Pairs = Pairs {
+    steps: &[
+        (CLOSE, 5),
+        (OPEN, 5),
+        (OPEN, 7),
+        (OPEN, 5),
+        (CLOSE, 7),
+        (CLOSE, 7),
+        (CLOSE, 5),
+        (OPEN, 8),
+        (CLOSE, 5),
+        (OPEN, 5),
+        (CLOSE, 6),
+        (OPEN, 7),
+    ],
+    outstanding: &[7, 9, 11],
+    strays: &[0, 5, 8, 10],
+};
+
+/// Changes of requests, whose places are 0, 1 and so on, and the places of those that stand.
+#[derive(Clone, Copy)]
+struct Asked {
+    changes: &'static [RequestChange],
+    standing: &'static [u64],
+}
+
+const KEY: RequestKey = RequestKey {
+    handle: 7,
+    cookie: 1,
+};
+
+const OTHER_COOKIE: RequestKey = RequestKey {
+    handle: 7,
+    cookie: 2,
+};
+
+const OTHER_HANDLE: RequestKey = RequestKey {
+    handle: 8,
+    cookie: 1,
+};
+
+const REQUEST: RequestChange = RequestChange::Request(KEY);
+
+const CLEAR: RequestChange = RequestChange::Clear(KEY);
+
+const DEAD: RequestChange = RequestChange::Dead { cookie: 1 };
+
+const REQUEST_OTHER: RequestChange = RequestChange::Request(OTHER_HANDLE);
+
+const ASKED: &[Asked] = &[
+    Asked {
+        changes: &[REQUEST, CLEAR],
+        standing: &[],
+    },
+    // the right handle and another cookie, and the other way round
+    Asked {
+        changes: &[REQUEST, RequestChange::Clear(OTHER_COOKIE)],
+        standing: &[0],
+    },
+    Asked {
+        changes: &[REQUEST, RequestChange::Clear(OTHER_HANDLE)],
+        standing: &[0],
+    },
+    // two requests of one cookie, and its death
+    Asked {
+        changes: &[REQUEST, REQUEST_OTHER, DEAD],
+        standing: &[],
+    },
+    // the death before the request
+    Asked {
+        changes: &[DEAD, REQUEST],
+        standing: &[1],
+    },
+    Asked {
+        changes: &[CLEAR, REQUEST, REQUEST],
+        standing: &[1, 2],
+    },
+    Asked {
+        changes: &[REQUEST, RequestChange::Dead { cookie: 2 }],
+        standing: &[0],
+    },
+];
+
+/// A dozen changes of three cookies.
+const DOZEN_ASKED: Asked = Asked {
+    changes: &[
+        REQUEST,
+        REQUEST_OTHER,
+        DEAD,
+        REQUEST,
+        RequestChange::Request(OTHER_COOKIE),
+        RequestChange::Clear(OTHER_HANDLE),
+        REQUEST_OTHER,
+        CLEAR,
+        RequestChange::Dead { cookie: 3 },
+        REQUEST,
+        RequestChange::Clear(OTHER_COOKIE),
+        RequestChange::Request(OTHER_COOKIE),
+    ],
+    standing: &[6, 9, 11],
+};
+
+/// The opens and closes as deaths.
+fn deaths_of(alloc: Global, pairs: &Pairs) -> Result<Vec<PendingItem<u64>>, AllocError> {
+    let mut items = Vec::new(alloc);
+    for (place, (change, key)) in pairs.steps.iter().enumerate() {
+        items.push(PendingItem {
+            place: place as u64,
+            key: *key,
+            change: *change,
+        })?;
+    }
+    Ok(items)
+}
+
+/// The same as deliveries and frees.
+fn buffers_of(alloc: Global, pairs: &Pairs) -> Result<Vec<BufferItem>, AllocError> {
+    let mut items = Vec::new(alloc);
+    for (place, (change, address)) in pairs.steps.iter().enumerate() {
+        let place = place as u64;
+        let address = *address;
+        items.push(match change {
+            PendingChange::Open => delivery(place, address),
+            PendingChange::Close => BufferItem::Free { place, address },
+        })?;
+    }
+    Ok(items)
+}
+
+/// A delivery, by turns in each of the three kinds that deliver.
+fn delivery(place: u64, address: u64) -> BufferItem {
+    let kind = match place % 3 {
+        0 => Kind::BrTransaction,
+        1 => Kind::BrTransactionSecCtx,
+        _ => Kind::BrReply,
+    };
+    BufferItem::Delivery {
+        place,
+        address,
+        data_size: 24,
+        kind,
+    }
+}
+
+/// The changes at their places.
+fn requests_of(alloc: Global, asked: &Asked) -> Result<Vec<RequestItem>, AllocError> {
+    let mut items = Vec::new(alloc);
+    for (place, change) in asked.changes.iter().enumerate() {
+        items.push(RequestItem {
+            place: place as u64,
+            change: *change,
+        })?;
+    }
+    Ok(items)
+}
+
+/// The deaths leave what is expected.
+fn expect_deaths(
+    rt: &impl Abort,
+    deaths: &Deaths,
+    pairs: &Pairs,
+    alloc: Global,
+) -> Result<(), AllocError> {
+    let outstanding = deaths.outstanding(alloc)?;
+    assert!(rt; outstanding.as_slice() == pairs.outstanding);
+    let strays = deaths.strays(alloc)?;
+    assert!(rt; strays.as_slice() == pairs.strays);
+    Ok(())
+}
+
+/// The buffers do.
+fn expect_buffers(
+    rt: &impl Abort,
+    buffers: &Buffers,
+    pairs: &Pairs,
+    alloc: Global,
+) -> Result<(), AllocError> {
+    let outstanding = buffers.outstanding(alloc)?;
+    assert!(rt; outstanding.as_slice() == pairs.outstanding);
+    let strays = buffers.strays(alloc)?;
+    assert!(rt; strays.as_slice() == pairs.strays);
+    Ok(())
+}
+
+/// The requests that stand are those that are expected.
+fn expect_requests(
+    rt: &impl Abort,
+    requests: &Requests,
+    asked: &Asked,
+    alloc: Global,
+) -> Result<(), AllocError> {
+    let standing = requests.outstanding(alloc)?;
+    assert!(rt; standing.as_slice() == asked.standing);
+    Ok(())
+}
+
+/// The pairs as deaths and as buffers leave what is expected.
+fn expect_pairs(rt: &impl Abort, alloc: Global, pairs: &Pairs) -> Result<(), AllocError> {
+    let items = deaths_of(alloc, pairs)?;
+    assert!(rt; is_placed(items.as_slice()));
+    let deaths: Deaths = summary_of(alloc, items.as_slice())?;
+    expect_deaths(rt, &deaths, pairs, alloc)?;
+    let items = buffers_of(alloc, pairs)?;
+    assert!(rt; is_placed(items.as_slice()));
+    let buffers: Buffers = summary_of(alloc, items.as_slice())?;
+    expect_buffers(rt, &buffers, pairs, alloc)
+}
+
+/// The changes leave the requests that are expected.
+fn expect_asked(rt: &impl Abort, alloc: Global, asked: &Asked) -> Result<(), AllocError> {
+    let items = requests_of(alloc, asked)?;
+    assert!(rt; is_placed(items.as_slice()));
+    let requests: Requests = summary_of(alloc, items.as_slice())?;
+    expect_requests(rt, &requests, asked, alloc)
+}
+
+#[test]
+fn lists_of_short_lists(rt: HostRuntime) -> Result<(), Fail> {
+    for pairs in PAIRS {
+        expect_pairs(&rt, rt.alloc(), pairs)?;
+    }
+    for asked in ASKED {
+        expect_asked(&rt, rt.alloc(), asked)?;
+    }
+    Ok(())
+}
+
+/// The lists of the three parts that end at these items, joined, are those of the whole.
+fn expect_parts(
+    rt: &impl Abort,
+    alloc: Global,
+    first: usize,
+    second: usize,
+) -> Result<(), AllocError> {
+    let items = deaths_of(alloc, &DOZEN)?;
+    assert!(rt; is_placed(items.as_slice()));
+    let deaths: Deaths = in_three_from_the_front(alloc, items.as_slice(), first, second)?;
+    expect_deaths(rt, &deaths, &DOZEN, alloc)?;
+    let items = buffers_of(alloc, &DOZEN)?;
+    assert!(rt; is_placed(items.as_slice()));
+    let buffers: Buffers = in_three_from_the_front(alloc, items.as_slice(), first, second)?;
+    expect_buffers(rt, &buffers, &DOZEN, alloc)?;
+    let items = requests_of(alloc, &DOZEN_ASKED)?;
+    assert!(rt; is_placed(items.as_slice()));
+    let requests: Requests = in_three_from_the_front(alloc, items.as_slice(), first, second)?;
+    expect_requests(rt, &requests, &DOZEN_ASKED, alloc)
+}
+
+#[test]
+fn every_split_has_the_lists_of_the_whole(rt: HostRuntime) -> Result<(), Fail> {
+    for second in 0..=DOZEN.steps.len() {
+        for first in 0..=second {
+            expect_parts(&rt, rt.alloc(), first, second)?;
+        }
+    }
+    Ok(())
+}
+
+/// So many deliveries, none of which is freed, and then their frees in reverse.
+fn deliveries_and_frees(
+    alloc: Global,
+    count: u64,
+    freed: u64,
+) -> Result<Vec<BufferItem>, AllocError> {
+    let mut items = Vec::new(alloc);
+    for place in 0..count {
+        items.push(delivery(place, place))?;
+    }
+    for nth in 0..freed {
+        items.push(BufferItem::Free {
+            place: count.saturating_add(nth),
+            address: count.saturating_sub(nth).saturating_sub(1),
+        })?;
+    }
+    Ok(items)
+}
+
+/// So many requests of one cookie, each of a handle of its own, and then its death.
+fn requests_and_death(alloc: Global, count: u32) -> Result<Vec<RequestItem>, AllocError> {
+    let mut items = Vec::new(alloc);
+    for handle in 0..count {
+        items.push(RequestItem {
+            place: u64::from(handle),
+            change: RequestChange::Request(RequestKey { handle, cookie: 1 }),
+        })?;
+    }
+    items.push(RequestItem {
+        place: u64::from(count),
+        change: DEAD,
+    })?;
+    Ok(items)
+}
+
+/// How many of the deliveries are leaked.
+fn leaked(rt: &impl Abort, alloc: Global, items: &[BufferItem]) -> Result<usize, AllocError> {
+    assert!(rt; is_placed(items));
+    let buffers: Buffers = summary_of(alloc, items)?;
+    let strays = buffers.strays(alloc)?;
+    assert!(rt; strays.is_empty());
+    Ok(buffers.outstanding(alloc)?.len())
+}
+
+/// How many of the requests stand.
+fn standing(rt: &impl Abort, alloc: Global, items: &[RequestItem]) -> Result<usize, AllocError> {
+    assert!(rt; is_placed(items));
+    let requests: Requests = summary_of(alloc, items)?;
+    Ok(requests.outstanding(alloc)?.len())
+}
+
+#[test]
+fn many_deliveries_and_requests(rt: HostRuntime) -> Result<(), Fail> {
+    let alloc = rt.alloc();
+    let items = deliveries_and_frees(alloc, 100_000, 0)?;
+    assert!(rt; leaked(&rt, alloc, items.as_slice())? == 100_000);
+    let items = deliveries_and_frees(alloc, 100_000, 100_000)?;
+    assert!(rt; leaked(&rt, alloc, items.as_slice())? == 0);
+    let items = requests_and_death(alloc, 1_000_000)?;
+    let (requests, _death) = items.as_slice().split_at(1_000_000.min(items.len()));
+    assert!(rt; standing(&rt, alloc, requests)? == 1_000_000);
+    assert!(rt; standing(&rt, alloc, items.as_slice())? == 0);
+    Ok(())
+}

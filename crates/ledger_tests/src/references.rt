@@ -1,0 +1,4 @@
+//! Ledgers of items typed by hand, against rows typed by hand.
+
+mod handles;
+mod nodes;

@@ -1,0 +1,108 @@
+//! Handles.
+
+use crate::parts::in_three_from_the_front;
+use event_core::{HandleChange, HandleItem, Strength};
+use handle_ledger::{HandleLedger, HandleRow};
+use std::alloc::{AllocError, Global};
+use std::process::Abort;
+use std::test::Fail;
+use summary_law::{Count, summary_of};
+
+/// A handle, and what is done to its references of a strength.
+macro_rules! item {
+    ($handle:literal, $strength:ident, $change:ident) => {
+        HandleItem {
+            handle: $handle,
+            strength: Strength::$strength,
+            change: HandleChange::$change,
+        }
+    };
+}
+
+/// A handle, its strong count and low, and its weak count and low.
+macro_rules! row {
+    ($handle:literal, $strong:literal, $strong_low:literal, $weak:literal, $weak_low:literal) => {
+        HandleRow {
+            handle: $handle,
+            strong: Count {
+                sum: $strong,
+                low: $strong_low,
+            },
+            weak: Count {
+                sum: $weak,
+                low: $weak_low,
+            },
+        }
+    };
+}
+
+/// The least and the greatest handle; 1 to 4 named by one command each; 5 by a strong and a weak
+/// one; and 6 let go before it is taken.
+const ITEMS: &[HandleItem] = &[
+    item!(4, Weak, Lower),
+    item!(6, Strong, Lower),
+    item!(1, Strong, Raise),
+    item!(5, Strong, Raise),
+    item!(4294967295, Weak, Raise),
+    item!(5, Weak, Lower),
+    item!(2, Strong, Lower),
+    item!(6, Strong, Raise),
+    item!(0, Strong, Raise),
+    item!(3, Weak, Raise),
+    item!(2, Strong, Lower),
+    item!(0, Strong, Lower),
+];
+
+const ROWS: &[HandleRow] = &[
+    row!(0, 0, 0, 0, 0),
+    row!(1, 1, 0, 0, 0),
+    row!(2, -2, -2, 0, 0),
+    row!(3, 0, 0, 1, 0),
+    row!(4, 0, 0, -1, -1),
+    row!(5, 1, 0, -1, -1),
+    row!(6, 0, -1, 0, 0),
+    row!(4294967295, 0, 0, 1, 0),
+];
+
+/// The ledger of the three parts of the items that end at these has the rows of all.
+fn expect_rows(
+    rt: &impl Abort,
+    alloc: Global,
+    first_end: usize,
+    second_end: usize,
+) -> Result<(), AllocError> {
+    let ledger: HandleLedger = in_three_from_the_front(alloc, ITEMS, first_end, second_end)?;
+    let rows = ledger.rows(alloc)?;
+    assert!(rt; rows.as_slice() == ROWS);
+    Ok(())
+}
+
+#[test]
+fn every_split_has_the_rows_of_the_whole(rt: HostRuntime) -> Result<(), Fail> {
+    for second in 0..=ITEMS.len() {
+        for first in 0..=second {
+            expect_rows(&rt, rt.alloc(), first, second)?;
+        }
+    }
+    Ok(())
+}
+
+#[test]
+fn ten_thousand_handles_come_in_falling_order(rt: HostRuntime) -> Result<(), Fail> {
+    let mut items = Vec::new(rt.alloc());
+    for handle in (0..10000).rev() {
+        items.push(HandleItem {
+            handle,
+            strength: Strength::Weak,
+            change: HandleChange::Raise,
+        })?;
+    }
+    assert!(rt; items.len() == 10000);
+    let ledger: HandleLedger = summary_of(rt.alloc(), items.as_slice())?;
+    let rows = ledger.rows(rt.alloc())?;
+    assert!(rt; rows.len() == 10000);
+    for (place, row) in rows.iter().enumerate() {
+        assert!(rt; row.handle as usize == place);
+    }
+    Ok(())
+}

@@ -1,0 +1,101 @@
+//! Nodes.
+
+use crate::parts::in_three_from_the_front;
+use event_core::{NodeChange, NodeItem, NodeKey, Strength};
+use handle_ledger::{NodeLedger, NodeRow};
+use std::alloc::{AllocError, Global};
+use std::process::Abort;
+use std::test::Fail;
+use summary_law::Count;
+
+/// A node by its ptr and its cookie, and what is done to its references of a strength.
+macro_rules! item {
+    ($ptr:literal, $cookie:literal, $strength:ident, $change:ident) => {
+        NodeItem {
+            node: NodeKey {
+                ptr: $ptr,
+                cookie: $cookie,
+            },
+            strength: Strength::$strength,
+            change: NodeChange::$change,
+        }
+    };
+}
+
+/// A node by its ptr and its cookie, its strong count and low, its weak count and low, and its
+/// strong due and weak due.
+macro_rules! row {
+    (
+        $ptr:literal, $cookie:literal, $strong:literal, $strong_low:literal,
+        $weak:literal, $weak_low:literal, $strong_due:literal, $weak_due:literal
+    ) => {
+        NodeRow {
+            key: NodeKey {
+                ptr: $ptr,
+                cookie: $cookie,
+            },
+            strong: Count {
+                sum: $strong,
+                low: $strong_low,
+            },
+            weak: Count {
+                sum: $weak,
+                low: $weak_low,
+            },
+            strong_due: $strong_due,
+            weak_due: $weak_due,
+        }
+    };
+}
+
+/// The least and the greatest node; and under each of the ptrs 1 and 2 three nodes, each named by
+/// one record.
+const ITEMS: &[NodeItem] = &[
+    item!(2, 3, Weak, Done),
+    item!(18446744073709551615, 18446744073709551615, Weak, Raise),
+    item!(1, 2, Strong, Lower),
+    item!(0, 0, Strong, Raise),
+    item!(2, 1, Weak, Raise),
+    item!(0, 18446744073709551615, Strong, Lower),
+    item!(1, 3, Strong, Done),
+    item!(0, 0, Strong, Done),
+    item!(2, 2, Weak, Lower),
+    item!(18446744073709551615, 18446744073709551615, Weak, Done),
+    item!(1, 1, Strong, Raise),
+    item!(0, 0, Strong, Lower),
+];
+
+const ROWS: &[NodeRow] = &[
+    row!(0, 0, 0, 0, 0, 0, 0, 0),
+    row!(0, 18446744073709551615, -1, -1, 0, 0, 0, 0),
+    row!(1, 1, 1, 0, 0, 0, 1, 0),
+    row!(1, 2, -1, -1, 0, 0, 0, 0),
+    row!(1, 3, 0, 0, 0, 0, -1, 0),
+    row!(2, 1, 0, 0, 1, 0, 0, 1),
+    row!(2, 2, 0, 0, -1, -1, 0, 0),
+    row!(2, 3, 0, 0, 0, 0, 0, -1),
+    row!(18446744073709551615, 18446744073709551615, 0, 0, 1, 0, 0, 0),
+];
+
+/// The ledger of the three parts of the items that end at these has the rows of all.
+fn expect_rows(
+    rt: &impl Abort,
+    alloc: Global,
+    first_end: usize,
+    second_end: usize,
+) -> Result<(), AllocError> {
+    let ledger: NodeLedger = in_three_from_the_front(alloc, ITEMS, first_end, second_end)?;
+    let rows = ledger.rows(alloc)?;
+    assert!(rt; rows.as_slice() == ROWS);
+    Ok(())
+}
+
+#[test]
+fn every_split_has_the_rows_of_the_whole(rt: HostRuntime) -> Result<(), Fail> {
+    for second in 0..=ITEMS.len() {
+        for first in 0..=second {
+            expect_rows(&rt, rt.alloc(), first, second)?;
+        }
+    }
+    Ok(())
+}
