@@ -21,7 +21,7 @@ pub(crate) fn cut_all<W: Write>(
         Ok(frames) => told::frames(frames.as_slice(), out),
         Err(Cut::Memory) => Err(NoAnswer::Memory),
         Err(Cut::Bad { fault, before }) => {
-            writeln!(out, "{fault:?}")?;
+            told::fault(fault, out)?;
             told::frames(before.as_slice(), out)
         }
     }

@@ -7,7 +7,8 @@ ghost use Rattle.claim_board.specs.Running.{no_place};
 
 use crate::events::frames_of;
 use crate::no_answer::NoAnswer;
-use claim_board::{Board, Job, JobState, JobStop, NoGate, Work, Workers, run_all};
+use crate::told;
+use claim_board::{Board, Job, JobState, JobStop, NoGate, Stop, Work, Workers, run_all};
 use std::alloc::{AllocError, Global};
 use std::io::Write;
 use std::thread::Threads;
@@ -114,12 +115,11 @@ pub(crate) fn board<W: Write>(alloc: Global, capture: &[u8], out: &mut W) -> Res
     let board = Board::new(alloc, jobs, Workers::new(2).unwrap())?;
     for i in 0..count {
         let is_untouched = board.state(i) == JobState::Untouched;
-        writeln!(out, "{is_untouched}")?;
+        told::line(out, "untouched", &[i, is_untouched as u64])?;
     }
-    let (first, second) = (board.stopped(0), board.stopped(1));
-    let least = board.least();
-    writeln!(out, "{first} {second} {least:?}")?;
-    Ok(())
+    let (first, second) = (board.stopped(0) as u64, board.stopped(1) as u64);
+    let least = board.least().unwrap_or(0);
+    told::line(out, "stopped and least", &[first, second, least])
 }
 
 /// Prints the results of all jobs, or their least fault.
@@ -136,9 +136,15 @@ pub(crate) fn shared<T: Threads + Sync, W: Write>(
     }
     let work = Listed { jobs };
     match run_all(rt, alloc, &work, workers, &NoGate) {
-        Ok(results) => writeln!(out, "{results:?}")?,
-        Err(claim_board::Stop::Memory) => return Err(NoAnswer::Memory),
-        Err(least) => writeln!(out, "{least:?}")?,
+        Ok(results) => tell_starts(results.as_slice(), out),
+        Err(Stop::Memory) => Err(NoAnswer::Memory),
+        Err(Stop::Least(place)) => told::line(out, "least", &[place]),
+    }
+}
+
+fn tell_starts<W: Write>(results: &[Vec<u64>], out: &mut W) -> Result<(), NoAnswer> {
+    for start in results {
+        told::line(out, "start", start.as_slice())?;
     }
     Ok(())
 }

@@ -77,8 +77,7 @@ pub(crate) fn tally<W: Write>(
     }
     let tally: Tally<u32> = summed(alloc, items.as_slice(), way)?;
     let rows = tally.rows()?;
-    writeln!(out, "{rows:?}")?;
-    Ok(())
+    told::tally(rows.as_slice(), out)
 }
 
 pub(crate) fn tally_all<R: Threads + Sync, W: Write>(
@@ -94,8 +93,7 @@ pub(crate) fn tally_all<R: Threads + Sync, W: Write>(
     }
     let tally: Tally<u32> = one_by_one(rt, alloc, items.as_slice(), workers)?;
     let rows = tally.rows()?;
-    writeln!(out, "{rows:?}")?;
-    Ok(())
+    told::tally(rows.as_slice(), out)
 }
 
 pub(crate) fn handles<W: Write>(
@@ -149,8 +147,8 @@ pub(crate) fn buffers<W: Write>(
 fn tell_buffers<W: Write>(alloc: Global, ledger: &Buffers, out: &mut W) -> Result<(), NoAnswer> {
     let outstanding = ledger.outstanding(alloc)?;
     let strays = ledger.strays(alloc)?;
-    writeln!(out, "{outstanding:?} {strays:?}")?;
-    Ok(())
+    told::line(out, "outstanding", outstanding.as_slice())?;
+    told::line(out, "strays", strays.as_slice())
 }
 
 pub(crate) fn deaths<W: Write>(
@@ -197,8 +195,8 @@ fn tell_pending<W: Write>(
 ) -> Result<(), NoAnswer> {
     let outstanding = ledger.outstanding(alloc)?;
     let strays = ledger.strays(alloc)?;
-    writeln!(out, "{outstanding:?} {strays:?}")?;
-    Ok(())
+    told::line(out, "outstanding", outstanding.as_slice())?;
+    told::line(out, "strays", strays.as_slice())
 }
 
 pub(crate) fn requests<W: Write>(
@@ -214,8 +212,7 @@ pub(crate) fn requests<W: Write>(
     }
     let ledger: Requests = summed(alloc, items.as_slice(), way)?;
     let outstanding = ledger.outstanding(alloc)?;
-    writeln!(out, "{outstanding:?}")?;
-    Ok(())
+    told::line(out, "outstanding", outstanding.as_slice())
 }
 
 pub(crate) fn calls<W: Write>(

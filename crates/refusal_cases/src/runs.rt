@@ -9,7 +9,6 @@ use audit_join::{AuditError, CAPTURE_LIMIT, Findings, Piece, audit, audit_one};
 use audit_program::program;
 use audit_run::{Written, run, run_first_fault, run_gated};
 use audit_streams::read_capture;
-use capture_frame::Fault;
 use claim_board::{NoGate, Workers};
 use report_text::{rows, text};
 use std::alloc::{AllocError, Global};
@@ -30,7 +29,7 @@ fn tell<W: Write>(audited: Result<Findings<'_>, AuditError>, out: &mut W) -> Res
     match audited {
         Ok(found) => tell_findings(&found, out),
         Err(AuditError::Memory) => Err(NoAnswer::Memory),
-        Err(AuditError::Malformed(fault)) => tell_fault(fault, out),
+        Err(AuditError::Malformed(fault)) => told::fault(fault, out),
     }
 }
 
@@ -41,15 +40,9 @@ fn tell_findings<W: Write>(found: &Findings<'_>, out: &mut W) -> Result<(), NoAn
 
 fn tell_written<W: Write>(written: Written, out: &mut W) -> Result<(), NoAnswer> {
     match written {
-        Written::Report => writeln!(out, "a report")?,
-        Written::Malformed(fault) => tell_fault(fault, out)?,
+        Written::Report => told::line(out, "a report", &[]),
+        Written::Malformed(fault) => told::fault(fault, out),
     }
-    Ok(())
-}
-
-fn tell_fault<W: Write>(fault: Fault, out: &mut W) -> Result<(), NoAnswer> {
-    writeln!(out, "{fault:?}")?;
-    Ok(())
 }
 
 pub(crate) fn audited<T: Threads + Sync, W: Write>(
@@ -171,9 +164,10 @@ pub(crate) fn ran_first_fault<W: Write>(
     out: &mut W,
 ) -> Result<(), NoAnswer> {
     let mut reader = capture;
-    let fault = run_first_fault(alloc, &mut reader, out)?;
-    writeln!(out, "{fault:?}")?;
-    Ok(())
+    match run_first_fault(alloc, &mut reader, out)? {
+        None => told::line(out, "no fault", &[]),
+        Some(fault) => told::fault(fault, out),
+    }
 }
 
 /// The words of a command line, which are parted by one tab each.
@@ -201,6 +195,5 @@ pub(crate) fn programmed<T: Files + Threads + Sync, W: Write, E: Write>(
     if status == 3 {
         return Err(NoAnswer::Memory);
     }
-    writeln!(out, "status {status}")?;
-    Ok(())
+    told::line(out, "status", &[status as u64])
 }

@@ -1,39 +1,54 @@
-//! What is printed of the calls' answers.
+//! What is printed of the calls' answers: lines of numbers.
 
 use crate::no_answer::NoAnswer;
 use audit_findings::{CodeRow, Sections};
 use call_stacks::{CallFindings, Opener, RefusedSend};
-use capture_frame::Frame;
+use capture_frame::{Fault, Frame};
 use event_core::Event;
 use handle_ledger::{HandleRow, NodeRow};
 use std::io::Write;
 
+/// Prints a line: what the numbers are, and the numbers.
+pub(crate) fn line<W: Write>(out: &mut W, what: &str, numbers: &[u64]) -> Result<(), NoAnswer> {
+    writeln!(out, "{what} {numbers:?}")?;
+    Ok(())
+}
+
+/// Prints a fault's place and its kind's number.
+pub(crate) fn fault<W: Write>(fault: Fault, out: &mut W) -> Result<(), NoAnswer> {
+    line(out, "fault", &[fault.place, fault.kind as u64])
+}
+
 /// Prints where each frame begins, and its sequence.
 pub(crate) fn frames<W: Write>(frames: &[Frame<'_>], out: &mut W) -> Result<(), NoAnswer> {
     for frame in frames {
-        let (place, sequence) = (frame.place, frame.sequence);
-        writeln!(out, "frame {place} {sequence}")?;
+        line(out, "frame", &[frame.place, frame.sequence])?;
     }
     Ok(())
 }
 
+/// Prints each handle, and how often it was raised more than lowered.
 pub(crate) fn handles<W: Write>(rows: &[HandleRow], out: &mut W) -> Result<(), NoAnswer> {
     for row in rows {
-        let (handle, strong, weak) = (row.handle, row.strong.sum, row.weak.sum);
-        writeln!(out, "{handle} {strong} {weak}")?;
+        let (strong, weak) = (row.strong.sum as u64, row.weak.sum as u64);
+        line(out, "handle", &[row.handle as u64, strong, weak])?;
     }
     Ok(())
 }
 
+/// Prints each node, and how often it was raised more than lowered.
 pub(crate) fn nodes<W: Write>(rows: &[NodeRow], out: &mut W) -> Result<(), NoAnswer> {
     for row in rows {
-        let (ptr, cookie, strong, weak) = (
-            row.key.ptr,
-            row.key.cookie,
-            row.strong.sum,
-            row.weak.sum,
-        );
-        writeln!(out, "{ptr} {cookie} {strong} {weak}")?;
+        let (strong, weak) = (row.strong.sum as u64, row.weak.sum as u64);
+        line(out, "node", &[row.key.ptr, row.key.cookie, strong, weak])?;
+    }
+    Ok(())
+}
+
+/// Prints each key of a tally, how often it stands there and with what weight.
+pub(crate) fn tally<W: Write>(rows: &[(u32, u64, u128)], out: &mut W) -> Result<(), NoAnswer> {
+    for row in rows {
+        line(out, "key", &[row.0 as u64, row.1, row.2 as u64])?;
     }
     Ok(())
 }
@@ -47,24 +62,26 @@ pub(crate) fn calls<W: Write>(found: &CallFindings<'_>, out: &mut W) -> Result<(
 
 fn openers<W: Write>(openers: &[Opener<'_>], out: &mut W) -> Result<(), NoAnswer> {
     for opener in openers {
-        let (place, closer) = (opener.event.place, opener.closer);
-        writeln!(out, "opener {place} {closer:?}")?;
+        // No record stands at 0, where the file header does.
+        line(
+            out,
+            "opener",
+            &[opener.event.place, opener.closer.unwrap_or(0)],
+        )?;
     }
     Ok(())
 }
 
 fn strays<W: Write>(strays: &[Event<'_>], out: &mut W) -> Result<(), NoAnswer> {
     for stray in strays {
-        let place = stray.place;
-        writeln!(out, "stray {place}")?;
+        line(out, "stray", &[stray.place])?;
     }
     Ok(())
 }
 
 fn refused<W: Write>(refused: &[RefusedSend<'_>], out: &mut W) -> Result<(), NoAnswer> {
     for send in refused {
-        let (place, oneway) = (send.event.place, send.oneway);
-        writeln!(out, "refused {place} {oneway}")?;
+        line(out, "refused", &[send.event.place, send.oneway as u64])?;
     }
     Ok(())
 }
@@ -72,45 +89,35 @@ fn refused<W: Write>(refused: &[RefusedSend<'_>], out: &mut W) -> Result<(), NoA
 /// Prints the numbers of the sections, the places that they list, and how many rows the others
 /// have: the text of all rows is what the names of `rows` and `text` print.
 pub(crate) fn sections<W: Write>(sections: &Sections, out: &mut W) -> Result<(), NoAnswer> {
-    let (records, opaque, missing) = (sections.records, sections.opaque, sections.missing);
-    writeln!(out, "{records} {opaque} {missing}")?;
+    line(
+        out,
+        "totals",
+        &[sections.records, sections.opaque, sections.missing],
+    )?;
     codes(sections.codes.as_slice(), out)?;
-    call_sections(sections, out)?;
-    rows_of_processes(sections, out)?;
-    listed(sections, out)
+    row_counts(sections, out)?;
+    line(out, "strays", sections.strays.as_slice())?;
+    line(out, "refused", sections.refused.rows.as_slice())?;
+    line(out, "leaked", sections.leaked.as_slice())?;
+    line(out, "stray frees", sections.stray_frees.as_slice())?;
+    line(out, "standing", sections.standing.as_slice())?;
+    line(out, "deaths", sections.deaths.rows.as_slice())?;
+    line(out, "clears", sections.clears.rows.as_slice())?;
+    line(out, "flags", sections.flags.as_slice())
 }
 
 fn codes<W: Write>(rows: &[CodeRow], out: &mut W) -> Result<(), NoAnswer> {
     for row in rows {
-        let (word, count) = (row.word, row.count);
-        writeln!(out, "code {word} {count}")?;
+        line(out, "code", &[row.word as u64, row.count])?;
     }
     Ok(())
 }
 
-fn call_sections<W: Write>(sections: &Sections, out: &mut W) -> Result<(), NoAnswer> {
+fn row_counts<W: Write>(sections: &Sections, out: &mut W) -> Result<(), NoAnswer> {
     let (calls, served) = (sections.calls.rows.len(), sections.served.rows.len());
-    let (strays, refused) = (sections.strays.as_slice(), sections.refused.rows.as_slice());
-    writeln!(out, "{calls} {served} {strays:?} {refused:?}")?;
-    Ok(())
-}
-
-fn rows_of_processes<W: Write>(sections: &Sections, out: &mut W) -> Result<(), NoAnswer> {
     let (handles, nodes) = (sections.handles.len(), sections.nodes.len());
     let (oneway, bad) = (sections.oneway.rows.len(), sections.bad_objects.len());
-    writeln!(out, "{handles} {nodes} {oneway} {bad}")?;
-    Ok(())
-}
-
-fn listed<W: Write>(sections: &Sections, out: &mut W) -> Result<(), NoAnswer> {
-    let (leaked, freed) = (sections.leaked.as_slice(), sections.stray_frees.as_slice());
-    writeln!(out, "{leaked:?} {freed:?}")?;
-    let (deaths, clears) = (
-        sections.deaths.rows.as_slice(),
-        sections.clears.rows.as_slice(),
-    );
-    writeln!(out, "{deaths:?} {clears:?}")?;
-    let (standing, flags) = (sections.standing.as_slice(), sections.flags.as_slice());
-    writeln!(out, "{standing:?} {flags:?}")?;
-    Ok(())
+    line(out, "calls and served", &[calls as u64, served as u64])?;
+    line(out, "handles and nodes", &[handles as u64, nodes as u64])?;
+    line(out, "oneway and bad objects", &[oneway as u64, bad as u64])
 }
