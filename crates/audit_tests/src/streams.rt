@@ -73,7 +73,12 @@ fn expect_writing<T: Abort>(
 fn writes_byte_by_byte(rt: HostRuntime) {
     expect_writing(&rt, Sink::new(TEXT), Ok(()), [5, 5, 1]);
     for kind in [ErrorKind::Other, ErrorKind::Interrupted] {
-        expect_writing(&rt, Sink::unflushed(TEXT, kind), Err(RunError::Write), [5, 5, 1]);
+        expect_writing(
+            &rt,
+            Sink::unflushed(TEXT, kind),
+            Err(RunError::Write),
+            [5, 5, 1],
+        );
     }
 }
 
@@ -82,7 +87,12 @@ fn stops_where_a_write_fails(rt: HostRuntime) {
     for at in 1..=5u64 {
         for fault in [Some(ErrorKind::Other), Some(ErrorKind::Interrupted), None] {
             let sink = Sink::failing(TEXT, at, fault);
-            expect_writing(&rt, sink, Err(RunError::Write), [at, at.saturating_sub(1), 0]);
+            expect_writing(
+                &rt,
+                sink,
+                Err(RunError::Write),
+                [at, at.saturating_sub(1), 0],
+            );
         }
     }
 }

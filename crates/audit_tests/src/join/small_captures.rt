@@ -507,7 +507,12 @@ fn expect_by<T: Threads + Sync + Abort>(
     requires { length capture.now ≤ CAPTURE_LIMIT }
 {
     let (workers, piece) = shares;
-    expect_told(rt, alloc, audit(rt, alloc, capture, workers, piece, &NoGate)?, due);
+    expect_told(
+        rt,
+        alloc,
+        audit(rt, alloc, capture, workers, piece, &NoGate)?,
+        due,
+    );
     Ok(())
 }
 
@@ -538,7 +543,12 @@ fn expect_kept<T: Threads + Sync + Abort>(
     requires shown { (wholes : List WholeFrame) × Show frames.now (wholes_of wholes) }
 {
     for piece in 1..MOST_FRAMES as usize + 1 {
-        expect_told(rt, alloc, found_in_pieces(alloc, frames, piece, most_kept)?, due);
+        expect_told(
+            rt,
+            alloc,
+            found_in_pieces(alloc, frames, piece, most_kept)?,
+            due,
+        );
     }
     Ok(())
 }
