@@ -79,14 +79,27 @@ fn expect_records(rt: &impl Abort, found: &Findings<'_>, places: &[u64])
     }
 }
 
+/// The records with unknown flags are.
+fn expect_flagged(rt: &impl Abort, found: &Findings<'_>) {
+    expect_records(rt, found, found.sections().flags.as_slice());
+}
+
+/// The frames have those sequences.
+fn expect_frames(rt: &impl Abort, found: &Findings<'_>) {
+    for (place, sequence) in FRAMES {
+        expect_frame(rt, found, *place, *sequence);
+    }
+}
+
+/// The findings end here: they are large, and dear to prove where a test may end beside them.
+fn expect_found(rt: &impl Abort, found: Findings<'_>) {
+    expect_sections(rt, found.sections());
+    expect_frames(rt, &found);
+    expect_flagged(rt, &found);
+}
+
 #[test]
 fn finds_frames_and_records(rt: HostRuntime) -> Result<(), Fail> {
-    let capture = eight_frames(&rt);
-    let found = audit_one(&rt, rt.alloc(), capture)?;
-    expect_sections(&rt, found.sections());
-    for (place, sequence) in FRAMES {
-        expect_frame(&rt, &found, *place, *sequence);
-    }
-    expect_records(&rt, &found, found.sections().flags.as_slice());
+    expect_found(&rt, audit_one(&rt, rt.alloc(), eight_frames(&rt))?);
     Ok(())
 }

@@ -29,8 +29,9 @@ pub(crate) fn shares(workers: u64, piece: u64) -> Result<(Workers, Piece), &'sta
     Ok((workers, piece))
 }
 
-// These are the findings of the eight frames.
-fn expect_findings(rt: &impl Abort, found: &Findings<'_>) {
+/// These are the findings of the eight frames. They end here: they are large, and dear to prove
+/// where a test may end beside them.
+fn expect_findings(rt: &impl Abort, found: Findings<'_>) {
     assert_eq!(rt; found.frames().len(), 8);
     expect_sections(rt, found.sections());
 }
@@ -45,8 +46,7 @@ fn expect_eight<T: Threads + Sync + Abort>(
     requires { length capture.now ≤ CAPTURE_LIMIT }
 {
     let (workers, piece) = shares;
-    let found = audit(rt, alloc, capture, workers, piece, &NoGate)?;
-    expect_findings(rt, &found);
+    expect_findings(rt, audit(rt, alloc, capture, workers, piece, &NoGate)?);
     Ok(())
 }
 
@@ -78,8 +78,7 @@ fn expect_eight_kept(
     requires shown { (wholes : List WholeFrame) × Show frames.now (wholes_of wholes) }
     requires some { 1 ≤ piece }
 {
-    let found = found_in_pieces(alloc, frames, piece, most_kept)?;
-    expect_findings(rt, &found);
+    expect_findings(rt, found_in_pieces(alloc, frames, piece, most_kept)?);
     Ok(())
 }
 
@@ -115,16 +114,14 @@ fn expect_audit_one<T: Threads + Sync + Abort>(
 ) -> Result<(), AuditError>
     requires { length capture.now ≤ CAPTURE_LIMIT }
 {
-    let found = audit_one(rt, alloc, capture)?;
-    expect_findings(rt, &found);
+    expect_findings(rt, audit_one(rt, alloc, capture)?);
     Ok(())
 }
 
 fn expect_one_pass(rt: &impl Abort, alloc: Global, capture: &[u8]) -> Result<(), AuditError>
     requires { length capture.now ≤ CAPTURE_LIMIT }
 {
-    let found = one_pass(alloc, capture)?;
-    expect_findings(rt, &found);
+    expect_findings(rt, one_pass(alloc, capture)?);
     Ok(())
 }
 
