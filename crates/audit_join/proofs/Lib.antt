@@ -1,6 +1,5 @@
 pub mod CaptureLaws
 pub mod PartLaws
-pub mod ListedThere
 pub mod RunLaws
 pub mod JobLaws
 pub mod CutLaws

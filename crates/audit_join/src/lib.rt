@@ -20,6 +20,3 @@ pub use audits::{audit, audit_one};
 pub use limits::CAPTURE_LIMIT;
 pub use piece::Piece;
 pub use plan::Plan;
-
-#[cfg(test)]
-mod tests;

@@ -3,14 +3,6 @@
 #![tactic(auto)]
 
 mod answers;
-#[cfg(test)]
-mod device_tests;
-#[cfg(test)]
-mod devices;
-#[cfg(test)]
-mod gate_tests;
-#[cfg(test)]
-mod memory_tests;
 mod runs;
 
 pub use crate::answers::{Request, answer, answer_file};

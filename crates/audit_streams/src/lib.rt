@@ -2,13 +2,9 @@
 //! without an answer.
 #![tactic(auto)]
 
-#[cfg(test)]
-mod devices;
 mod failure;
 mod reading;
 mod run_error;
-#[cfg(test)]
-mod tests;
 mod writing;
 
 pub use crate::failure::Failure;

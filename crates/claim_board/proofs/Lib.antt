@@ -11,4 +11,3 @@ pub mod Halving
 pub mod Ends
 pub mod Finish
 pub mod Filling
-pub mod Spacing

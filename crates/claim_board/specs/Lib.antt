@@ -4,4 +4,3 @@ pub mod Running
 pub mod Steps
 pub mod Work
 pub mod Results
-pub mod SpacedJobs

@@ -9,8 +9,6 @@ mod results;
 mod run;
 mod seat;
 mod share;
-#[cfg(test)]
-mod tests;
 mod view;
 mod work;
 mod worker;

@@ -7,7 +7,7 @@ use Rattle.itoa.proofs.Decimal.{decimal_two, decimal_pair}
 use Rattle.binder_code.specs.declared.record_kind.Kind.TheVariants.{BcDeadBinderDone, BcTransaction, BrDeadBinder, BrFailedReply, BrTransaction}
 use Rattle.capture_frame.specs.Envelope.{number_at}
 use Rattle.capture_frame.specs.declared.fault.FaultKind.TheVariants.{RecordDirection}
-use Rattle.object_view.specs.declared.bad_object.Cause.TheVariants.{Overlap}
+use Rattle.object_view.specs.declared.bad_object.Cause.TheVariants.{ListLength, Misaligned, Overlap, Short, UnknownSort}
 use Rattle.object_view.specs.Objects.{bad_at}
 use Rattle.event_core.specs.declared.oneway.OnewayKey.TheVariants.{Sent, Received}
 use Rattle.event_core.specs.Events.{EventText}
@@ -21,7 +21,8 @@ use Rattle.report_text.specs.Fault.{fault_line, no_fault_line}
 use Rattle.report_text.specs.Flags.{flags_row}
 use Rattle.report_text.specs.Handles.{handles_row}
 use Rattle.report_text.specs.Line.{hex_number}
-use Rattle.report_text.specs.Objects.{objects_row}
+use Rattle.report_text.specs.Nodes.{nodes_row}
+use Rattle.report_text.specs.Objects.{cause_name, objects_head, objects_row}
 use Rattle.report_text.specs.Oneway.{oneway_row}
 use Rattle.report_text.specs.Served.{served_row}
 use Rattle.report_text.specs.Text.{report_text}
@@ -158,3 +159,64 @@ direction_line = rw eighty_four_said refl
 
 good_line : no_fault_line ≡ codes "no malformed record\n"
 good_line = refl
+
+no_reply_row : codes_row (record { word = 0x80407203; count = 0 }) ≡ codes "  0x80407203 BR_REPLY 0"
+unfolding digits
+no_reply_row = refl
+
+looper_row : codes_row (record { word = 0x630c; count = 10 }) ≡ codes "  0x0000630c BC_ENTER_LOOPER 10"
+unfolding digits
+looper_row = refl
+
+widest_row : codes_row (record { word = 0x80087210; count = 18446744073709551615 })
+    ≡ codes "  0x80087210 BR_CLEAR_DEATH_NOTIFICATION_DONE 18446744073709551615"
+unfolding digits
+widest_row = refl
+
+-- a word that is no good code has no name
+nameless_row : codes_row (record { word = 0xffffffff; count = 7 }) ≡ codes "  0xffffffff  7"
+unfolding digits
+nameless_row = refl
+
+list_length_named : cause_name ListLength ≡ codes "ListLength"
+list_length_named = refl
+
+misaligned_named : cause_name Misaligned ≡ codes "Misaligned"
+misaligned_named = refl
+
+overlap_named : cause_name Overlap ≡ codes "Overlap"
+overlap_named = refl
+
+short_named : cause_name Short ≡ codes "Short"
+short_named = refl
+
+unknown_sort_named : cause_name UnknownSort ≡ codes "UnknownSort"
+unknown_sort_named = refl
+
+most : ℕ
+most = 18446744073709551615
+
+widest_objects : objects_head (record { binder = most; weak_binder = most; handle = most; weak_handle = most; fd = most; fda = most; ptr = most }) most
+    ≡ codes "objects binder 18446744073709551615 weak_binder 18446744073709551615 handle 18446744073709551615 weak_handle 18446744073709551615 fd 18446744073709551615 fda 18446744073709551615 ptr 18446744073709551615 bad 18446744073709551615"
+unfolding most digits
+widest_objects = refl
+
+-- the least number is `negsuc` of one less than its amount
+widest_handle : handles_row (record { process = 4294967295; handle = 0; strong = negsuc 0; strong_low = negsuc 9223372036854775807; weak = pos 9223372036854775807; weak_low = pos 0 })
+    ≡ codes "  4294967295 0 -1 -9223372036854775808 9223372036854775807 0"
+unfolding digits
+widest_handle = refl
+
+widest_node : nodes_row (record {
+  process = 7;
+  ptr = 0;
+  cookie = most;
+  strong = pos 10;
+  strong_low = negsuc 9;
+  weak = pos 2;
+  weak_low = negsuc 2;
+  strong_due = pos 4;
+  weak_due = negsuc 9223372036854775807;
+}) ≡ codes "  7 0x0 0xffffffffffffffff 10 -10 2 -3 4 -9223372036854775808"
+unfolding most digits
+widest_node = refl

@@ -29,6 +29,3 @@ mod strays;
 pub use fault::fault_text;
 pub use line::Row;
 pub use report::{rows, text};
-
-#[cfg(test)]
-mod tests;

@@ -1,0 +1,2 @@
+pub mod ListedThere
+pub mod Spacing

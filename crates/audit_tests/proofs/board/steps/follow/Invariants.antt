@@ -1,0 +1,6 @@
+use Rattle.std.proofs.Common.{◌≡◌, length}
+use Rattle.audit_tests.proofs.board.steps.follow.Given as goal
+
+abbrev pub invariant-loop : goal.invariant-loop
+invariant-loop l =
+    record { jobs : length l.board.states ≡ length l.initial.board.states; workers : length l.board.stopped ≡ length l.initial.board.stopped }

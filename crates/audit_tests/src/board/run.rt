@@ -1,0 +1,188 @@
+//! All jobs, by workers in threads.
+
+use super::jobs::{Excerpt, Excerpts};
+use crate::meeting::{Meeting, is_set_in_time};
+use claim_board::{Gate, NoGate, Stop, Workers, run_all};
+use std::alloc::Global;
+use std::sync::atomic::{AtomicBool, Ordering};
+use std::test::Fail;
+use std::thread::Threads;
+
+/// What a run has to answer.
+#[derive(Clone, Copy, Debug, PartialEq, Eq)]
+enum Answer {
+    All,
+    Least(u64),
+    Memory,
+}
+
+/// The number of jobs, the first with a fault, the first behind those, the job without memory, and
+/// the answer.
+type Row = (u32, u64, u64, Option<u64>, Answer);
+
+const ROWS: &[Row] = &[
+    (0, 0, 0, None, Answer::All),
+    (1, 0, 0, None, Answer::All),
+    (5, 0, 0, None, Answer::All),
+    (10_000, 0, 0, None, Answer::All),
+    (10, 0, 1, None, Answer::Least(21)),
+    (10, 9, 10, None, Answer::Least(165)),
+    (10, 3, 5, None, Answer::Least(69)),
+    (10, 0, 10, None, Answer::Least(21)),
+    (10, 0, 0, Some(4), Answer::Memory),
+    (10, 9, 10, Some(4), Answer::Memory),
+];
+
+const WORKERS: &[u64] = &[1, 2, 7, 64];
+
+const TEXT: &[u8] = b"text";
+
+fn excerpts_by((jobs, low, high, starved, _): Row) -> Excerpts<'static> {
+    Excerpts {
+        text: TEXT,
+        jobs: jobs as u64,
+        low,
+        high,
+        starved,
+        second_ran: AtomicBool::new(false),
+    }
+}
+
+// Whether these are the results of that many jobs, in their order.
+fn are_in_order(results: &[Excerpt<'static>], jobs: u32) -> bool {
+    for (i, excerpt) in results.iter().enumerate() {
+        if excerpt.text != TEXT || excerpt.numbers.as_slice() != [10 * i as u64].as_slice() {
+            return false;
+        }
+    }
+    results.len() == jobs as usize
+}
+
+fn is_answer(outcome: Result<Vec<Excerpt<'static>>, Stop>, row: Row) -> bool {
+    match outcome {
+        Ok(results) => row.4 == Answer::All && are_in_order(results.as_slice(), row.0),
+        Err(Stop::Least(place)) => row.4 == Answer::Least(place),
+        Err(Stop::Memory) => row.4 == Answer::Memory,
+    }
+}
+
+// Whether the work of the row has the row's answer.
+fn has_answer<R: Threads + Sync, G: Gate + Sync>(
+    rt: &R,
+    alloc: Global,
+    work: &Excerpts<'static>,
+    workers: Workers,
+    gate: &G,
+    row: Row,
+) -> bool {
+    is_answer(run_all(rt, alloc, work, workers, gate), row)
+}
+
+#[test]
+fn answers_at_1_2_7_and_64_workers(rt: HostRuntime) -> Result<(), Fail> {
+    for &n in WORKERS {
+        let workers = Workers::new(n).ok_or("workers")?;
+        for &row in ROWS {
+            let work = excerpts_by(row);
+            let alloc = rt.alloc();
+            assert!(rt;
+                has_answer(&rt, alloc, &work, workers, &NoGate, row),
+                "{row:?} at {n}"
+            );
+        }
+    }
+    Ok(())
+}
+
+#[test]
+fn two_jobs_meet(rt: HostRuntime) -> Result<(), Fail> {
+    let gate = Meeting::new();
+    let row = (2, 0, 0, None, Answer::All);
+    let work = excerpts_by(row);
+    let two = Workers::new(2).ok_or("workers")?;
+    assert!(rt; has_answer(&rt, rt.alloc(), &work, two, &gate, row));
+    assert!(rt; gate.was_held());
+    Ok(())
+}
+
+/// The job `last` waits until the three others have been left.
+#[derive(Drop)]
+struct RestFirst {
+    last: u64,
+    left: [AtomicBool; 4],
+    late: AtomicBool,
+}
+
+impl Gate for RestFirst {
+    fn enter(&self, i: u64) {
+        if i != self.last {
+            return;
+        }
+        for (j, flag) in self.left.iter().enumerate() {
+            if j as u64 != i && !is_set_in_time(flag) {
+                self.late.store(true, Ordering::SeqCst);
+            }
+        }
+    }
+
+    fn leave(&self, i: u64) {
+        if i < 4 {
+            self.left[i as usize].store(true, Ordering::SeqCst);
+        }
+    }
+}
+
+fn is_rest_shared<R: Threads + Sync>(rt: &R, alloc: Global, last: u64, workers: Workers) -> bool {
+    let gate = RestFirst {
+        last,
+        left: [
+            AtomicBool::new(false),
+            AtomicBool::new(false),
+            AtomicBool::new(false),
+            AtomicBool::new(false),
+        ],
+        late: AtomicBool::new(false),
+    };
+    let row = (4, 0, 0, None, Answer::All);
+    let work = excerpts_by(row);
+    has_answer(rt, alloc, &work, workers, &gate, row) && !gate.late.load(Ordering::SeqCst)
+}
+
+#[test]
+fn rest_is_shared(rt: HostRuntime) -> Result<(), Fail> {
+    let two = Workers::new(2).ok_or("workers")?;
+    for last in 0..4 {
+        assert!(rt; is_rest_shared(&rt, rt.alloc(), last, two), "{last}");
+    }
+    Ok(())
+}
+
+/// Remembers whether the second job was entered.
+#[derive(Drop)]
+struct SecondEntered {
+    entered: AtomicBool,
+}
+
+impl Gate for SecondEntered {
+    fn enter(&self, i: u64) {
+        if i == 1 {
+            self.entered.store(true, Ordering::SeqCst);
+        }
+    }
+
+    fn leave(&self, _i: u64) {}
+}
+
+#[test]
+fn skips_above(rt: HostRuntime) -> Result<(), Fail> {
+    let gate = SecondEntered {
+        entered: AtomicBool::new(false),
+    };
+    let row = (2, 0, 1, None, Answer::Least(21));
+    let work = excerpts_by(row);
+    let one = Workers::new(1).ok_or("workers")?;
+    assert!(rt; has_answer(&rt, rt.alloc(), &work, one, &gate, row));
+    assert!(rt; !gate.entered.load(Ordering::SeqCst));
+    assert!(rt; !work.second_ran.load(Ordering::SeqCst));
+    Ok(())
+}

@@ -1,0 +1,201 @@
+//! What no clause says: the sections of a capture, typed by hand, of however many parts.
+
+mod captures;
+mod lookup;
+mod one_pass;
+mod pieces;
+mod small_captures;
+mod splits;
+mod workers;
+
+ghost use Rattle.std.specs.Prelude.{◌≤◌, List, length};
+ghost use Rattle.transaction_view.specs.Grammar.{WholeFrame};
+ghost use Rattle.audit_join.specs.Audit.{IsAudited};
+ghost use Rattle.audit_findings.specs.Frames.{AreGoodFrames, Show, wholes_of};
+ghost use Rattle.audit_join.specs.declared.limits.TheConstants.{CAPTURE_LIMIT};
+
+use audit_join::{
+    AuditError, BadRow, CodeRow, Findings, ProcessHandle, RecordCounts, Sections, SortCounts,
+    audit_one,
+};
+use capture_frame::{Fault, FaultKind, Frame};
+use captures::{RETURN_IN_A_WRITE, within_limit};
+use object_view::{BadObject, Cause};
+use std::process::Abort;
+use std::test::Fail;
+
+/// How often each code word stands in the eight frames.
+const CODES: &[CodeRow] = &[
+    CodeRow {
+        word: 0x0000_630c,
+        count: 1,
+    },
+    CodeRow {
+        word: 0x0000_7206,
+        count: 1,
+    },
+    CodeRow {
+        word: 0x0000_720c,
+        count: 2,
+    },
+    CodeRow {
+        word: 0x0000_72f0,
+        count: 1,
+    },
+    CodeRow {
+        word: 0x4004_6305,
+        count: 1,
+    },
+    CodeRow {
+        word: 0x400c_6313,
+        count: 1,
+    },
+    CodeRow {
+        word: 0x4040_6300,
+        count: 2,
+    },
+    CodeRow {
+        word: 0x4040_6301,
+        count: 1,
+    },
+    CodeRow {
+        word: 0x4048_6311,
+        count: 1,
+    },
+    CodeRow {
+        word: 0x8040_7202,
+        count: 1,
+    },
+    CodeRow {
+        word: 0x8040_7203,
+        count: 1,
+    },
+];
+
+/// How many records of some kinds the eight frames have.
+const COUNTS: RecordCounts = RecordCounts {
+    deliveries: 2,
+    frees: 0,
+    requests: 0,
+    deaths: 0,
+    clears: 0,
+};
+
+/// The handle that process 100 took a reference to.
+const HANDLES: &[ProcessHandle] = &[ProcessHandle {
+    process: 100,
+    handle: 1,
+    strong: 1,
+    strong_low: 0,
+    weak: 0,
+    weak_low: 0,
+}];
+
+/// Where buffers are delivered that nobody frees: one to process 200, and one to process 100.
+const LEAKED: &[u64] = &[272, 540];
+
+/// The good objects of the eight frames.
+const OBJECTS: SortCounts = SortCounts {
+    binder: 1,
+    weak_binder: 0,
+    handle: 1,
+    weak_handle: 0,
+    fd: 1,
+    fda: 0,
+    ptr: 1,
+};
+
+/// Their bad objects.
+const BAD_OBJECTS: &[BadRow] = &[
+    BadRow {
+        owner: 272,
+        bad: BadObject {
+            index: 1,
+            offset: 20,
+            cause: Cause::Overlap,
+        },
+    },
+    BadRow {
+        owner: 720,
+        bad: BadObject {
+            index: 1,
+            offset: 24,
+            cause: Cause::UnknownSort,
+        },
+    },
+];
+
+/// Where their records with unknown flag bits stand.
+const FLAGS: &[u64] = &[92, 272, 720];
+
+/// The sections are those of the eight frames.
+fn expect_sections(rt: &impl Abort, sections: &Sections) {
+    expect_records(rt, sections);
+    expect_references(rt, sections);
+    expect_places(rt, sections);
+    expect_objects(rt, sections);
+}
+
+fn expect_records(rt: &impl Abort, sections: &Sections) {
+    assert_eq!(rt; sections.records, 13);
+    assert_eq!(rt; sections.opaque, 2);
+    assert_eq!(rt; sections.missing, 9);
+    assert_eq!(rt; sections.codes.as_slice(), CODES);
+    assert_eq!(rt; sections.counts, COUNTS);
+}
+
+fn expect_references(rt: &impl Abort, sections: &Sections) {
+    assert_eq!(rt; sections.handles.as_slice(), HANDLES);
+    assert_eq!(rt; sections.nodes.len(), 0);
+}
+
+fn expect_places(rt: &impl Abort, sections: &Sections) {
+    assert_eq!(rt; sections.leaked.as_slice(), LEAKED);
+    assert_eq!(rt; sections.stray_frees.len(), 0);
+    assert_eq!(rt; sections.standing.len(), 0);
+    assert_eq!(rt; sections.deaths.rows.len(), 0);
+    assert_eq!(rt; sections.clears.rows.len(), 0);
+}
+
+fn expect_objects(rt: &impl Abort, sections: &Sections) {
+    assert_eq!(rt; sections.objects, OBJECTS);
+    assert_eq!(rt; sections.bad_objects.as_slice(), BAD_OBJECTS);
+    assert_eq!(rt; sections.flags.as_slice(), FLAGS);
+}
+
+/// The frames of the findings of a capture.
+fn frames_of<'f, 'c>(capture: &'c [u8], found: &'f Findings<'c>) -> &'f [Frame<'c>]
+    requires limit { length capture.now ≤ CAPTURE_LIMIT }
+    requires audited { IsAudited capture.now found.now }
+    ensures good { AreGoodFrames result.now }
+    ensures shown { (wholes : List WholeFrame) × Show result.now (wholes_of wholes) }
+{
+    found.frames()
+}
+
+/// A malformed capture, and its first fault.
+const MALFORMED: &[(&[u8], Fault)] = &[
+    (
+        RETURN_IN_A_WRITE,
+        Fault {
+            kind: FaultKind::RecordDirection,
+            place: 48,
+        },
+    ),
+    (
+        b"BNDRCAP1",
+        Fault {
+            kind: FaultKind::HeaderShort,
+            place: 0,
+        },
+    ),
+];
+
+#[test]
+fn gives_the_first_fault(rt: HostRuntime) {
+    for (capture, fault) in MALFORMED {
+        let capture = within_limit(&rt, capture);
+        let error = audit_one(&rt, rt.alloc(), capture).err();
+        assert_eq!(&rt; error, Some(AuditError::Malformed(*fault)));
+    }
+}

@@ -1,0 +1,298 @@
+//! That the answer is the same for every number of workers and every piece, and that workers share.
+
+ghost use Rattle.std.specs.Prelude.{◌≤◌, List, length};
+ghost use Rattle.transaction_view.specs.Grammar.{WholeFrame};
+ghost use Rattle.audit_findings.specs.Frames.{AreGoodFrames, Show, wholes_of};
+ghost use Rattle.audit_join.specs.declared.limits.TheConstants.{CAPTURE_LIMIT};
+
+use super::captures::{eight_frames, within_limit};
+use super::one_pass::one_pass;
+use super::pieces::found_in_pieces;
+use super::{expect_sections, frames_of};
+use crate::meeting::{Meeting, RELEASE_FIRST};
+use audit_join::{AuditError, Findings, Piece, ProcessHandle, audit, audit_one};
+use capture_frame::{Fault, FaultKind, Frame};
+use claim_board::{NoGate, Workers};
+use std::alloc::{AllocError, Global};
+use std::process::Abort;
+use std::test::Fail;
+use std::thread::Threads;
+
+const WORKERS: &[u64] = &[1, 3, 64];
+
+const PIECES: &[u64] = &[1, 3, 20];
+
+// So many workers, and so large a piece.
+pub(crate) fn shares(workers: u64, piece: u64) -> Result<(Workers, Piece), &'static str> {
+    let workers = Workers::new(workers).ok_or("workers")?;
+    let piece = Piece::new(piece).ok_or("piece")?;
+    Ok((workers, piece))
+}
+
+/// These are the findings of the eight frames. They end here: they are large, and dear to prove
+/// where a test may end beside them.
+fn expect_findings(rt: &impl Abort, found: Findings<'_>) {
+    assert_eq!(rt; found.frames().len(), 8);
+    expect_sections(rt, found.sections());
+}
+
+// They are, however the frames are shared.
+fn expect_eight<T: Threads + Sync + Abort>(
+    rt: &T,
+    alloc: Global,
+    capture: &[u8],
+    shares: (Workers, Piece),
+) -> Result<(), AuditError>
+    requires { length capture.now ≤ CAPTURE_LIMIT }
+{
+    let (workers, piece) = shares;
+    expect_findings(rt, audit(rt, alloc, capture, workers, piece, &NoGate)?);
+    Ok(())
+}
+
+/// Every piece up to their number, by one, two and seven workers.
+fn expect_pieces<T: Threads + Sync + Abort>(
+    rt: &T,
+    alloc: Global,
+    capture: &[u8],
+) -> Result<(), Fail>
+    requires { length capture.now ≤ CAPTURE_LIMIT }
+{
+    for workers in [1u64, 2, 7] {
+        for piece in 1..9u64 {
+            expect_eight(rt, alloc, capture, shares(workers, piece)?)?;
+        }
+    }
+    Ok(())
+}
+
+// They are, where summaries of pieces of so many frames keep so many as they are.
+fn expect_eight_kept(
+    rt: &impl Abort,
+    alloc: Global,
+    frames: &[Frame<'_>],
+    piece: usize,
+    most_kept: usize,
+) -> Result<(), AllocError>
+    requires good { AreGoodFrames frames.now }
+    requires shown { (wholes : List WholeFrame) × Show frames.now (wholes_of wholes) }
+    requires some { 1 ≤ piece }
+{
+    expect_findings(rt, found_in_pieces(alloc, frames, piece, most_kept)?);
+    Ok(())
+}
+
+/// Every piece up to their number, where summaries keep none, one and three frames.
+fn expect_kept(rt: &impl Abort, alloc: Global, frames: &[Frame<'_>]) -> Result<(), AllocError>
+    requires good { AreGoodFrames frames.now }
+    requires shown { (wholes : List WholeFrame) × Show frames.now (wholes_of wholes) }
+{
+    for most_kept in [0usize, 1, 3] {
+        for piece in 1..9usize {
+            expect_eight_kept(rt, alloc, frames, piece, most_kept)?;
+        }
+    }
+    Ok(())
+}
+
+#[test]
+fn pieces_change_nothing(rt: HostRuntime) -> Result<(), Fail> {
+    expect_pieces(&rt, rt.alloc(), eight_frames(&rt))
+}
+
+#[test]
+fn kept_frames_change_nothing(rt: HostRuntime) -> Result<(), Fail> {
+    let capture = eight_frames(&rt);
+    let found = audit_one(&rt, rt.alloc(), capture)?;
+    expect_kept(&rt, rt.alloc(), frames_of(capture, &found)).map_err(Fail::from)
+}
+
+fn expect_audit_one<T: Threads + Sync + Abort>(
+    rt: &T,
+    alloc: Global,
+    capture: &[u8],
+) -> Result<(), AuditError>
+    requires { length capture.now ≤ CAPTURE_LIMIT }
+{
+    expect_findings(rt, audit_one(rt, alloc, capture)?);
+    Ok(())
+}
+
+fn expect_one_pass(rt: &impl Abort, alloc: Global, capture: &[u8]) -> Result<(), AuditError>
+    requires { length capture.now ≤ CAPTURE_LIMIT }
+{
+    expect_findings(rt, one_pass(alloc, capture)?);
+    Ok(())
+}
+
+/// One pass gives what `audit_one` gives. Two findings in one function are dear to prove.
+#[test]
+fn one_pass_gives_the_same(rt: HostRuntime) -> Result<(), Fail> {
+    let capture = eight_frames(&rt);
+    expect_audit_one(&rt, rt.alloc(), capture)?;
+    expect_one_pass(&rt, rt.alloc(), capture)?;
+    Ok(())
+}
+
+pub(crate) const HEADER: &[u8] = b"BNDRCAP1\x08\0\0\0\0\0\0\0";
+
+/// A frame header behind its sequence: a write of process 1 and thread 1, of four command bytes.
+const WRITE: &[u8] = b"\0\0\0\0\0\0\0\x01\0\0\0\x01\0\0\0\x01\0\0\0\x04\0\0\0\0\0\0\0\0\0\0\0";
+
+const BC_ENTER_LOOPER: &[u8] = b"\x0c\x63\0\0";
+
+/// A fault in a write.
+const BR_NOOP: &[u8] = b"\x0c\x72\0\0";
+
+fn push_write(capture: &mut Vec<u8>, sequence: u8, record: &[u8]) -> Result<(), AllocError> {
+    capture.push(sequence)?;
+    capture.extend_from_slice(WRITE)?;
+    capture.extend_from_slice(record)
+}
+
+// Twenty writes with the sequences 1 to 20, in order. These two have a fault.
+fn twenty_frames(alloc: Global, first: u8, second: u8) -> Result<Vec<u8>, AllocError> {
+    let mut capture = Vec::new(alloc);
+    capture.extend_from_slice(HEADER)?;
+    for sequence in 1..21u8 {
+        let is_faulty = sequence == first || sequence == second;
+        let record = if is_faulty { BR_NOOP } else { BC_ENTER_LOOPER };
+        push_write(&mut capture, sequence, record)?;
+    }
+    Ok(capture)
+}
+
+// By this many workers and this piece the first fault of the capture is this.
+fn expect_fault_by<T: Threads + Sync + Abort>(
+    rt: &T,
+    alloc: Global,
+    capture: &[u8],
+    shares: (Workers, Piece),
+    fault: Fault,
+)
+    requires { length capture.now ≤ CAPTURE_LIMIT }
+{
+    let (workers, piece) = shares;
+    let error = audit(rt, alloc, capture, workers, piece, &NoGate).err();
+    assert_eq!(rt; error, Some(AuditError::Malformed(fault)));
+}
+
+// By any workers and pieces it is.
+fn expect_fault<T: Threads + Sync + Abort>(
+    rt: &T,
+    alloc: Global,
+    capture: &[u8],
+    kind: FaultKind,
+    place: u64,
+) -> Result<(), &'static str>
+    requires { length capture.now ≤ CAPTURE_LIMIT }
+{
+    for workers in WORKERS {
+        for piece in PIECES {
+            let fault = Fault { kind, place };
+            expect_fault_by(rt, alloc, capture, shares(*workers, *piece)?, fault);
+        }
+    }
+    Ok(())
+}
+
+/// A fault in this frame, and in another one, which may be the same.
+fn expect_least<T: Threads + Sync + Abort>(
+    rt: &T,
+    alloc: Global,
+    first: u8,
+    second: u8,
+) -> Result<(), Fail>
+    requires { first ≤ 20 }
+{
+    let capture = twenty_frames(alloc, first, second)?;
+    let capture = within_limit(rt, capture.as_slice());
+    let place = 36 * first as u64 + 12;
+    expect_fault(rt, alloc, capture, FaultKind::RecordDirection, place)?;
+    Ok(())
+}
+
+#[test]
+fn least_of_all_pieces(rt: HostRuntime) -> Result<(), Fail> {
+    for first in 1..21u8 {
+        for second in first..21u8 {
+            expect_least(&rt, rt.alloc(), first, second)?;
+        }
+    }
+    Ok(())
+}
+
+/// Three writes. The second one's header has an unknown direction; the others have these records.
+fn broken_in_the_middle(alloc: Global, first: &[u8], third: &[u8]) -> Result<Vec<u8>, AllocError> {
+    let mut capture = Vec::new(alloc);
+    capture.extend_from_slice(HEADER)?;
+    push_write(&mut capture, 1, first)?;
+    push_write(&mut capture, 2, BC_ENTER_LOOPER)?;
+    push_write(&mut capture, 3, third)?;
+    if let Some(direction) = capture.get_mut(68) {
+        *direction = 3;
+    }
+    Ok(capture)
+}
+
+/// A fault of a frame's header beside one of a record behind it, and before it.
+#[test]
+fn header_and_record(rt: HostRuntime) -> Result<(), Fail> {
+    let alloc = rt.alloc();
+    let later = broken_in_the_middle(alloc, BC_ENTER_LOOPER, BR_NOOP)?;
+    let capture = within_limit(&rt, later.as_slice());
+    expect_fault(&rt, alloc, capture, FaultKind::FrameDirection, 52)?;
+    let earlier = broken_in_the_middle(alloc, BR_NOOP, BC_ENTER_LOOPER)?;
+    let capture = within_limit(&rt, earlier.as_slice());
+    expect_fault(&rt, alloc, capture, FaultKind::RecordDirection, 48)?;
+    Ok(())
+}
+
+// 64 workers find so many frames, of a record each.
+fn expect_frames<T: Threads + Sync + Abort>(
+    rt: &T,
+    alloc: Global,
+    capture: &[u8],
+    count: usize,
+) -> Result<(), Fail>
+    requires { length capture.now ≤ CAPTURE_LIMIT }
+{
+    let (workers, piece) = shares(64, 1)?;
+    let found = audit(rt, alloc, capture, workers, piece, &NoGate)?;
+    assert_eq!(rt; found.frames().len(), count);
+    assert_eq!(rt; found.sections().records, count as u64);
+    Ok(())
+}
+
+/// A capture without a frame, and one frame.
+#[test]
+fn more_workers_than_pieces(rt: HostRuntime) -> Result<(), Fail> {
+    let mut capture = Vec::new(rt.alloc());
+    capture.extend_from_slice(HEADER)?;
+    expect_frames(&rt, rt.alloc(), within_limit(&rt, capture.as_slice()), 0)?;
+    push_write(&mut capture, 1, BC_ENTER_LOOPER)?;
+    expect_frames(&rt, rt.alloc(), within_limit(&rt, capture.as_slice()), 1)?;
+    Ok(())
+}
+
+/// The handle that is let go before it is taken.
+const HANDLES: &[ProcessHandle] = &[ProcessHandle {
+    process: 100,
+    handle: 3,
+    strong: 0,
+    strong_low: -1,
+    weak: 0,
+    weak_low: 0,
+}];
+
+/// Two pieces are under way at one time.
+#[test]
+fn two_pieces_meet(rt: HostRuntime) -> Result<(), Fail> {
+    let gate = Meeting::new();
+    let (workers, piece) = shares(2, 1)?;
+    let capture = within_limit(&rt, RELEASE_FIRST);
+    let found = audit(&rt, rt.alloc(), capture, workers, piece, &gate)?;
+    assert_eq!(rt; found.sections().handles.as_slice(), HANDLES);
+    assert!(rt; gate.was_held());
+    Ok(())
+}

@@ -1,0 +1,98 @@
+//! A reader read whole and a text written whole, byte by byte, also where a device fails.
+
+use crate::devices::{Drip, Sink};
+use audit_streams::{RunError, read_capture, write_text};
+use std::alloc::Global;
+use std::io::ErrorKind;
+use std::process::Abort;
+use std::test::Fail;
+
+// ---- reading
+
+#[test]
+fn reads_up_to_the_limit(rt: HostRuntime) -> Result<(), Fail> {
+    let capture = read_capture(rt.alloc(), &mut b"hello".as_slice(), 5)?;
+    assert_eq!(rt; capture.as_slice(), b"hello".as_slice());
+    let outcome = read_capture(rt.alloc(), &mut b"hello".as_slice(), 4);
+    assert!(rt; matches!(outcome, Err(RunError::TooLarge)));
+    Ok(())
+}
+
+/// How many bytes a reader has, at which read it fails, and the limit; then how many bytes are
+/// read, or the error, and by how many reads.
+type Reading = (u64, u64, usize, Result<usize, RunError>, u64);
+
+const READINGS: &[Reading] = &[
+    // It asks once more than the limit.
+    (64, 0, 64, Ok(64), 65),
+    (u64::MAX, 0, 64, Err(RunError::TooLarge), 65),
+    // A read can fail anywhere, and is not tried again.
+    (5, 1, 5, Err(RunError::Read), 1),
+    (5, 2, 5, Err(RunError::Read), 2),
+    (5, 5, 5, Err(RunError::Read), 5),
+    (5, 6, 5, Err(RunError::Read), 6),
+    // What happens first is answered.
+    (9, 5, 3, Err(RunError::TooLarge), 4),
+    (9, 4, 3, Err(RunError::Read), 4),
+];
+
+/// Holds what is read of a reader that gives a byte a read against the row.
+fn expect_reading<T: Abort>(rt: &T, alloc: Global, row: &Reading, kind: ErrorKind) {
+    let (bytes, fails_at, limit, outcome, reads) = *row;
+    let mut reader = Drip::of_letters(bytes, fails_at, kind);
+    let read = read_capture(alloc, &mut reader, limit).map(|capture| capture.len());
+    assert_eq!(rt; read, outcome);
+    assert_eq!(rt; reader.reads, reads);
+}
+
+#[test]
+fn reads_byte_by_byte(rt: HostRuntime) {
+    for row in READINGS {
+        expect_reading(&rt, rt.alloc(), row, ErrorKind::Other);
+        expect_reading(&rt, rt.alloc(), row, ErrorKind::Interrupted);
+    }
+}
+
+// ---- writing
+
+const TEXT: &[u8] = b"text\n";
+
+/// Holds a write of five bytes against what is due, by a writer that takes a byte a write: the
+/// outcome, the number of writes, how many bytes of the text were taken, and the flushes.
+fn expect_writing<T: Abort>(
+    rt: &T,
+    mut sink: Sink<'_>,
+    outcome: Result<(), RunError>,
+    counts: [u64; 3],
+) {
+    assert_eq!(rt; write_text(&mut sink, TEXT), outcome);
+    assert_eq!(rt; [sink.writes, sink.taken as u64, sink.flushes], counts);
+}
+
+#[test]
+fn writes_byte_by_byte(rt: HostRuntime) {
+    expect_writing(&rt, Sink::new(TEXT), Ok(()), [5, 5, 1]);
+    for kind in [ErrorKind::Other, ErrorKind::Interrupted] {
+        expect_writing(
+            &rt,
+            Sink::unflushed(TEXT, kind),
+            Err(RunError::Write),
+            [5, 5, 1],
+        );
+    }
+}
+
+#[test]
+fn stops_where_a_write_fails(rt: HostRuntime) {
+    for at in 1..=5u64 {
+        for fault in [Some(ErrorKind::Other), Some(ErrorKind::Interrupted), None] {
+            let sink = Sink::failing(TEXT, at, fault);
+            expect_writing(
+                &rt,
+                sink,
+                Err(RunError::Write),
+                [at, at.saturating_sub(1), 0],
+            );
+        }
+    }
+}

@@ -1,6 +1,0 @@
-use Rattle.std.proofs.Common.{sym}
-use Rattle.claim_board.proofs.Spacing.{length-spaced}
-use Rattle.claim_board.proofs.tests.jobs.ExcerptsWork.jobs.Goals as goal
-
-pub returns : goal.returns
-returns c = sym (length-spaced c.args.self.now.low c.args.self.now.high 0 c.args.self.now.jobs)

@@ -1,6 +1,0 @@
-use Rattle.std.proofs.Common.{◌≡◌, length}
-use Rattle.claim_board.specs.SpacedJobs.{AreSpacedFrom}
-use Rattle.claim_board.proofs.tests.jobs.jobs_by_bits.Given as goal
-
-abbrev pub invariant-loop-i : goal.invariant-loop-i
-invariant-loop-i l = AreSpacedFrom 0 l.jobs.items × (length l.jobs.items ≡ l.i)
