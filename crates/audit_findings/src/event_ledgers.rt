@@ -63,14 +63,19 @@ impl<'c> EventLedgers<'c> {
         requires { CanJoin SumsEvents AreFewEvents self later }
         ensures { IfOk result (Joins SumsEvents AreFewEvents self.entry later.entry) }
     {
+        // All are joined before one is looked at, so that less is left to drop at each `?`.
+        let codes = self.codes.join(later.codes);
+        let objects = self.objects.join(later.objects);
+        let flags = self.flags.join(later.flags);
+        let threads = self.threads.join(later.threads);
         Ok(EventLedgers {
             records: self.records + later.records,
             opaque: self.opaque + later.opaque,
-            codes: self.codes.join(later.codes)?,
+            codes: codes?,
             oneway: self.oneway.plus(later.oneway),
-            objects: self.objects.join(later.objects)?,
-            flags: self.flags.join(later.flags)?,
-            threads: self.threads.join(later.threads)?,
+            objects: objects?,
+            flags: flags?,
+            threads: threads?,
         })
     }
 }

@@ -90,17 +90,17 @@ impl<'c> Ledgers<'c> {
         // What needs no ledger for itself comes first: until then there is one thing to drop.
         let own = ProcessSections::of(alloc, &self.processes)?;
         let codes = code_rows(alloc, &self.events.codes)?;
+        let oneway = oneway_of(alloc, self.events.oneway, &self.processes)?;
         let EventLedgers {
             records,
             opaque,
             codes: tally,
-            oneway,
+            oneway: _,
             objects,
             flags,
             threads,
         } = self.events;
         let found = CallSections::of(alloc, threads)?;
-        let oneway = oneway_of(alloc, oneway, &self.processes)?;
         Ok(Sections {
             records,
             opaque,

@@ -52,14 +52,22 @@ impl Summary for ProcessLedgers {
     }
 
     fn join(self, later: ProcessLedgers) -> Result<ProcessLedgers, AllocError> {
+        // All are joined before one is looked at, so that less is left to drop at each `?`.
+        let handles = self.handles.join(later.handles);
+        let nodes = self.nodes.join(later.nodes);
+        let buffers = self.buffers.join(later.buffers);
+        let requests = self.requests.join(later.requests);
+        let deaths = self.deaths.join(later.deaths);
+        let clears = self.clears.join(later.clears);
+        let oneway = self.oneway.join(later.oneway);
         Ok(ProcessLedgers {
-            handles: self.handles.join(later.handles)?,
-            nodes: self.nodes.join(later.nodes)?,
-            buffers: self.buffers.join(later.buffers)?,
-            requests: self.requests.join(later.requests)?,
-            deaths: self.deaths.join(later.deaths)?,
-            clears: self.clears.join(later.clears)?,
-            oneway: self.oneway.join(later.oneway)?,
+            handles: handles?,
+            nodes: nodes?,
+            buffers: buffers?,
+            requests: requests?,
+            deaths: deaths?,
+            clears: clears?,
+            oneway: oneway?,
         })
     }
 

@@ -13,11 +13,15 @@ use std::io;
 use std::io::{Read, Write};
 use std::thread::Threads;
 
-/// What is done for a name: all names are listed for an empty one.
+/// What is done for a name of a table. All its names are listed for an empty one, which is then
+/// unknown as any other, so that the next table is asked.
 macro_rules! by_name {
     ($name:expr, $out:expr; $($known:literal => $call:expr,)*) => {
         match $name {
-            "" => Ok(list(&[$($known),*], $out)?),
+            "" => {
+                list(&[$($known),*], $out)?;
+                Err(NoAnswer::Unknown)
+            }
             $($known => $call,)*
             _ => Err(NoAnswer::Unknown),
         }
@@ -49,8 +53,28 @@ fn answer_to<T: Files + Threads + Sync, W: Write, E: Write>(
     let Ok(name) = str::from_utf8(name) else {
         return Err(NoAnswer::Unknown);
     };
-    let one = Workers::new(1).unwrap();
-    let four = Workers::new(4).unwrap();
+    match of_lists(rt, alloc, name, bytes, out) {
+        Err(NoAnswer::Unknown) => {}
+        answered => return answered,
+    }
+    match of_frames(rt, alloc, name, bytes, out) {
+        Err(NoAnswer::Unknown) => {}
+        answered => return answered,
+    }
+    match of_captures(rt, alloc, name, bytes, out, err) {
+        Err(NoAnswer::Unknown) if name.is_empty() => Ok(()),
+        answered => answered,
+    }
+}
+
+/// The calls that read, and those that sum a list.
+fn of_lists<T: Threads + Sync, W: Write>(
+    rt: &T,
+    alloc: Global,
+    name: &str,
+    bytes: &[u8],
+    out: &mut W,
+) -> Result<(), NoAnswer> {
     by_name! { name, out;
         "read_capture" => runs::read(alloc, bytes, out),
         "cut" => events::cut_all(alloc, bytes, out),
@@ -72,6 +96,20 @@ fn answer_to<T: Files + Threads + Sync, W: Write, E: Write>(
         "Requests: join, outstanding" => ledgers::requests(alloc, bytes, Way::Join, out),
         "ThreadCalls: add, finish" => ledgers::calls(alloc, bytes, Way::Add, out),
         "ThreadCalls: join, finish" => ledgers::calls(alloc, bytes, Way::Join, out),
+    }
+}
+
+/// The calls that share frames, and those that find what is in them.
+fn of_frames<T: Threads + Sync, W: Write>(
+    rt: &T,
+    alloc: Global,
+    name: &str,
+    bytes: &[u8],
+    out: &mut W,
+) -> Result<(), NoAnswer> {
+    let one = Workers::new(1).unwrap();
+    let four = Workers::new(4).unwrap();
+    by_name! { name, out;
         "Board::new" => jobs::board(alloc, bytes, out),
         "run_all by 1" => jobs::shared(rt, alloc, bytes, one, out),
         "run_all by 4" => jobs::shared(rt, alloc, bytes, four, out),
@@ -85,6 +123,21 @@ fn answer_to<T: Files + Threads + Sync, W: Write, E: Write>(
         "audit by 1" => runs::audited(rt, alloc, bytes, one, out),
         "audit by 4" => runs::audited(rt, alloc, bytes, four, out),
         "audit_one" => runs::audited_by_one(rt, alloc, bytes, out),
+    }
+}
+
+/// The calls from a capture, or a command line, to a text.
+fn of_captures<T: Files + Threads + Sync, W: Write, E: Write>(
+    rt: &T,
+    alloc: Global,
+    name: &str,
+    bytes: &[u8],
+    out: &mut W,
+    err: &mut E,
+) -> Result<(), NoAnswer> {
+    let one = Workers::new(1).unwrap();
+    let four = Workers::new(4).unwrap();
+    by_name! { name, out;
         "rows" => runs::rows_told(rt, alloc, bytes, out),
         "text" => runs::text_told(rt, alloc, bytes, out),
         "run by 1" => runs::ran(rt, alloc, bytes, one, out),

@@ -27,19 +27,19 @@ pub(crate) fn frames<W: Write>(frames: &[Frame<'_>], out: &mut W) -> Result<(), 
     Ok(())
 }
 
-/// Prints each handle, and how often it was raised more than lowered.
+/// Prints each handle, and by how much its raises and its lowers differ.
 pub(crate) fn handles<W: Write>(rows: &[HandleRow], out: &mut W) -> Result<(), NoAnswer> {
     for row in rows {
-        let (strong, weak) = (row.strong.sum as u64, row.weak.sum as u64);
+        let (strong, weak) = (row.strong.sum.unsigned_abs(), row.weak.sum.unsigned_abs());
         line(out, "handle", &[row.handle as u64, strong, weak])?;
     }
     Ok(())
 }
 
-/// Prints each node, and how often it was raised more than lowered.
+/// Prints each node, and by how much its raises and its lowers differ.
 pub(crate) fn nodes<W: Write>(rows: &[NodeRow], out: &mut W) -> Result<(), NoAnswer> {
     for row in rows {
-        let (strong, weak) = (row.strong.sum as u64, row.weak.sum as u64);
+        let (strong, weak) = (row.strong.sum.unsigned_abs(), row.weak.sum.unsigned_abs());
         line(out, "node", &[row.key.ptr, row.key.cookie, strong, weak])?;
     }
     Ok(())
@@ -48,7 +48,8 @@ pub(crate) fn nodes<W: Write>(rows: &[NodeRow], out: &mut W) -> Result<(), NoAns
 /// Prints each key of a tally, how often it stands there and with what weight.
 pub(crate) fn tally<W: Write>(rows: &[(u32, u64, u128)], out: &mut W) -> Result<(), NoAnswer> {
     for row in rows {
-        line(out, "key", &[row.0 as u64, row.1, row.2 as u64])?;
+        let weight = u64::try_from(row.2).unwrap_or(u64::MAX);
+        line(out, "key", &[row.0 as u64, row.1, weight])?;
     }
     Ok(())
 }

@@ -7,8 +7,8 @@ use Rattle.audit_findings.proofs.FewLaws.{weighted_parts, opaque-append}
 use Rattle.audit_findings.proofs.OnewayCountLaws.{counts_both, counts_small}
 use Rattle.audit_findings.proofs.event_ledgers.EventLedgers.join.Goals as goal
 
-pub join-requires : goal.join-requires
-join-requires c =
+pub join-codes-requires : goal.join-codes-requires
+join-codes-requires c =
     let first = c.requires.0 in
     let second = c.requires.1 in
     (map code_item first, map code_item second, c.requires.2.codes, c.requires.3.codes, weighted_parts first second c.requires.4)
@@ -21,8 +21,8 @@ pub plus-requires-clause-received : goal.plus-requires-clause-received
 plus-requires-clause-received c =
     (counts_small c.args.self.oneway c.args.later.oneway c.requires.0 c.requires.1 c.requires.4.0.0 c.requires.2.oneway c.requires.3.oneway).1
 
-pub join-requires-4 : goal.join-requires-4
-join-requires-4 c = (c.requires.0, c.requires.1, c.requires.2.threads, c.requires.3.threads, c.requires.4)
+pub join-threads-requires : goal.join-threads-requires
+join-threads-requires c = (c.requires.0, c.requires.1, c.requires.2.threads, c.requires.3.threads, c.requires.4)
 
 pub returns : goal.returns
 returns c first second sums others fits =
@@ -35,11 +35,11 @@ returns c first second sums others fits =
     record {
       records = omega (arith, records, more, long);
       opaque = omega (arith, opaque, more_opaque, both);
-      codes = subst (TallySums nat_cmp c.in_ok-join.field-0) (sym (map-append code_item first second))
-          (c.in_ok-join.ensures (map code_item first) (map code_item second) sums.codes others.codes (weighted_parts first second fits));
+      codes = subst (TallySums nat_cmp c.in_ok-codes.field-0) (sym (map-append code_item first second))
+          (c.in_ok-codes.ensures (map code_item first) (map code_item second) sums.codes others.codes (weighted_parts first second fits));
       oneway = counts_both c.args.self.oneway c.args.later.oneway c.plus.result first second sums.oneway others.oneway
           c.plus.ensures.sent c.plus.ensures.received;
-      objects = c.in_ok-join-2.ensures first second sums.objects others.objects fits;
-      flags = c.in_ok-join-3.ensures first second sums.flags others.flags;
-      threads = c.in_ok-join-4.ensures first second sums.threads others.threads fits;
+      objects = c.in_ok-objects.ensures first second sums.objects others.objects fits;
+      flags = c.in_ok-flags.ensures first second sums.flags others.flags;
+      threads = c.in_ok-threads.ensures first second sums.threads others.threads fits;
     }

@@ -11,62 +11,62 @@ use Rattle.audit_findings.specs.OnewayLedger.{OnewayLedgerSums}
 use Rattle.audit_findings.proofs.ProcessLaws.{can_join_read, read_joined}
 use Rattle.audit_findings.proofs.process_ledgers.ProcessLedgersSummary.join.Goals as goal
 
-pub join-requires : goal.join-requires
-join-requires c =
+pub join-handles-requires : goal.join-handles-requires
+join-handles-requires c =
     can_join_read (λ (i : ProcessItems). i.handle) HandleLedgerSums IsShort c.requires.0 c.requires.1 c.args.self.handles c.args.later.handles
     c.requires.2.handles c.requires.3.handles c.requires.4.handles
 
-pub join-requires-2 : goal.join-requires-2
-join-requires-2 c =
+pub join-nodes-requires : goal.join-nodes-requires
+join-nodes-requires c =
     can_join_read (λ (i : ProcessItems). i.node) NodeLedgerSums IsShort c.requires.0 c.requires.1 c.args.self.nodes c.args.later.nodes
     c.requires.2.nodes c.requires.3.nodes c.requires.4.nodes
 
-pub join-requires-3 : goal.join-requires-3
-join-requires-3 c =
+pub join-buffers-requires : goal.join-buffers-requires
+join-buffers-requires c =
     can_join_read (λ (i : ProcessItems). i.buffer) BuffersSums (IsPlaced buffer_place) c.requires.0 c.requires.1 c.args.self.buffers c.args.later.buffers
     c.requires.2.buffers c.requires.3.buffers c.requires.4.buffers
 
-pub join-requires-4 : goal.join-requires-4
-join-requires-4 c =
+pub join-requests-requires : goal.join-requests-requires
+join-requests-requires c =
     can_join_read (λ (i : ProcessItems). i.request) RequestsSums (IsPlaced request_place) c.requires.0 c.requires.1 c.args.self.requests c.args.later.requests
     c.requires.2.requests c.requires.3.requests c.requires.4.requests
 
-pub join-requires-5 : goal.join-requires-5
-join-requires-5 c =
+pub join-deaths-requires : goal.join-deaths-requires
+join-deaths-requires c =
     can_join_read (λ (i : ProcessItems). i.death) (PendingSums nat_cmp) (IsPlaced place_of) c.requires.0 c.requires.1 c.args.self.deaths c.args.later.deaths
     c.requires.2.deaths c.requires.3.deaths c.requires.4.deaths
 
-pub join-requires-6 : goal.join-requires-6
-join-requires-6 c =
+pub join-clears-requires : goal.join-clears-requires
+join-clears-requires c =
     can_join_read (λ (i : ProcessItems). i.clear) (PendingSums nat_cmp) (IsPlaced place_of) c.requires.0 c.requires.1 c.args.self.clears c.args.later.clears
     c.requires.2.clears c.requires.3.clears c.requires.4.clears
 
-pub join-requires-7 : goal.join-requires-7
-join-requires-7 c =
+pub join-oneway-requires : goal.join-oneway-requires
+join-oneway-requires c =
     can_join_read (λ (i : ProcessItems). i.oneway) OnewayLedgerSums IsShort c.requires.0 c.requires.1 c.args.self.oneway c.args.later.oneway
     c.requires.2.oneway c.requires.3.oneway c.requires.4.oneway
 
 pub returns : goal.returns
 returns c first second sums others fits = record {
   handles =
-      read_joined (λ (i : ProcessItems). i.handle) HandleLedgerSums IsShort first second c.args.self.handles c.args.later.handles c.in_ok-join.field-0
-      c.in_ok-join.ensures sums.handles others.handles fits.handles;
+      read_joined (λ (i : ProcessItems). i.handle) HandleLedgerSums IsShort first second c.args.self.handles c.args.later.handles c.in_ok-handles.field-0
+      c.in_ok-handles.ensures sums.handles others.handles fits.handles;
   nodes =
-      read_joined (λ (i : ProcessItems). i.node) NodeLedgerSums IsShort first second c.args.self.nodes c.args.later.nodes c.in_ok-join-2.field-0
-      c.in_ok-join-2.ensures sums.nodes others.nodes fits.nodes;
+      read_joined (λ (i : ProcessItems). i.node) NodeLedgerSums IsShort first second c.args.self.nodes c.args.later.nodes c.in_ok-nodes.field-0
+      c.in_ok-nodes.ensures sums.nodes others.nodes fits.nodes;
   buffers =
-      read_joined (λ (i : ProcessItems). i.buffer) BuffersSums (IsPlaced buffer_place) first second c.args.self.buffers c.args.later.buffers c.in_ok-join-3.field-0
-      c.in_ok-join-3.ensures sums.buffers others.buffers fits.buffers;
+      read_joined (λ (i : ProcessItems). i.buffer) BuffersSums (IsPlaced buffer_place) first second c.args.self.buffers c.args.later.buffers c.in_ok-buffers.field-0
+      c.in_ok-buffers.ensures sums.buffers others.buffers fits.buffers;
   requests =
-      read_joined (λ (i : ProcessItems). i.request) RequestsSums (IsPlaced request_place) first second c.args.self.requests c.args.later.requests c.in_ok-join-4.field-0
-      c.in_ok-join-4.ensures sums.requests others.requests fits.requests;
+      read_joined (λ (i : ProcessItems). i.request) RequestsSums (IsPlaced request_place) first second c.args.self.requests c.args.later.requests c.in_ok-requests.field-0
+      c.in_ok-requests.ensures sums.requests others.requests fits.requests;
   deaths =
-      read_joined (λ (i : ProcessItems). i.death) (PendingSums nat_cmp) (IsPlaced place_of) first second c.args.self.deaths c.args.later.deaths c.in_ok-join-5.field-0
-      c.in_ok-join-5.ensures sums.deaths others.deaths fits.deaths;
+      read_joined (λ (i : ProcessItems). i.death) (PendingSums nat_cmp) (IsPlaced place_of) first second c.args.self.deaths c.args.later.deaths c.in_ok-deaths.field-0
+      c.in_ok-deaths.ensures sums.deaths others.deaths fits.deaths;
   clears =
-      read_joined (λ (i : ProcessItems). i.clear) (PendingSums nat_cmp) (IsPlaced place_of) first second c.args.self.clears c.args.later.clears c.in_ok-join-6.field-0
-      c.in_ok-join-6.ensures sums.clears others.clears fits.clears;
+      read_joined (λ (i : ProcessItems). i.clear) (PendingSums nat_cmp) (IsPlaced place_of) first second c.args.self.clears c.args.later.clears c.in_ok-clears.field-0
+      c.in_ok-clears.ensures sums.clears others.clears fits.clears;
   oneway =
-      read_joined (λ (i : ProcessItems). i.oneway) OnewayLedgerSums IsShort first second c.args.self.oneway c.args.later.oneway c.in_ok-join-7.field-0
-      c.in_ok-join-7.ensures sums.oneway others.oneway fits.oneway;
+      read_joined (λ (i : ProcessItems). i.oneway) OnewayLedgerSums IsShort first second c.args.self.oneway c.args.later.oneway c.in_ok-oneway.field-0
+      c.in_ok-oneway.ensures sums.oneway others.oneway fits.oneway;
 }
