@@ -13,7 +13,7 @@ use crate::audit_error::AuditError;
 use crate::limits::CAPTURE_LIMIT;
 use crate::piece::Piece;
 use crate::summaries::summaries_of;
-use audit_findings::{Findings, MOST_KEPT, PieceSummary};
+use audit_findings::{Findings, PieceSummary};
 use capture_frame::{Cut, Frame, cut};
 use claim_board::{Gate, NoGate, Workers};
 use std::alloc::{AllocError, Global};
@@ -34,7 +34,20 @@ pub fn audit<'c, T: Threads + Sync, G: Gate + Sync>(
     ensures found { IfOk result (λ found. IsAudited capture.now found) }
     ensures malformed { IfErr result (IsMalformed capture.now) }
 {
-    audit_keeping(rt, alloc, capture, workers, piece, gate, MOST_KEPT)
+    match cut(alloc, capture) {
+        Ok(frames) => {
+            let slice = frames.as_slice();
+            let parts = summaries_of(rt, alloc, slice, workers, piece, gate)?;
+            Ok(findings_of(rt, alloc, frames, parts, workers)?)
+        }
+        Err(Cut::Memory) => Err(AuditError::Memory),
+        Err(Cut::Bad { fault, before }) => {
+            // A fault of the frames before it comes first.
+            let slice = before.as_slice();
+            summaries_of(rt, alloc, slice, workers, piece, gate)?;
+            Err(AuditError::Malformed(fault))
+        }
+    }
 }
 
 /// The same by one worker.
@@ -50,36 +63,6 @@ pub fn audit_one<'c, T: Threads + Sync>(
     let workers = Workers::new(1).unwrap();
     let piece = Piece::new(256).unwrap();
     audit(rt, alloc, capture, workers, piece, &NoGate)
-}
-
-/// The same as `audit`, where a summary keeps no more than so many frames as they are.
-pub(crate) fn audit_keeping<'c, T: Threads + Sync, G: Gate + Sync>(
-    rt: &T,
-    alloc: Global,
-    capture: &'c [u8],
-    workers: Workers,
-    piece: Piece,
-    gate: &G,
-    most_kept: usize,
-) -> Result<Findings<'c>, AuditError>
-    requires { length capture.now ≤ CAPTURE_LIMIT }
-    ensures found { IfOk result (λ found. IsAudited capture.now found) }
-    ensures malformed { IfErr result (IsMalformed capture.now) }
-{
-    match cut(alloc, capture) {
-        Ok(frames) => {
-            let slice = frames.as_slice();
-            let parts = summaries_of(rt, alloc, slice, workers, piece, gate, most_kept)?;
-            Ok(findings_of(rt, alloc, frames, parts, workers)?)
-        }
-        Err(Cut::Memory) => Err(AuditError::Memory),
-        Err(Cut::Bad { fault, before }) => {
-            // A fault of the frames before it comes first.
-            let slice = before.as_slice();
-            summaries_of(rt, alloc, slice, workers, piece, gate, most_kept)?;
-            Err(AuditError::Malformed(fault))
-        }
-    }
 }
 
 /// The findings of frames, from the summaries of their runs.

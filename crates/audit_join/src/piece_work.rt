@@ -13,7 +13,6 @@ use std::alloc::{AllocError, Global};
 #[derive(Drop)]
 pub(crate) struct PieceWork<'f, 'c> {
     pub runs: &'f [&'f [Frame<'c>]],
-    pub most_kept: usize,
     ghost can_judge: { AreJobRuns (map (λ run. run.now) runs.now) },
 }
 
@@ -41,7 +40,7 @@ impl<'f, 'c> Work for PieceWork<'f, 'c> {
         let frames = self.runs[i as usize];
         match first_in(frames) {
             Some(fault) => Err(JobStop::At(fault.place)),
-            None => match summary_of(alloc, frames, self.most_kept) {
+            None => match summary_of(alloc, frames) {
                 Ok(summary) => Ok(summary),
                 Err(AllocError) => Err(JobStop::Memory),
             },

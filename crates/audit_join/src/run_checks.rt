@@ -6,7 +6,7 @@ ghost use Rattle.audit_findings.specs.Frames.{AreGoodFrames, StandApart};
 ghost use Rattle.audit_findings.specs.Summary.{SumsPiece};
 ghost use Rattle.audit_join.specs.Jobs.{AreSound, IsFirstIn, HasFirstAt};
 
-use audit_findings::{PieceSummary, frame_at};
+use audit_findings::{MOST_KEPT, PieceSummary, frame_at};
 use capture_frame::{Fault, Frame};
 use std::alloc::{AllocError, Global};
 use summary_law::Summary;
@@ -44,16 +44,15 @@ pub(crate) fn fault_at(frames: &[Frame<'_>], place: u64) -> Fault
     check_frame(frame).unwrap()
 }
 
-/// The summary of these frames, which keeps no more than so many as they are.
+/// The summary of these frames.
 pub(crate) fn summary_of<'c>(
     alloc: Global,
     frames: &[Frame<'c>],
-    most_kept: usize,
 ) -> Result<PieceSummary<'c>, AllocError>
     requires { AreGoodFrames frames.now }
     ensures { IfOk result (λ summary. SumsPiece summary frames.now) }
 {
-    let mut summary = PieceSummary::with_room(alloc, frames.len(), most_kept)?;
+    let mut summary = PieceSummary::with_room(alloc, frames.len(), MOST_KEPT)?;
     for frame in frames {
         summary.add(*frame)?;
     }

@@ -16,7 +16,6 @@ use std::alloc::Global;
 use std::thread::Threads;
 
 /// The summaries of the runs of these frames, in order, or the first fault that stands in them.
-/// Each of the summaries keeps no more than so many frames as they are.
 pub(crate) fn summaries_of<'c, T: Threads + Sync, G: Gate + Sync>(
     rt: &T,
     alloc: Global,
@@ -24,17 +23,13 @@ pub(crate) fn summaries_of<'c, T: Threads + Sync, G: Gate + Sync>(
     workers: Workers,
     piece: Piece,
     gate: &G,
-    most_kept: usize,
 ) -> Result<Vec<PieceSummary<'c>>, AuditError>
     requires { AreCut frames.now }
     ensures found { IfOk result (λ parts. AreSummaries frames.now parts.items) }
     ensures fault { IfErr result (IsFirstError frames.now) }
 {
     let plan = Plan::new(alloc, frames, piece)?;
-    let work = PieceWork {
-        runs: plan.runs(),
-        most_kept,
-    };
+    let work = PieceWork { runs: plan.runs() };
     match run_all(rt, alloc, &work, workers, gate) {
         Ok(parts) => Ok(parts),
         Err(Stop::Least(place)) => Err(AuditError::Malformed(fault_at(frames, place))),

@@ -5,7 +5,7 @@ use Rattle.capture_frame.specs.Units.{IsBytes}
 use Rattle.audit_join.specs.Jobs.{AreCut, AreSound}
 use Rattle.audit_join.specs.Summaries.{IsFirstError}
 use Rattle.audit_join.proofs.CutLaws.{all_cut, before_cut, good_frames, whole_capture, error_of_all, error_before, cut_off_first}
-use Rattle.audit_join.proofs.audits.audit_keeping.Goals as goal
+use Rattle.audit_join.proofs.audits.audit.Goals as goal
 
 pub summaries_of-requires-after_bounds : goal.summaries_of-requires-after_bounds
 summaries_of-requires-after_bounds g c κs within =
