@@ -1,4 +1,3 @@
-pub mod CaptureLaws
 pub mod PartLaws
 pub mod RunLaws
 pub mod JobLaws

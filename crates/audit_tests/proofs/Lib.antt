@@ -1,2 +1,3 @@
+pub mod CaptureLaws
 pub mod ListedThere
 pub mod Spacing

@@ -3,7 +3,7 @@ use Rattle.capture_frame.specs.Envelope.{file_header}
 use Rattle.capture_frame.specs.Units.{spelling_of}
 use Rattle.transaction_view.specs.Grammar.{whole_format}
 use Rattle.audit_findings.specs.Frames.{AreGoodFrames}
-use Rattle.audit_join.proofs.CaptureLaws.{shown_are_good}
+use Rattle.audit_tests.proofs.CaptureLaws.{shown_are_good}
 use Rattle.audit_tests.proofs.join.frames_of.Goals as goal
 
 pub returns-clause-good : goal.returns-clause-good
