@@ -18,7 +18,10 @@ use Rattle.transaction_view.specs.Attachments.{EntryText, entry_bytes, entry_for
 use Rattle.transaction_view.specs.Grammar.{WholeFrame}
 use Rattle.event_core.specs.Events.{AttachmentText, attachment_text, belongs_to, event_of, events_of_whole, placed_records}
 use Rattle.event_core.proofs.EntryPlaces.{find-here, find-other}
-use Rattle.audit_findings.specs.Frames.{Show, IsWhole, placed_text, events_of_wholes, AreGoodFrames, span_of}
+use Rattle.audit_findings.specs.Frames.{Show, IsWhole, AreGoodFrames}
+use Rattle.event_core.specs.Events.{placed_text}
+use Rattle.event_core.specs.Events.{events_of_wholes}
+use Rattle.capture_frame.specs.Lookup.{span_of}
 use Rattle.audit_findings.specs.Ledgers.{AreFewFrames}
 use Rattle.audit_findings.proofs.FewLaws.{HasSmall}
 use Rattle.audit_findings.proofs.FrameLaws.{shown_first, shown_none}

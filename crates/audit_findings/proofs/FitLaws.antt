@@ -19,25 +19,28 @@ use Rattle.summary_law.specs.Fits.{IsShort, IsPlaced}
 use Rattle.summary_law.specs.Summary.{FitsInParts}
 use Rattle.transaction_view.specs.Attachments.{EntryText, HasEntries}
 use Rattle.transaction_view.specs.Grammar.{WholeFrame}
-use Rattle.audit_findings.specs.declared.process.Process.{Process}
-use Rattle.audit_findings.specs.declared.process_items.ProcessItems.{ProcessItems}
-use Rattle.audit_findings.specs.declared.process_summary.ProcessSummary.{ProcessSummary}
-use Rattle.audit_findings.specs.InOrder.{SumsInOrder}
-use Rattle.audit_findings.specs.Buffers.{buffer_item_of}
-use Rattle.audit_findings.specs.Clears.{clear_item_of}
-use Rattle.audit_findings.specs.Deaths.{death_item_of}
-use Rattle.audit_findings.specs.Frames.{Show, events_of_wholes}
-use Rattle.audit_findings.specs.Handles.{handle_item_of}
+use Rattle.capture_frame.specs.declared.process.Process.{Process}
+use Rattle.process_ledgers.specs.declared.process_items.ProcessItems.{ProcessItems}
+use Rattle.process_ledgers.specs.declared.process_summary.ProcessSummary.{ProcessSummary}
+use Rattle.summary_law.specs.InOrder.{SumsInOrder}
+use Rattle.process_ledgers.specs.Items.{buffer_item_of}
+use Rattle.process_ledgers.specs.Items.{clear_item_of}
+use Rattle.process_ledgers.specs.Items.{death_item_of}
+use Rattle.audit_findings.specs.Frames.{Show}
+use Rattle.event_core.specs.Events.{events_of_wholes}
+use Rattle.process_ledgers.specs.Items.{handle_item_of}
 use Rattle.audit_findings.specs.Ledgers.{AreFewEvents, AreFewFrames}
-use Rattle.audit_findings.specs.Nodes.{node_item_of}
-use Rattle.audit_findings.specs.Oneway.{oneway_item_of}
-use Rattle.audit_findings.specs.ProcessItems.{no_items, items_of_event, key_of, fed_by, fed_by_all}
-use Rattle.audit_findings.specs.ProcessLedgers.{FitProcess, SumsProcessItems, process_parts}
-use Rattle.audit_findings.specs.Processes.{same_process, read_of, items_of_process}
-use Rattle.audit_findings.specs.Requests.{request_item_of}
-use Rattle.audit_findings.proofs.FedLaws.{fed-append, fed_event, fed_items}
+use Rattle.process_ledgers.specs.Items.{node_item_of}
+use Rattle.process_ledgers.specs.Items.{oneway_item_of}
+use Rattle.process_ledgers.specs.ProcessItems.{no_items, items_of_event, fed_by, fed_by_all}
+use Rattle.process_ledgers.specs.Processes.{process_of_whole}
+use Rattle.process_ledgers.specs.ProcessLedgers.{FitProcess, SumsProcessItems, process_parts}
+use Rattle.capture_frame.specs.Process.{same_process}
+use Rattle.process_ledgers.specs.Processes.{read_of, items_of_process}
+use Rattle.process_ledgers.specs.Items.{request_item_of}
+use Rattle.process_ledgers.proofs.FedLaws.{fed-append, fed_event, fed_items}
 use Rattle.audit_findings.proofs.FrameLaws.{shown_first, shown_none, whole_events}
-use Rattle.audit_findings.proofs.ItemPlaces.{KeepsPlace, read_keeps, buffer_keeps, request_keeps, death_keeps, clear_keeps}
+use Rattle.process_ledgers.proofs.ItemPlaces.{KeepsPlace, read_keeps, buffer_keeps, request_keeps, death_keeps, clear_keeps}
 use Rattle.audit_findings.proofs.Rising.{placed_made}
 
 -- a process by its number, and that of a frame

@@ -18,7 +18,9 @@ use Rattle.summary_law.specs.Fits.{short_parts}
 use Rattle.audit_findings.specs.declared.ledgers.Ledgers.{Ledgers}
 use Rattle.audit_findings.specs.Ledgers.{AreFewEvents, AreFewFrames, SumsLedgers, Takes, CanTake}
 use Rattle.audit_findings.proofs.FewLaws.{few_parts}
-use Rattle.audit_findings.specs.Frames.{Show, IsWhole, placed_text, events_of_wholes}
+use Rattle.audit_findings.specs.Frames.{Show, IsWhole}
+use Rattle.event_core.specs.Events.{placed_text}
+use Rattle.event_core.specs.Events.{events_of_wholes}
 
 pub events-append : (wholes others : List (Placed WholeFrame)) → events_of_wholes (wholes ++ others) ≡ events_of_wholes wholes ++ events_of_wholes others
 events-append wholes others = flat_map-append events_of_whole wholes others

@@ -21,14 +21,19 @@ use Rattle.audit_findings.specs.declared.nodes.ProcessNode.{ProcessNode}
 use Rattle.audit_findings.specs.declared.oneway.OnewayRow.{OnewayRow}
 use Rattle.audit_findings.specs.declared.record_counts.RecordCounts.{RecordCounts}
 use Rattle.audit_findings.specs.Calls.{CallsText, ServedText, RefusedText, AreCalls, AreServed, AreCallFindings, AreStrays, AreRefused}
-use Rattle.audit_findings.specs.Frames.{events_of_wholes}
-use Rattle.audit_findings.specs.Handles.{AreHandlesOf, AreHandleFindings, handle_item_of, process_handle}
-use Rattle.audit_findings.specs.Nodes.{AreNodesOf, AreNodeFindings, node_item_of, process_node}
-use Rattle.audit_findings.specs.Oneway.{OnewayText, AreOnewayFindings, AreOnewayRows, AreOnewayOf, oneway_cmp, oneway_item_of, oneway_pair, process_oneway}
+use Rattle.event_core.specs.Events.{events_of_wholes}
+use Rattle.audit_findings.specs.Handles.{AreHandlesOf, AreHandleFindings, process_handle}
+use Rattle.process_ledgers.specs.Items.{handle_item_of}
+use Rattle.audit_findings.specs.Nodes.{AreNodesOf, AreNodeFindings, process_node}
+use Rattle.process_ledgers.specs.Items.{node_item_of}
+use Rattle.audit_findings.specs.Oneway.{OnewayText, AreOnewayFindings, AreOnewayRows, AreOnewayOf, process_oneway}
+use Rattle.process_ledgers.specs.OnewayLedger.{oneway_cmp, oneway_pair}
+use Rattle.process_ledgers.specs.Items.{oneway_item_of}
 use Rattle.audit_findings.specs.Places.{AreEventsAt, AreOpenAndStray, IsCountOfPlaces, RiseInPlace, OpenAndStrayText}
-use Rattle.audit_findings.specs.Processes.{AreInTurn, items_of_process, processes_of, read_of}
+use Rattle.audit_findings.specs.InTurn.{AreInTurn}
+use Rattle.process_ledgers.specs.Processes.{items_of_process, processes_of, read_of}
 use Rattle.audit_findings.specs.RecordCounts.{AreRecordCounts}
-use Rattle.audit_findings.proofs.OnewayLaws.{oneway_cmp_total, oneway_cmp_exact}
+use Rattle.process_ledgers.proofs.OnewayLaws.{oneway_cmp_total, oneway_cmp_exact}
 use Rattle.audit_findings.proofs.TallyRows.{one_list_of_tally_rows}
 
 -- ---- rows of each process in turn

@@ -11,7 +11,8 @@ use Rattle.summary_law.proofs.ReadLaws.{length-read}
 use Rattle.summary_law.specs.Fits.{IsShort}
 use Rattle.audit_findings.specs.declared.oneway_counts.OnewayCounts.{OnewayCounts}
 use Rattle.audit_findings.specs.Ledgers.{CountsOneway}
-use Rattle.audit_findings.specs.Oneway.{oneway_item_of, is_sent, is_sent_key}
+use Rattle.process_ledgers.specs.Items.{oneway_item_of}
+use Rattle.audit_findings.specs.Oneway.{is_sent, is_sent_key}
 
 -- how many oneway transactions of a sort there are
 abbrev count_of : (OnewayItem → Bool) → List EventText → ℕ

@@ -18,16 +18,16 @@ use Rattle.event_core.specs.Events.{EventText, event_of, events_of_whole, placed
 use Rattle.pending_ledger.proofs.GatherLaws.{sorted_places}
 use Rattle.pending_ledger.proofs.ListLaws.{contains_none, contains_here, contains_there, contains_cases, all_pairs_append, one_place}
 use Rattle.pending_ledger.specs.Pending.{ArePlacesOf}
-use Rattle.audit_findings.specs.declared.process.Process.{Process}
-use Rattle.audit_findings.specs.declared.process_ledgers.ProcessLedgers.{ProcessLedgers}
-use Rattle.audit_findings.specs.declared.process_summary.ProcessSummary.{ProcessSummary}
+use Rattle.capture_frame.specs.declared.process.Process.{Process}
+use Rattle.process_ledgers.specs.declared.process_ledgers.ProcessLedgers.{ProcessLedgers}
+use Rattle.process_ledgers.specs.declared.process_summary.ProcessSummary.{ProcessSummary}
 use Rattle.audit_findings.specs.declared.open_and_stray.OpenAndStray.{OpenAndStray}
-use Rattle.audit_findings.specs.Frames.{events_of_wholes}
+use Rattle.event_core.specs.Events.{events_of_wholes}
 use Rattle.audit_findings.specs.Kept.{KeepsOpenAndStray}
 use Rattle.audit_findings.specs.Places.{RiseInPlace, StandsInProcess, ExcludeEachOther, OpenAndStrayText, AreOpenAndStray}
-use Rattle.audit_findings.specs.Processes.{process_of, processes_of}
-use Rattle.audit_findings.specs.ProcessLedgers.{NeedsItems, AreLedgersOf, IsOfProcess, AreOfProcesses}
-use Rattle.audit_findings.proofs.InOrderLaws.{each_among_firsts, firsts_distinct}
+use Rattle.process_ledgers.specs.Processes.{process_of_whole, processes_of}
+use Rattle.process_ledgers.specs.OfProcess.{NeedsItems, AreLedgersOf, IsOfProcess, AreOfProcesses}
+use Rattle.summary_law.proofs.InOrderLaws.{each_among_firsts, firsts_distinct}
 use Rattle.audit_findings.proofs.EventsAt.{events_at}
 
 -- numbers that rise differ

@@ -20,7 +20,10 @@ use Rattle.event_core.specs.Events.{AttachmentText, EventText, event_of, events_
 use Rattle.summary_law.specs.Fits.{PlacesRise}
 use Rattle.audit_findings.specs.Findings.{FindingsText, AreFindings}
 use Rattle.audit_findings.specs.Flags.{has_unknown_flags, flagged}
-use Rattle.audit_findings.specs.Frames.{Show, IsWhole, placed_text, wholes_of, events_of_wholes, StandApart}
+use Rattle.audit_findings.specs.Frames.{Show, IsWhole}
+use Rattle.event_core.specs.Events.{placed_text}
+use Rattle.event_core.specs.Events.{wholes_of, events_of_wholes}
+use Rattle.capture_frame.specs.Lookup.{StandApart}
 use Rattle.audit_findings.specs.Objects.{Attached, attached_to, Outcome, BadOwned, bad_of, bad_objects}
 use Rattle.audit_findings.proofs.Rising.{pairs_nil, pairs_map, pairs_unmap, pairs_flat, rising_made, rising_kept, increasing_places}
 

@@ -13,8 +13,11 @@ use Rattle.record_view.specs.Records.{RecordText, HasRecords, record_bytes, reco
 use Rattle.transaction_view.specs.Grammar.{WholeFrame}
 use Rattle.transaction_view.proofs.RecordPlaces.{stands_within}
 use Rattle.event_core.specs.Events.{EventText, RecordStandsAt, HasRecordAt, bare_event, event_of, events_of_whole}
-use Rattle.audit_findings.specs.Frames.{Show, IsWhole, placed_text, events_of_wholes}
-use Rattle.audit_findings.specs.Lookup.{Holds, HasRecordIn}
+use Rattle.audit_findings.specs.Frames.{Show, IsWhole}
+use Rattle.event_core.specs.Events.{placed_text}
+use Rattle.event_core.specs.Events.{events_of_wholes}
+use Rattle.capture_frame.specs.Lookup.{Holds}
+use Rattle.audit_findings.specs.Lookup.{HasRecordIn}
 use Rattle.audit_findings.proofs.FrameLaws.{shown_first, shown_none}
 
 -- the event is that of a record of the frame

@@ -20,17 +20,21 @@ use Rattle.transaction_view.specs.Grammar.{WholeFrame}
 use Rattle.audit_findings.specs.declared.handles.ProcessHandle.{ProcessHandle}
 use Rattle.audit_findings.specs.declared.nodes.ProcessNode.{ProcessNode}
 use Rattle.audit_findings.specs.declared.oneway.OnewayRow.{OnewayRow}
-use Rattle.audit_findings.specs.declared.process.Process.{Process}
-use Rattle.audit_findings.specs.declared.process_ledgers.ProcessLedgers.{ProcessLedgers}
-use Rattle.audit_findings.specs.declared.process_summary.ProcessSummary.{ProcessSummary}
-use Rattle.audit_findings.specs.Frames.{events_of_wholes}
-use Rattle.audit_findings.specs.Handles.{handle_item_of, process_handle, AreHandlesOf, AreHandleFindings}
-use Rattle.audit_findings.specs.Nodes.{node_item_of, process_node, AreNodesOf, AreNodeFindings}
-use Rattle.audit_findings.specs.Oneway.{oneway_cmp, oneway_item_of, oneway_pair, process_oneway, AreOnewayOf, AreOnewayRows}
-use Rattle.audit_findings.specs.OnewayLedger.{GivesTallyRows}
-use Rattle.audit_findings.specs.ProcessLedgers.{AreOfProcesses, IsOfProcess, GivesHandles, GivesNodes, GivesOneway}
-use Rattle.audit_findings.specs.Processes.{processes_of, read_of, items_of_process}
-use Rattle.audit_findings.proofs.ProcessLaws.{found_ledgers, no_ledgers}
+use Rattle.capture_frame.specs.declared.process.Process.{Process}
+use Rattle.process_ledgers.specs.declared.process_ledgers.ProcessLedgers.{ProcessLedgers}
+use Rattle.process_ledgers.specs.declared.process_summary.ProcessSummary.{ProcessSummary}
+use Rattle.event_core.specs.Events.{events_of_wholes}
+use Rattle.process_ledgers.specs.Items.{handle_item_of}
+use Rattle.audit_findings.specs.Handles.{process_handle, AreHandlesOf, AreHandleFindings}
+use Rattle.process_ledgers.specs.Items.{node_item_of}
+use Rattle.audit_findings.specs.Nodes.{process_node, AreNodesOf, AreNodeFindings}
+use Rattle.process_ledgers.specs.OnewayLedger.{oneway_cmp, oneway_pair}
+use Rattle.process_ledgers.specs.Items.{oneway_item_of}
+use Rattle.audit_findings.specs.Oneway.{process_oneway, AreOnewayOf, AreOnewayRows}
+use Rattle.process_ledgers.specs.OnewayLedger.{GivesTallyRows}
+use Rattle.process_ledgers.specs.OfProcess.{AreOfProcesses, IsOfProcess, GivesHandles, GivesNodes, GivesOneway}
+use Rattle.process_ledgers.specs.Processes.{processes_of, read_of, items_of_process}
+use Rattle.process_ledgers.proofs.ItemLaws.{found_ledgers, no_ledgers}
 use Rattle.audit_findings.proofs.TurnLaws.{Turning, turned, turned_of, joined}
 
 -- no item, no row

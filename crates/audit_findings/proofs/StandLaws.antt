@@ -12,14 +12,14 @@ use Rattle.pending_ledger.proofs.ListLaws.{contains_none, contains_read, contain
 use Rattle.pending_ledger.specs.Pending.{IsOutstanding, IsStray, place_of}
 use Rattle.pending_ledger.specs.Requests.{IsStanding, request_place}
 use Rattle.std.specs.Ordering.{eq_by_cmp, nat_cmp}
-use Rattle.audit_findings.specs.Buffers.{buffer_item_of, buffer_pending_of}
-use Rattle.audit_findings.specs.Clears.{clear_item_of}
-use Rattle.audit_findings.specs.Deaths.{death_item_of}
+use Rattle.process_ledgers.specs.Items.{buffer_item_of, buffer_pending_of}
+use Rattle.process_ledgers.specs.Items.{clear_item_of}
+use Rattle.process_ledgers.specs.Items.{death_item_of}
 use Rattle.audit_findings.specs.Places.{StandsInProcess, ExcludeEachOther}
-use Rattle.audit_findings.specs.ProcessLedgers.{HasNoItems, NeedsItems}
-use Rattle.audit_findings.specs.Processes.{read_of, items_of_process}
-use Rattle.audit_findings.specs.Requests.{request_item_of}
-use Rattle.audit_findings.proofs.ItemPlaces.{KeepsPlace, pending_keeps, request_keeps, death_keeps, clear_keeps}
+use Rattle.process_ledgers.specs.OfProcess.{HasNoItems, NeedsItems}
+use Rattle.process_ledgers.specs.Processes.{read_of, items_of_process}
+use Rattle.process_ledgers.specs.Items.{request_item_of}
+use Rattle.process_ledgers.proofs.ItemPlaces.{KeepsPlace, pending_keeps, request_keeps, death_keeps, clear_keeps}
 
 chosen : {I : Type 0} (b : Bool) (o : Option I) (i : I) → cond b o None ≡ Some i → (b ≡ true) × (o ≡ Some i)
 chosen true o i is = (refl, is)

@@ -10,10 +10,11 @@ use Rattle.pending_ledger.proofs.GatherLaws.{items_rise}
 use Rattle.summary_law.proofs.ReadLaws.{length-read}
 use Rattle.summary_law.specs.ByKey.{EachFits, under}
 use Rattle.summary_law.specs.Fits.{IsPlaced, PlacesRise}
-use Rattle.audit_findings.specs.declared.thread.Thread.{Thread}
-use Rattle.audit_findings.specs.InOrder.{SumsInOrder}
+use Rattle.capture_frame.specs.declared.process.Thread.{Thread}
+use Rattle.summary_law.specs.InOrder.{SumsInOrder}
 use Rattle.audit_findings.specs.Ledgers.{AreFewEvents}
-use Rattle.audit_findings.specs.ThreadLedger.{same_key, fed_view}
+use Rattle.capture_frame.specs.Process.{same_thread}
+use Rattle.audit_findings.specs.ThreadLedger.{fed_view}
 use Rattle.audit_findings.proofs.Rising.{pairs_map, pairs_unmap}
 
 -- the events of each thread can be summarised

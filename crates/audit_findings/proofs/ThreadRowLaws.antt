@@ -17,17 +17,19 @@ use Rattle.call_stacks.specs.declared.findings.CallFindings.{CallFindings}
 use Rattle.call_stacks.specs.declared.thread_calls.ThreadCalls.{ThreadCalls}
 use Rattle.pending_ledger.proofs.ListLaws.{one_place, contains_none}
 use Rattle.summary_law.specs.ByKey.{items_of}
-use Rattle.audit_findings.specs.declared.thread.Thread.{Thread}
+use Rattle.capture_frame.specs.declared.process.Thread.{Thread}
 use Rattle.audit_findings.specs.declared.opener_row.OpenerRow.{OpenerRow}
 use Rattle.audit_findings.specs.declared.refused.SendRow.{SendRow}
 use Rattle.audit_findings.specs.declared.thread_rows.ThreadRows.{ThreadRows}
 use Rattle.audit_findings.specs.Calls.{text_reads, judged_in_thread, AreOpeners, AreStrays, AreSends}
 use Rattle.audit_findings.specs.Places.{RiseInPlace}
-use Rattle.audit_findings.specs.Processes.{same_process}
-use Rattle.audit_findings.specs.ThreadLedger.{thread_key, same_key, fed_view, SumsThreads}
+use Rattle.capture_frame.specs.Process.{same_process}
+use Rattle.event_core.specs.Events.{thread_of}
+use Rattle.capture_frame.specs.Process.{same_thread}
+use Rattle.audit_findings.specs.ThreadLedger.{fed_view, SumsThreads}
 use Rattle.audit_findings.specs.ThreadRows.{opener_text, opener_row, send_text, send_row, AreGatheredRows, AreSortedRows, KeepRows}
-use Rattle.audit_findings.proofs.InOrderLaws.{entries_distinct, each_sums, none_else}
-use Rattle.audit_findings.proofs.KeyLaws.{same_key_equiv}
+use Rattle.summary_law.proofs.InOrderLaws.{entries_distinct, each_sums, none_else}
+use Rattle.capture_frame.proofs.ProcessLaws.{same_thread_equiv}
 use Rattle.audit_findings.proofs.SortedRows.{gathered_rows}
 
 both_true : (a b : Bool) → (a && b) ≡ true → (a ≡ true) × (b ≡ true)

@@ -7,7 +7,7 @@ use Rattle.call_stacks.specs.Calls.{Reads, JudgedOf, OpenerOf, RefusedOf, IsOpen
 use Rattle.call_stacks.specs.Matching.{ListsInOrder}
 use Rattle.call_stacks.specs.declared.verdict.Verdict.{Verdict}
 use Rattle.call_stacks.specs.declared.verdict.Verdict.TheVariants.{Answered, Failed, Replied, Crossed, Open}
-use Rattle.audit_findings.specs.Threads.{thread_of}
+use Rattle.audit_findings.specs.Threads.{events_of_thread}
 
 -- what is read of an event for the calls of its thread
 abbrev pub text_reads : Reads EventText
@@ -15,7 +15,7 @@ text_reads = record { place = λ e. e.place; kind = λ e. e.kind; payload = λ e
 
 -- the events of the thread of this one, each with what it is among the calls of the thread
 abbrev pub judged_in_thread : List EventText → EventText → List (JudgedOf EventText)
-judged_in_thread events e = judged_of text_reads (thread_of e events)
+judged_in_thread events e = judged_of text_reads (events_of_thread e events)
 
 -- the openers of all threads, each with what became of it in its thread, in rising place
 abbrev pub AreOpeners : List EventText → List (OpenerOf EventText) → Type 0

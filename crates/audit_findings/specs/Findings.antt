@@ -2,11 +2,15 @@
 use Rattle.std.specs.Prelude.{◌≡◌, ℕ, ◌-◌, List, [], ◌∷◌, length, count_by}
 use Rattle.transaction_view.specs.Grammar.{WholeFrame}
 use Rattle.capture_frame.specs.Units.{Placed}
-use Rattle.event_core.specs.Events.{EventText}
+use Rattle.event_core.specs.Events.{EventText, events_of_wholes}
+use Rattle.event_core.specs.declared.oneway.OnewayKey.{OnewayKey}
+use Rattle.handle_ledger.specs.declared.handle_row.HandleRow.{HandleRow}
+use Rattle.handle_ledger.specs.declared.node_row.NodeRow.{NodeRow}
 use Rattle.audit_findings.specs.declared.codes.CodeRow.{CodeRow}
-use Rattle.audit_findings.specs.declared.handles.ProcessHandle.{ProcessHandle}
-use Rattle.audit_findings.specs.declared.nodes.ProcessNode.{ProcessNode}
+use Rattle.audit_findings.specs.declared.in_turn.OfProcess.{OfProcess}
+use Rattle.audit_findings.specs.declared.oneway_counts.OnewayCounts.{OnewayCounts}
 use Rattle.audit_findings.specs.declared.record_counts.RecordCounts.{RecordCounts}
+use Rattle.audit_findings.specs.declared.references.References.{References}
 use Rattle.audit_findings.specs.declared.sort_counts.SortCounts.{SortCounts}
 use Rattle.audit_findings.specs.Buffers.{AreLeaked, AreStrayFrees}
 use Rattle.audit_findings.specs.Calls.{CallsText, ServedText, RefusedText, AreCallFindings, AreStrays, AreRefused}
@@ -14,11 +18,10 @@ use Rattle.audit_findings.specs.Clears.{AreClearFindings}
 use Rattle.audit_findings.specs.Codes.{is_opaque, code_words, AreCodeRows}
 use Rattle.audit_findings.specs.Deaths.{AreDeathFindings}
 use Rattle.audit_findings.specs.Flags.{flagged}
-use Rattle.audit_findings.specs.Frames.{events_of_wholes}
 use Rattle.audit_findings.specs.Handles.{AreHandleFindings}
 use Rattle.audit_findings.specs.Nodes.{AreNodeFindings}
 use Rattle.audit_findings.specs.Objects.{BadOwned, attachments_of, AreObjectFindings}
-use Rattle.audit_findings.specs.Oneway.{OnewayText, AreOnewayFindings}
+use Rattle.audit_findings.specs.Oneway.{CountsOneway, AreOnewayRows}
 use Rattle.audit_findings.specs.Places.{OpenAndStrayText}
 use Rattle.audit_findings.specs.RecordCounts.{AreRecordCounts}
 use Rattle.audit_findings.specs.Requests.{AreStandingRequests}
@@ -33,41 +36,53 @@ abbrev pub missing_count : List (Placed WholeFrame) → ℕ
 missing_count [] = 0
 missing_count (first ∷ others) = (last_sequence first others - first.unit.frame.sequence) - length others
 
--- the numbers and the rows of a report; a listed event stands there as the event itself
-pub record FindingsText : Type 0 where
-  pub frames : ℕ
+-- what is counted and listed of all events, whatever their process and thread
+pub record EventSectionsText : Type 0 where
   pub records : ℕ
   pub opaque : ℕ
-  pub missing : ℕ
   pub codes : List CodeRow
   pub counts : RecordCounts
+  pub oneway : OnewayCounts
+  pub objects : SortCounts
+  pub bad_objects : List BadOwned
+  pub flags : List EventText
+
+-- it is that of these events
+pub record AreEventSections (events : List EventText) (said : EventSectionsText) : Type 0 where
+  pub records : said.records ≡ length events
+  pub opaque : said.opaque ≡ count_by is_opaque events
+  pub codes : AreCodeRows (code_words events) said.codes
+  pub counts : AreRecordCounts (code_words events) said.counts
+  pub oneway : CountsOneway said.oneway events
+  pub objects : AreObjectFindings (attachments_of events) said.objects said.bad_objects
+  pub flags : said.flags ≡ flagged events
+
+-- what became of the calls of all threads
+pub record CallSectionsText : Type 0 where
   pub calls : CallsText
   pub served : ServedText
   pub strays : List EventText
   pub refused : RefusedText
-  pub handles : List ProcessHandle
-  pub nodes : List ProcessNode
+
+-- it is that of these events
+pub record AreCallSections (events : List EventText) (said : CallSectionsText) : Type 0 where
+  pub calls : AreCallFindings events said.calls said.served
+  pub strays : AreStrays events said.strays
+  pub refused : AreRefused events said.refused
+
+-- what is counted and paired in each process
+pub record ProcessSectionsText : Type 0 where
+  pub handles : References HandleRow
+  pub nodes : References NodeRow
   pub leaked : List EventText
   pub stray_frees : List EventText
   pub standing : List EventText
   pub deaths : OpenAndStrayText
   pub clears : OpenAndStrayText
-  pub oneway : OnewayText
-  pub objects : SortCounts
-  pub bad_objects : List BadOwned
-  pub flags : List EventText
+  pub oneway : List (OfProcess (OnewayKey × ℕ × ℕ))
 
--- the findings are those of these frames
-pub record AreFindings (wholes : List (Placed WholeFrame)) (said : FindingsText) : Type 0 where
-  pub frames : said.frames ≡ length wholes
-  pub records : said.records ≡ length (events_of_wholes wholes)
-  pub opaque : said.opaque ≡ count_by is_opaque (events_of_wholes wholes)
-  pub missing : said.missing ≡ missing_count wholes
-  pub codes : AreCodeRows (code_words (events_of_wholes wholes)) said.codes
-  pub counts : AreRecordCounts (code_words (events_of_wholes wholes)) said.counts
-  pub calls : AreCallFindings (events_of_wholes wholes) said.calls said.served
-  pub strays : AreStrays (events_of_wholes wholes) said.strays
-  pub refused : AreRefused (events_of_wholes wholes) said.refused
+-- it is that of these frames
+pub record AreProcessSections (wholes : List (Placed WholeFrame)) (said : ProcessSectionsText) : Type 0 where
   pub handles : AreHandleFindings wholes said.handles
   pub nodes : AreNodeFindings wholes said.nodes
   pub leaked : AreLeaked (events_of_wholes wholes) said.leaked
@@ -75,6 +90,20 @@ pub record AreFindings (wholes : List (Placed WholeFrame)) (said : FindingsText)
   pub standing : AreStandingRequests (events_of_wholes wholes) said.standing
   pub deaths : AreDeathFindings (events_of_wholes wholes) said.deaths
   pub clears : AreClearFindings (events_of_wholes wholes) said.clears
-  pub oneway : AreOnewayFindings wholes said.oneway
-  pub objects : AreObjectFindings (attachments_of (events_of_wholes wholes)) said.objects said.bad_objects
-  pub flags : said.flags ≡ flagged (events_of_wholes wholes)
+  pub oneway : AreOnewayRows wholes said.oneway
+
+-- the numbers and the rows of a report; a listed event stands there as the event itself
+pub record FindingsText : Type 0 where
+  pub frames : ℕ
+  pub missing : ℕ
+  pub events : EventSectionsText
+  pub calls : CallSectionsText
+  pub processes : ProcessSectionsText
+
+-- the findings are those of these frames
+pub record AreFindings (wholes : List (Placed WholeFrame)) (said : FindingsText) : Type 0 where
+  pub frames : said.frames ≡ length wholes
+  pub missing : said.missing ≡ missing_count wholes
+  pub events : AreEventSections (events_of_wholes wholes) said.events
+  pub calls : AreCallSections (events_of_wholes wholes) said.calls
+  pub processes : AreProcessSections wholes said.processes

@@ -1,23 +1,28 @@
 -- What the findings keep of what the report says: of a listed event its place, and what its record does not hold.
-use Rattle.std.specs.Prelude.{◌≡◌, List, map}
+use Rattle.std.specs.Prelude.{◌≡◌, ℕ, List, map}
 use Rattle.capture_frame.specs.declared.frame.Frame.{Frame}
 use Rattle.transaction_view.specs.Grammar.{WholeFrame}
-use Rattle.event_core.specs.Events.{EventText}
+use Rattle.event_core.specs.Events.{EventText, wholes_of}
 use Rattle.call_stacks.specs.Calls.{OpenerOf}
+use Rattle.audit_findings.specs.declared.call_sections.CallSections.{CallSections}
 use Rattle.audit_findings.specs.declared.calls.CallRow.{CallRow}
 use Rattle.audit_findings.specs.declared.calls.Calls.{Calls}
-use Rattle.audit_findings.specs.declared.oneway.Oneway.{Oneway}
+use Rattle.audit_findings.specs.declared.event_sections.EventSections.{EventSections}
+use Rattle.audit_findings.specs.declared.findings.Sections.{Sections}
+use Rattle.audit_findings.specs.declared.objects.BadRow.{BadRow}
+use Rattle.audit_findings.specs.declared.open_and_stray.OpenAndStray.{OpenAndStray}
+use Rattle.audit_findings.specs.declared.process_sections.ProcessSections.{ProcessSections}
 use Rattle.audit_findings.specs.declared.refused.Refused.{Refused}
 use Rattle.audit_findings.specs.declared.served.Served.{Served}
 use Rattle.audit_findings.specs.Calls.{CallsText, ServedText, RefusedText}
-use Rattle.audit_findings.specs.declared.objects.BadRow.{BadRow}
-use Rattle.audit_findings.specs.declared.findings.Sections.{Sections}
-use Rattle.audit_findings.specs.declared.open_and_stray.OpenAndStray.{OpenAndStray}
-use Rattle.audit_findings.specs.Findings.{FindingsText, AreFindings}
-use Rattle.audit_findings.specs.Frames.{Show, wholes_of}
+use Rattle.audit_findings.specs.Findings.{FindingsText, AreFindings, EventSectionsText, CallSectionsText, ProcessSectionsText}
+use Rattle.audit_findings.specs.Frames.{Show}
 use Rattle.audit_findings.specs.Objects.{BadOwned}
-use Rattle.audit_findings.specs.Oneway.{OnewayText}
 use Rattle.audit_findings.specs.Places.{OpenAndStrayText}
+
+-- what is kept of events: their places
+abbrev pub places_of : List EventText → List ℕ
+places_of events = map (λ e. e.place) events
 
 -- what is kept of a bad object: its record's place, and the object
 abbrev pub kept_bad : BadOwned → BadRow
@@ -27,7 +32,7 @@ kept_bad b = record { owner = b.owner.place; bad = b.bad }
 pub record KeepsOpenAndStray (kept : OpenAndStray) (said : OpenAndStrayText) : Type 0 where
   pub unclosed : kept.unclosed ≡ said.unclosed
   pub strays : kept.strays ≡ said.strays
-  pub rows : kept.rows ≡ map (λ e. e.place) said.rows
+  pub rows : kept.rows ≡ places_of said.rows
 
 -- what is kept of a call: its place, what became of it, and the place of its closer
 abbrev pub kept_call : OpenerOf EventText → CallRow
@@ -47,35 +52,40 @@ pub record KeepsServed (kept : Served) (said : ServedText) : Type 0 where
 
 pub record KeepsRefused (kept : Refused) (said : RefusedText) : Type 0 where
   pub oneway : kept.oneway ≡ said.oneway
-  pub rows : kept.rows ≡ map (λ e. e.place) said.rows
-
-pub record KeepsOneway (kept : Oneway) (said : OnewayText) : Type 0 where
-  pub sent : kept.sent ≡ said.sent
-  pub received : kept.received ≡ said.received
-  pub rows : kept.rows ≡ said.rows
+  pub rows : kept.rows ≡ places_of said.rows
 
 -- numbers, and rows that are no events, are the same; of each list of events the places are kept
+pub record KeepEvents (kept : EventSections) (said : EventSectionsText) : Type 0 where
+  pub records : kept.records ≡ said.records
+  pub opaque : kept.opaque ≡ said.opaque
+  pub codes : kept.codes ≡ said.codes
+  pub counts : kept.counts ≡ said.counts
+  pub oneway : kept.oneway ≡ said.oneway
+  pub objects : kept.objects ≡ said.objects
+  pub bad_objects : kept.bad_objects ≡ map kept_bad said.bad_objects
+  pub flags : kept.flags ≡ places_of said.flags
+
+pub record KeepCalls (kept : CallSections) (said : CallSectionsText) : Type 0 where
+  pub calls : KeepsCalls kept.calls said.calls
+  pub served : KeepsServed kept.served said.served
+  pub strays : kept.strays ≡ places_of said.strays
+  pub refused : KeepsRefused kept.refused said.refused
+
+pub record KeepProcesses (kept : ProcessSections) (said : ProcessSectionsText) : Type 0 where
+  pub handles : kept.handles ≡ said.handles
+  pub nodes : kept.nodes ≡ said.nodes
+  pub leaked : kept.leaked ≡ places_of said.leaked
+  pub stray_frees : kept.stray_frees ≡ places_of said.stray_frees
+  pub standing : kept.standing ≡ places_of said.standing
+  pub deaths : KeepsOpenAndStray kept.deaths said.deaths
+  pub clears : KeepsOpenAndStray kept.clears said.clears
+  pub oneway : kept.oneway ≡ said.oneway
+
 pub record Keep (sections : Sections) (said : FindingsText) : Type 0 where
-  pub records : sections.records ≡ said.records
-  pub opaque : sections.opaque ≡ said.opaque
   pub missing : sections.missing ≡ said.missing
-  pub codes : sections.codes ≡ said.codes
-  pub counts : sections.counts ≡ said.counts
-  pub calls : KeepsCalls sections.calls said.calls
-  pub served : KeepsServed sections.served said.served
-  pub strays : sections.strays ≡ map (λ e. e.place) said.strays
-  pub refused : KeepsRefused sections.refused said.refused
-  pub handles : sections.handles ≡ said.handles
-  pub nodes : sections.nodes ≡ said.nodes
-  pub leaked : sections.leaked ≡ map (λ e. e.place) said.leaked
-  pub stray_frees : sections.stray_frees ≡ map (λ e. e.place) said.stray_frees
-  pub standing : sections.standing ≡ map (λ e. e.place) said.standing
-  pub deaths : KeepsOpenAndStray sections.deaths said.deaths
-  pub clears : KeepsOpenAndStray sections.clears said.clears
-  pub oneway : KeepsOneway sections.oneway said.oneway
-  pub objects : sections.objects ≡ said.objects
-  pub bad_objects : sections.bad_objects ≡ map kept_bad said.bad_objects
-  pub flags : sections.flags ≡ map (λ e. e.place) said.flags
+  pub events : KeepEvents sections.events said.events
+  pub calls : KeepCalls sections.calls said.calls
+  pub processes : KeepProcesses sections.processes said.processes
 
 -- the views show these frames of a capture, whose findings say this, and the sections keep it
 pub record Tell (wholes : List WholeFrame) (said : FindingsText) (frames : List Frame) (sections : Sections) :

@@ -3,7 +3,7 @@ use Rattle.std.specs.Prelude.{ℕ, List, map}
 use Rattle.std.specs.List.Sorted.{IsStrictlyIncreasing}
 use Rattle.transaction_view.specs.Grammar.{WholeFrame, IsInGrammar}
 use Rattle.audit_findings.specs.Findings.{FindingsText, AreFindings}
-use Rattle.audit_findings.specs.Frames.{wholes_of}
+use Rattle.event_core.specs.Events.{wholes_of}
 
 -- each bad object has a record above that of the one before it
 abbrev pub BadObjectsRise : Type 0

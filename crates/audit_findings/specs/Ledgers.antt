@@ -14,16 +14,16 @@ use Rattle.audit_findings.specs.declared.findings.Sections.{Sections}
 use Rattle.audit_findings.specs.declared.flags.FlagLedger.{FlagLedger}
 use Rattle.audit_findings.specs.declared.ledgers.Ledgers.{Ledgers}
 use Rattle.audit_findings.specs.declared.objects.ObjectLedger.{ObjectLedger}
-use Rattle.audit_findings.specs.declared.oneway_counts.OnewayCounts.{OnewayCounts}
 use Rattle.audit_findings.specs.declared.sequences.Sequences.{Sequences}
 use Rattle.audit_findings.specs.Codes.{is_opaque}
 use Rattle.audit_findings.specs.Findings.{FindingsText, AreFindings, last_sequence}
 use Rattle.audit_findings.specs.Flags.{flagged}
-use Rattle.audit_findings.specs.Frames.{Show, events_of_wholes}
+use Rattle.audit_findings.specs.Frames.{Show}
+use Rattle.event_core.specs.Events.{events_of_wholes}
 use Rattle.audit_findings.specs.Kept.{Keep, kept_bad}
 use Rattle.audit_findings.specs.Objects.{BadOwned, AreObjectFindings, attachments_of}
-use Rattle.audit_findings.specs.Oneway.{sent_count, received_count}
-use Rattle.audit_findings.specs.ProcessLedgers.{SumsProcesses}
+use Rattle.audit_findings.specs.Oneway.{CountsOneway}
+use Rattle.process_ledgers.specs.ProcessLedgers.{SumsProcesses}
 use Rattle.audit_findings.specs.ThreadLedger.{SumsThreadCalls}
 
 -- how many bytes of a list of offsets an event has
@@ -42,11 +42,6 @@ code_item e = (e.code, 0)
 abbrev pub ListsFlagged : FlagLedger → List EventText → Type 0
 ListsFlagged ledger events = ledger.places.items ≡ map (λ e. e.place) (flagged events)
 
--- the counts are those of the oneway transactions among these events
-pub record CountsOneway (counts : OnewayCounts) (events : List EventText) : Type 0 where
-  pub sent : counts.sent ≡ sent_count events
-  pub received : counts.received ≡ received_count events
-
 -- the objects are counted, and the bad ones kept
 pub record SumsObjects (ledger : ObjectLedger) (events : List EventText) : Type 0 where
   pub bad : List BadOwned
@@ -61,7 +56,6 @@ pub record SumsEvents (ledgers : EventLedgers) (events : List EventText) : Type 
   pub oneway : CountsOneway ledgers.oneway events
   pub objects : SumsObjects ledgers.objects events
   pub flags : ListsFlagged ledgers.flags events
-  pub threads : SumsThreadCalls ledgers.threads events
 
 -- the sequences are those of these frames
 abbrev pub SumsFrames : Sequences → List (Placed WholeFrame) → Type 0
@@ -74,6 +68,7 @@ SumsFrames sequences (first ∷ others) =
 pub record SumsLedgers (ledgers : Ledgers) (wholes : List (Placed WholeFrame)) : Type 0 where
   pub sequences : SumsFrames ledgers.sequences wholes
   pub events : SumsEvents ledgers.events (events_of_wholes wholes)
+  pub threads : SumsThreadCalls ledgers.threads (events_of_wholes wholes)
   pub processes : SumsProcesses ledgers.processes.entries.entries wholes
 
 -- few frames, with few events

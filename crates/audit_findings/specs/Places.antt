@@ -2,11 +2,12 @@
 -- later, and the closes of what is not open (docs/REPORT.md).
 use Rattle.std.specs.Prelude.{◌≡◌, ℕ, List, length, map, All, Contains, Option, ◌⊎◌}
 use Rattle.std.specs.Ordering.{eq_by_cmp, nat_cmp}
-use Rattle.event_core.specs.Events.{EventText}
+use Rattle.capture_frame.specs.declared.process.Process.{Process}
+use Rattle.event_core.specs.Events.{EventText, process_of}
 use Rattle.event_core.specs.declared.pending.PendingItem.{PendingItem}
 use Rattle.pending_ledger.specs.Pending.{ArePlacesOf, IsOutstanding, IsStray}
 use Rattle.summary_law.specs.Fits.{PlacesRise}
-use Rattle.audit_findings.specs.Processes.{items_of_process}
+use Rattle.process_ledgers.specs.Processes.{items_of_process}
 
 -- these are, of the first events, the ones at the places at which something is so, in rising place
 pub record AreEventsAt (IsSo : ℕ → Type 0) (events said : List EventText) : Type 0 where
@@ -17,16 +18,25 @@ pub record AreEventsAt (IsSo : ℕ → Type 0) (events said : List EventText) : 
 abbrev pub IsCountOfPlaces : (ℕ → Type 0) → ℕ → Type 0
 IsCountOfPlaces IsSo count = (places : List ℕ) × ArePlacesOf IsSo places × (count ≡ length places)
 
--- among the opens and closes of some process the one at the place is an open, and no later close has its key
-abbrev pub IsOpenStill : (EventText → Option (PendingItem ℕ)) → List EventText → ℕ → Type 0
-IsOpenStill read events place =
-    (process : ℕ) × IsOutstanding (eq_by_cmp nat_cmp) (items_of_process read process events) place
+-- something is so of some process at the place
+abbrev pub SomeProcess : (Process → ℕ → Type 0) → ℕ → Type 0
+SomeProcess IsSo place = (process : Process) × IsSo process place
 
--- among the opens and closes of some process the one at the place is a close, and the latest earlier one of its key, if
+-- among the opens and closes of this process the one at the place is an open, and no later close has its key
+abbrev pub IsOpenIn : (EventText → Option (PendingItem ℕ)) → List EventText → Process → ℕ → Type 0
+IsOpenIn read events process place = IsOutstanding (eq_by_cmp nat_cmp) (items_of_process read process events) place
+
+-- among the opens and closes of this process the one at the place is a close, and the latest earlier one of its key, if
 -- any, is no open
+abbrev pub IsStrayIn : (EventText → Option (PendingItem ℕ)) → List EventText → Process → ℕ → Type 0
+IsStrayIn read events process place = IsStray (eq_by_cmp nat_cmp) (items_of_process read process events) place
+
+-- so it is in some process
+abbrev pub IsOpenStill : (EventText → Option (PendingItem ℕ)) → List EventText → ℕ → Type 0
+IsOpenStill read events place = SomeProcess (IsOpenIn read events) place
+
 abbrev pub IsStrayClose : (EventText → Option (PendingItem ℕ)) → List EventText → ℕ → Type 0
-IsStrayClose read events place =
-    (process : ℕ) × IsStray (eq_by_cmp nat_cmp) (items_of_process read process events) place
+IsStrayClose read events place = SomeProcess (IsStrayIn read events) place
 
 -- opens that no later close has the key of, and stray closes: how many there are of each, and all of them in one list
 pub record OpenAndStrayText : Type 0 where
@@ -35,24 +45,18 @@ pub record OpenAndStrayText : Type 0 where
   pub rows : List EventText
 
 -- each number is that of the places at which the one or the other is so, and the rows are the events at all of them
-pub record AreOpenAndStray (IsOpen IsClose : ℕ → Type 0) (events : List EventText) (said : OpenAndStrayText) :
-    Type 0 where
-  pub unclosed : IsCountOfPlaces IsOpen said.unclosed
-  pub strays : IsCountOfPlaces IsClose said.strays
-  pub rows : AreEventsAt (λ place. IsOpen place ⊎ IsClose place) events said.rows
+pub record AreOpenAndStray (read : EventText → Option (PendingItem ℕ)) (events : List EventText)
+    (said : OpenAndStrayText) : Type 0 where
+  pub unclosed : IsCountOfPlaces (IsOpenStill read events) said.unclosed
+  pub strays : IsCountOfPlaces (IsStrayClose read events) said.strays
+  pub rows : AreEventsAt (λ place. IsOpenStill read events place ⊎ IsStrayClose read events place) events said.rows
 
 -- the places of these events rise
 abbrev pub RiseInPlace : List EventText → Type 0
 RiseInPlace events = PlacesRise (λ e. e.place) events
 
 -- where something is so of a process at a place, an event of that process stands there
-abbrev pub StandsInProcess : (List EventText → ℕ → ℕ → Type 0) → Type 0
+abbrev pub StandsInProcess : (List EventText → Process → ℕ → Type 0) → Type 0
 StandsInProcess IsSo =
-    (events : List EventText) (process place : ℕ) → IsSo events process place
-    → (e : EventText) × Contains events e × (e.process ≡ process) × (e.place ≡ place)
-
--- not both are so at one place
-abbrev pub ExcludeEachOther : (List EventText → ℕ → ℕ → Type 0) → (List EventText → ℕ → ℕ → Type 0) → Type 0
-ExcludeEachOther IsOpen IsClose =
-    (events : List EventText) (process other place : ℕ) → RiseInPlace events → IsOpen events process place
-    → IsClose events other place → ⊥
+    (events : List EventText) (process : Process) (place : ℕ) → IsSo events process place
+    → (e : EventText) × Contains events e × (process_of e ≡ process) × (e.place ≡ place)

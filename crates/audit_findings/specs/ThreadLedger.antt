@@ -1,32 +1,24 @@
 -- What the calls of all threads come to while they are made.
-use Rattle.std.specs.Prelude.{◌≡◌, ◌==◌, ◌&&◌, Bool, List, map}
+use Rattle.std.specs.Prelude.{◌≡◌, List, map}
 use Rattle.event_core.specs.declared.event.Event.{Event}
-use Rattle.event_core.specs.Events.{EventText}
+use Rattle.event_core.specs.Events.{EventText, thread_of}
 use Rattle.event_core.specs.Reading.{event_text}
 use Rattle.call_stacks.specs.Calls.{ThreadCallsSum}
 use Rattle.call_stacks.specs.declared.thread_calls.ThreadCalls.{ThreadCalls}
-use Rattle.audit_findings.specs.declared.thread.Thread.{Thread}
+use Rattle.capture_frame.specs.declared.process.Thread.{Thread}
 use Rattle.audit_findings.specs.declared.thread_ledger.ThreadLedger.{ThreadLedger}
-use Rattle.audit_findings.specs.InOrder.{SumsInOrder}
-use Rattle.audit_findings.specs.Processes.{same_process}
-
--- the thread of an event, as a key
-abbrev pub thread_key : EventText → Thread
-thread_key e = record { process = record { number = e.process }; number = e.thread }
-
--- whether two keys are of one thread
-abbrev pub same_key : Thread → Thread → Bool
-same_key a b = same_process a.process b.process && a.number == b.number
+use Rattle.summary_law.specs.InOrder.{SumsInOrder}
+use Rattle.capture_frame.specs.Process.{same_thread}
 
 -- a view of an event is fed under its thread
 abbrev pub fed_view : Event → Thread × Event
-fed_view found = (thread_key (event_text found), found)
+fed_view found = (thread_of (event_text found), found)
 
 -- of some views of these events the entries have, for each thread with an event and no other, the calls of its views
 abbrev pub SumsThreads : List (Thread × ThreadCalls) → List EventText → Type 0
 SumsThreads entries events =
     (views : List Event) × (events ≡ map event_text views)
-    × SumsInOrder same_key ThreadCallsSum entries (map fed_view views)
+    × SumsInOrder same_thread ThreadCallsSum entries (map fed_view views)
 
 -- the ledger has the calls of the threads of these events
 abbrev pub SumsThreadCalls : ThreadLedger → List EventText → Type 0

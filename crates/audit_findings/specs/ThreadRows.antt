@@ -11,16 +11,14 @@ use Rattle.call_stacks.specs.declared.opener.Opener.{Opener}
 use Rattle.call_stacks.specs.declared.thread_calls.ThreadCalls.{ThreadCalls}
 use Rattle.call_stacks.specs.declared.verdict.Verdict.{Verdict}
 use Rattle.call_stacks.specs.declared.verdict.Verdict.TheVariants.{Answered, Failed, Replied, Crossed, Open}
-use Rattle.audit_findings.specs.declared.call_sections.CallSections.{CallSections}
 use Rattle.audit_findings.specs.declared.opener_row.End.{End}
 use Rattle.audit_findings.specs.declared.opener_row.End.TheVariants.{Caller, Server}
-use Rattle.audit_findings.specs.declared.thread.Thread.{Thread}
+use Rattle.capture_frame.specs.declared.process.Thread.{Thread}
 use Rattle.audit_findings.specs.declared.opener_row.OpenerRow.{OpenerRow}
 use Rattle.audit_findings.specs.declared.refused.SendRow.{SendRow}
 use Rattle.audit_findings.specs.declared.thread_rows.ThreadRows.{ThreadRows}
 use Rattle.audit_findings.specs.Calls.{is_call, is_answered, is_failed, is_replied, is_crossed, is_open, AreOpeners, AreStrays, AreSends}
-use Rattle.audit_findings.specs.Calls.{CallsText, ServedText, RefusedText, AreCallFindings, AreRefused}
-use Rattle.audit_findings.specs.Kept.{kept_call, KeepsCalls, KeepsServed, KeepsRefused}
+use Rattle.audit_findings.specs.Kept.{kept_call}
 
 -- what an opener and a refused send of a thread say
 abbrev pub opener_text : Opener → OpenerOf EventText
@@ -106,17 +104,3 @@ pub record KeepRows (rows : ThreadRows) (events : List EventText) : Type 0 where
   pub sends : List (RefusedOf EventText)
   pub are_sends : AreSends events sends
   pub sends_kept : rows.sends.items ≡ map send_row sends
-
--- the sections keep what the report says of the calls of all threads of these events
-pub record KeepCalls (sections : CallSections) (events : List EventText) : Type 0 where
-  pub calls : CallsText
-  pub served : ServedText
-  pub are_calls : AreCallFindings events calls served
-  pub calls_kept : KeepsCalls sections.calls calls
-  pub served_kept : KeepsServed sections.served served
-  pub strays : List EventText
-  pub are_strays : AreStrays events strays
-  pub strays_kept : sections.strays ≡ map (λ e. e.place) strays
-  pub refused : RefusedText
-  pub are_refused : AreRefused events refused
-  pub refused_kept : KeepsRefused sections.refused refused

@@ -1,39 +1,28 @@
-//! The sections `buffers` and `frees`.
+//! The deliveries and frees of a process.
 
-use crate::places::Listed;
-use crate::process_ledgers::ProcessLedgers;
-use std::alloc::{AllocError, Global};
+use crate::paired::Paired;
+use process_ledgers::ProcessLedgers;
+use std::alloc::AllocError;
 
-/// Deliveries that are never freed.
-pub(crate) struct Leaked;
+/// Deliveries, which open their buffer's address, and frees, which close it.
+pub(crate) struct BufferPairs;
 
-impl Listed for Leaked {
-    ghost use Rattle.pending_ledger.specs.Pending.{IsOutstanding};
-    ghost use Rattle.std.specs.Ordering.{eq_by_cmp, nat_cmp};
-    ghost use Rattle.audit_findings.specs.Buffers.{buffer_pending_of};
-    ghost use Rattle.audit_findings.specs.Processes.{items_of_process};
+impl Paired for BufferPairs {
+    ghost use Rattle.process_ledgers.specs.Items.{buffer_pending_of};
+    ghost use Rattle.process_ledgers.proofs.ItemPlaces.{pending_keeps};
+    ghost use Rattle.audit_findings.proofs.StandLaws.{no_buffers};
 
-    ghost is_so = { λ events process place. IsOutstanding (eq_by_cmp nat_cmp)
-        (items_of_process buffer_pending_of process events) place };
+    ghost read = { buffer_pending_of };
 
-    fn places(ledgers: &ProcessLedgers, alloc: Global) -> Result<Vec<u64>, AllocError> {
-        ledgers.buffers.outstanding(alloc)
+    fn outstanding(ledgers: &ProcessLedgers) -> Result<Vec<u64>, AllocError> {
+        ledgers.buffers.outstanding()
     }
-}
 
-/// Frees of what is not delivered, or is freed already.
-pub(crate) struct StrayFrees;
-
-impl Listed for StrayFrees {
-    ghost use Rattle.pending_ledger.specs.Pending.{IsStray};
-    ghost use Rattle.std.specs.Ordering.{eq_by_cmp, nat_cmp};
-    ghost use Rattle.audit_findings.specs.Buffers.{buffer_pending_of};
-    ghost use Rattle.audit_findings.specs.Processes.{items_of_process};
-
-    ghost is_so = { λ events process place. IsStray (eq_by_cmp nat_cmp)
-        (items_of_process buffer_pending_of process events) place };
-
-    fn places(ledgers: &ProcessLedgers, alloc: Global) -> Result<Vec<u64>, AllocError> {
-        ledgers.buffers.strays(alloc)
+    fn strays(ledgers: &ProcessLedgers) -> Result<Vec<u64>, AllocError> {
+        ledgers.buffers.strays()
     }
+
+    ghost keeps = { pending_keeps };
+
+    ghost none_of = { no_buffers };
 }

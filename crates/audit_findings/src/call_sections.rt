@@ -2,9 +2,9 @@
 
 ghost use Rattle.std.specs.Prelude.{List, IfOk};
 ghost use Rattle.event_core.specs.Events.{EventText};
+ghost use Rattle.audit_findings.specs.Findings.{CallSectionsText, AreCallSections};
 ghost use Rattle.audit_findings.specs.Places.{RiseInPlace};
 ghost use Rattle.audit_findings.specs.ThreadLedger.{SumsThreadCalls};
-ghost use Rattle.audit_findings.specs.ThreadRows.{KeepCalls};
 
 use crate::calls::Calls;
 use crate::refused::Refused;
@@ -16,18 +16,25 @@ use std::alloc::{AllocError, Global};
 
 /// What the sections `calls`, `served`, `strays` and `refused` keep.
 #[derive(Drop)]
-pub(crate) struct CallSections {
+pub struct CallSections {
+    /// The calls that threads make.
     pub calls: Calls,
+    /// The calls that threads get to serve.
     pub served: Served,
+    /// The places of the closers that match no opener, rising.
     pub strays: Rows<u64>,
+    /// Refused sends.
     pub refused: Refused,
 }
 
 impl CallSections {
+    ghost use Rattle.audit_findings.specs.Kept.{KeepCalls};
+
     /// Those of the calls of all threads.
-    pub fn of(alloc: Global, ledger: ThreadLedger<'_>) -> Result<Self, AllocError>
-        ensures { IfOk result (λ sections. (events : List EventText) →
-            SumsThreadCalls ledger.entry events → RiseInPlace events → KeepCalls sections events) }
+    pub(crate) fn of(alloc: Global, ledger: ThreadLedger<'_>) -> Result<Self, AllocError>
+        ensures { IfOk result (λ kept. (events : List EventText) →
+            SumsThreadCalls ledger.entry events → RiseInPlace events →
+            (said : CallSectionsText) × AreCallSections events said × KeepCalls kept said) }
     {
         let ThreadRows {
             openers,

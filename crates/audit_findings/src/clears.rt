@@ -1,39 +1,28 @@
-//! The section `clears`.
+//! The clears and confirmations of a process.
 
-use crate::places::Listed;
-use crate::process_ledgers::ProcessLedgers;
-use std::alloc::{AllocError, Global};
+use crate::paired::Paired;
+use process_ledgers::ProcessLedgers;
+use std::alloc::AllocError;
 
-/// Clears that nobody confirms.
-pub(crate) struct Unconfirmed;
+/// Clears, which open their cookie, and confirmations, which close it.
+pub(crate) struct ClearPairs;
 
-impl Listed for Unconfirmed {
-    ghost use Rattle.pending_ledger.specs.Pending.{IsOutstanding};
-    ghost use Rattle.std.specs.Ordering.{eq_by_cmp, nat_cmp};
-    ghost use Rattle.audit_findings.specs.Clears.{clear_item_of};
-    ghost use Rattle.audit_findings.specs.Processes.{items_of_process};
+impl Paired for ClearPairs {
+    ghost use Rattle.process_ledgers.specs.Items.{clear_item_of};
+    ghost use Rattle.process_ledgers.proofs.ItemPlaces.{clear_keeps};
+    ghost use Rattle.audit_findings.proofs.StandLaws.{no_clears};
 
-    ghost is_so = { λ events process place. IsOutstanding (eq_by_cmp nat_cmp)
-        (items_of_process clear_item_of process events) place };
+    ghost read = { clear_item_of };
 
-    fn places(ledgers: &ProcessLedgers, alloc: Global) -> Result<Vec<u64>, AllocError> {
-        ledgers.clears.outstanding(alloc)
+    fn outstanding(ledgers: &ProcessLedgers) -> Result<Vec<u64>, AllocError> {
+        ledgers.clears.outstanding()
     }
-}
 
-/// Confirmations of what is not cleared, or is confirmed already.
-pub(crate) struct StrayConfirmations;
-
-impl Listed for StrayConfirmations {
-    ghost use Rattle.pending_ledger.specs.Pending.{IsStray};
-    ghost use Rattle.std.specs.Ordering.{eq_by_cmp, nat_cmp};
-    ghost use Rattle.audit_findings.specs.Clears.{clear_item_of};
-    ghost use Rattle.audit_findings.specs.Processes.{items_of_process};
-
-    ghost is_so = { λ events process place. IsStray (eq_by_cmp nat_cmp)
-        (items_of_process clear_item_of process events) place };
-
-    fn places(ledgers: &ProcessLedgers, alloc: Global) -> Result<Vec<u64>, AllocError> {
-        ledgers.clears.strays(alloc)
+    fn strays(ledgers: &ProcessLedgers) -> Result<Vec<u64>, AllocError> {
+        ledgers.clears.strays()
     }
+
+    ghost keeps = { clear_keeps };
+
+    ghost none_of = { no_clears };
 }

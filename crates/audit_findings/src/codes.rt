@@ -34,13 +34,14 @@ pub(crate) fn code_rows(alloc: Global, codes: &Tally<u32>) -> Result<Rows<CodeRo
 fn rows_of(alloc: Global, tallied: &[(u32, u64, u128)]) -> Result<Vec<CodeRow>, AllocError>
     ensures { IfOk result (λ rows. rows.items ≡ map row_of tallied.now) }
 {
-    tallied
-        .iter()
-        .map(|(word, count, _)| CodeRow {
+    let mut rows = Vec::new(alloc);
+    for (word, count, _) in tallied {
+        rows.push(CodeRow {
             word: *word,
             count: *count,
-        })
-        .collect(alloc)
+        })?;
+    }
+    Ok(rows)
 }
 
 /// How many opaque records a record of this kind is.

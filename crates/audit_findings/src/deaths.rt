@@ -1,39 +1,28 @@
-//! The section `deaths`.
+//! The deaths and acknowledgements of a process.
 
-use crate::places::Listed;
-use crate::process_ledgers::ProcessLedgers;
-use std::alloc::{AllocError, Global};
+use crate::paired::Paired;
+use process_ledgers::ProcessLedgers;
+use std::alloc::AllocError;
 
-/// Deaths that nobody acknowledges.
-pub(crate) struct Unacknowledged;
+/// Deaths, which open their cookie, and acknowledgements, which close it.
+pub(crate) struct DeathPairs;
 
-impl Listed for Unacknowledged {
-    ghost use Rattle.pending_ledger.specs.Pending.{IsOutstanding};
-    ghost use Rattle.std.specs.Ordering.{eq_by_cmp, nat_cmp};
-    ghost use Rattle.audit_findings.specs.Deaths.{death_item_of};
-    ghost use Rattle.audit_findings.specs.Processes.{items_of_process};
+impl Paired for DeathPairs {
+    ghost use Rattle.process_ledgers.specs.Items.{death_item_of};
+    ghost use Rattle.process_ledgers.proofs.ItemPlaces.{death_keeps};
+    ghost use Rattle.audit_findings.proofs.StandLaws.{no_deaths};
 
-    ghost is_so = { λ events process place. IsOutstanding (eq_by_cmp nat_cmp)
-        (items_of_process death_item_of process events) place };
+    ghost read = { death_item_of };
 
-    fn places(ledgers: &ProcessLedgers, alloc: Global) -> Result<Vec<u64>, AllocError> {
-        ledgers.deaths.outstanding(alloc)
+    fn outstanding(ledgers: &ProcessLedgers) -> Result<Vec<u64>, AllocError> {
+        ledgers.deaths.outstanding()
     }
-}
 
-/// Acknowledgements of what is not dead, or is acknowledged already.
-pub(crate) struct StrayAcknowledgements;
-
-impl Listed for StrayAcknowledgements {
-    ghost use Rattle.pending_ledger.specs.Pending.{IsStray};
-    ghost use Rattle.std.specs.Ordering.{eq_by_cmp, nat_cmp};
-    ghost use Rattle.audit_findings.specs.Deaths.{death_item_of};
-    ghost use Rattle.audit_findings.specs.Processes.{items_of_process};
-
-    ghost is_so = { λ events process place. IsStray (eq_by_cmp nat_cmp)
-        (items_of_process death_item_of process events) place };
-
-    fn places(ledgers: &ProcessLedgers, alloc: Global) -> Result<Vec<u64>, AllocError> {
-        ledgers.deaths.strays(alloc)
+    fn strays(ledgers: &ProcessLedgers) -> Result<Vec<u64>, AllocError> {
+        ledgers.deaths.strays()
     }
+
+    ghost keeps = { death_keeps };
+
+    ghost none_of = { no_deaths };
 }

@@ -9,15 +9,13 @@ use crate::codes::opaque_count;
 use crate::flags::FlagLedger;
 use crate::objects::ObjectLedger;
 use crate::oneway_counts::OnewayCounts;
-use crate::thread_ledger::ThreadLedger;
 use event_core::Event;
 use std::alloc::{AllocError, Global};
 use summary_law::{Summary, Tally};
 
-/// How many events there are, and what `codes`, `oneway`, `objects`, `flags` and the calls of
-/// threads keep of them all.
+/// How many events there are, and what `codes`, `oneway`, `objects` and `flags` keep of them all.
 #[derive(Drop)]
-pub(crate) struct EventLedgers<'c> {
+pub(crate) struct EventLedgers {
     pub records: u64,
     pub opaque: u64,
     /// The code words, each record with weight 0.
@@ -25,10 +23,9 @@ pub(crate) struct EventLedgers<'c> {
     pub oneway: OnewayCounts,
     pub objects: ObjectLedger,
     pub flags: FlagLedger,
-    pub threads: ThreadLedger<'c>,
 }
 
-impl<'c> EventLedgers<'c> {
+impl EventLedgers {
     pub fn empty(alloc: Global) -> Self
         ensures { SumsEvents result [] }
     {
@@ -39,12 +36,11 @@ impl<'c> EventLedgers<'c> {
             oneway: OnewayCounts::NONE,
             objects: ObjectLedger::empty(alloc),
             flags: FlagLedger::empty(alloc),
-            threads: ThreadLedger::empty(alloc),
         }
     }
 
     /// Adds an event. After an error they are only to be dropped.
-    pub fn add(&mut self, event: Event<'c>) -> Result<(), AllocError>
+    pub fn add(&mut self, event: Event<'_>) -> Result<(), AllocError>
         requires { CanAdd SumsEvents AreFewEvents self.old (event_text event) }
         ensures { OnOk result
             (Adds SumsEvents AreFewEvents self.old (event_text event.entry) self.new) }
@@ -54,12 +50,11 @@ impl<'c> EventLedgers<'c> {
         self.oneway = self.oneway.plus(OnewayCounts::of(event));
         self.codes.add((event.code.0, 0))?;
         self.objects.add(event)?;
-        self.flags.add(event)?;
-        self.threads.add(event)
+        self.flags.add(event)
     }
 
     /// Those of these events and of the later ones.
-    pub fn join(self, later: EventLedgers<'c>) -> Result<EventLedgers<'c>, AllocError>
+    pub fn join(self, later: EventLedgers) -> Result<EventLedgers, AllocError>
         requires { CanJoin SumsEvents AreFewEvents self later }
         ensures { IfOk result (Joins SumsEvents AreFewEvents self.entry later.entry) }
     {
@@ -67,7 +62,6 @@ impl<'c> EventLedgers<'c> {
         let codes = self.codes.join(later.codes);
         let objects = self.objects.join(later.objects);
         let flags = self.flags.join(later.flags);
-        let threads = self.threads.join(later.threads);
         Ok(EventLedgers {
             records: self.records + later.records,
             opaque: self.opaque + later.opaque,
@@ -75,7 +69,6 @@ impl<'c> EventLedgers<'c> {
             oneway: self.oneway.plus(later.oneway),
             objects: objects?,
             flags: flags?,
-            threads: threads?,
         })
     }
 }

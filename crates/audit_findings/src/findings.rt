@@ -2,66 +2,25 @@
 
 ghost use Rattle.std.specs.Prelude.{◌≡◌};
 
-use crate::calls::Calls;
-use crate::codes::CodeRow;
-use crate::handles::ProcessHandle;
-use crate::lookup::frame_at;
-use crate::nodes::ProcessNode;
-use crate::objects::BadRow;
-use crate::oneway::Oneway;
-use crate::open_and_stray::OpenAndStray;
-use crate::record_counts::RecordCounts;
-use crate::refused::Refused;
-use crate::rows::Rows;
-use crate::served::Served;
-use crate::sort_counts::SortCounts;
-use capture_frame::Frame;
+use crate::call_sections::CallSections;
+use crate::event_sections::EventSections;
+use crate::process_sections::ProcessSections;
+use capture_frame::{Frame, frame_at};
 use event_core::{Event, bare_event_at};
 use std::marker::Model;
 
-/// The numbers and the rows of the report, apart from the number of frames.
+/// The numbers and the rows of the report, apart from the number of frames, as their makers give
+/// them.
 #[derive(Drop)]
 pub struct Sections {
-    /// How many records there are, opaque ones included.
-    pub records: u64,
-    /// How many of them are opaque.
-    pub opaque: u64,
     /// How many sequences between the first and the last frame's have no frame.
     pub missing: u64,
-    /// How often each code word stands there, the words rising.
-    pub codes: Rows<CodeRow>,
-    /// How many records of some kinds there are.
-    pub counts: RecordCounts,
-    /// The calls that threads make.
-    pub calls: Calls,
-    /// The calls that threads get to serve.
-    pub served: Served,
-    /// The places of the closers that match no opener, rising.
-    pub strays: Rows<u64>,
-    /// Refused sends.
-    pub refused: Refused,
-    /// The references by handle of each process in the order of first frames, handles rising.
-    pub handles: Rows<ProcessHandle>,
-    /// The references to the nodes of each process in that order, by rising ptr and then cookie.
-    pub nodes: Rows<ProcessNode>,
-    /// The places of the deliveries that are never freed, rising.
-    pub leaked: Rows<u64>,
-    /// The places of the frees of what is not delivered or is freed already, rising.
-    pub stray_frees: Rows<u64>,
-    /// The places of the requests that still stand, rising.
-    pub standing: Rows<u64>,
-    /// Deaths that nobody acknowledges, and stray acknowledgements.
-    pub deaths: OpenAndStray,
-    /// Clears that nobody confirms, and stray confirmations.
-    pub clears: OpenAndStray,
-    /// Oneway transactions.
-    pub oneway: Oneway,
-    /// How many good objects of each sort there are.
-    pub objects: SortCounts,
-    /// The bad objects, in rising place of their records.
-    pub bad_objects: Rows<BadRow>,
-    /// The places of the records with flag bits that the header does not name, rising.
-    pub flags: Rows<u64>,
+    /// What is counted and listed of all events.
+    pub events: EventSections,
+    /// What became of the calls of each thread.
+    pub calls: CallSections,
+    /// What is counted and paired in each process.
+    pub processes: ProcessSections,
 }
 
 /// What the report says of a capture: its frames, numbers, and rows. A listed record is kept by its
@@ -85,7 +44,8 @@ impl<'c> Model for Findings<'c> {
 
 impl<'c> Findings<'c> {
     ghost use Rattle.audit_findings.specs.Kept.{kept_findings, AreOfFrames};
-    ghost use Rattle.audit_findings.specs.Lookup.{IsFrameAt, HasRecordIn, SaysEventAt};
+    ghost use Rattle.capture_frame.specs.Lookup.{IsFrameAt};
+    ghost use Rattle.audit_findings.specs.Lookup.{HasRecordIn, SaysEventAt};
 
     /// The findings of frames and what is kept of them.
     pub fn new(frames: Vec<Frame<'c>>, sections: Sections) -> Findings<'c>

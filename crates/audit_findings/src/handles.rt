@@ -1,77 +1,64 @@
 //! The section `handles`.
 
-ghost use Rattle.std.specs.Prelude.{◌≡◌, ◌++◌, List, map, IfOk, OnOk};
+ghost use Rattle.std.specs.Prelude.{◌≡◌, List, count_by, IfOk};
 ghost use Rattle.capture_frame.specs.Units.{Placed};
 ghost use Rattle.transaction_view.specs.Grammar.{WholeFrame};
 ghost use Rattle.handle_ledger.specs.declared.handle_row.HandleRow.{HandleRow};
-ghost use Rattle.audit_findings.specs.Handles.{AreHandleFindings, process_handle};
-ghost use Rattle.audit_findings.specs.ProcessLedgers.{AreOfProcesses, GivesHandles};
+ghost use Rattle.process_ledgers.specs.OfProcess.{AreOfProcesses};
+ghost use Rattle.audit_findings.specs.Handles.{AreHandleFindings, is_unbalanced_handle};
+ghost use Rattle.audit_findings.specs.declared.in_turn.OfProcess.{OfProcess};
 
-use crate::in_order::InOrder;
-use crate::process::Process;
-use crate::process_summary::ProcessSummary;
+use crate::in_turn::{InTurn, OfProcess, rows_in_turn};
+use crate::references::References;
 use crate::rows::Rows;
+use capture_frame::Process;
 use handle_ledger::HandleRow;
+use process_ledgers::{ProcessLedgers, ProcessSummary};
 use std::alloc::{AllocError, Global};
+use summary_law::InOrder;
 
-/// The references that a process holds by a handle, strong and weak: how many more it took than it
-/// let go, and the least that this number ever was, the 0 at the capture's beginning included.
-#[derive(Clone, Copy, Debug, PartialEq, Eq)]
-pub struct ProcessHandle {
-    pub process: u32,
-    pub handle: u32,
-    pub strong: i64,
-    pub strong_low: i64,
-    pub weak: i64,
-    pub weak_low: i64,
-}
+/// The rows of the handles of a process.
+struct Handles;
 
-impl ProcessHandle {
-    fn of(process: u32, row: &HandleRow) -> Self
-        ensures { result ≡ process_handle process row.now }
-    {
-        ProcessHandle {
-            process,
-            handle: row.handle,
-            strong: row.strong.sum,
-            strong_low: row.strong.low,
-            weak: row.weak.sum,
-            weak_low: row.weak.low,
-        }
+impl InTurn for Handles {
+    ghost use Rattle.audit_findings.specs.Handles.{AreHandlesOf};
+    ghost use Rattle.audit_findings.proofs.NoRows.{no_handles_of};
+
+    type Row = HandleRow;
+
+    ghost are_of = { AreHandlesOf };
+
+    fn rows(ledgers: &ProcessLedgers) -> Result<Vec<HandleRow>, AllocError> {
+        ledgers.handles.rows()
     }
+
+    ghost none_of = { no_handles_of };
 }
 
-/// The rows of the section: those of each process in turn.
-pub(crate) fn handle_rows(
+/// The section: the rows of each process in turn.
+pub(crate) fn handles_of(
     alloc: Global,
     processes: &InOrder<Process, ProcessSummary>,
-) -> Result<Rows<ProcessHandle>, AllocError>
-    ensures { IfOk result (λ rows. (wholes : List (Placed WholeFrame)) →
-        AreOfProcesses processes.now.entries.entries wholes → AreHandleFindings wholes rows) }
+) -> Result<References<HandleRow>, AllocError>
+    ensures { IfOk result (λ found. (wholes : List (Placed WholeFrame)) →
+        AreOfProcesses processes.now.entries.entries wholes → AreHandleFindings wholes found) }
 {
-    let mut rows = Vec::new(alloc);
-    for (process, summary) in &processes.entries {
-        push_handles(alloc, &mut rows, process.number, summary)?;
-    }
-    Ok(Rows::of(rows))
+    let rows = rows_in_turn::<Handles>(alloc, processes)?;
+    Ok(References {
+        unbalanced: unbalanced_count(rows.as_slice()),
+        rows: Rows::of(rows),
+    })
 }
 
-/// Pushes the rows of one process.
-fn push_handles(
-    alloc: Global,
-    rows: &mut Vec<ProcessHandle>,
-    process: u32,
-    summary: &ProcessSummary,
-) -> Result<(), AllocError>
-    ensures { OnOk result ((own : List HandleRow) × GivesHandles summary.now own
-        × (rows.new.items ≡ rows.old.items ++ map (process_handle process) own)) }
+fn unbalanced_count(rows: &[OfProcess<HandleRow>]) -> u64
+    ensures { result ≡
+        count_by (λ (row : OfProcess HandleRow). is_unbalanced_handle row.row) rows.now }
 {
-    let Some(ledgers) = summary.ledgers() else {
-        return Ok(());
-    };
-    let own = ledgers.handles.rows(alloc)?;
-    for row in own.as_slice() {
-        rows.push(ProcessHandle::of(process, row))?;
-    }
-    Ok(())
+    rows.iter().filter(|row| is_unbalanced(&row.row)).count() as u64
+}
+
+fn is_unbalanced(row: &HandleRow) -> bool
+    ensures { result ≡ is_unbalanced_handle row.now }
+{
+    row.strong.sum != 0 || row.weak.sum != 0
 }

@@ -5,28 +5,25 @@ ghost use Rattle.summary_law.specs.Summary.{CanJoin, Joins};
 ghost use Rattle.audit_findings.specs.Ledgers.{SumsLedgers, AreFewFrames, CanTake, Takes, AreOfFew, GiveSections};
 
 use crate::call_sections::CallSections;
-use crate::codes::code_rows;
 use crate::event_ledgers::EventLedgers;
+use crate::event_sections::EventSections;
 use crate::findings::Sections;
-use crate::in_order::InOrder;
-use crate::oneway::oneway_of;
-use crate::process::Process;
-use crate::process_items::ProcessItems;
 use crate::process_sections::ProcessSections;
-use crate::process_summary::ProcessSummary;
-use crate::record_counts::record_counts;
-use crate::rows::Rows;
 use crate::sequences::Sequences;
-use capture_frame::Frame;
+use crate::thread_ledger::ThreadLedger;
+use capture_frame::{Frame, Process};
 use event_core::Events;
+use process_ledgers::{ProcessItems, ProcessSummary};
 use std::alloc::{AllocError, Global};
-use summary_law::Summary;
+use summary_law::{InOrder, Summary};
 
-/// The sequences of frames, what their events come to, and what those of each process do.
+/// The sequences of frames, what their events come to, and what those of each thread and of each
+/// process do.
 #[derive(Drop)]
 pub(crate) struct Ledgers<'c> {
     pub sequences: Sequences,
-    pub events: EventLedgers<'c>,
+    pub events: EventLedgers,
+    pub threads: ThreadLedger<'c>,
     pub processes: InOrder<Process, ProcessSummary>,
 }
 
@@ -37,6 +34,7 @@ impl<'c> Ledgers<'c> {
         Ledgers {
             sequences: Sequences::NONE,
             events: EventLedgers::empty(alloc),
+            threads: ThreadLedger::empty(alloc),
             processes: InOrder::empty(alloc),
         }
     }
@@ -58,13 +56,12 @@ impl<'c> Ledgers<'c> {
         ensures { OnOk result (Takes self.old (frame.entry ∷ []) self.new) }
     {
         self.sequences = self.sequences.with(frame.sequence);
-        let process = Process {
-            number: frame.process,
-        };
+        let process = frame.of_process();
         self.processes.add((process, ProcessItems::NONE))?;
         let mut events = Events::of(frame);
         while let Some(event) = events.next_event() {
             self.events.add(event)?;
+            self.threads.add(event)?;
             self.processes.add((process, ProcessItems::of(event)))?;
         }
         Ok(())
@@ -78,6 +75,7 @@ impl<'c> Ledgers<'c> {
         Ok(Ledgers {
             sequences: self.sequences.then(later.sequences),
             events: self.events.join(later.events)?,
+            threads: self.threads.join(later.threads)?,
             processes: self.processes.join(later.processes)?,
         })
     }
@@ -87,41 +85,14 @@ impl<'c> Ledgers<'c> {
         requires { AreOfFew self }
         ensures { IfOk result (GiveSections self.entry) }
     {
-        // What needs no ledger for itself comes first: until then there is one thing to drop.
-        let own = ProcessSections::of(alloc, &self.processes)?;
-        let codes = code_rows(alloc, &self.events.codes)?;
-        let oneway = oneway_of(alloc, self.events.oneway, &self.processes)?;
-        let EventLedgers {
-            records,
-            opaque,
-            codes: tally,
-            oneway: _,
-            objects,
-            flags,
-            threads,
-        } = self.events;
-        let found = CallSections::of(alloc, threads)?;
+        let processes = ProcessSections::of(alloc, &self.processes)?;
+        let calls = CallSections::of(alloc, self.threads)?;
+        let events = EventSections::of(alloc, self.events)?;
         Ok(Sections {
-            records,
-            opaque,
             missing: self.sequences.missing(),
-            codes,
-            counts: record_counts(&tally),
-            calls: found.calls,
-            served: found.served,
-            strays: found.strays,
-            refused: found.refused,
-            handles: own.handles,
-            nodes: own.nodes,
-            leaked: own.leaked,
-            stray_frees: own.stray_frees,
-            standing: own.standing,
-            deaths: own.deaths,
-            clears: own.clears,
-            oneway,
-            objects: objects.counts,
-            bad_objects: Rows::of(objects.bad),
-            flags: Rows::of(flags.into_places()),
+            events,
+            calls,
+            processes,
         })
     }
 }

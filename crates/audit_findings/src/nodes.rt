@@ -1,84 +1,64 @@
 //! The section `nodes`.
 
-ghost use Rattle.std.specs.Prelude.{◌≡◌, ◌++◌, List, map, IfOk, OnOk};
+ghost use Rattle.std.specs.Prelude.{◌≡◌, List, count_by, IfOk};
 ghost use Rattle.capture_frame.specs.Units.{Placed};
 ghost use Rattle.transaction_view.specs.Grammar.{WholeFrame};
 ghost use Rattle.handle_ledger.specs.declared.node_row.NodeRow.{NodeRow};
-ghost use Rattle.audit_findings.specs.Nodes.{AreNodeFindings, process_node};
-ghost use Rattle.audit_findings.specs.ProcessLedgers.{AreOfProcesses, GivesNodes};
+ghost use Rattle.process_ledgers.specs.OfProcess.{AreOfProcesses};
+ghost use Rattle.audit_findings.specs.Nodes.{AreNodeFindings, is_unbalanced_node};
+ghost use Rattle.audit_findings.specs.declared.in_turn.OfProcess.{OfProcess};
 
-use crate::in_order::InOrder;
-use crate::process::Process;
-use crate::process_summary::ProcessSummary;
+use crate::in_turn::{InTurn, OfProcess, rows_in_turn};
+use crate::references::References;
 use crate::rows::Rows;
+use capture_frame::Process;
 use handle_ledger::NodeRow;
+use process_ledgers::{ProcessLedgers, ProcessSummary};
 use std::alloc::{AllocError, Global};
+use summary_law::InOrder;
 
-/// The references that the driver holds to a node of a process, strong and weak: how many more it
-/// took than it let go, and the least that this number ever was, the 0 at the capture's beginning
-/// included; and how many more it asked for than the process acknowledged.
-#[derive(Clone, Copy, Debug, PartialEq, Eq)]
-pub struct ProcessNode {
-    pub process: u32,
-    pub ptr: u64,
-    pub cookie: u64,
-    pub strong: i64,
-    pub strong_low: i64,
-    pub weak: i64,
-    pub weak_low: i64,
-    pub strong_due: i64,
-    pub weak_due: i64,
-}
+/// The rows of the nodes of a process.
+struct Nodes;
 
-impl ProcessNode {
-    fn of(process: u32, row: &NodeRow) -> Self
-        ensures { result ≡ process_node process row.now }
-    {
-        ProcessNode {
-            process,
-            ptr: row.key.ptr,
-            cookie: row.key.cookie,
-            strong: row.strong.sum,
-            strong_low: row.strong.low,
-            weak: row.weak.sum,
-            weak_low: row.weak.low,
-            strong_due: row.strong_due,
-            weak_due: row.weak_due,
-        }
+impl InTurn for Nodes {
+    ghost use Rattle.audit_findings.specs.Nodes.{AreNodesOf};
+    ghost use Rattle.audit_findings.proofs.NoRows.{no_nodes_of};
+
+    type Row = NodeRow;
+
+    ghost are_of = { AreNodesOf };
+
+    fn rows(ledgers: &ProcessLedgers) -> Result<Vec<NodeRow>, AllocError> {
+        ledgers.nodes.rows()
     }
+
+    ghost none_of = { no_nodes_of };
 }
 
-/// The rows of the section: those of each process in turn.
-pub(crate) fn node_rows(
+/// The section: the rows of each process in turn.
+pub(crate) fn nodes_of(
     alloc: Global,
     processes: &InOrder<Process, ProcessSummary>,
-) -> Result<Rows<ProcessNode>, AllocError>
-    ensures { IfOk result (λ rows. (wholes : List (Placed WholeFrame)) →
-        AreOfProcesses processes.now.entries.entries wholes → AreNodeFindings wholes rows) }
+) -> Result<References<NodeRow>, AllocError>
+    ensures { IfOk result (λ found. (wholes : List (Placed WholeFrame)) →
+        AreOfProcesses processes.now.entries.entries wholes → AreNodeFindings wholes found) }
 {
-    let mut rows = Vec::new(alloc);
-    for (process, summary) in &processes.entries {
-        push_nodes(alloc, &mut rows, process.number, summary)?;
-    }
-    Ok(Rows::of(rows))
+    let rows = rows_in_turn::<Nodes>(alloc, processes)?;
+    Ok(References {
+        unbalanced: unbalanced_count(rows.as_slice()),
+        rows: Rows::of(rows),
+    })
 }
 
-/// Pushes the rows of one process.
-fn push_nodes(
-    alloc: Global,
-    rows: &mut Vec<ProcessNode>,
-    process: u32,
-    summary: &ProcessSummary,
-) -> Result<(), AllocError>
-    ensures { OnOk result ((own : List NodeRow) × GivesNodes summary.now own
-        × (rows.new.items ≡ rows.old.items ++ map (process_node process) own)) }
+fn unbalanced_count(rows: &[OfProcess<NodeRow>]) -> u64
+    ensures { result ≡
+        count_by (λ (row : OfProcess NodeRow). is_unbalanced_node row.row) rows.now }
 {
-    let Some(ledgers) = summary.ledgers() else {
-        return Ok(());
-    };
-    let own = ledgers.nodes.rows(alloc)?;
-    for row in own.as_slice() {
-        rows.push(ProcessNode::of(process, row))?;
-    }
-    Ok(())
+    rows.iter().filter(|row| is_unbalanced(&row.row)).count() as u64
+}
+
+fn is_unbalanced(row: &NodeRow) -> bool
+    ensures { result ≡ is_unbalanced_node row.now }
+{
+    row.strong.sum != 0 || row.weak.sum != 0 || row.strong_due != 0 || row.weak_due != 0
 }

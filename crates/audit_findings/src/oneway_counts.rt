@@ -2,19 +2,21 @@
 
 ghost use Rattle.std.specs.Prelude.{◌≡◌, ◌+◌, ◌∷◌, ◌<◌, ◌^◌, []};
 ghost use Rattle.event_core.specs.Reading.{event_text};
-ghost use Rattle.audit_findings.specs.Ledgers.{CountsOneway};
+ghost use Rattle.audit_findings.specs.Oneway.{CountsOneway};
 
 use event_core::{Event, OnewayKey, oneway_step};
 
 /// How many oneway transactions are sent, and how many received, over all processes.
-#[derive(Clone, Copy)]
-pub(crate) struct OnewayCounts {
+#[derive(Clone, Copy, Debug, PartialEq, Eq)]
+pub struct OnewayCounts {
+    /// How many are sent, refused ones included.
     pub sent: u64,
+    /// How many are received.
     pub received: u64,
 }
 
 impl OnewayCounts {
-    pub const NONE: Self = OnewayCounts {
+    pub(crate) const NONE: Self = OnewayCounts {
         sent: 0,
         received: 0,
     };
@@ -30,7 +32,7 @@ impl OnewayCounts {
     };
 
     /// Those of one event.
-    pub fn of(event: Event<'_>) -> Self
+    pub(crate) fn of(event: Event<'_>) -> Self
         ensures { CountsOneway result (event_text event.entry ∷ []) }
     {
         let Some(item) = oneway_step(event) else {
@@ -43,7 +45,7 @@ impl OnewayCounts {
     }
 
     /// Those of some events and of others.
-    pub fn plus(self, other: Self) -> Self
+    pub(crate) fn plus(self, other: Self) -> Self
         requires sent { self.sent + other.sent < 2 ^ 64 }
         requires received { self.received + other.received < 2 ^ 64 }
         ensures sent { result.sent ≡ self.sent + other.sent }

@@ -73,9 +73,11 @@ pub(crate) fn rows_but(
     ensures { IfOk result (λ rows. rows.items ≡
         map (λ (o : OpenerRow). o.row) (filter (is_but end verdict) openers.entry.now)) }
 {
-    openers
-        .iter()
-        .filter(|opener| opener.is_but(end, verdict))
-        .map(|opener| opener.row)
-        .collect(alloc)
+    let mut rows = Vec::new(alloc);
+    for opener in openers {
+        if opener.is_but(end, verdict) {
+            rows.push(opener.row)?;
+        }
+    }
+    Ok(rows)
 }

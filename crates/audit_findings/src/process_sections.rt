@@ -3,56 +3,75 @@
 ghost use Rattle.std.specs.Prelude.{List, IfOk};
 ghost use Rattle.capture_frame.specs.Units.{Placed};
 ghost use Rattle.transaction_view.specs.Grammar.{WholeFrame};
-ghost use Rattle.audit_findings.specs.Frames.{events_of_wholes};
+ghost use Rattle.event_core.specs.Events.{events_of_wholes};
+ghost use Rattle.process_ledgers.specs.OfProcess.{AreOfProcesses};
+ghost use Rattle.audit_findings.specs.Findings.{ProcessSectionsText, AreProcessSections};
 ghost use Rattle.audit_findings.specs.Places.{RiseInPlace};
-ghost use Rattle.audit_findings.specs.ProcessLedgers.{AreOfProcesses};
-ghost use Rattle.audit_findings.specs.ProcessSections.{KeepOfProcesses};
 
-use crate::buffers::{Leaked, StrayFrees};
-use crate::clears::{StrayConfirmations, Unconfirmed};
-use crate::deaths::{StrayAcknowledgements, Unacknowledged};
-use crate::handles::{ProcessHandle, handle_rows};
-use crate::in_order::InOrder;
-use crate::nodes::{ProcessNode, node_rows};
-use crate::open_and_stray::{OpenAndStray, open_and_stray_of};
+use crate::buffers::BufferPairs;
+use crate::clears::ClearPairs;
+use crate::deaths::DeathPairs;
+use crate::handles::handles_of;
+use crate::in_turn::OfProcess;
+use crate::nodes::nodes_of;
+use crate::oneway::{OnewayRow, oneway_rows};
+use crate::open_and_stray::OpenAndStray;
+use crate::paired::{Strays, Unclosed, open_and_stray_of};
 use crate::places::places_of;
-use crate::process::Process;
-use crate::process_summary::ProcessSummary;
+use crate::references::References;
 use crate::requests::Standing;
 use crate::rows::Rows;
+use capture_frame::Process;
+use handle_ledger::{HandleRow, NodeRow};
+use process_ledgers::ProcessSummary;
 use std::alloc::{AllocError, Global};
+use summary_law::InOrder;
 
-/// What the sections `handles`, `nodes`, `buffers`, `frees`, `requests`, `deaths` and `clears`
-/// keep.
+/// What the sections keep that count and pair in each process.
 #[derive(Drop)]
-pub(crate) struct ProcessSections {
-    pub handles: Rows<ProcessHandle>,
-    pub nodes: Rows<ProcessNode>,
+pub struct ProcessSections {
+    /// The references that processes hold by handle.
+    pub handles: References<HandleRow>,
+    /// The references to the nodes of processes.
+    pub nodes: References<NodeRow>,
+    /// The places of the deliveries that are never freed, rising.
     pub leaked: Rows<u64>,
+    /// The places of the frees of what is not delivered or is freed already, rising.
     pub stray_frees: Rows<u64>,
+    /// The places of the requests that still stand, rising.
     pub standing: Rows<u64>,
+    /// Deaths that nobody acknowledges, and stray acknowledgements.
     pub deaths: OpenAndStray,
+    /// Clears that nobody confirms, and stray confirmations.
     pub clears: OpenAndStray,
+    /// Oneway transactions of each process in the order of first frames: by rising handle what it
+    /// sends, then what it receives.
+    pub oneway: Rows<OfProcess<OnewayRow>>,
 }
 
 impl ProcessSections {
+    ghost use Rattle.audit_findings.specs.Kept.{KeepProcesses};
+
     /// Those of all processes.
-    pub fn of(
+    pub(crate) fn of(
         alloc: Global,
         processes: &InOrder<Process, ProcessSummary>,
     ) -> Result<Self, AllocError>
-        ensures { IfOk result (λ sections. (wholes : List (Placed WholeFrame)) →
+        ensures { IfOk result (λ kept. (wholes : List (Placed WholeFrame)) →
             AreOfProcesses processes.now.entries.entries wholes →
-            RiseInPlace (events_of_wholes wholes) → KeepOfProcesses sections wholes) }
+            RiseInPlace (events_of_wholes wholes) →
+            (said : ProcessSectionsText) × AreProcessSections wholes said
+            × KeepProcesses kept said) }
     {
         Ok(ProcessSections {
-            handles: handle_rows(alloc, processes)?,
-            nodes: node_rows(alloc, processes)?,
-            leaked: Rows::of(places_of::<Leaked>(alloc, processes)?),
-            stray_frees: Rows::of(places_of::<StrayFrees>(alloc, processes)?),
+            handles: handles_of(alloc, processes)?,
+            nodes: nodes_of(alloc, processes)?,
+            leaked: Rows::of(places_of::<Unclosed<BufferPairs>>(alloc, processes)?),
+            stray_frees: Rows::of(places_of::<Strays<BufferPairs>>(alloc, processes)?),
             standing: Rows::of(places_of::<Standing>(alloc, processes)?),
-            deaths: open_and_stray_of::<Unacknowledged, StrayAcknowledgements>(alloc, processes)?,
-            clears: open_and_stray_of::<Unconfirmed, StrayConfirmations>(alloc, processes)?,
+            deaths: open_and_stray_of::<DeathPairs>(alloc, processes)?,
+            clears: open_and_stray_of::<ClearPairs>(alloc, processes)?,
+            oneway: oneway_rows(alloc, processes)?,
         })
     }
 }

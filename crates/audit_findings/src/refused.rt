@@ -65,5 +65,9 @@ fn places_of(alloc: Global, sends: &[SendRow]) -> Result<Vec<u64>, AllocError>
     ensures { IfOk result (λ places.
         places.items ≡ map (λ (s : SendRow). s.place) sends.entry.now) }
 {
-    sends.iter().map(|sent| sent.place).collect(alloc)
+    let mut places = Vec::new(alloc);
+    for sent in sends {
+        places.push(sent.place)?;
+    }
+    Ok(places)
 }

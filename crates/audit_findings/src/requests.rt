@@ -1,21 +1,23 @@
 //! The section `requests`.
 
 use crate::places::Listed;
-use crate::process_ledgers::ProcessLedgers;
-use std::alloc::{AllocError, Global};
+use process_ledgers::ProcessLedgers;
+use std::alloc::AllocError;
 
 /// Requests that still stand.
 pub(crate) struct Standing;
 
 impl Listed for Standing {
-    ghost use Rattle.pending_ledger.specs.Requests.{IsStanding};
-    ghost use Rattle.audit_findings.specs.Processes.{items_of_process};
-    ghost use Rattle.audit_findings.specs.Requests.{request_item_of};
+    ghost use Rattle.audit_findings.specs.Requests.{IsStandingIn};
+    ghost use Rattle.audit_findings.proofs.StandLaws.{request_stands, request_needs};
 
-    ghost is_so = { λ events process place.
-        IsStanding (items_of_process request_item_of process events) place };
+    ghost is_so = { IsStandingIn };
 
-    fn places(ledgers: &ProcessLedgers, alloc: Global) -> Result<Vec<u64>, AllocError> {
-        ledgers.requests.outstanding(alloc)
+    fn places(ledgers: &ProcessLedgers) -> Result<Vec<u64>, AllocError> {
+        ledgers.requests.outstanding()
     }
+
+    ghost stands = { request_stands };
+
+    ghost needs = { request_needs };
 }

@@ -6,12 +6,11 @@ ghost use Rattle.summary_law.specs.Summary.{CanAdd, Adds, CanJoin, Joins};
 ghost use Rattle.audit_findings.specs.Ledgers.{AreFewEvents};
 ghost use Rattle.audit_findings.specs.ThreadLedger.{SumsThreadCalls};
 
-use crate::in_order::InOrder;
-use crate::thread::Thread;
 use call_stacks::ThreadCalls;
+use capture_frame::Thread;
 use event_core::Event;
 use std::alloc::{AllocError, Global};
-use summary_law::Summary;
+use summary_law::{InOrder, Summary};
 
 /// The calls of each thread.
 #[derive(Drop)]
@@ -34,7 +33,7 @@ impl<'c> ThreadLedger<'c> {
         ensures { OnOk result
             (Adds SumsThreadCalls AreFewEvents self.old (event_text event.entry) self.new) }
     {
-        self.threads.add((Thread::of(event), event))
+        self.threads.add((event.of_thread(), event))
     }
 
     /// Those of these events and of the later ones.

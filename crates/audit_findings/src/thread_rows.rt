@@ -7,13 +7,13 @@ ghost use Rattle.audit_findings.specs.Places.{RiseInPlace};
 ghost use Rattle.audit_findings.specs.ThreadLedger.{SumsThreadCalls};
 ghost use Rattle.audit_findings.specs.ThreadRows.{opener_text, opener_row, send_text, send_row, TakesOver, AreGatheredRows, AreSortedRows, KeepRows};
 
-use crate::in_order::InOrder;
 use crate::opener_row::OpenerRow;
 use crate::refused::SendRow;
 use crate::thread_ledger::ThreadLedger;
 use call_stacks::{CallFindings, Opener, RefusedSend};
 use event_core::Event;
 use std::alloc::{AllocError, Global};
+use summary_law::InOrder;
 
 /// The rows of the calls of all threads, each list in rising place once it is sorted.
 #[derive(Drop)]

@@ -22,7 +22,10 @@ use Rattle.transaction_view.specs.FirstFault as first_fault
 use Rattle.transaction_view.specs.Grammar.{WholeFrame, MayStandWhole, whole_format, IsInGrammar, HasFirstFault}
 use Rattle.transaction_view.proofs.CaptureWalk.{whole_of}
 use Rattle.transaction_view.proofs.GrammarLaws.{IsBytes-commands, IsBytes-attachments}
-use Rattle.audit_findings.specs.Frames.{Show, IsWhole, placed_text, wholes_of, span_of, StandApart, AreGoodFrames}
+use Rattle.audit_findings.specs.Frames.{Show, IsWhole, AreGoodFrames}
+use Rattle.event_core.specs.Events.{placed_text}
+use Rattle.event_core.specs.Events.{wholes_of}
+use Rattle.capture_frame.specs.Lookup.{span_of, StandApart}
 use Rattle.audit_findings.proofs.FrameLaws.{first_same}
 use Rattle.audit_join.specs.declared.audit_error.AuditError.{AuditError}
 use Rattle.audit_join.specs.declared.audit_error.AuditError.TheVariants.{Memory, Malformed}

@@ -13,10 +13,10 @@ use Rattle.record_view.proofs.RecordLaws.{records_decided}
 use Rattle.transaction_view.specs.Attachments.{entry_format}
 use Rattle.transaction_view.proofs.EntryLaws.{entries_decided}
 use Rattle.transaction_view.specs.FirstFault.{HasGoodContent, HasContentFault, ContentFails, in_records, in_entries}
-use Rattle.audit_findings.specs.Lookup.{Holds, IsFrameAt}
+use Rattle.capture_frame.specs.Lookup.{Holds, IsFrameAt}
 use Rattle.transaction_view.proofs.OneAnswer.{content_one_of}
 use Rattle.audit_findings.proofs.FrameLaws.{first_same}
-use Rattle.audit_findings.proofs.LookupLaws.{one_held, some_held}
+use Rattle.capture_frame.proofs.LookupLaws.{one_held, some_held}
 use Rattle.audit_join.specs.Jobs.{AreSound, IsFirstIn, HasFirstAt, IsFaultOf}
 
 abbrev IsGood : Frame → Type 0

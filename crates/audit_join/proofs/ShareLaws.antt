@@ -16,7 +16,7 @@ use Rattle.claim_board.specs.Orders.{AreFaultless, IsLeastFault}
 use Rattle.claim_board.specs.Results.{AreInOrder}
 use Rattle.claim_board.specs.Running.{AreWorkJobs, no_place}
 use Rattle.audit_findings.specs.declared.piece_summary.PieceSummary.{PieceSummary}
-use Rattle.audit_findings.specs.Frames.{span_of, StandApart}
+use Rattle.capture_frame.specs.Lookup.{span_of, StandApart}
 use Rattle.audit_findings.specs.Summary.{SumsPiece}
 use Rattle.audit_findings.proofs.FrameLaws.{first_same}
 use Rattle.audit_join.specs.Jobs.{AreSound, HasFirstAt, IsFaultOf, IsJobOf, IsOfBytes, AreCut, AreJobRuns, run_at}

@@ -7,7 +7,7 @@ use Rattle.capture_frame.specs.Envelope.{frame_text}
 use Rattle.capture_frame.specs.Units.{IsBytes}
 use Rattle.transaction_view.specs.FirstFault.{HasGoodContent, HasContentFault}
 use Rattle.claim_board.specs.declared.job.Job.{Job}
-use Rattle.audit_findings.specs.Frames.{span_of, StandApart}
+use Rattle.capture_frame.specs.Lookup.{span_of, StandApart}
 
 -- the records and entries of these frames have no fault
 abbrev pub AreSound : List Frame → Type 0

@@ -2,7 +2,8 @@
 
 ghost use Rattle.std.specs.Prelude.{◌≡◌, ◌≤◌, List, length, IfErr, IfOk};
 ghost use Rattle.transaction_view.specs.Grammar.{WholeFrame};
-ghost use Rattle.audit_findings.specs.Frames.{AreGoodFrames, Show, wholes_of};
+ghost use Rattle.audit_findings.specs.Frames.{AreGoodFrames, Show};
+ghost use Rattle.event_core.specs.Events.{wholes_of};
 ghost use Rattle.audit_findings.specs.Findings.{FindingsText};
 ghost use Rattle.audit_findings.specs.Kept.{Tell};
 ghost use Rattle.audit_join.specs.Audit.{IsAudited, IsMalformed};

@@ -2,7 +2,8 @@
 
 ghost use Rattle.std.specs.Prelude.{◌≡◌, ◌≤◌, List, ◌∷◌, length, AllPairs, IfOk, MatchOption};
 ghost use Rattle.capture_frame.specs.declared.frame.Frame.{Frame};
-ghost use Rattle.audit_findings.specs.Frames.{AreGoodFrames, StandApart};
+ghost use Rattle.audit_findings.specs.Frames.{AreGoodFrames};
+ghost use Rattle.capture_frame.specs.Lookup.{StandApart};
 ghost use Rattle.audit_findings.specs.Summary.{SumsPiece};
 ghost use Rattle.audit_join.specs.Jobs.{AreSound, IsFirstIn, HasFirstAt};
 

@@ -16,9 +16,12 @@ use Rattle.transaction_view.specs.Attachments.{EntryText, HasEntries}
 use Rattle.transaction_view.specs.FirstFault.{HasGoodContent}
 use Rattle.transaction_view.specs.Grammar.{WholeFrame, whole_format}
 use Rattle.transaction_view.proofs.CaptureWalk.{StandsBehind, steps_from, whole_of}
-use Rattle.audit_findings.specs.Frames.{Show, IsWhole, placed_text, wholes_of, AreGoodFrames, span_of}
+use Rattle.audit_findings.specs.Frames.{Show, IsWhole, AreGoodFrames}
+use Rattle.event_core.specs.Events.{placed_text}
+use Rattle.event_core.specs.Events.{wholes_of}
+use Rattle.capture_frame.specs.Lookup.{span_of}
 use Rattle.audit_findings.proofs.FrameLaws.{none_shown, first_same, shown_parts, shown_first, shown_good}
-use Rattle.audit_findings.proofs.LookupLaws.{stand_apart}
+use Rattle.audit_findings.proofs.PlacesRise.{stand_apart}
 
 spelled : WholeFrame → List ℕ
 spelled whole = frame_bytes whole.frame

@@ -4,7 +4,7 @@ use Rattle.std.specs.Prelude.{All, Contains}
 use Rattle.std.proofs.lemmas.List.Elements.{All-map, All-filter, All-contains_itself, All-weaker}
 use Rattle.event_core.specs.Events.{EventText}
 use Rattle.audit_findings.specs.Flags.{has_unknown_flags, flagged}
-use Rattle.audit_findings.specs.Frames.{wholes_of, events_of_wholes}
+use Rattle.event_core.specs.Events.{wholes_of, events_of_wholes}
 use Rattle.audit_findings.specs.Kept.{KeptFindings, AreOfFrames}
 use Rattle.audit_findings.specs.Lookup.{HasRecordIn}
 use Rattle.audit_findings.proofs.RecordsThere.{has_record_in}

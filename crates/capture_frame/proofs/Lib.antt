@@ -9,3 +9,5 @@ pub mod HeaderLaws
 pub mod CaptureLaws
 pub mod Vectors
 pub mod CutLaws
+pub mod ProcessLaws
+pub mod LookupLaws

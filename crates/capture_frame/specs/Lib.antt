@@ -6,3 +6,5 @@ pub mod Readers
 pub mod Reading
 pub mod State
 pub mod Cut
+pub mod Process
+pub mod Lookup

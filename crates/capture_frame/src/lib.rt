@@ -10,7 +10,9 @@ mod frame;
 mod frames;
 mod header;
 pub mod laws;
+mod lookup;
 mod number;
+mod process;
 
 pub use all_frames::cut;
 pub use cut_off::Cut;
@@ -18,4 +20,6 @@ pub use direction::Direction;
 pub use fault::{Fault, FaultKind};
 pub use frame::Frame;
 pub use frames::Frames;
+pub use lookup::frame_at;
 pub use number::{u32_at, u64_at};
+pub use process::{Process, Thread};

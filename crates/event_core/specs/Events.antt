@@ -6,6 +6,8 @@ use Rattle.std.specs.Result.{result_unwrap_or}
 use Rattle.binder_code.specs.declared.record_kind.Kind.{Kind}
 use Rattle.binder_code.specs.declared.record_kind.Kind.TheVariants.{Opaque}
 use Rattle.binder_code.specs.Commands.{kind_of}
+use Rattle.capture_frame.specs.declared.process.Process.{Process}
+use Rattle.capture_frame.specs.declared.process.Thread.{Thread}
 use Rattle.capture_frame.specs.Units.{Placed, placed_at, placed}
 use Rattle.capture_frame.specs.Envelope.{FrameText, frame_bytes, file_header_length, commands_place, attachments_place}
 use Rattle.record_view.specs.Records.{RecordText, record_bytes, StandsAt, protocol_of}
@@ -28,6 +30,14 @@ pub record EventText : Type 0 where
   pub code : ℕ
   pub payload : List ℕ
   pub entry : Option AttachmentText
+
+-- the process of an event
+abbrev pub process_of : EventText → Process
+process_of e = record { number = e.process }
+
+-- the thread of an event
+abbrev pub thread_of : EventText → Thread
+thread_of e = record { process = process_of e; number = e.thread }
 
 -- what a code stands for in a frame, whose own records' codes all stand for something
 abbrev pub kind_in : FrameText → ℕ → Kind
@@ -74,14 +84,21 @@ placed_records frame records = placed record_bytes (commands_place frame.place) 
 abbrev pub events_of : Placed FrameText → List RecordText → List EntryText → List EventText
 events_of frame records entries = map (event_of frame entries) (placed_records frame records)
 
+-- where a whole frame stands, and what its header and its bytes tell
+abbrev pub placed_text : Placed WholeFrame → Placed FrameText
+placed_text there = placed_at there.place there.unit.frame
+
 -- the events of a whole frame of a capture
 abbrev pub events_of_whole : Placed WholeFrame → List EventText
-events_of_whole there = events_of (placed_at there.place there.unit.frame) there.unit.records there.unit.entries
+events_of_whole there = events_of (placed_text there) there.unit.records there.unit.entries
 
--- the events of a capture in the grammar, as these frames: those of each frame, in rising place
-abbrev pub events_of_capture : List WholeFrame → List EventText
-events_of_capture frames =
-    flat_map events_of_whole (placed (λ whole. frame_bytes whole.frame) file_header_length frames)
+-- the whole frames of a capture, with their places behind its file header
+abbrev pub wholes_of : List WholeFrame → List (Placed WholeFrame)
+wholes_of frames = placed (λ whole. frame_bytes whole.frame) file_header_length frames
+
+-- the events of these whole frames: those of each frame, in rising place
+abbrev pub events_of_wholes : List (Placed WholeFrame) → List EventText
+events_of_wholes wholes = flat_map events_of_whole wholes
 
 -- the event at a place, where one of these stands there
 abbrev pub event_at_place : ℕ → List EventText → Option EventText

@@ -4,6 +4,7 @@ ghost use Rattle.binder_code.specs.Commands.{kind_of, protocol_of_word, row_of};
 ghost use Rattle.transaction_view.specs.Transaction.{has_transaction_data};
 
 use binder_code::{Code, Kind};
+use capture_frame::{Process, Thread};
 use transaction_view::{Entry, Transaction};
 
 /// A record of a capture, with the process and the thread that wrote or read it. The payload and
@@ -42,6 +43,28 @@ pub struct Event<'c> {
 }
 
 impl<'c> Event<'c> {
+    ghost use Rattle.event_core.specs.Events.{process_of, thread_of};
+    ghost use Rattle.event_core.specs.Reading.{event_text};
+
+    /// The process that wrote or read it.
+    pub fn of_process(self) -> Process
+        ensures { result ≡ process_of (event_text self.entry) }
+    {
+        Process {
+            number: self.process,
+        }
+    }
+
+    /// The thread that wrote or read it.
+    pub fn of_thread(self) -> Thread
+        ensures { result ≡ thread_of (event_text self.entry) }
+    {
+        Thread {
+            process: self.of_process(),
+            number: self.thread,
+        }
+    }
+
     /// The fields that a transaction or a reply has.
     pub(crate) fn fields(self) -> Transaction<'c>
         requires { IsTrue (has_transaction_data self.kind) }

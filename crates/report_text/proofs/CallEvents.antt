@@ -9,7 +9,7 @@ use Rattle.call_stacks.specs.Calls.{Reads, JudgedOf, OpenerOf, RefusedOf, bracke
 use Rattle.call_stacks.specs.Matching.{ListsInOrder}
 use Rattle.call_stacks.proofs.Members.{contained, get_in, map-in}
 use Rattle.audit_findings.specs.Calls.{AreOpeners, AreRefused, AreStrays, RefusedText, judged_in_thread, text_reads}
-use Rattle.audit_findings.specs.Threads.{same_thread, thread_of}
+use Rattle.audit_findings.specs.Threads.{is_of_thread, events_of_thread}
 
 judged_events : {E : Type 0} (reads : Reads E) (judge : Option Mark → E → Bracket) (before : Option Mark) (events : List E)
     → map (λ j. j.event) (judged_with reads judge before events) ≡ events

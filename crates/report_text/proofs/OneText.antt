@@ -12,7 +12,7 @@ use Rattle.object_view.specs.Objects.{ObjectText, AreObjects}
 use Rattle.object_view.proofs.ListLaws.{one_list}
 use Rattle.audit_findings.specs.declared.sort_counts.SortCounts.{SortCounts}
 use Rattle.audit_findings.specs.Findings.{FindingsText, AreFindings}
-use Rattle.audit_findings.specs.Frames.{wholes_of, events_of_wholes}
+use Rattle.event_core.specs.Events.{wholes_of, events_of_wholes}
 use Rattle.audit_findings.specs.Objects.{Attached, Outcome, IsOutcome, AreOutcomes, BadOwned, AreObjectFindings, count_of, times_of, good_objects, bad_objects}
 use Rattle.audit_findings.proofs.OneFindings.{one_call_findings, one_counts, one_list_of_events, one_list_of_handles, one_list_of_nodes, one_list_of_strays, one_open_and_stray, one_oneway, one_refused}
 use Rattle.audit_findings.proofs.PlacesRise.{events_rise}

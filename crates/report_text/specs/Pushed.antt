@@ -6,7 +6,8 @@ use Rattle.capture_frame.specs.Units.{Placed}
 use Rattle.transaction_view.specs.Grammar.{WholeFrame}
 use Rattle.event_core.specs.Events.{EventText}
 use Rattle.audit_findings.specs.Findings.{FindingsText}
-use Rattle.audit_findings.specs.Frames.{Show, events_of_wholes}
+use Rattle.audit_findings.specs.Frames.{Show}
+use Rattle.event_core.specs.Events.{events_of_wholes}
 use Rattle.audit_findings.specs.Kept.{KeptFindings, Tell}
 
 -- the line is made so of the event at this place of the frames that the views show

@@ -4,7 +4,7 @@ use Rattle.std.specs.List.{flat_map}
 use Rattle.std.specs.Fmt.{decimal}
 use Rattle.transaction_view.specs.Grammar.{WholeFrame, IsInGrammar}
 use Rattle.audit_findings.specs.Findings.{FindingsText, AreFindings}
-use Rattle.audit_findings.specs.Frames.{wholes_of}
+use Rattle.event_core.specs.Events.{wholes_of}
 use Rattle.report_text.specs.Line.{ended}
 use Rattle.report_text.specs.Codes.{codes_lines}
 use Rattle.report_text.specs.Calls.{calls_lines}

@@ -2,7 +2,8 @@
 
 ghost use Rattle.std.specs.Prelude.{◌≤◌, List, IfOk};
 ghost use Rattle.transaction_view.specs.Grammar.{WholeFrame};
-ghost use Rattle.audit_findings.specs.Frames.{AreGoodFrames, Show, wholes_of};
+ghost use Rattle.audit_findings.specs.Frames.{AreGoodFrames, Show};
+ghost use Rattle.event_core.specs.Events.{wholes_of};
 ghost use Rattle.audit_findings.specs.Summary.{SumsPiece};
 
 use audit_join::{Findings, PieceSummary};

@@ -1,6 +1,6 @@
 use Rattle.std.proofs.Common.{◌≡◌, List, [], ◌∷◌, refl, sym, subst, rules}
-use Rattle.audit_findings.specs.declared.process.Process.{Process}
-use Rattle.audit_findings.specs.declared.process_summary.ProcessSummary.{ProcessSummary}
+use Rattle.capture_frame.specs.declared.process.Process.{Process}
+use Rattle.process_ledgers.specs.declared.process_summary.ProcessSummary.{ProcessSummary}
 use Rattle.audit_findings.specs.Nodes.{AreNodeFindings}
 use Rattle.audit_findings.proofs.ReferenceLaws.{NodesOf, nodes_in_turn}
 use Rattle.audit_findings.proofs.TurnLaws.{Turning, turning_goes_on}

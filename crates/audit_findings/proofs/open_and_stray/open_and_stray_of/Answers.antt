@@ -1,5 +1,5 @@
 use Rattle.std.proofs.Common.{◌≡◌, ℕ, List, ◌++◌, length, IsPermutation, IsSorted, nat_cmp, sym, subst, rules}
-use Rattle.audit_findings.specs.Frames.{events_of_wholes}
+use Rattle.event_core.specs.Events.{events_of_wholes}
 use Rattle.audit_findings.proofs.PlaceLaws.{extended_by, open_and_stray_kept}
 use Rattle.audit_findings.proofs.open_and_stray.open_and_stray_of.Goals as goal
 

@@ -1,5 +1,6 @@
 use Rattle.std.proofs.Common.{sym, subst}
-use Rattle.audit_findings.specs.Frames.{AreGoodFrames, wholes_of}
+use Rattle.audit_findings.specs.Frames.{AreGoodFrames}
+use Rattle.event_core.specs.Events.{wholes_of}
 use Rattle.audit_findings.specs.Summary.{SumsPiece}
 use Rattle.audit_join.proofs.audits.findings_of.Goals as goal
 

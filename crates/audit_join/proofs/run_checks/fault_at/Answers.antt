@@ -1,6 +1,6 @@
 use Rattle.std.proofs.Common.{◌≡◌, Some, sym, subst, ◌∙◌, rules}
 use Rattle.std.specs.Prelude.{IsSome}
-use Rattle.audit_findings.specs.Lookup.{IsFrameAt}
+use Rattle.capture_frame.specs.Lookup.{IsFrameAt}
 use Rattle.audit_join.specs.Jobs.{IsFirstIn}
 use Rattle.audit_join.proofs.FaultLaws.{some_holds, fails_there}
 use Rattle.audit_join.proofs.run_checks.fault_at.Goals as goal

@@ -5,7 +5,7 @@ use Rattle.std.proofs.lemmas.Result.{on_ok_weaker}
 use Rattle.event_core.specs.Events.{EventText}
 use Rattle.audit_findings.specs.declared.findings.Sections.{Sections}
 use Rattle.audit_findings.specs.Flags.{has_unknown_flags}
-use Rattle.audit_findings.specs.Frames.{wholes_of, events_of_wholes}
+use Rattle.event_core.specs.Events.{wholes_of, events_of_wholes}
 use Rattle.audit_findings.specs.Lookup.{HasRecordIn}
 use Rattle.report_text.specs.Flags.{flags_head, flags_row}
 use Rattle.report_text.proofs.Listed.{EventRows, listed, listed_events, event_section, as_many}

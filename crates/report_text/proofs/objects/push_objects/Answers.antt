@@ -4,7 +4,7 @@ use Rattle.std.proofs.lemmas.List.{length-map}
 use Rattle.std.proofs.lemmas.Result.{on_ok_weaker}
 use Rattle.audit_findings.specs.declared.objects.BadRow.{BadRow}
 use Rattle.audit_findings.specs.declared.findings.Sections.{Sections}
-use Rattle.audit_findings.specs.Frames.{wholes_of, events_of_wholes}
+use Rattle.event_core.specs.Events.{wholes_of, events_of_wholes}
 use Rattle.audit_findings.specs.Lookup.{HasRecordIn}
 use Rattle.audit_findings.specs.Kept.{kept_bad}
 use Rattle.audit_findings.specs.Objects.{BadOwned}

@@ -3,7 +3,7 @@ use Rattle.std.specs.Prelude.{All}
 use Rattle.std.proofs.lemmas.Result.{on_ok_weaker}
 use Rattle.event_core.specs.Events.{EventText}
 use Rattle.audit_findings.specs.declared.findings.Sections.{Sections}
-use Rattle.audit_findings.specs.Frames.{wholes_of, events_of_wholes}
+use Rattle.event_core.specs.Events.{wholes_of, events_of_wholes}
 use Rattle.audit_findings.specs.Lookup.{HasRecordIn}
 use Rattle.report_text.specs.EventRow.{kind_row}
 use Rattle.report_text.specs.Refused.{refused_head}

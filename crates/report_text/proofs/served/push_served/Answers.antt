@@ -5,7 +5,7 @@ use Rattle.event_core.specs.Events.{EventText}
 use Rattle.call_stacks.specs.Calls.{OpenerOf}
 use Rattle.audit_findings.specs.declared.calls.CallRow.{CallRow}
 use Rattle.audit_findings.specs.declared.findings.Sections.{Sections}
-use Rattle.audit_findings.specs.Frames.{wholes_of, events_of_wholes}
+use Rattle.event_core.specs.Events.{wholes_of, events_of_wholes}
 use Rattle.audit_findings.specs.Kept.{kept_call}
 use Rattle.audit_findings.specs.Lookup.{HasRecordIn}
 use Rattle.report_text.specs.Served.{served_head, served_row, sender_field}

@@ -3,8 +3,8 @@ use Rattle.std.proofs.lemmas.Result.{IfOk-weaker}
 use Rattle.std.specs.Ordering.{eq_by_cmp, nat_cmp}
 use Rattle.event_core.specs.declared.pending.PendingItem.{PendingItem}
 use Rattle.pending_ledger.specs.Pending.{ArePlacesOf, IsOutstanding}
-use Rattle.audit_findings.specs.Buffers.{buffer_item_of}
-use Rattle.audit_findings.specs.Processes.{items_of_process}
+use Rattle.process_ledgers.specs.Items.{buffer_item_of}
+use Rattle.process_ledgers.specs.Processes.{items_of_process}
 use Rattle.audit_findings.proofs.StandLaws.{pending_made}
 use Rattle.audit_findings.proofs.buffers.LeakedListed.places.Goals as goal
 

@@ -1,6 +1,6 @@
 use Rattle.std.proofs.lemmas.Result.{IfOk-weaker}
-use Rattle.audit_findings.specs.Deaths.{death_item_of}
-use Rattle.audit_findings.specs.Processes.{items_of_process}
+use Rattle.process_ledgers.specs.Items.{death_item_of}
+use Rattle.process_ledgers.specs.Processes.{items_of_process}
 use Rattle.audit_findings.proofs.deaths.StrayAcknowledgementsListed.places.Goals as goal
 
 pub returns : goal.returns

@@ -1,9 +1,9 @@
 use Rattle.std.proofs.Common.{List, ap, subst, sym, ◌∙◌}
 use Rattle.std.specs.Prelude.{AllPairs}
 use Rattle.capture_frame.specs.declared.frame.Frame.{Frame}
-use Rattle.audit_findings.specs.Frames.{StandApart}
-use Rattle.audit_findings.specs.Lookup.{IsFrameAt}
-use Rattle.audit_findings.proofs.LookupLaws.{stand_apart}
+use Rattle.capture_frame.specs.Lookup.{StandApart}
+use Rattle.capture_frame.specs.Lookup.{IsFrameAt}
+use Rattle.audit_findings.proofs.PlacesRise.{stand_apart}
 use Rattle.audit_findings.proofs.findings.Findings.frame_at.Goals as goal
 
 pub frame_at-requires : goal.frame_at-requires

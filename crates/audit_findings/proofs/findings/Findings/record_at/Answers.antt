@@ -4,9 +4,9 @@ use Rattle.capture_frame.specs.declared.frame.Frame.{Frame}
 use Rattle.capture_frame.specs.Envelope.{frame_text, placed_frame}
 use Rattle.capture_frame.specs.Units.{placed_at}
 use Rattle.event_core.specs.Events.{RecordStandsAt, HasRecordAt, bare_event}
-use Rattle.audit_findings.specs.Frames.{events_of_wholes}
-use Rattle.audit_findings.specs.Lookup.{IsFrameAt}
-use Rattle.audit_findings.proofs.LookupLaws.{one_held, some_held}
+use Rattle.event_core.specs.Events.{events_of_wholes}
+use Rattle.capture_frame.specs.Lookup.{IsFrameAt}
+use Rattle.capture_frame.proofs.LookupLaws.{one_held, some_held}
 use Rattle.audit_findings.proofs.RecordsThere.{IsEventIn, events_in, record_held}
 use Rattle.audit_findings.proofs.findings.Findings.record_at.Goals as goal
 

@@ -3,11 +3,11 @@ use Rattle.std.proofs.lemmas.List.{append-nil}
 use Rattle.event_core.specs.Reading.{event_text}
 use Rattle.event_core.proofs.EventsGiven.{none_yet}
 use Rattle.event_core.proofs.EventPlaces.{step_falls}
-use Rattle.audit_findings.specs.Frames.{events_of_wholes}
+use Rattle.event_core.specs.Events.{events_of_wholes}
 use Rattle.audit_findings.specs.Ledgers.{AreFewEvents, SumsEvents, SumsFrames}
 use Rattle.audit_findings.proofs.FrameLaws.{shown_good, shown_alone, few_with, few_next, all_given, given_next, texts_next}
-use Rattle.audit_findings.specs.declared.process_items.ProcessItems.{ProcessItems}
-use Rattle.audit_findings.specs.ProcessItems.{no_items, fed_by_all}
+use Rattle.process_ledgers.specs.declared.process_items.ProcessItems.{ProcessItems}
+use Rattle.process_ledgers.specs.ProcessItems.{no_items, fed_by_all}
 use Rattle.audit_findings.proofs.FitLaws.{SumsFed, FitFed, fed_given, process_key, fit_with, fit_mark, fit_next, all_fed, fed_next}
 use Rattle.audit_findings.proofs.SequenceLaws.{frame_count}
 use Rattle.audit_findings.proofs.ledgers.Ledgers.add.Goals as goal

@@ -5,8 +5,8 @@ use Rattle.event_core.specs.Events.{EventText}
 use Rattle.event_core.specs.Reading.{event_text}
 use Rattle.event_core.proofs.EventsGiven.{Given}
 use Rattle.event_core.proofs.EventPlaces.{left_of}
-use Rattle.audit_findings.specs.declared.process.Process.{Process}
-use Rattle.audit_findings.specs.declared.process_items.ProcessItems.{ProcessItems}
+use Rattle.capture_frame.specs.declared.process.Process.{Process}
+use Rattle.process_ledgers.specs.declared.process_items.ProcessItems.{ProcessItems}
 use Rattle.audit_findings.specs.Ledgers.{SumsEvents}
 use Rattle.audit_findings.proofs.FitLaws.{SumsFed, FitWith, fed_given, process_key}
 use Rattle.audit_findings.proofs.FrameLaws.{AreFewWith}

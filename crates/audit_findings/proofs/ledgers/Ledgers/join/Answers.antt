@@ -1,11 +1,11 @@
 use Rattle.std.proofs.Common.{sym, subst}
-use Rattle.audit_findings.specs.Frames.{events_of_wholes}
-use Rattle.audit_findings.specs.InOrder.{SumsInOrder}
+use Rattle.event_core.specs.Events.{events_of_wholes}
+use Rattle.summary_law.specs.InOrder.{SumsInOrder}
 use Rattle.audit_findings.specs.Ledgers.{SumsEvents, AreFewEvents}
-use Rattle.audit_findings.specs.ProcessItems.{fed_by_all}
-use Rattle.audit_findings.specs.ProcessLedgers.{SumsProcessItems}
-use Rattle.audit_findings.specs.Processes.{same_process}
-use Rattle.audit_findings.proofs.FedLaws.{fed-append}
+use Rattle.process_ledgers.specs.ProcessItems.{fed_by_all}
+use Rattle.process_ledgers.specs.ProcessLedgers.{SumsProcessItems}
+use Rattle.capture_frame.specs.Process.{same_process}
+use Rattle.process_ledgers.proofs.FedLaws.{fed-append}
 use Rattle.audit_findings.proofs.FitLaws.{fit_both}
 use Rattle.audit_findings.proofs.FrameLaws.{events-append}
 use Rattle.audit_findings.proofs.ledgers.Ledgers.join.Goals as goal

@@ -1,8 +1,8 @@
 use Rattle.std.proofs.Common.{refl, ◌∙◌, length, arith}
 use Rattle.audit_findings.specs.Findings.{FindingsText}
 use Rattle.audit_findings.specs.Flags.{flagged}
-use Rattle.audit_findings.specs.Frames.{events_of_wholes}
-use Rattle.audit_findings.proofs.OfProcesses.{are_of_processes}
+use Rattle.event_core.specs.Events.{events_of_wholes}
+use Rattle.process_ledgers.proofs.OfProcesses.{are_of_processes}
 use Rattle.audit_findings.proofs.ledgers.Ledgers.sections.Goals as goal
 
 pub record_counts-requires : goal.record_counts-requires

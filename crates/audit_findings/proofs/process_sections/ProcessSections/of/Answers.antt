@@ -1,5 +1,5 @@
 use Rattle.std.proofs.Common.{◌∙◌}
-use Rattle.audit_findings.specs.Frames.{events_of_wholes}
+use Rattle.event_core.specs.Events.{events_of_wholes}
 use Rattle.audit_findings.proofs.EventsAt.{events_at, stands_somewhere}
 use Rattle.audit_findings.proofs.StandLaws.{leaked_needs, stray_free_needs, request_needs, open_death_needs, stray_acknowledgement_needs, open_clear_needs, stray_confirmation_needs}
 use Rattle.audit_findings.proofs.StandLaws.{leaked_stands, stray_free_stands, request_stands, open_death_stands, stray_acknowledgement_stands, deaths_apart, open_clear_stands, stray_confirmation_stands, clears_apart}

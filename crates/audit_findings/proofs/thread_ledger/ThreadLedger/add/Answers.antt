@@ -2,7 +2,7 @@ use Rattle.std.proofs.Common.{[], ◌∷◌, ◌++◌, map, refl, sym, subst}
 use Rattle.std.proofs.lemmas.List.{map-append}
 use Rattle.std.proofs.lemmas.Result.{on_ok_weaker}
 use Rattle.event_core.specs.Reading.{event_text}
-use Rattle.audit_findings.specs.declared.thread.Thread.{Thread}
+use Rattle.capture_frame.specs.declared.process.Thread.{Thread}
 use Rattle.audit_findings.specs.ThreadLedger.{fed_view}
 use Rattle.audit_findings.proofs.ThreadFits.{FitThreads, SumsFedViews, fit_behind, views_behind}
 use Rattle.audit_findings.proofs.thread_ledger.ThreadLedger.add.Goals as goal

@@ -2,7 +2,8 @@ use Rattle.std.proofs.Common.{List, [], ◌∷◌, ◌++◌, sym, subst}
 use Rattle.std.proofs.lemmas.Result.{err_from_is_err_and}
 use Rattle.capture_frame.specs.declared.frame.Frame.{Frame}
 use Rattle.transaction_view.proofs.CaptureWalk.{whole_of, stands_at_start, stands_behind_next, left_falls, header_fails, content_fails, frames_end}
-use Rattle.audit_findings.specs.Frames.{Show, wholes_of}
+use Rattle.audit_findings.specs.Frames.{Show}
+use Rattle.event_core.specs.Events.{wholes_of}
 use Rattle.audit_findings.specs.Summary.{SumsPiece}
 use Rattle.audit_tests.proofs.CaptureLaws.{shown_at_start, shown_next, shown_are_good, within_limit}
 use Rattle.audit_tests.proofs.join.one_pass.one_pass.Goals as goal

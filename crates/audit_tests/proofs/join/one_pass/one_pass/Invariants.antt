@@ -1,7 +1,8 @@
 use Rattle.std.proofs.Common.{List}
 use Rattle.transaction_view.specs.Grammar.{WholeFrame}
 use Rattle.transaction_view.proofs.CaptureWalk.{StandsBehind, left_of}
-use Rattle.audit_findings.specs.Frames.{Show, wholes_of}
+use Rattle.audit_findings.specs.Frames.{Show}
+use Rattle.event_core.specs.Events.{wholes_of}
 use Rattle.audit_findings.specs.Summary.{SumsPiece}
 use Rattle.audit_tests.proofs.join.one_pass.one_pass.Given as goal
 

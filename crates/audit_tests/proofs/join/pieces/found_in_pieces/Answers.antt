@@ -1,6 +1,6 @@
 use Rattle.std.proofs.Common.{List, ◌++◌, sym, subst, ap, ◌∙◌}
 use Rattle.capture_frame.specs.declared.frame.Frame.{Frame}
-use Rattle.audit_findings.specs.Frames.{wholes_of}
+use Rattle.event_core.specs.Events.{wholes_of}
 use Rattle.audit_findings.specs.Kept.{AreOfFrames}
 use Rattle.audit_tests.proofs.join.pieces.found_in_pieces.Goals as goal
 

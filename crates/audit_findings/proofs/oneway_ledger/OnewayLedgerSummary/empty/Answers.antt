@@ -1,8 +1,0 @@
-use Rattle.std.proofs.Common.{[]}
-use Rattle.std.proofs.lemmas.List.Elements.{All-nil}
-use Rattle.audit_findings.specs.OnewayLedger.{HasSmallSize}
-use Rattle.audit_findings.proofs.OnewayLaws.{by_said}
-use Rattle.audit_findings.proofs.oneway_ledger.OnewayLedgerSummary.empty.Goals as goal
-
-pub returns : goal.returns
-returns c = record { tally = by_said c.empty.result [] [] c.empty.ensures; small = All-nil HasSmallSize }

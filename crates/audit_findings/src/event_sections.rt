@@ -1,0 +1,59 @@
+//! The sections of what is counted and listed of all events.
+
+ghost use Rattle.std.specs.Prelude.{List, IfOk};
+ghost use Rattle.event_core.specs.Events.{EventText};
+ghost use Rattle.audit_findings.specs.Findings.{EventSectionsText, AreEventSections};
+ghost use Rattle.audit_findings.specs.Ledgers.{SumsEvents, AreFewEvents};
+
+use crate::codes::{CodeRow, code_rows};
+use crate::event_ledgers::EventLedgers;
+use crate::objects::BadRow;
+use crate::oneway_counts::OnewayCounts;
+use crate::record_counts::{RecordCounts, record_counts};
+use crate::rows::Rows;
+use crate::sort_counts::SortCounts;
+use std::alloc::{AllocError, Global};
+
+/// What is kept of all events, whatever their process and thread.
+#[derive(Drop)]
+pub struct EventSections {
+    /// How many records there are, opaque ones included.
+    pub records: u64,
+    /// How many of them are opaque.
+    pub opaque: u64,
+    /// How often each code word stands there, the words rising.
+    pub codes: Rows<CodeRow>,
+    /// How many records of some kinds there are.
+    pub counts: RecordCounts,
+    /// How many oneway transactions there are.
+    pub oneway: OnewayCounts,
+    /// How many good objects of each sort there are.
+    pub objects: SortCounts,
+    /// The bad objects, in rising place of their records.
+    pub bad_objects: Rows<BadRow>,
+    /// The places of the records with flag bits that the header does not name, rising.
+    pub flags: Rows<u64>,
+}
+
+impl EventSections {
+    ghost use Rattle.audit_findings.specs.Kept.{KeepEvents};
+
+    /// Those of the ledgers of some events.
+    pub(crate) fn of(alloc: Global, ledgers: EventLedgers) -> Result<Self, AllocError>
+        requires { (events : List EventText) × SumsEvents ledgers events × AreFewEvents events }
+        ensures { IfOk result (λ kept. (events : List EventText) → SumsEvents ledgers.entry events →
+            (said : EventSectionsText) × AreEventSections events said × KeepEvents kept said) }
+    {
+        let codes = code_rows(alloc, &ledgers.codes)?;
+        Ok(EventSections {
+            records: ledgers.records,
+            opaque: ledgers.opaque,
+            codes,
+            counts: record_counts(&ledgers.codes),
+            oneway: ledgers.oneway,
+            objects: ledgers.objects.counts,
+            bad_objects: Rows::of(ledgers.objects.bad),
+            flags: Rows::of(ledgers.flags.into_places()),
+        })
+    }
+}

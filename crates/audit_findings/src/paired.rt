@@ -1,0 +1,116 @@
+//! Opens and closes that the ledgers of processes pair by their keys, and what has no partner.
+
+ghost use Rattle.std.specs.Prelude.{List, IfOk};
+ghost use Rattle.capture_frame.specs.Units.{Placed};
+ghost use Rattle.transaction_view.specs.Grammar.{WholeFrame};
+ghost use Rattle.event_core.specs.Events.{events_of_wholes};
+ghost use Rattle.process_ledgers.specs.OfProcess.{AreOfProcesses};
+ghost use Rattle.audit_findings.specs.Kept.{KeepsOpenAndStray};
+ghost use Rattle.audit_findings.specs.Places.{RiseInPlace, OpenAndStrayText, AreOpenAndStray};
+
+use crate::open_and_stray::OpenAndStray;
+use crate::places::{Listed, places_of};
+use crate::rows::Rows;
+use capture_frame::Process;
+use process_ledgers::{ProcessLedgers, ProcessSummary};
+use std::alloc::{AllocError, Global};
+use std::marker::PhantomData;
+use summary_law::InOrder;
+
+/// A ledger of opens and closes among those of a process.
+pub(crate) trait Paired {
+    ghost use Rattle.std.specs.Prelude.{◌≡◌, ℕ, [], List, Option, IfOk};
+    ghost use Rattle.capture_frame.specs.declared.process.Process.{Process};
+    ghost use Rattle.event_core.specs.Events.{EventText};
+    ghost use Rattle.event_core.specs.declared.pending.PendingItem.{PendingItem};
+    ghost use Rattle.pending_ledger.specs.Pending.{ArePlacesOf, place_of};
+    ghost use Rattle.process_ledgers.specs.Items.{KeepsPlace};
+    ghost use Rattle.process_ledgers.specs.OfProcess.{AreLedgersOf, HasNoItems};
+    ghost use Rattle.process_ledgers.specs.Processes.{items_of_process};
+    ghost use Rattle.audit_findings.specs.Places.{IsOpenIn, IsStrayIn};
+
+    /// The open or the close that an event is.
+    ghost read: { EventText → Option (PendingItem ℕ) };
+
+    /// The places of the opens that no later close has the key of.
+    fn outstanding(ledgers: &ProcessLedgers) -> Result<Vec<u64>, AllocError>
+        ensures { IfOk result (λ places. (events : List EventText) (process : Process) →
+            AreLedgersOf ledgers.now events process →
+            ArePlacesOf (IsOpenIn read events process) places.items) };
+
+    /// The places of the closes whose latest earlier item of their key, if any, is no open.
+    fn strays(ledgers: &ProcessLedgers) -> Result<Vec<u64>, AllocError>
+        ensures { IfOk result (λ places. (events : List EventText) (process : Process) →
+            AreLedgersOf ledgers.now events process →
+            ArePlacesOf (IsStrayIn read events process) places.items) };
+
+    /// An item has the place of its event.
+    ghost keeps: { KeepsPlace place_of read };
+
+    /// A process without an item has no open and no close.
+    ghost none_of: { (events : List EventText) (process : Process) →
+        HasNoItems events process → items_of_process read process events ≡ [] };
+}
+
+/// The opens that nothing closes, as a list.
+pub(crate) struct Unclosed<P> {
+    of: PhantomData<P>,
+}
+
+impl<P: Paired> Listed for Unclosed<P> {
+    ghost use Rattle.audit_findings.specs.Places.{IsOpenIn};
+    ghost use Rattle.audit_findings.proofs.StandLaws.{open_stands, open_needs};
+
+    ghost is_so = { IsOpenIn P.read };
+
+    fn places(ledgers: &ProcessLedgers) -> Result<Vec<u64>, AllocError> {
+        P::outstanding(ledgers)
+    }
+
+    ghost stands = { open_stands P.read P.keeps };
+
+    ghost needs = { open_needs P.read P.none_of };
+}
+
+/// The closes of what is not open, as a list.
+pub(crate) struct Strays<P> {
+    of: PhantomData<P>,
+}
+
+impl<P: Paired> Listed for Strays<P> {
+    ghost use Rattle.audit_findings.specs.Places.{IsStrayIn};
+    ghost use Rattle.audit_findings.proofs.StandLaws.{stray_stands, stray_needs};
+
+    ghost is_so = { IsStrayIn P.read };
+
+    fn places(ledgers: &ProcessLedgers) -> Result<Vec<u64>, AllocError> {
+        P::strays(ledgers)
+    }
+
+    ghost stands = { stray_stands P.read P.keeps };
+
+    ghost needs = { stray_needs P.read P.none_of };
+}
+
+/// Both, of all processes.
+pub(crate) fn open_and_stray_of<P: Paired>(
+    alloc: Global,
+    processes: &InOrder<Process, ProcessSummary>,
+) -> Result<OpenAndStray, AllocError>
+    ensures { IfOk result (λ found. (wholes : List (Placed WholeFrame)) →
+        AreOfProcesses processes.now.entries.entries wholes →
+        RiseInPlace (events_of_wholes wholes) →
+        (said : OpenAndStrayText) × KeepsOpenAndStray found said
+        × AreOpenAndStray P.read (events_of_wholes wholes) said) }
+{
+    let mut places = places_of::<Unclosed<P>>(alloc, processes)?;
+    let closes = places_of::<Strays<P>>(alloc, processes)?;
+    let opens = places.len();
+    places.extend_from_slice(closes.as_slice())?;
+    places.sort_unstable();
+    Ok(OpenAndStray {
+        unclosed: opens as u64,
+        strays: closes.len() as u64,
+        rows: Rows::of(places),
+    })
+}

@@ -1,0 +1,137 @@
+-- Which of some frames that stand apart holds a place.
+use Rattle.std.proofs.Common.{◌≡◌, ℕ, ◌+◌, ◌-◌, ◌<◌, ◌≤◌, inl, inr, List, length, Option, Some, None, refl, sym, ap, ◌∙◌, arith}
+use Rattle.std.specs.Prelude.{AllPairs, Contains, IsSome, slice_index_or}
+use Rattle.std.proofs.lemmas.Bool.{cases_eq, cases_lt}
+use Rattle.std.proofs.lemmas.List.{get_or_default}
+use Rattle.std.proofs.lemmas.List.Elements.{All-contains}
+use Rattle.capture_frame.specs.declared.frame.Frame.{Frame}
+use Rattle.capture_frame.specs.Lookup.{span_of, StandApart, Holds, IsFrameAt, IsSplitAt}
+
+-- ---- halving
+
+-- the first `low` frames begin at the place or before it, and those from `high` on behind it
+pub record IsSplitBetween (frames : List Frame) (place low high : ℕ) : Type 0 where
+  pub ordered : low ≤ high
+  pub within : high ≤ length frames
+  pub before : (i : ℕ) (d : Frame) → i < low → (slice_index_or frames i d).place ≤ place
+  pub behind : (i : ℕ) (d : Frame) → high ≤ i → i < length frames → place < (slice_index_or frames i d).place
+
+pub split_at_start : (frames : List Frame) (place : ℕ) → IsSplitBetween frames place 0 (length frames)
+split_at_start frames place = record {
+  ordered = omega arith;
+  within = omega arith;
+  before = λ i d less. absurd (omega (arith, less));
+  behind = λ i d from within. absurd (omega (arith, from, within));
+}
+
+-- earlier frames begin before later ones
+no_later : (frames : List Frame) → AllPairs StandApart frames → (i j : ℕ) (d : Frame) → i ≤ j → j < length frames
+    → (slice_index_or frames i d).place ≤ (slice_index_or frames j d).place
+no_later frames apart i j d less within = elim (cases_eq i j) [
+  | inl same ↦ (let alike = ap (λ (n : ℕ). (slice_index_or frames n d).place) same in omega (arith, alike))
+  | inr other ↦ (let far = apart i j d (omega (arith, less, other)) within in omega (arith, far))
+]
+
+pub split_above : (frames : List Frame) (place low high middle : ℕ) (d : Frame) → AllPairs StandApart frames → IsSplitBetween frames place low high
+    → low ≤ middle → middle < high → (slice_index_or frames middle d).place ≤ place → IsSplitBetween frames place (middle + 1) high
+split_above frames place low high middle d apart split from to there = record {
+  ordered = omega (arith, to);
+  within = split.within;
+  before = λ i e less.
+      let bound = split.within in
+      let early = no_later frames apart i middle e (omega (arith, less)) (omega (arith, to, bound)) in
+      let alike = ap (λ (f : Frame). f.place) (get_or_default frames middle e d (omega (arith, to, bound))) in
+      omega (arith, early, alike, there);
+  behind = split.behind;
+}
+
+pub split_below : (frames : List Frame) (place low high middle : ℕ) (d : Frame) → AllPairs StandApart frames → IsSplitBetween frames place low high
+    → low ≤ middle → middle < high → place < (slice_index_or frames middle d).place → IsSplitBetween frames place low middle
+split_below frames place low high middle d apart split from to there = record {
+  ordered = from;
+  within = let bound = split.within in omega (arith, to, bound);
+  before = split.before;
+  behind = λ i e from_there within.
+      let late = no_later frames apart middle i e from_there within in
+      let alike = ap (λ (f : Frame). f.place) (get_or_default frames middle e d (omega (arith, from_there, within))) in
+      omega (arith, late, alike, there);
+}
+
+pub split_done : (frames : List Frame) (place low high : ℕ) → IsSplitBetween frames place low high → high ≤ low → IsSplitAt frames place low
+split_done frames place low high split done =
+    let ordered = split.ordered in
+    let within = split.within in
+    record {
+      within = omega (arith, ordered, within);
+      before = split.before;
+      behind = λ i d from inside. split.behind i d (omega (arith, done, from)) inside;
+    }
+
+-- ---- the frame that holds a place
+
+pub none_before : (frames : List Frame) (place : ℕ) → IsSplitAt frames place 0 → IsFrameAt frames place None
+none_before frames place split i d within holds =
+    let behind = split.behind i d (omega arith) within in
+    let from = holds.0 in
+    absurd (omega (arith, behind, from))
+
+-- the last frame before the place ends before it, and so does every earlier one
+pub none_at : (frames : List Frame) (place count : ℕ) → AllPairs StandApart frames → IsSplitAt frames place count → (last : Frame)
+    → ((d : Frame) → last ≡ slice_index_or frames (count - 1) d) → 0 < count → last.place + span_of last ≤ place → IsFrameAt frames place None
+none_at frames place count apart split last is some ended i d within holds =
+    let from = holds.0 in
+    let to = holds.1 in
+    let bound = split.within in
+    elim (cases_eq i (count - 1)) [
+      | inl same ↦ (let alike : slice_index_or frames i d ≡ last = ap (λ (n : ℕ). slice_index_or frames n d) same ∙ sym (is d) in
+          let there = ap (λ (f : Frame). f.place + span_of f) alike in
+          absurd (omega (arith, there, to, ended)))
+      | inr other ↦ elim (cases_lt i count) [
+        | inl less ↦ (let far = apart i (count - 1) d (omega (arith, less, other)) (omega (arith, some, bound)) in
+            let alike = ap (λ (f : Frame). f.place) (is d) in
+            let span : 0 ≤ span_of last = omega arith in
+            absurd (omega (arith, far, alike, to, ended, span)))
+        | inr more ↦ (let behind = split.behind i d more within in absurd (omega (arith, behind, from)))
+      ]
+    ]
+
+-- the last frame before the place, where it ends behind it
+pub one_at : (frames : List Frame) (place count : ℕ) → AllPairs StandApart frames → IsSplitAt frames place count → (last : Frame)
+    → ((d : Frame) → last ≡ slice_index_or frames (count - 1) d) → 0 < count → place < last.place + span_of last → IsFrameAt frames place (Some last)
+one_at frames place count apart split last is some ends =
+    let bound = split.within in
+    let from = split.before (count - 1) last (omega (arith, some)) in
+    let here = ap (λ (f : Frame). f.place) (is last) in (
+      (count - 1, omega (arith, some, bound), sym (is last)),
+      (omega (arith, from, here), ends),
+      λ i d within holds.
+          let above = holds.0 in
+          let to = holds.1 in
+          elim (cases_eq i (count - 1)) [
+            | inl same ↦ ap (λ (n : ℕ). slice_index_or frames n d) same ∙ sym (is d)
+            | inr other ↦ elim (cases_lt i count) [
+              | inl less ↦ (let far = apart i (count - 1) d (omega (arith, less, other)) (omega (arith, some, bound)) in
+                  let alike = ap (λ (f : Frame). f.place) (is d) in
+                  let begins = split.before (count - 1) d (omega (arith, some)) in
+                  absurd (omega (arith, far, alike, to, begins)))
+              | inr more ↦ (let behind = split.behind i d more within in absurd (omega (arith, behind, above)))
+            ]
+          ],
+    )
+
+-- two frames that hold one place are one
+pub one_held : (frames : List Frame) (place : ℕ) (found other : Frame) → IsFrameAt frames place (Some found) → Contains frames other → Holds place other
+    → other ≡ found
+one_held frames place found other is there holds =
+    All-contains (λ (f : Frame). Holds place f → f ≡ found) frames other is.2 there holds
+
+-- and where one does there is a frame
+pub some_held : (frames : List Frame) (place : ℕ) (result : Option Frame) (other : Frame) → IsFrameAt frames place result → Contains frames other
+    → Holds place other → IsSome result
+some_held frames place None other is there holds = absurd (All-contains (λ (f : Frame). ¬ Holds place f) frames other is there holds)
+some_held frames place (Some found) other is there holds = refl
+
+-- an element is the same whatever stands for one that is missing
+pub element_is : (frames : List Frame) (n : ℕ) (found missing : Frame) → found ≡ slice_index_or frames n missing → n < length frames → (d : Frame)
+    → found ≡ slice_index_or frames n d
+element_is frames n found missing is within d = is ∙ get_or_default frames n missing d within

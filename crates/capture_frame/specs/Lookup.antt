@@ -1,0 +1,28 @@
+-- Which frame of a capture holds a place.
+use Rattle.std.specs.Prelude.{◌≡◌, ℕ, ◌+◌, ◌<◌, ◌≤◌, List, length, slice_index_or, All, Contains, Option, Some, None}
+use Rattle.capture_frame.specs.declared.frame.Frame.{Frame}
+use Rattle.capture_frame.specs.Envelope.{frame_header_length}
+
+-- how many bytes of the capture a frame takes
+abbrev pub span_of : Frame → ℕ
+span_of frame = frame_header_length + length frame.commands.now + length frame.attachments.now
+
+-- the earlier frame ends before the later one begins
+abbrev pub StandApart : Frame → Frame → Type 0
+StandApart earlier later = earlier.place + span_of earlier ≤ later.place
+
+-- the byte at this place is one of the frame's
+abbrev pub Holds : ℕ → Frame → Type 0
+Holds place frame = (frame.place ≤ place) × (place < frame.place + span_of frame)
+
+-- it is the one frame that holds the byte at this place; or none does
+abbrev pub IsFrameAt : List Frame → ℕ → Option Frame → Type 0
+IsFrameAt frames place (Some frame) =
+    Contains frames frame × Holds place frame × All (λ other. Holds place other → other ≡ frame) frames
+IsFrameAt frames place None = All (λ frame. ¬ Holds place frame) frames
+
+-- the first n of these frames begin at this place or before it, and the others behind it
+pub record IsSplitAt (frames : List Frame) (place n : ℕ) : Type 0 where
+  pub within : n ≤ length frames
+  pub before : (i : ℕ) (d : Frame) → i < n → (slice_index_or frames i d).place ≤ place
+  pub behind : (i : ℕ) (d : Frame) → n ≤ i → i < length frames → place < (slice_index_or frames i d).place

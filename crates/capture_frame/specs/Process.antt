@@ -1,0 +1,17 @@
+-- The processes and the threads of a capture (docs/ENVELOPE.md).
+use Rattle.std.specs.Prelude.{◌==◌, ◌&&◌, Bool}
+use Rattle.capture_frame.specs.declared.process.Process.{Process}
+use Rattle.capture_frame.specs.declared.process.Thread.{Thread}
+use Rattle.capture_frame.specs.Envelope.{FrameText}
+
+-- whether two processes are one
+abbrev pub same_process : Process → Process → Bool
+same_process process other = process.number == other.number
+
+-- whether two threads are one
+abbrev pub same_thread : Thread → Thread → Bool
+same_thread thread other = same_process thread.process other.process && thread.number == other.number
+
+-- the process of a frame
+abbrev pub process_of_frame : FrameText → Process
+process_of_frame frame = record { number = frame.process }

@@ -1,0 +1,49 @@
+//! Which of the frames of a capture holds a place.
+
+ghost use Rattle.std.specs.Prelude.{◌≡◌, ◌+◌, length, AllPairs};
+ghost use Rattle.capture_frame.specs.Lookup.{span_of, StandApart, IsFrameAt, IsSplitAt};
+
+use crate::frame::Frame;
+
+/// Which of these frames, each of which ends before every later one begins, holds the byte at a
+/// place of the capture; None where none does.
+pub fn frame_at<'c>(frames: &[Frame<'c>], place: u64) -> Option<Frame<'c>>
+    requires { AllPairs StandApart frames.now }
+    ensures { IsFrameAt frames.entry.now place result }
+{
+    let count = count_up_to(frames, place);
+    if count == 0 {
+        return None;
+    }
+    let frame = frames[count - 1];
+    if place < end_of(frame) {
+        Some(frame)
+    } else {
+        None
+    }
+}
+
+/// How many of these frames begin at a place of the capture or before it.
+fn count_up_to(frames: &[Frame<'_>], place: u64) -> usize
+    requires { AllPairs StandApart frames.now }
+    ensures { IsSplitAt frames.entry.now place result }
+{
+    let mut low = 0;
+    let mut high = frames.len();
+    while low < high {
+        let middle = low + (high - low) / 2;
+        if frames[middle].place <= place {
+            low = middle + 1;
+        } else {
+            high = middle;
+        }
+    }
+    low
+}
+
+/// Where the frame ends in the capture.
+fn end_of(frame: Frame<'_>) -> u64
+    ensures { result ≡ frame.entry.place + span_of frame.entry }
+{
+    frame.attachments_place() + frame.attachments.len() as u64
+}

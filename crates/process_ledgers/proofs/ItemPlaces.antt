@@ -1,0 +1,71 @@
+-- The item that a ledger reads from an event stands where the event does.
+use Rattle.std.proofs.Common.{◌≡◌, ℕ, true, false, cond, eqb, List, Option, Some, None, refl, sym, ap, ◌∙◌}
+use Rattle.std.specs.Option.{option_map, unwrap_or}
+use Rattle.binder_code.specs.declared.record_kind.Kind.{Kind}
+use Rattle.binder_code.specs.declared.record_kind.Kind.TheVariants.{BcFreeBuffer, BcClearDeathNotification, BrTransaction, BrTransactionSecCtx, BrReply, BrClearDeathNotificationDone}
+use Rattle.event_core.specs.Buffers.{buffer_item, buffer_pending}
+use Rattle.event_core.specs.Clears.{clear_item}
+use Rattle.event_core.specs.Deaths.{death_change}
+use Rattle.event_core.specs.Events.{EventText, process_of}
+use Rattle.event_core.specs.Requests.{request_change}
+use Rattle.event_core.specs.declared.buffer.BufferItem.{BufferItem}
+use Rattle.event_core.specs.declared.pending.PendingItem.{PendingItem}
+use Rattle.pending_ledger.specs.Ledgers.{buffer_place}
+use Rattle.pending_ledger.specs.Pending.{place_of}
+use Rattle.pending_ledger.specs.Requests.{request_place}
+use Rattle.capture_frame.specs.declared.process.Process.{Process}
+use Rattle.process_ledgers.specs.Items.{buffer_item_of, buffer_pending_of, clear_item_of, death_item_of, request_item_of}
+use Rattle.process_ledgers.specs.Processes.{read_of}
+use Rattle.capture_frame.specs.Process.{same_process}
+
+-- what is read from an event stands where the event does
+abbrev pub KeepsPlace : {I : Type 0} → (I → ℕ) → (EventText → Option I) → Type 0
+KeepsPlace {I} place read = (e : EventText) (i : I) → read e ≡ Some i → place i ≡ e.place
+
+-- so does what is read from those of one process
+pub read_keeps : {I : Type 0} (place : I → ℕ) (read : EventText → Option I) (process : Process) → KeepsPlace place read → KeepsPlace place (read_of read process)
+read_keeps place read process keeps e i is =
+    elim (same_process process (process_of e)) as (λ b. cond b (read e) None ≡ Some i → place i ≡ e.place) [
+      | true ↦ λ found. keeps e i found
+      | false ↦ λ found. let no : ⊥ = cc in absurd no
+    ] is
+
+made_there : {A I : Type 0} (place : I → ℕ) (make : A → I) (at : ℕ) → ((a : A) → place (make a) ≡ at) → (o : Option A) (i : I) → option_map make o ≡ Some i
+    → place i ≡ at
+made_there place make at there None i is = let no : ⊥ = cc in absurd no
+made_there place make at there (Some a) i is = sym (ap (λ o. place (unwrap_or o i)) is) ∙ there a
+
+some_there : {I : Type 0} (place : I → ℕ) (made i : I) (at : ℕ) → place made ≡ at → Some made ≡ Some i → place i ≡ at
+some_there place made i at there is = sym (ap (λ o. place (unwrap_or o i)) is) ∙ there
+
+buffer_there : (at : ℕ) (kind : Kind) (payload : List ℕ) (i : BufferItem) → buffer_item at kind payload ≡ Some i → buffer_place i ≡ at
+buffer_there at BrTransaction payload i is = some_there buffer_place _ i at refl is
+buffer_there at BrTransactionSecCtx payload i is = some_there buffer_place _ i at refl is
+buffer_there at BrReply payload i is = some_there buffer_place _ i at refl is
+buffer_there at BcFreeBuffer payload i is = some_there buffer_place _ i at refl is
+buffer_there at _ payload i is = let no : ⊥ = cc in absurd no
+
+clear_there : (at : ℕ) (kind : Kind) (payload : List ℕ) (i : PendingItem ℕ) → clear_item at kind payload ≡ Some i → i.place ≡ at
+clear_there at BcClearDeathNotification payload i is = some_there place_of _ i at refl is
+clear_there at BrClearDeathNotificationDone payload i is = some_there place_of _ i at refl is
+clear_there at _ payload i is = let no : ⊥ = cc in absurd no
+
+pub buffer_keeps : KeepsPlace buffer_place buffer_item_of
+buffer_keeps e i is = buffer_there e.place e.kind e.payload i is
+
+pub request_keeps : KeepsPlace request_place request_item_of
+request_keeps e i is = made_there request_place _ e.place (λ change. refl) (request_change e.kind e.payload) i is
+
+pub death_keeps : KeepsPlace place_of death_item_of
+death_keeps e i is = made_there place_of _ e.place (λ change. refl) (death_change e.kind) i is
+
+pub clear_keeps : KeepsPlace place_of clear_item_of
+clear_keeps e i is = clear_there e.place e.kind e.payload i is
+
+pending_there : (at : ℕ) (o : Option BufferItem) → ((b : BufferItem) → o ≡ Some b → buffer_place b ≡ at) → (i : PendingItem ℕ)
+    → option_map buffer_pending o ≡ Some i → i.place ≡ at
+pending_there at None keeps i is = let no : ⊥ = cc in absurd no
+pending_there at (Some b) keeps i is = sym (ap (λ o. place_of (unwrap_or o i)) is) ∙ keeps b refl
+
+pub pending_keeps : KeepsPlace place_of buffer_pending_of
+pending_keeps e i is = pending_there e.place (buffer_item_of e) (buffer_keeps e) i is

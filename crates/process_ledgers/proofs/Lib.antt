@@ -1,0 +1,5 @@
+pub mod OnewayLaws
+pub mod ItemLaws
+pub mod ItemPlaces
+pub mod FedLaws
+pub mod OfProcesses

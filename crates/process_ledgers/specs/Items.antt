@@ -1,0 +1,49 @@
+-- What an event is to each ledger of its process (docs/REPORT.md): the item that it gives it, if any.
+use Rattle.std.specs.Prelude.{ℕ, Option}
+use Rattle.std.specs.Option.{option_map}
+use Rattle.event_core.specs.Buffers.{buffer_item, buffer_pending}
+use Rattle.event_core.specs.Clears.{clear_item}
+use Rattle.event_core.specs.Deaths.{death_item}
+use Rattle.event_core.specs.Events.{EventText}
+use Rattle.event_core.specs.Handles.{handle_item}
+use Rattle.event_core.specs.Nodes.{node_item}
+use Rattle.event_core.specs.Oneway.{oneway_item}
+use Rattle.event_core.specs.Requests.{request_item}
+use Rattle.event_core.specs.declared.buffer.BufferItem.{BufferItem}
+use Rattle.event_core.specs.declared.handle.HandleItem.{HandleItem}
+use Rattle.event_core.specs.declared.node.NodeItem.{NodeItem}
+use Rattle.event_core.specs.declared.oneway.OnewayItem.{OnewayItem}
+use Rattle.event_core.specs.declared.pending.PendingItem.{PendingItem}
+use Rattle.event_core.specs.declared.request.RequestItem.{RequestItem}
+
+-- the change of a handle's counts
+abbrev pub handle_item_of : EventText → Option HandleItem
+handle_item_of e = handle_item e.kind e.payload
+
+-- the change of a node's counts
+abbrev pub node_item_of : EventText → Option NodeItem
+node_item_of e = node_item e.kind e.payload
+
+-- the delivery or the free
+abbrev pub buffer_item_of : EventText → Option BufferItem
+buffer_item_of e = buffer_item e.place e.kind e.payload
+
+-- a delivery opens its address, and a free closes it
+abbrev pub buffer_pending_of : EventText → Option (PendingItem ℕ)
+buffer_pending_of e = option_map buffer_pending (buffer_item_of e)
+
+-- what it does to the requests
+abbrev pub request_item_of : EventText → Option RequestItem
+request_item_of e = request_item e.place e.kind e.payload
+
+-- the death or the acknowledgement
+abbrev pub death_item_of : EventText → Option (PendingItem ℕ)
+death_item_of e = death_item e.place e.kind e.payload
+
+-- the clear or the confirmation
+abbrev pub clear_item_of : EventText → Option (PendingItem ℕ)
+clear_item_of e = clear_item e.place e.kind e.payload
+
+-- the oneway transaction
+abbrev pub oneway_item_of : EventText → Option OnewayItem
+oneway_item_of e = oneway_item e.kind e.payload

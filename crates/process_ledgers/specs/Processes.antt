@@ -1,0 +1,25 @@
+-- The processes of a capture, and what each of them does (docs/REPORT.md).
+use Rattle.std.specs.Prelude.{List, map, if◌then◌else◌, Option, None}
+use Rattle.std.specs.List.{filter_map}
+use Rattle.capture_frame.specs.declared.process.Process.{Process}
+use Rattle.capture_frame.specs.Process.{same_process, process_of_frame}
+use Rattle.capture_frame.specs.Units.{Placed}
+use Rattle.transaction_view.specs.Grammar.{WholeFrame}
+use Rattle.event_core.specs.Events.{EventText, process_of}
+use Rattle.summary_law.specs.InOrder.{firsts}
+
+-- the process of a whole frame
+abbrev pub process_of_whole : Placed WholeFrame → Process
+process_of_whole there = process_of_frame there.unit.frame
+
+-- the processes of these frames, each once, in the order of their first frames
+abbrev pub processes_of : List (Placed WholeFrame) → List Process
+processes_of wholes = firsts same_process (map process_of_whole wholes)
+
+-- what is read from an event of this process, and nothing from one of another
+abbrev pub read_of : {I : Type 0} → (EventText → Option I) → Process → EventText → Option I
+read_of read process e = if same_process process (process_of e) then read e else None
+
+-- what is read from the events of this process, in their order
+abbrev pub items_of_process : {I : Type 0} → (EventText → Option I) → Process → List EventText → List I
+items_of_process read process events = filter_map (read_of read process) events
