@@ -40,7 +40,7 @@ use Rattle.process_ledgers.specs.Processes.{read_of, items_of_process}
 use Rattle.process_ledgers.specs.Items.{request_item_of}
 use Rattle.process_ledgers.proofs.FedLaws.{fed-append, fed_event, fed_items}
 use Rattle.audit_findings.proofs.FrameLaws.{shown_first, shown_none, whole_events}
-use Rattle.process_ledgers.proofs.ItemPlaces.{KeepsPlace, read_keeps, buffer_keeps, request_keeps, death_keeps, clear_keeps}
+use Rattle.process_ledgers.proofs.ItemPlaces.{read_keeps, buffer_keeps, request_keeps, death_keeps, clear_keeps}
 use Rattle.audit_findings.proofs.Rising.{placed_made}
 
 -- a process by its number, and that of a frame

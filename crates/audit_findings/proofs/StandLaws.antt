@@ -19,7 +19,7 @@ use Rattle.audit_findings.specs.Places.{StandsInProcess, ExcludeEachOther}
 use Rattle.process_ledgers.specs.OfProcess.{HasNoItems, NeedsItems}
 use Rattle.process_ledgers.specs.Processes.{read_of, items_of_process}
 use Rattle.process_ledgers.specs.Items.{request_item_of}
-use Rattle.process_ledgers.proofs.ItemPlaces.{KeepsPlace, pending_keeps, request_keeps, death_keeps, clear_keeps}
+use Rattle.process_ledgers.proofs.ItemPlaces.{pending_keeps, request_keeps, death_keeps, clear_keeps}
 
 chosen : {I : Type 0} (b : Bool) (o : Option I) (i : I) → cond b o None ≡ Some i → (b ≡ true) × (o ≡ Some i)
 chosen true o i is = (refl, is)

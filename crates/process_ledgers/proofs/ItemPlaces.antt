@@ -14,15 +14,11 @@ use Rattle.pending_ledger.specs.Ledgers.{buffer_place}
 use Rattle.pending_ledger.specs.Pending.{place_of}
 use Rattle.pending_ledger.specs.Requests.{request_place}
 use Rattle.capture_frame.specs.declared.process.Process.{Process}
-use Rattle.process_ledgers.specs.Items.{buffer_item_of, buffer_pending_of, clear_item_of, death_item_of, request_item_of}
+use Rattle.process_ledgers.specs.Items.{KeepsPlace, buffer_item_of, buffer_pending_of, clear_item_of, death_item_of, request_item_of}
 use Rattle.process_ledgers.specs.Processes.{read_of}
 use Rattle.capture_frame.specs.Process.{same_process}
 
--- what is read from an event stands where the event does
-abbrev pub KeepsPlace : {I : Type 0} → (I → ℕ) → (EventText → Option I) → Type 0
-KeepsPlace {I} place read = (e : EventText) (i : I) → read e ≡ Some i → place i ≡ e.place
-
--- so does what is read from those of one process
+-- what keeps its event's place does so among those of one process
 pub read_keeps : {I : Type 0} (place : I → ℕ) (read : EventText → Option I) (process : Process) → KeepsPlace place read → KeepsPlace place (read_of read process)
 read_keeps place read process keeps e i is =
     elim (same_process process (process_of e)) as (λ b. cond b (read e) None ≡ Some i → place i ≡ e.place) [

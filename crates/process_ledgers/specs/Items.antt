@@ -1,5 +1,5 @@
 -- What an event is to each ledger of its process (docs/REPORT.md): the item that it gives it, if any.
-use Rattle.std.specs.Prelude.{ℕ, Option}
+use Rattle.std.specs.Prelude.{◌≡◌, ℕ, Option, Some}
 use Rattle.std.specs.Option.{option_map}
 use Rattle.event_core.specs.Buffers.{buffer_item, buffer_pending}
 use Rattle.event_core.specs.Clears.{clear_item}
@@ -47,3 +47,7 @@ clear_item_of e = clear_item e.place e.kind e.payload
 -- the oneway transaction
 abbrev pub oneway_item_of : EventText → Option OnewayItem
 oneway_item_of e = oneway_item e.kind e.payload
+
+-- the item that is read from an event has the place of the event
+abbrev pub KeepsPlace : {I : Type 0} → (I → ℕ) → (EventText → Option I) → Type 0
+KeepsPlace {I} place read = (e : EventText) (i : I) → read e ≡ Some i → place i ≡ e.place
