@@ -1,5 +1,5 @@
 -- A table that was closed with the seat of all its workers, each of which has stopped.
-use Rattle.std.proofs.Common.{◌≡◌, ℕ, ◌<◌, List, length, subst, arith}
+use Rattle.std.proofs.Common.{◌≡◌, ℕ, ◌<◌, List, length, ap, subst, ◌∙◌, arith}
 use Rattle.claim_board.specs.declared.job.Job.{Job}
 use Rattle.claim_board.specs.declared.view.View.{View}
 use Rattle.claim_board.specs.Orders.{AreFaultless, IsLeastFault}
@@ -24,7 +24,11 @@ module _ (jobs : List Job) (workers least : ℕ) (u v : View) (last : IsLast job
       → IsWhole gives (length jobs) list
   whole_at_end high gives list r = ends.whole jobs workers last.0 least last.1 last.3 last.2 v last.4 all stopped high gives list r
 
--- the same of the work's own jobs and number of workers
+-- a table of jobs is one of the work's own jobs, where they are the same, from its opening
+pub opened_at : (jobs jobs' : List Job) (workers : ℕ) (v : View) → jobs ≡ jobs' → v ≡ opening_view jobs workers → v ≡ opening_view jobs' workers
+opened_at jobs jobs' workers v a e = e ∙ ap (λ js. opening_view js workers) a
+
+-- to its end, with their number of workers
 pub last_of : (jobs jobs' : List Job) (workers workers' least : ℕ) (v : View) → jobs ≡ jobs' → workers ≡ workers' → IsLast jobs workers v least
     → IsLast jobs' workers' v least
 last_of jobs jobs' workers workers' least v a b last = subst (λ m. IsLast jobs' m v least) b (subst (λ js. IsLast js workers v least) a last)

@@ -6,7 +6,7 @@ ghost use Rattle.claim_board.specs.Orders.{AllOrders};
 ghost use Rattle.claim_board.specs.Steps.{IsSeatAt, IsSameSeat, MayClaimNext, HoldsJob, HasFaultyJob, ClaimsNext, LooksAtLeast, LowersLeast};
 
 use crate::seat::{ClaimPlay, LookPlay, LowerPlay};
-pub use crate::seat::{BoardTable, WorkerSeat};
+pub use crate::seat::{BoardTable, JobList, WorkerSeat};
 pub use crate::share::share;
 
 /// Every list of steps of the pure board is short, and once all workers have stopped, each job has
@@ -17,7 +17,7 @@ pub fn all_orders()
 
 /// Claims the next job, by one `fetch_add` on the claim word; `None` where there is none, and the
 /// worker has stopped.
-pub fn claim(table: &BoardTable, seat: &mut WorkerSeat, jobs: u64) -> Option<u64>
+pub fn claim<L: JobList>(table: &BoardTable<L>, seat: &mut WorkerSeat, jobs: u64) -> Option<u64>
     requires place { IsSeatAt table.now.table_id seat.old }
     requires worker { MayClaimNext seat.old.me.0 }
     requires jobs { jobs ≡ length seat.old.me.0.jobs }
@@ -30,7 +30,7 @@ pub fn claim(table: &BoardTable, seat: &mut WorkerSeat, jobs: u64) -> Option<u64
 
 /// Looks at the fault word, by one load, for the job that was claimed last, which starts at
 /// `start`; true means that the job is skipped.
-pub fn look(table: &BoardTable, seat: &mut WorkerSeat, start: u64) -> bool
+pub fn look<L: JobList>(table: &BoardTable<L>, seat: &mut WorkerSeat, start: u64) -> bool
     requires place { IsSeatAt table.now.table_id seat.old }
     requires worker { HoldsJob seat.old.me.0 start }
     ensures same { IsSameSeat seat.old seat.new }
@@ -41,7 +41,7 @@ pub fn look(table: &BoardTable, seat: &mut WorkerSeat, start: u64) -> bool
 }
 
 /// Lowers the fault word, by one `fetch_min`, to the fault of the job that was claimed last.
-pub fn lower(table: &BoardTable, seat: &mut WorkerSeat, place: u64)
+pub fn lower<L: JobList>(table: &BoardTable<L>, seat: &mut WorkerSeat, place: u64)
     requires place { IsSeatAt table.now.table_id seat.old }
     requires worker { HasFaultyJob seat.old.me.0 place }
     ensures same { IsSameSeat seat.old seat.new }

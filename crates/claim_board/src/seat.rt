@@ -1,62 +1,38 @@
 //! What workers share: a table of two words under the running rule, and the seats that step on it.
 
-ghost use Rattle.std.specs.Prelude.{◌≡◌, List};
+ghost use Rattle.std.specs.Prelude.{List, []};
 ghost use Rattle.claim_board.specs.declared.job.Job.{Job};
-ghost use base.Fml.{ftrue};
 
 use crate::view::View;
-use crate::work::Work;
 use atomic_table::{Join, Play, Seat, Shared, Split, TableRule};
-use std::marker::{Model, PhantomData};
+use std::marker::{Brand, PhantomData};
 
-/// A list of jobs that only clauses read. It has no bytes.
-pub struct JobList {
-    marker: PhantomData<()>,
-    pub ghost jobs: { List Job },
+/// The jobs of a table. Clauses alone read them.
+pub trait JobList {
+    ghost jobs: { List Job };
 }
 
-impl Model for JobList {
-    ghost also_owns = { λ _. ftrue };
-}
-
-impl JobList {
-    /// The jobs of a work.
-    pub fn of<W: Work>(work: &W) -> JobList
-        ensures { result.jobs ≡ W.listed work.now }
-    {
-        let _ = work;
-        JobList {
-            marker: PhantomData,
-        }
-    }
-}
-
-impl Drop for JobList {
-    fn drop(self) {
-        let Self { marker: _ } = self;
-    }
-}
-
-/// What a table is told when it is made: the jobs and the number of workers.
-#[derive(Drop)]
-pub struct Key {
-    pub list: JobList,
-    pub workers: u64,
+/// In place of these, `run_all` picks the jobs of its work.
+impl JobList for Brand {
+    ghost jobs = { [] };
 }
 
 /// The running rule, over both words and all views.
-pub struct BoardRule;
+pub struct BoardRule<L: JobList> {
+    of: PhantomData<L>,
+}
 
-impl TableRule<(), View, Key> for BoardRule {
+/// A table is told the number of workers when it is made.
+impl<L: JobList> TableRule<(), View, u64> for BoardRule<L> {
     ghost use Rattle.claim_board.specs.Running.{IsRuled, opening_view};
 
-    ghost holds = { λ key. IsRuled key.list.jobs key.workers };
+    ghost holds = { λ workers. IsRuled L.jobs workers };
 
-    ghost first = { λ key. opening_view key.list.jobs key.workers };
+    ghost first = { λ workers. opening_view L.jobs workers };
 }
 
 /// The claim word and the fault word, under the running rule.
-pub type BoardTable = Shared<(), View, Key, BoardRule>;
+pub type BoardTable<L> = Shared<(), View, u64, BoardRule<L>>;
 
 /// What one or more workers step with. It has no bytes.
 pub type WorkerSeat = Seat<(), View>;

@@ -4,7 +4,7 @@ ghost use Rattle.std.specs.Prelude.{◌≡◌, IfOk};
 ghost use Rattle.claim_board.specs.Work.{AreAllResults, MayShare, StandsForSame};
 ghost use denote.Param.Send.{IsSend, IsSync};
 
-use crate::seat::{BoardTable, HalfCrews, WholeCrew, WorkerSeat};
+use crate::seat::{BoardTable, HalfCrews, JobList, WholeCrew, WorkerSeat};
 use crate::work::{Gate, Work};
 use crate::worker::work_alone;
 use std::alloc::{AllocError, Global};
@@ -14,10 +14,10 @@ use std::thread::{Threads, join_mut};
 /// the jobs that are Done. A worker that finds no memory makes no further step; the others go on
 /// until they stop.
 #[cycle(halves)]
-pub fn share<R: Threads + Sync, W: Work + Sync, G: Gate + Sync>(
+pub fn share<L: JobList + Sync, R: Threads + Sync, W: Work + Sync, G: Gate + Sync>(
     rt: &R,
     alloc: Global,
-    table: &BoardTable,
+    table: &BoardTable<L>,
     seat: &mut WorkerSeat,
     workers: u64,
     work: &W,
@@ -46,10 +46,10 @@ where
 
 // Both halves at once, each with a seat of its own.
 #[cycle(halves)]
-fn share_halves<R: Threads + Sync, W: Work + Sync, G: Gate + Sync>(
+fn share_halves<L: JobList + Sync, R: Threads + Sync, W: Work + Sync, G: Gate + Sync>(
     rt: &R,
     alloc: Global,
-    table: &BoardTable,
+    table: &BoardTable<L>,
     work: &W,
     gate: &G,
     low: u64,
@@ -72,13 +72,13 @@ where
         (λ list. AreAllResults (W.gives work.now) other.new.me.0 list.items) }
 {
     let mut front = || -> Result<Vec<(u64, W::Out)>, AllocError>
-        requires { IsSync R.row × IsSync W.row × IsSync G.row × IsSend W.Out.row
+        requires { IsSync L.row × IsSync R.row × IsSync W.row × IsSync G.row × IsSend W.Out.row
             × MayShare table.now.table_id (W.listed work.now) low seat.now }
         ensures { StandsForSame seat.entry.now seat.exit.now × IfOk result
             (λ list. AreAllResults (W.gives work.entry.now) seat.exit.now.me.0 list.items) }
     { share(rt, alloc, table, seat, low, work, gate) };
     let mut back = || -> Result<Vec<(u64, W::Out)>, AllocError>
-        requires { IsSync R.row × IsSync W.row × IsSync G.row × IsSend W.Out.row
+        requires { IsSync L.row × IsSync R.row × IsSync W.row × IsSync G.row × IsSend W.Out.row
             × MayShare table.now.table_id (W.listed work.now) high other.now }
         ensures { StandsForSame other.entry.now other.exit.now × IfOk result
             (λ list. AreAllResults (W.gives work.entry.now) other.exit.now.me.0 list.items) }

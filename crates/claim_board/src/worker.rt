@@ -7,15 +7,15 @@ ghost use Rattle.claim_board.specs.declared.job.JobState.TheVariants.{Held};
 ghost use Rattle.claim_board.specs.declared.view.ClaimedJob.{ClaimedJob};
 
 use crate::laws::{claim, look, lower};
-use crate::seat::{BoardTable, WorkerSeat};
+use crate::seat::{BoardTable, JobList, WorkerSeat};
 use crate::work::{Gate, JobStop, Work};
 use std::alloc::{AllocError, Global};
 
 // Looks at the job that was claimed last, runs it unless it is skipped, and lowers the fault word
 // where it has a fault.
-fn end_job<W: Work, G: Gate>(
+fn end_job<L: JobList, W: Work, G: Gate>(
     alloc: Global,
-    table: &BoardTable,
+    table: &BoardTable<L>,
     seat: &mut WorkerSeat,
     work: &W,
     gate: &G,
@@ -53,9 +53,9 @@ where
 }
 
 // All steps of one worker, up to the one that stops it.
-pub(crate) fn work_alone<W: Work, G: Gate>(
+pub(crate) fn work_alone<L: JobList, W: Work, G: Gate>(
     alloc: Global,
-    table: &BoardTable,
+    table: &BoardTable<L>,
     seat: &mut WorkerSeat,
     work: &W,
     gate: &G,

@@ -17,12 +17,11 @@ pub struct HandleLedger {
 }
 
 impl HandleLedger {
-    /// A row for each handle that an item names, also where its counts are 0, handles rising. The
-    /// rows' memory comes from `alloc`.
-    pub fn rows(&self, alloc: Global) -> Result<Vec<HandleRow>, AllocError>
+    /// A row for each handle that an item names, also where its counts are 0, handles rising.
+    pub fn rows(&self) -> Result<Vec<HandleRow>, AllocError>
         ensures { IfOk result (λ rows. GivesHandleRows self.now rows.items) }
     {
-        let mut rows = Vec::new(alloc);
+        let mut rows = Vec::new(self.handles.allocator());
         for (handle, counts) in &self.handles.entries {
             rows.push(HandleRow {
                 handle: *handle,

@@ -19,11 +19,11 @@ pub struct NodeLedger {
 
 impl NodeLedger {
     /// A row for each node that an item names, also where its counts are 0, by rising ptr and then
-    /// by rising cookie. The rows' memory comes from `alloc`.
-    pub fn rows(&self, alloc: Global) -> Result<Vec<NodeRow>, AllocError>
+    /// by rising cookie.
+    pub fn rows(&self) -> Result<Vec<NodeRow>, AllocError>
         ensures { IfOk result (λ rows. GivesNodeRows self.now rows.items) }
     {
-        let mut rows = Vec::new(alloc);
+        let mut rows = Vec::new(self.nodes.allocator());
         for (key, counts) in &self.nodes.entries {
             rows.push(NodeRow {
                 key: *key,

@@ -233,41 +233,26 @@ fn requests_of(alloc: Global, asked: &Asked) -> Result<Vec<RequestItem>, AllocEr
 }
 
 /// The deaths leave what is expected.
-fn expect_deaths(
-    rt: &impl Abort,
-    deaths: &Deaths,
-    pairs: &Pairs,
-    alloc: Global,
-) -> Result<(), AllocError> {
-    let outstanding = deaths.outstanding(alloc)?;
+fn expect_deaths(rt: &impl Abort, deaths: &Deaths, pairs: &Pairs) -> Result<(), AllocError> {
+    let outstanding = deaths.outstanding()?;
     assert!(rt; outstanding.as_slice() == pairs.outstanding);
-    let strays = deaths.strays(alloc)?;
+    let strays = deaths.strays()?;
     assert!(rt; strays.as_slice() == pairs.strays);
     Ok(())
 }
 
 /// The buffers do.
-fn expect_buffers(
-    rt: &impl Abort,
-    buffers: &Buffers,
-    pairs: &Pairs,
-    alloc: Global,
-) -> Result<(), AllocError> {
-    let outstanding = buffers.outstanding(alloc)?;
+fn expect_buffers(rt: &impl Abort, buffers: &Buffers, pairs: &Pairs) -> Result<(), AllocError> {
+    let outstanding = buffers.outstanding()?;
     assert!(rt; outstanding.as_slice() == pairs.outstanding);
-    let strays = buffers.strays(alloc)?;
+    let strays = buffers.strays()?;
     assert!(rt; strays.as_slice() == pairs.strays);
     Ok(())
 }
 
 /// The requests that stand are those that are expected.
-fn expect_requests(
-    rt: &impl Abort,
-    requests: &Requests,
-    asked: &Asked,
-    alloc: Global,
-) -> Result<(), AllocError> {
-    let standing = requests.outstanding(alloc)?;
+fn expect_requests(rt: &impl Abort, requests: &Requests, asked: &Asked) -> Result<(), AllocError> {
+    let standing = requests.outstanding()?;
     assert!(rt; standing.as_slice() == asked.standing);
     Ok(())
 }
@@ -277,11 +262,11 @@ fn expect_pairs(rt: &impl Abort, alloc: Global, pairs: &Pairs) -> Result<(), All
     let items = deaths_of(alloc, pairs)?;
     assert!(rt; is_placed(items.as_slice()));
     let deaths: Deaths = summary_of(alloc, items.as_slice())?;
-    expect_deaths(rt, &deaths, pairs, alloc)?;
+    expect_deaths(rt, &deaths, pairs)?;
     let items = buffers_of(alloc, pairs)?;
     assert!(rt; is_placed(items.as_slice()));
     let buffers: Buffers = summary_of(alloc, items.as_slice())?;
-    expect_buffers(rt, &buffers, pairs, alloc)
+    expect_buffers(rt, &buffers, pairs)
 }
 
 /// The changes leave the requests that are expected.
@@ -289,7 +274,7 @@ fn expect_asked(rt: &impl Abort, alloc: Global, asked: &Asked) -> Result<(), All
     let items = requests_of(alloc, asked)?;
     assert!(rt; is_placed(items.as_slice()));
     let requests: Requests = summary_of(alloc, items.as_slice())?;
-    expect_requests(rt, &requests, asked, alloc)
+    expect_requests(rt, &requests, asked)
 }
 
 #[test]
@@ -313,15 +298,15 @@ fn expect_parts(
     let items = deaths_of(alloc, &DOZEN)?;
     assert!(rt; is_placed(items.as_slice()));
     let deaths: Deaths = in_three_from_the_front(alloc, items.as_slice(), first, second)?;
-    expect_deaths(rt, &deaths, &DOZEN, alloc)?;
+    expect_deaths(rt, &deaths, &DOZEN)?;
     let items = buffers_of(alloc, &DOZEN)?;
     assert!(rt; is_placed(items.as_slice()));
     let buffers: Buffers = in_three_from_the_front(alloc, items.as_slice(), first, second)?;
-    expect_buffers(rt, &buffers, &DOZEN, alloc)?;
+    expect_buffers(rt, &buffers, &DOZEN)?;
     let items = requests_of(alloc, &DOZEN_ASKED)?;
     assert!(rt; is_placed(items.as_slice()));
     let requests: Requests = in_three_from_the_front(alloc, items.as_slice(), first, second)?;
-    expect_requests(rt, &requests, &DOZEN_ASKED, alloc)
+    expect_requests(rt, &requests, &DOZEN_ASKED)
 }
 
 #[test]
@@ -373,16 +358,16 @@ fn requests_and_death(alloc: Global, count: u32) -> Result<Vec<RequestItem>, All
 fn leaked(rt: &impl Abort, alloc: Global, items: &[BufferItem]) -> Result<usize, AllocError> {
     assert!(rt; is_placed(items));
     let buffers: Buffers = summary_of(alloc, items)?;
-    let strays = buffers.strays(alloc)?;
+    let strays = buffers.strays()?;
     assert!(rt; strays.is_empty());
-    Ok(buffers.outstanding(alloc)?.len())
+    Ok(buffers.outstanding()?.len())
 }
 
 /// How many of the requests stand.
 fn standing(rt: &impl Abort, alloc: Global, items: &[RequestItem]) -> Result<usize, AllocError> {
     assert!(rt; is_placed(items));
     let requests: Requests = summary_of(alloc, items)?;
-    Ok(requests.outstanding(alloc)?.len())
+    Ok(requests.outstanding()?.len())
 }
 
 #[test]

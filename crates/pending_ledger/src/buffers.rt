@@ -18,17 +18,17 @@ pub struct Buffers {
 
 impl Buffers {
     /// The places of the deliveries whose address no later free has, rising: these are leaked.
-    pub fn outstanding(&self, alloc: Global) -> Result<Vec<u64>, AllocError>
+    pub fn outstanding(&self) -> Result<Vec<u64>, AllocError>
         ensures { IfOk result (λ places. GivesLeaked self.now places.items) }
     {
-        self.pending.outstanding(alloc)
+        self.pending.outstanding()
     }
 
     /// The places of the frees of an address that is not delivered, rising.
-    pub fn strays(&self, alloc: Global) -> Result<Vec<u64>, AllocError>
+    pub fn strays(&self) -> Result<Vec<u64>, AllocError>
         ensures { IfOk result (λ places. GivesStrayFrees self.now places.items) }
     {
-        self.pending.strays(alloc)
+        self.pending.strays()
     }
 }
 

@@ -26,10 +26,10 @@ pub type Clears = Pending<u64>;
 
 impl<K: Ord + Copy> Pending<K> {
     /// The places of the opens that no later close has the key of, rising.
-    pub fn outstanding(&self, alloc: Global) -> Result<Vec<u64>, AllocError>
+    pub fn outstanding(&self) -> Result<Vec<u64>, AllocError>
         ensures { IfOk result (λ places. GivesOutstanding K.cmp self.now places.items) }
     {
-        let mut places = Vec::new(alloc);
+        let mut places = Vec::new(self.keys.allocator());
         for (_key, ledger) in &self.keys.entries {
             places.extend_from_slice(ledger.opens.places.as_slice())?;
         }
@@ -38,10 +38,10 @@ impl<K: Ord + Copy> Pending<K> {
     }
 
     /// The places of the closes of a key that is not open, rising.
-    pub fn strays(&self, alloc: Global) -> Result<Vec<u64>, AllocError>
+    pub fn strays(&self) -> Result<Vec<u64>, AllocError>
         ensures { IfOk result (λ places. GivesStrays K.cmp self.now places.items) }
     {
-        let mut places = Vec::new(alloc);
+        let mut places = Vec::new(self.keys.allocator());
         for (_key, ledger) in &self.keys.entries {
             places.extend_from_slice(ledger.strays.places.as_slice())?;
         }

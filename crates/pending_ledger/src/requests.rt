@@ -29,10 +29,10 @@ pub struct Requests {
 impl Requests {
     /// The places of the requests that no later clear of their handle and cookie and no later death
     /// of their cookie ends, rising.
-    pub fn outstanding(&self, alloc: Global) -> Result<Vec<u64>, AllocError>
+    pub fn outstanding(&self) -> Result<Vec<u64>, AllocError>
         ensures { IfOk result (λ places. GivesStanding self.now places.items) }
     {
-        let mut places = Vec::new(alloc);
+        let mut places = Vec::new(self.cookies.allocator());
         for (_cookie, requests) in &self.cookies.entries {
             requests.push_standing(&mut places)?;
         }

@@ -108,7 +108,7 @@ pub(crate) fn handles<W: Write>(
         return Err(NoAnswer::Unfit);
     }
     let ledger: HandleLedger = summed(alloc, items.as_slice(), way)?;
-    let rows = ledger.rows(alloc)?;
+    let rows = ledger.rows()?;
     told::handles(rows.as_slice(), out)
 }
 
@@ -124,7 +124,7 @@ pub(crate) fn nodes<W: Write>(
         return Err(NoAnswer::Unfit);
     }
     let ledger: NodeLedger = summed(alloc, items.as_slice(), way)?;
-    let rows = ledger.rows(alloc)?;
+    let rows = ledger.rows()?;
     told::nodes(rows.as_slice(), out)
 }
 
@@ -140,13 +140,13 @@ pub(crate) fn buffers<W: Write>(
         return Err(NoAnswer::Unfit);
     }
     let ledger: Buffers = summed(alloc, items.as_slice(), way)?;
-    tell_buffers(alloc, &ledger, out)
+    tell_buffers(&ledger, out)
 }
 
 /// Prints the deliveries that are not freed, and the frees of what is not delivered.
-fn tell_buffers<W: Write>(alloc: Global, ledger: &Buffers, out: &mut W) -> Result<(), NoAnswer> {
-    let outstanding = ledger.outstanding(alloc)?;
-    let strays = ledger.strays(alloc)?;
+fn tell_buffers<W: Write>(ledger: &Buffers, out: &mut W) -> Result<(), NoAnswer> {
+    let outstanding = ledger.outstanding()?;
+    let strays = ledger.strays()?;
     told::line(out, "outstanding", outstanding.as_slice())?;
     told::line(out, "strays", strays.as_slice())
 }
@@ -184,17 +184,13 @@ fn pending<W: Write>(
         return Err(NoAnswer::Unfit);
     }
     let ledger: Pending<u64> = summed(alloc, items, way)?;
-    tell_pending(alloc, &ledger, out)
+    tell_pending(&ledger, out)
 }
 
 /// Prints what is open, and what closes nothing.
-fn tell_pending<W: Write>(
-    alloc: Global,
-    ledger: &Pending<u64>,
-    out: &mut W,
-) -> Result<(), NoAnswer> {
-    let outstanding = ledger.outstanding(alloc)?;
-    let strays = ledger.strays(alloc)?;
+fn tell_pending<W: Write>(ledger: &Pending<u64>, out: &mut W) -> Result<(), NoAnswer> {
+    let outstanding = ledger.outstanding()?;
+    let strays = ledger.strays()?;
     told::line(out, "outstanding", outstanding.as_slice())?;
     told::line(out, "strays", strays.as_slice())
 }
@@ -211,7 +207,7 @@ pub(crate) fn requests<W: Write>(
         return Err(NoAnswer::Unfit);
     }
     let ledger: Requests = summed(alloc, items.as_slice(), way)?;
-    let outstanding = ledger.outstanding(alloc)?;
+    let outstanding = ledger.outstanding()?;
     told::line(out, "outstanding", outstanding.as_slice())
 }
 

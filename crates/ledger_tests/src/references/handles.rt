@@ -72,7 +72,7 @@ fn expect_rows(
     second_end: usize,
 ) -> Result<(), AllocError> {
     let ledger: HandleLedger = in_three_from_the_front(alloc, ITEMS, first_end, second_end)?;
-    let rows = ledger.rows(alloc)?;
+    let rows = ledger.rows()?;
     assert!(rt; rows.as_slice() == ROWS);
     Ok(())
 }
@@ -99,7 +99,7 @@ fn ten_thousand_handles_come_in_falling_order(rt: HostRuntime) -> Result<(), Fai
     }
     assert!(rt; items.len() == 10000);
     let ledger: HandleLedger = summary_of(rt.alloc(), items.as_slice())?;
-    let rows = ledger.rows(rt.alloc())?;
+    let rows = ledger.rows()?;
     assert!(rt; rows.len() == 10000);
     for (place, row) in rows.iter().enumerate() {
         assert!(rt; row.handle as usize == place);

@@ -85,7 +85,7 @@ fn expect_rows(
     second_end: usize,
 ) -> Result<(), AllocError> {
     let ledger: NodeLedger = in_three_from_the_front(alloc, ITEMS, first_end, second_end)?;
-    let rows = ledger.rows(alloc)?;
+    let rows = ledger.rows()?;
     assert!(rt; rows.as_slice() == ROWS);
     Ok(())
 }

@@ -1,4 +1,4 @@
-use Rattle.std.proofs.Common.{rules, ◌<◌, ◌∙◌, ap, arith, subst, sym, length}
+use Rattle.std.proofs.Common.{rules, ◌<◌, ◌-◌, ◌/◌, ◌∙◌, ap, arith, subst, sym, length}
 use Rattle.std.proofs.lemmas.Result.{IfOk-at_ok}
 use Rattle.claim_board.specs.Steps.{joined_view}
 use Rattle.claim_board.specs.Work.{HaveStopped, AreResults, AreAllResults, MayShare}
@@ -19,39 +19,16 @@ share-split_seat-other-requires g t c =
     (m.place.1, (let b = m.place.0.0 in omega arith), splits_allowed _ _ _ _ (omega arith) m.fresh.claimed)
 
 pub share-share_halves-front-requires : goal.share-share_halves-front-requires
-share-share_halves-front-requires g t c κs within = (
-  search rules,
-  (
-    search rules,
-    (
-      search rules,
-      (
-        search rules,
-        (
-          search rules,
-          (
-            search rules,
-            (
-              search rules,
-              (
-                search rules,
-                (
-                  search rules,
-                  (
-                    front_may_share c.args.table.now.table_id (g.W.Work.listed c.args.work.now) c.args.workers c.args.seat.now c.split_seat-other.new.seat c.requires
-                        c.if-workers-eq1.false c.split_seat-other.ensures.0 (ap (λ x. x.0) c.split_seat-other.ensures.2),
-                    back_may_share c.args.table.now.table_id (g.W.Work.listed c.args.work.now) c.args.workers c.args.seat.now c.split_seat-other.result c.requires
-                        c.if-workers-eq1.false c.split_seat-other.ensures.3 (ap (λ x. x.0) c.split_seat-other.ensures.4),
-                  ),
-                ),
-              ),
-            ),
-          ),
-        ),
-      ),
-    ),
-  ),
-)
+share-share_halves-front-requires g t c κs within =
+    let table = c.args.table.now.table_id in
+    let jobs = g.W.Work.listed c.args.work.now in
+    let n = c.args.workers in
+    let s = c.split_seat-other in
+    let low : MayShare table jobs (n / 2) s.new.seat
+    = front_may_share table jobs n c.args.seat.now s.new.seat c.requires c.if-workers-eq1.false s.ensures.0 (ap (λ x. x.0) s.ensures.2) in
+    let high : MayShare table jobs (n - n / 2) s.result
+    = back_may_share table jobs n c.args.seat.now s.result c.requires c.if-workers-eq1.false s.ensures.3 (ap (λ x. x.0) s.ensures.4) in
+    search rules
 
 pub share-join_seat-requires : goal.share-join_seat-requires
 share-join_seat-requires g t c =

@@ -5,11 +5,11 @@ use Rattle.claim_board.proofs.Turns.{skips, finds, gains, lowers, fault_of, same
 use Rattle.claim_board.proofs.worker.end_job.Goals as goal
 
 pub look-requires-clause-place : goal.look-requires-clause-place
-look-requires-clause-place g c = c.requires.1.1.1.0
+look-requires-clause-place g c = c.requires.1.1.1.1.0
 
 pub look-requires-clause-worker : goal.look-requires-clause-worker
 look-requires-clause-worker g c =
-    let q = c.requires.1.1.1.1 in
+    let q = c.requires.1.1.1.1.1 in
     (worker_of c.args.seat.now.me.0, c.args.i, g.rest, q.0.one, q.0.claimed, c.start.ensures ∙ ap (λ js. (job_at js c.args.i).start) (sym q.0.over))
 
 pub returns-then-look-clause-same : goal.returns-then-look-clause-same
@@ -18,16 +18,16 @@ returns-then-look-clause-same g c = same_after_look _ _ c.look.ensures.step.foun
 pub returns-then-look-clause-ended : goal.returns-then-look-clause-ended
 returns-then-look-clause-ended g c =
     let s = c.look.ensures.step in
-    let q = c.requires.1.1.1.1 in
+    let q = c.requires.1.1.1.1.1 in
     skips _ _ _ _ (g.W.Work.gives c.args.work.now) _ q.1.1 _ s.found _ s.view c.start.ensures (sym s.answers ∙ c.if-look.true) q.0
 
 pub lower-requires-clause-place : goal.lower-requires-clause-place
-lower-requires-clause-place g c = let p = c.requires.1.1.1.0 in (p.0, c.look.ensures.same.0 ∙ p.1)
+lower-requires-clause-place g c = let p = c.requires.1.1.1.1.0 in (p.0, c.look.ensures.same.0 ∙ p.1)
 
 pub lower-requires-clause-worker : goal.lower-requires-clause-worker
 lower-requires-clause-worker g c =
     let s = c.look.ensures.step in
-    let q = c.requires.1.1.1.1 in
+    let q = c.requires.1.1.1.1.1 in
     let gives = g.W.Work.gives c.args.work.now in
     let jobs = g.W.Work.listed c.args.work.now in
     let i = c.args.i in
@@ -41,7 +41,7 @@ lower-requires-clause-worker g c =
 pub returns-in_ok-push-in-Ok-clause-ended : goal.returns-in_ok-push-in-Ok-clause-ended
 returns-in_ok-push-in-Ok-clause-ended g c =
     let s = c.look.ensures.step in
-    let q = c.requires.1.1.1.1 in
+    let q = c.requires.1.1.1.1.1 in
     let gives = g.W.Work.gives c.args.work.now in
     let jobs = g.W.Work.listed c.args.work.now in
     let i = c.args.i in
@@ -55,7 +55,7 @@ returns-in_ok-push-in-Ok-clause-ended g c =
 pub returns-in-Err-At-clause-ended : goal.returns-in-Err-At-clause-ended
 returns-in-Err-At-clause-ended g c =
     let s = c.look.ensures.step in
-    let q = c.requires.1.1.1.1 in
+    let q = c.requires.1.1.1.1.1 in
     let gives = g.W.Work.gives c.args.work.now in
     let jobs = g.W.Work.listed c.args.work.now in
     let i = c.args.i in
