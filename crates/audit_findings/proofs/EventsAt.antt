@@ -1,9 +1,10 @@
 -- The events at places.
 use Rattle.std.proofs.Common.{◌≡◌, ℕ, List, [], ◌∷◌, map, All, Contains, refl, sym, ap₂, subst}
 use Rattle.std.proofs.lemmas.List.Elements.{All-cons, All-contains_itself, All-head, All-nil, All-tail, All-weaker}
+use Rattle.capture_frame.specs.declared.process.Process.{Process}
 use Rattle.event_core.specs.Events.{EventText}
 use Rattle.pending_ledger.specs.Pending.{ArePlacesOf}
-use Rattle.audit_findings.specs.Places.{AreEventsAt, StandsInProcess}
+use Rattle.audit_findings.specs.Places.{AreEventsAt, SomeProcess, StandsInProcess}
 
 -- an event of the list stands at the place
 abbrev pub HasEventAt : List EventText → ℕ → Type 0
@@ -31,6 +32,6 @@ events_at IsSo events stands places are =
     (found.0, record { stand = found.1; places = subst (ArePlacesOf IsSo) found.2 are }, found.2)
 
 -- what is so of some process has an event
-pub stands_somewhere : (IsSo : List EventText → ℕ → ℕ → Type 0) → StandsInProcess IsSo → (events : List EventText) (place : ℕ)
-    → (process : ℕ) × IsSo events process place → HasEventAt events place
+pub stands_somewhere : (IsSo : List EventText → Process → ℕ → Type 0) → StandsInProcess IsSo → (events : List EventText) (place : ℕ)
+    → SomeProcess (IsSo events) place → HasEventAt events place
 stands_somewhere IsSo stands events place is = let found = stands events is.0 place is.1 in (found.0, found.1, found.3)

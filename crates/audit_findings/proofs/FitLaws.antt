@@ -23,32 +23,22 @@ use Rattle.capture_frame.specs.declared.process.Process.{Process}
 use Rattle.process_ledgers.specs.declared.process_items.ProcessItems.{ProcessItems}
 use Rattle.process_ledgers.specs.declared.process_summary.ProcessSummary.{ProcessSummary}
 use Rattle.summary_law.specs.InOrder.{SumsInOrder}
-use Rattle.process_ledgers.specs.Items.{buffer_item_of}
-use Rattle.process_ledgers.specs.Items.{clear_item_of}
-use Rattle.process_ledgers.specs.Items.{death_item_of}
 use Rattle.audit_findings.specs.Frames.{Show}
 use Rattle.event_core.specs.Events.{events_of_wholes}
-use Rattle.process_ledgers.specs.Items.{handle_item_of}
 use Rattle.audit_findings.specs.Ledgers.{AreFewEvents, AreFewFrames}
-use Rattle.process_ledgers.specs.Items.{node_item_of}
-use Rattle.process_ledgers.specs.Items.{oneway_item_of}
 use Rattle.process_ledgers.specs.ProcessItems.{no_items, items_of_event, fed_by, fed_by_all}
-use Rattle.process_ledgers.specs.Processes.{process_of_whole}
 use Rattle.process_ledgers.specs.ProcessLedgers.{FitProcess, SumsProcessItems, process_parts}
-use Rattle.capture_frame.specs.Process.{same_process}
-use Rattle.process_ledgers.specs.Processes.{read_of, items_of_process}
-use Rattle.process_ledgers.specs.Items.{request_item_of}
+use Rattle.capture_frame.specs.Process.{same_process, process_of_frame}
+use Rattle.process_ledgers.specs.Items.{KeepsPlace, buffer_item_of, clear_item_of, death_item_of, handle_item_of, node_item_of, oneway_item_of, request_item_of}
+use Rattle.process_ledgers.specs.Processes.{process_of_whole, read_of, items_of_process}
 use Rattle.process_ledgers.proofs.FedLaws.{fed-append, fed_event, fed_items}
 use Rattle.audit_findings.proofs.FrameLaws.{shown_first, shown_none, whole_events}
 use Rattle.process_ledgers.proofs.ItemPlaces.{read_keeps, buffer_keeps, request_keeps, death_keeps, clear_keeps}
 use Rattle.audit_findings.proofs.Rising.{placed_made}
 
--- a process by its number, and that of a frame
-abbrev pub process_numbered : ℕ → Process
-process_numbered n = record { number = n }
-
+-- the process of a view's frame
 abbrev pub process_key : Frame → Process
-process_key frame = process_numbered frame.process
+process_key frame = process_of_frame (frame_text frame)
 
 -- the items of each process can be summarised
 abbrev pub FitFed : List (Process × ProcessItems) → Type 0
@@ -61,14 +51,14 @@ SumsFed entries fed = SumsInOrder same_process SumsProcessItems entries fed
 pub fit_parts : FitsInParts FitFed
 fit_parts = each_fits_parts same_process FitProcess process_parts
 
-short_items : {I : Type 0} (read : EventText → Option I) (process : ℕ) (events : List EventText) → AreFewEvents events
+short_items : {I : Type 0} (read : EventText → Option I) (process : Process) (events : List EventText) → AreFewEvents events
     → IsShort (items_of_process read process events)
 short_items read process events few =
     let fewer = length-read (read_of read process) events in
     let short = few.0.0 in
     omega (arith, fewer, short)
 
-placed_items : {I : Type 0} (place : I → ℕ) (read : EventText → Option I) → KeepsPlace place read → (process : ℕ) (events : List EventText)
+placed_items : {I : Type 0} (place : I → ℕ) (read : EventText → Option I) → KeepsPlace place read → (process : Process) (events : List EventText)
     → AreFewEvents events → IsPlaced place (items_of_process read process events)
 placed_items place read keeps process events few =
     placed_made (λ (e : EventText). e.place) place (read_of read process) (read_keeps place read process keeps) events few.0
@@ -78,17 +68,17 @@ pub fit_all : (wholes : List (Placed WholeFrame)) → AreFewEvents (events_of_wh
 fit_all wholes few q =
     let events = events_of_wholes wholes in
     record {
-      handles = subst IsShort (sym (fed_items (λ i. i.handle) handle_item_of refl (λ e. refl) q wholes)) (short_items handle_item_of q.number events few);
-      nodes = subst IsShort (sym (fed_items (λ i. i.node) node_item_of refl (λ e. refl) q wholes)) (short_items node_item_of q.number events few);
+      handles = subst IsShort (sym (fed_items (λ i. i.handle) handle_item_of refl (λ e. refl) q wholes)) (short_items handle_item_of q events few);
+      nodes = subst IsShort (sym (fed_items (λ i. i.node) node_item_of refl (λ e. refl) q wholes)) (short_items node_item_of q events few);
       buffers = subst (IsPlaced buffer_place) (sym (fed_items (λ i. i.buffer) buffer_item_of refl (λ e. refl) q wholes))
-          (placed_items buffer_place buffer_item_of buffer_keeps q.number events few);
+          (placed_items buffer_place buffer_item_of buffer_keeps q events few);
       requests = subst (IsPlaced request_place) (sym (fed_items (λ i. i.request) request_item_of refl (λ e. refl) q wholes))
-          (placed_items request_place request_item_of request_keeps q.number events few);
+          (placed_items request_place request_item_of request_keeps q events few);
       deaths = subst (IsPlaced place_of) (sym (fed_items (λ i. i.death) death_item_of refl (λ e. refl) q wholes))
-          (placed_items place_of death_item_of death_keeps q.number events few);
+          (placed_items place_of death_item_of death_keeps q events few);
       clears = subst (IsPlaced place_of) (sym (fed_items (λ i. i.clear) clear_item_of refl (λ e. refl) q wholes))
-          (placed_items place_of clear_item_of clear_keeps q.number events few);
-      oneway = subst IsShort (sym (fed_items (λ i. i.oneway) oneway_item_of refl (λ e. refl) q wholes)) (short_items oneway_item_of q.number events few);
+          (placed_items place_of clear_item_of clear_keeps q events few);
+      oneway = subst IsShort (sym (fed_items (λ i. i.oneway) oneway_item_of refl (λ e. refl) q wholes)) (short_items oneway_item_of q events few);
     }
 
 -- and by frames behind others
@@ -111,11 +101,11 @@ FitWith fed process frame =
 abbrev pub fed_before : List (Placed WholeFrame) → Process → List (Process × ProcessItems)
 fed_before wholes process = fed_by_all wholes ++ (process, no_items) ∷ []
 
-fed_one : (wholes : List (Placed WholeFrame)) (w : Placed WholeFrame) → fed_by_all (wholes ++ w ∷ []) ≡ fed_before wholes (key_of w) ++ map (fed_event w) (events_of_whole w)
+fed_one : (wholes : List (Placed WholeFrame)) (w : Placed WholeFrame) → fed_by_all (wholes ++ w ∷ []) ≡ fed_before wholes (process_of_whole w) ++ map (fed_event w) (events_of_whole w)
 fed_one wholes w =
     fed-append wholes (w ∷ [])
     ∙ ap (λ (t : List (Process × ProcessItems)). fed_by_all wholes ++ t) (append-nil (fed_by w))
-    ∙ sym (append_assoc (fed_by_all wholes) ((key_of w, no_items) ∷ []) (map (fed_event w) (events_of_whole w)))
+    ∙ sym (append_assoc (fed_by_all wholes) ((process_of_whole w, no_items) ∷ []) (map (fed_event w) (events_of_whole w)))
 
 -- what a view's frame feeds behind others
 pub fed_shown : (frame : Frame) (wholes others : List (Placed WholeFrame)) → Show (frame ∷ []) others
@@ -127,7 +117,7 @@ fed_shown frame wholes others show =
     let w = one.0 in
     let events = whole_events frame w one.3 one.4 in
     let alone : others ≡ w ∷ [] = one.2 ∙ ap (λ (t : List (Placed WholeFrame)). w ∷ t) (shown_none one.1 one.5) in
-    let key : key_of w ≡ process_key frame = ap (λ (p : Placed FrameText). process_numbered p.unit.process) (sym one.3) in
+    let key : process_of_whole w ≡ process_key frame = ap (λ (p : Placed FrameText). process_of_frame p.unit) (sym one.3) in
     let same : events_of_whole w ≡ events_of (placed_frame frame) events.0 events.1 = sym (append-nil (events_of_whole w)) ∙ events.4 in (
       events.0,
       events.1,
@@ -138,10 +128,11 @@ fed_shown frame wholes others show =
     )
 
 -- few frames with this one behind them: its events fit, and so does the mark of its process
-pub fit_with : (frame : Frame) (wholes others : List (Placed WholeFrame)) → Show (frame ∷ []) others → AreFewFrames (wholes ++ others)
-    → FitWith (fed_before wholes (process_key frame)) (process_key frame) frame
-fit_with frame wholes others show few =
+pub fit_with : (frame : Frame) (process : Process) → process ≡ process_key frame → (wholes others : List (Placed WholeFrame))
+    → Show (frame ∷ []) others → AreFewFrames (wholes ++ others) → FitWith (fed_before wholes process) process frame
+fit_with frame process is wholes others show few =
     let fed = fed_shown frame wholes others show in
+    subst (λ (q : Process). FitWith (fed_before wholes q) q frame) (sym is)
     (fed.0, fed.1, fed.2, fed.3, subst FitFed fed.4 (fit_all (wholes ++ others) few.1))
 
 pub fit_mark : (frame : Frame) (fed : List (Process × ProcessItems)) (process : Process) → FitWith fed process frame → FitFed fed
@@ -162,15 +153,16 @@ fit_next fed process frame fit reading given so_far =
     (fit_parts (fed ++ map (fed_given process) given) (map feed first.0) (subst FitFed all fit.4)).0
 
 -- at the end what was fed is what the frames feed
-pub all_fed : (frame : Frame) (wholes others : List (Placed WholeFrame)) → Show (frame ∷ []) others → (reading new : Reading) (given : List Event)
-    → Given (placed_frame frame) reading given → Steps reading None new
-    → fed_before wholes (process_key frame) ++ map (fed_given (process_key frame)) given ≡ fed_by_all (wholes ++ others)
-all_fed frame wholes others show reading new given so_far steps =
+pub all_fed : (frame : Frame) (process : Process) → process ≡ process_key frame → (wholes others : List (Placed WholeFrame)) → Show (frame ∷ []) others
+    → (reading new : Reading) (given : List Event) → Given (placed_frame frame) reading given → Steps reading None new
+    → fed_before wholes process ++ map (fed_given process) given ≡ fed_by_all (wholes ++ others)
+all_fed frame process is wholes others show reading new given so_far steps =
     let fed = fed_shown frame wholes others show in
     let all = given_all (placed_frame frame) reading new given fed.0 fed.1 fed.2 fed.3 so_far steps in
     let feed : EventText → Process × ProcessItems = λ e. (process_key frame, items_of_event e) in
     let before = fed_before wholes (process_key frame) in
-    sym (fed.4 ∙ ap (λ (t : List EventText). before ++ map feed t) all
+    ap (λ (q : Process). fed_before wholes q ++ map (fed_given q) given) is
+    ∙ sym (fed.4 ∙ ap (λ (t : List EventText). before ++ map feed t) all
     ∙ ap (λ (t : List (Process × ProcessItems)). before ++ t) (map-map feed event_text given))
 
 pub fed_next : (fed : List (Process × ProcessItems)) (process : Process) (given : List Event) (found : Event)

@@ -7,30 +7,24 @@ pub mod CodeLaws
 pub mod FrameLaws
 pub mod EventSizes
 pub mod PieceLaws
-pub mod LookupLaws
 pub mod RecordsThere
 pub mod Rising
 pub mod PlacesRise
+pub mod SameMembers
+mod OneCodes
+mod OneObjects
 mod TallyRows
 pub mod OneFindings
 pub mod StandLaws
 pub mod PlaceLaws
-mod FirstLaws
-pub mod InOrderLaws
-pub mod FedLaws
-pub mod ItemPlaces
 pub mod FitLaws
-pub mod KeyLaws
 pub mod ThreadFits
 mod SortedRows
 mod ThreadRowLaws
 mod ThreadTurns
 mod CallCounts
-pub mod OfProcesses
 pub mod EventsAt
 pub mod TurnLaws
-pub mod ReferenceLaws
-pub mod ProcessLaws
 mod RecordCountLaws
-mod OnewayLaws
 mod OnewayCountLaws
+mod NoRows

@@ -10,9 +10,8 @@ use Rattle.event_core.specs.declared.oneway.OnewayKey.{OnewayKey}
 use Rattle.summary_law.proofs.ReadLaws.{length-read}
 use Rattle.summary_law.specs.Fits.{IsShort}
 use Rattle.audit_findings.specs.declared.oneway_counts.OnewayCounts.{OnewayCounts}
-use Rattle.audit_findings.specs.Ledgers.{CountsOneway}
 use Rattle.process_ledgers.specs.Items.{oneway_item_of}
-use Rattle.audit_findings.specs.Oneway.{is_sent, is_sent_key}
+use Rattle.audit_findings.specs.Oneway.{CountsOneway, is_sent, is_sent_key}
 
 -- how many oneway transactions of a sort there are
 abbrev count_of : (OnewayItem → Bool) → List EventText → ℕ

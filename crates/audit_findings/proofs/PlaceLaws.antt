@@ -1,10 +1,9 @@
 -- The places that the ledgers of all processes list, gathered and sorted, and the events that stand at them.
-use Rattle.std.proofs.Common.{◌≡◌, ◌≢◌, ℕ, suc, ◌⊎◌, ⊎_elim, inl, inr, true, eqb, List, [], ◌∷◌, ◌++◌, length, map, All, AllPairs, Contains, Option, Some, None, refl, sym, ap, subst, append_assoc, ◌∙◌, arith}
+use Rattle.std.proofs.Common.{◌≡◌, ◌≢◌, ℕ, suc, ◌⊎◌, ⊎_elim, inl, inr, true, Decides, List, [], ◌∷◌, ◌++◌, length, map, All, AllPairs, Contains, Option, Some, None, refl, sym, ap, subst, append_assoc, ◌∙◌, arith}
 use Rattle.std.proofs.Common.{IsPermutation, IsSorted, nat_cmp, Box, Global}
 use Rattle.std.specs.List.Sorted.{IsStrictlyIncreasing}
-use Rattle.std.proofs.lemmas.Bool.{eqb-true}
-use Rattle.std.proofs.lemmas.Bool.Decides.{Decides-eqb}
-use Rattle.std.proofs.lemmas.Cmp.{nat_eq_equiv}
+use Rattle.capture_frame.proofs.ProcessLaws.{same_process_equiv, same_process_eq, same_process_self}
+use Rattle.capture_frame.specs.Process.{same_process}
 use Rattle.std.proofs.lemmas.List.Concat.{flat_map-cons}
 use Rattle.std.proofs.lemmas.List.Elements.{All-append, All-contains, All-head, All-map, All-nil, All-tail, All-weaker, Contains-append_cases, Contains-append_left, Contains-append_right}
 use Rattle.std.proofs.lemmas.List.Kept.{AllPairs-from_increasing}
@@ -14,21 +13,23 @@ use Rattle.std.specs.List.{list_any}
 use Rattle.std.specs.Option.{IsSomeAnd}
 use Rattle.capture_frame.specs.Units.{Placed, placed_at}
 use Rattle.transaction_view.specs.Grammar.{WholeFrame}
-use Rattle.event_core.specs.Events.{EventText, event_of, events_of_whole, placed_records}
+use Rattle.event_core.specs.Events.{EventText, event_of, events_of_whole, events_of_wholes, placed_records, process_of}
+use Rattle.event_core.specs.declared.pending.PendingItem.{PendingItem}
 use Rattle.pending_ledger.proofs.GatherLaws.{sorted_places}
 use Rattle.pending_ledger.proofs.ListLaws.{contains_none, contains_here, contains_there, contains_cases, all_pairs_append, one_place}
-use Rattle.pending_ledger.specs.Pending.{ArePlacesOf}
+use Rattle.pending_ledger.specs.Pending.{ArePlacesOf, place_of}
+use Rattle.process_ledgers.specs.Items.{KeepsPlace}
 use Rattle.capture_frame.specs.declared.process.Process.{Process}
 use Rattle.process_ledgers.specs.declared.process_ledgers.ProcessLedgers.{ProcessLedgers}
 use Rattle.process_ledgers.specs.declared.process_summary.ProcessSummary.{ProcessSummary}
 use Rattle.audit_findings.specs.declared.open_and_stray.OpenAndStray.{OpenAndStray}
-use Rattle.event_core.specs.Events.{events_of_wholes}
 use Rattle.audit_findings.specs.Kept.{KeepsOpenAndStray}
-use Rattle.audit_findings.specs.Places.{RiseInPlace, StandsInProcess, ExcludeEachOther, OpenAndStrayText, AreOpenAndStray}
+use Rattle.audit_findings.specs.Places.{IsOpenStill, IsStrayClose, RiseInPlace, SomeProcess, StandsInProcess, OpenAndStrayText, AreOpenAndStray}
 use Rattle.process_ledgers.specs.Processes.{process_of_whole, processes_of}
 use Rattle.process_ledgers.specs.OfProcess.{NeedsItems, AreLedgersOf, IsOfProcess, AreOfProcesses}
 use Rattle.summary_law.proofs.InOrderLaws.{each_among_firsts, firsts_distinct}
 use Rattle.audit_findings.proofs.EventsAt.{events_at}
+use Rattle.audit_findings.proofs.StandLaws.{apart, open_stands, stray_stands}
 
 -- numbers that rise differ
 rising_apart : (places : List ℕ) → IsStrictlyIncreasing places → AllPairs (λ x y. x ≢ y) places
@@ -47,13 +48,13 @@ longer_list places own behind longer is same =
 
 -- ---- the places at which something is so of each of some keys, one list behind another
 
-module _ (Is : ℕ → ℕ → Type 0) where
-  abbrev pub AreBlocks : List ℕ → List ℕ → Type 0
+module _ {K : Type 0} (Is : K → ℕ → Type 0) where
+  abbrev pub AreBlocks : List K → List ℕ → Type 0
   AreBlocks [] places = places ≡ []
   AreBlocks (key ∷ keys) places =
       (own : List ℕ) × (rest : List ℕ) × (places ≡ own ++ rest) × ArePlacesOf (Is key) own × AreBlocks keys rest
 
-  from_blocks : (keys places : List ℕ) → AreBlocks keys places → (p : ℕ) → Contains places p → (key : ℕ) × Contains keys key × Is key p
+  from_blocks : (keys : List K) (places : List ℕ) → AreBlocks keys places → (p : ℕ) → Contains places p → (key : K) × Contains keys key × Is key p
   from_blocks [] places none p c = absurd (contains_none p (subst (λ (t : List ℕ). Contains t p) none c))
   from_blocks (key ∷ keys) places blocks p c =
       let own = blocks.0 in
@@ -65,49 +66,49 @@ module _ (Is : ℕ → ℕ → Type 0) where
       (found.0, contains_there key keys found.0 found.1, found.2))
       (Contains-append_cases own rest p (subst (λ (t : List ℕ). Contains t p) blocks.2 c))
 
-  into_blocks : (keys places : List ℕ) → AreBlocks keys places → (key p : ℕ) → Contains keys key → Is key p → Contains places p
+  into_blocks : (keys : List K) (places : List ℕ) → AreBlocks keys places → (key : K) (p : ℕ) → Contains keys key → Is key p → Contains places p
   into_blocks [] places none key p c is = absurd (contains_none key c)
   into_blocks (first ∷ keys) places blocks key p c is =
       let own = blocks.0 in
       let rest = blocks.1 in
       subst (λ (t : List ℕ). Contains t p) (sym blocks.2)
       (⊎_elim
-      (λ (same : first ≡ key). Contains-append_left own rest p ((blocks.3.exact p).1 (subst (λ (k : ℕ). Is k p) (sym same) is)))
+      (λ (same : first ≡ key). Contains-append_left own rest p ((blocks.3.exact p).1 (subst (λ (k : K). Is k p) (sym same) is)))
       (λ (there : Contains keys key). Contains-append_right own rest p (into_blocks keys rest blocks.4 key p there is))
       (contains_cases first keys key c))
 
-  module _ (one : (key other p : ℕ) → Is key p → Is other p → key ≡ other) where
+  module _ (one : (key other : K) (p : ℕ) → Is key p → Is other p → key ≡ other) where
     -- at one place something is so of one key alone, so all these places differ
-    blocks_apart : (keys places : List ℕ) → AllPairs (λ x y. x ≢ y) keys → AreBlocks keys places → AllPairs (λ x y. x ≢ y) places
-    blocks_apart [] places distinct none = subst (AllPairs (λ (x y : ℕ). x ≢ y)) (sym none) distinct
+    blocks_apart : (keys : List K) (places : List ℕ) → AllPairs (λ (x y : K). x ≢ y) keys → AreBlocks keys places → AllPairs (λ x y. x ≢ y) places
+    blocks_apart [] places distinct none = subst (AllPairs (λ (x y : ℕ). x ≢ y)) (sym none) (λ i j d below within. absurd (omega (arith, within)))
     blocks_apart (key ∷ keys) places distinct blocks =
         let own = blocks.0 in
         let rest = blocks.1 in
-        let head : All (λ (k : ℕ). key ≢ k) keys = λ j d within. distinct 0 (suc j) d (omega arith) (omega (arith, within)) in
-        let tail : AllPairs (λ (x y : ℕ). x ≢ y) keys
+        let head : All (λ (k : K). key ≢ k) keys = λ j d within. distinct 0 (suc j) d (omega arith) (omega (arith, within)) in
+        let tail : AllPairs (λ (x y : K). x ≢ y) keys
         = λ i j d below within. distinct (suc i) (suc j) d (omega (arith, below)) (omega (arith, within)) in
         subst (AllPairs (λ (x y : ℕ). x ≢ y)) (sym blocks.2)
         (all_pairs_append (λ (x y : ℕ). x ≢ y) own rest (rising_apart own blocks.3.rising) (blocks_apart keys rest tail blocks.4)
         (λ x y at_x at_y same.
         let found = from_blocks keys rest blocks.4 y at_y in
         let mine : Is key y = subst (Is key) same ((blocks.3.exact x).0 at_x) in
-        All-contains (λ (k : ℕ). key ≢ k) keys found.0 head found.1 (one key found.0 y mine found.2)))
+        All-contains (λ (k : K). key ≢ k) keys found.0 head found.1 (one key found.0 y mine found.2)))
 
-    blocks_sorted : (keys gathered places : List ℕ) → AllPairs (λ x y. x ≢ y) keys → ((key p : ℕ) → Is key p → Contains keys key)
-        → AreBlocks keys gathered → IsPermutation gathered places → IsSorted nat_cmp places → ArePlacesOf (λ p. (key : ℕ) × Is key p) places
+    blocks_sorted : (keys : List K) (gathered places : List ℕ) → AllPairs (λ (x y : K). x ≢ y) keys → ((key : K) (p : ℕ) → Is key p → Contains keys key)
+        → AreBlocks keys gathered → IsPermutation gathered places → IsSorted nat_cmp places → ArePlacesOf (λ p. (key : K) × Is key p) places
     blocks_sorted keys gathered places distinct among blocks moved sorted =
-        sorted_places (λ p. (key : ℕ) × Is key p) gathered places moved sorted (blocks_apart keys gathered distinct blocks)
+        sorted_places (λ p. (key : K) × Is key p) gathered places moved sorted (blocks_apart keys gathered distinct blocks)
         (λ p c. let found = from_blocks keys gathered blocks p c in (found.0, found.2))
         (λ p is. into_blocks keys gathered blocks is.0 p (among is.0 p is.1) is.1)
 
 -- ---- the places of the ledgers of some processes, one list behind another
 
-module _ (IsSo : List EventText → ℕ → ℕ → Type 0) where
+module _ (IsSo : List EventText → Process → ℕ → Type 0) where
   -- the places of whatever process the ledgers are of, if there are any
   abbrev pub GivesOwn : Option (Box ProcessLedgers Global) → List ℕ → Type 0
   GivesOwn None own = own ≡ []
   GivesOwn (Some ledgers) own =
-      (events : List EventText) (process : ℕ) → AreLedgersOf ledgers.value events process → ArePlacesOf (IsSo events process) own
+      (events : List EventText) (process : Process) → AreLedgersOf ledgers.value events process → ArePlacesOf (IsSo events process) own
 
   abbrev pub AreGathered : List (Process × ProcessSummary) → List ℕ → Type 0
   AreGathered [] places = places ≡ []
@@ -116,14 +117,14 @@ module _ (IsSo : List EventText → ℕ → ℕ → Type 0) where
 
   -- the places of ledgers that there are
   pub given_own : (ledgers : ProcessLedgers) (own : List ℕ)
-      → ((events : List EventText) (process : ℕ) → AreLedgersOf ledgers events process → ArePlacesOf (IsSo events process) own)
+      → ((events : List EventText) (process : Process) → AreLedgersOf ledgers events process → ArePlacesOf (IsSo events process) own)
       → (there : Option (Box ProcessLedgers Global)) → IsSomeAnd there (λ box. ledgers ≡ box.value) → GivesOwn there own
   given_own ledgers own gives None same = absurd same
   given_own ledgers own gives (Some box) same =
       λ events process of. gives events process (subst (λ (l : ProcessLedgers). AreLedgersOf l events process) (sym same) of)
 
   module _ (needs : NeedsItems IsSo) (events : List EventText) where
-    own_places : (process : ℕ) (ledgers : Option (Box ProcessLedgers Global)) (own : List ℕ) → GivesOwn ledgers own → IsOfProcess ledgers events process
+    own_places : (process : Process) (ledgers : Option (Box ProcessLedgers Global)) (own : List ℕ) → GivesOwn ledgers own → IsOfProcess ledgers events process
         → ArePlacesOf (IsSo events process) own
     own_places process None own none of = record {
       rising = subst IsStrictlyIncreasing (sym none) (λ k within. absurd (omega (arith, within)));
@@ -135,61 +136,67 @@ module _ (IsSo : List EventText → ℕ → ℕ → Type 0) where
     own_places process (Some ledgers) own gives of = gives events process of
 
     blocks_of : (entries : List (Process × ProcessSummary)) (places : List ℕ) → AreGathered entries places
-        → All (λ (e : Process × ProcessSummary). IsOfProcess e.1.ledgers events e.0.number) entries
-        → AreBlocks (IsSo events) (map (λ (e : Process × ProcessSummary). e.0.number) entries) places
+        → All (λ (e : Process × ProcessSummary). IsOfProcess e.1.ledgers events e.0) entries
+        → AreBlocks (IsSo events) (map (λ (e : Process × ProcessSummary). e.0) entries) places
     blocks_of [] places none of = none
     blocks_of (e ∷ entries) places gathered of =
-        let IsOf = λ (e : Process × ProcessSummary). IsOfProcess e.1.ledgers events e.0.number in (
+        let IsOf = λ (e : Process × ProcessSummary). IsOfProcess e.1.ledgers events e.0 in (
           gathered.0,
           gathered.1,
           gathered.2,
-          own_places e.0.number e.1.ledgers gathered.0 gathered.3 (All-head IsOf e entries of),
+          own_places e.0 e.1.ledgers gathered.0 gathered.3 (All-head IsOf e entries of),
           blocks_of entries gathered.1 gathered.4 (All-tail IsOf e entries of),
         )
 
 -- the process of each event of these frames is one of those of the frames
-each_known : (known : List ℕ) (wholes : List (Placed WholeFrame)) → All (Contains known) (map process_of wholes)
-    → All (λ (e : EventText). Contains known e.process) (events_of_wholes wholes)
-each_known known [] all = All-nil (λ (e : EventText). Contains known e.process)
+each_known : (known : List Process) (wholes : List (Placed WholeFrame)) → All (Contains known) (map process_of_whole wholes)
+    → All (λ (e : EventText). Contains known (process_of e)) (events_of_wholes wholes)
+each_known known [] all = All-nil (λ (e : EventText). Contains known (process_of e))
 each_known known (whole ∷ wholes) all =
-    let IsKnown = λ (e : EventText). Contains known e.process in
-    let here : Contains known (process_of whole) = All-head (Contains known) (process_of whole) (map process_of wholes) all in
+    let IsKnown = λ (e : EventText). Contains known (process_of e) in
+    let here : Contains known (process_of_whole whole) = All-head (Contains known) (process_of_whole whole) (map process_of_whole wholes) all in
     let frame = placed_at whole.place whole.unit.frame in
     let mine : All IsKnown (events_of_whole whole)
     = All-map IsKnown (event_of frame whole.unit.entries) (placed_records frame whole.unit.records) (λ j d within. here) in
     subst (All IsKnown) (sym (flat_map-cons events_of_whole whole wholes))
     (All-append IsKnown (events_of_whole whole) (events_of_wholes wholes) mine
-    (each_known known wholes (All-tail (Contains known) (process_of whole) (map process_of wholes) all)))
+    (each_known known wholes (All-tail (Contains known) (process_of_whole whole) (map process_of_whole wholes) all)))
 
-each_among : (wholes : List (Placed WholeFrame)) → All (λ (e : EventText). Contains (processes_of wholes) e.process) (events_of_wholes wholes)
+each_among : (wholes : List (Placed WholeFrame)) → All (λ (e : EventText). Contains (processes_of wholes) (process_of e)) (events_of_wholes wholes)
 each_among wholes =
     let processes = processes_of wholes in
     each_known processes wholes
-    (All-weaker (λ (process : ℕ). list_any (eqb process) processes ≡ true) (Contains processes)
-    (λ process found. Contains-from_any eqb-true process processes found) (map process_of wholes)
-    (each_among_firsts nat_eq_equiv (map process_of wholes)))
+    (All-weaker (λ (process : Process). list_any (same_process process) processes ≡ true) (Contains processes)
+    (λ process found. Contains-from_any same_process_eq process processes found) (map process_of_whole wholes)
+    (each_among_firsts same_process_equiv (map process_of_whole wholes)))
+
+decides_process : (process other : Process) → Decides (same_process process other) (process ≡ other)
+decides_process process other = (
+  same_process_eq process other,
+  λ same. subst (λ (p : Process). same_process process p ≡ true) same (same_process_self process),
+)
 
 -- what is gathered from the ledgers of all processes, sorted
-pub gathered_sorted : (IsSo : List EventText → ℕ → ℕ → Type 0) → StandsInProcess IsSo → NeedsItems IsSo → (entries : List (Process × ProcessSummary))
+pub gathered_sorted : (IsSo : List EventText → Process → ℕ → Type 0) → StandsInProcess IsSo → NeedsItems IsSo → (entries : List (Process × ProcessSummary))
     (wholes : List (Placed WholeFrame)) → AreOfProcesses entries wholes → RiseInPlace (events_of_wholes wholes) → (gathered places : List ℕ)
     → AreGathered IsSo entries gathered → IsPermutation gathered places → IsSorted nat_cmp places
-    → ArePlacesOf (λ place. (process : ℕ) × IsSo (events_of_wholes wholes) process place) places
+    → ArePlacesOf (SomeProcess (IsSo (events_of_wholes wholes))) places
 gathered_sorted IsSo stands needs entries wholes of rise gathered places are moved sorted =
     let events = events_of_wholes wholes in
     let processes = processes_of wholes in
-    let one : (process other place : ℕ) → IsSo events process place → IsSo events other place → process ≡ other
+    let one : (process other : Process) (place : ℕ) → IsSo events process place → IsSo events other place → process ≡ other
     = λ process other place first second.
     let a = stands events process place first in
     let b = stands events other place second in
     let same : a.0 ≡ b.0 = one_place (λ (e : EventText). e.place) events rise a.0 b.0 a.1 b.1 (a.3 ∙ sym b.3) in
-    sym a.2 ∙ ap (λ (e : EventText). e.process) same ∙ b.2 in
-    let among : (process place : ℕ) → IsSo events process place → Contains processes process
+    sym a.2 ∙ ap process_of same ∙ b.2 in
+    let among : (process : Process) (place : ℕ) → IsSo events process place → Contains processes process
     = λ process place is.
     let a = stands events process place is in
-    subst (Contains processes) a.2 (All-contains (λ (e : EventText). Contains processes e.process) events a.0 (each_among wholes) a.1) in
+    subst (Contains processes) a.2 (All-contains (λ (e : EventText). Contains processes (process_of e)) events a.0 (each_among wholes) a.1) in
     blocks_sorted (IsSo events) one processes gathered places
-    (AllPairs-from_IsDistinct Decides-eqb processes (firsts_distinct nat_eq_equiv (map process_of wholes))) among
-    (subst (λ (keys : List ℕ). AreBlocks (IsSo events) keys gathered) of.order (blocks_of IsSo needs events entries gathered are of.each)) moved sorted
+    (AllPairs-from_IsDistinct decides_process processes (firsts_distinct same_process_equiv (map process_of_whole wholes))) among
+    (subst (λ (keys : List Process). AreBlocks (IsSo events) keys gathered) of.order (blocks_of IsSo needs events entries gathered are of.each)) moved sorted
 
 -- ---- the events at places
 
@@ -212,22 +219,20 @@ both_sorted IsOpen IsClose opens closes places exclude opened closed moved sorte
     is)
 
 -- what is kept of the opens and closes of all processes
-pub open_and_stray_kept : (IsOpen IsClose : List EventText → ℕ → ℕ → Type 0) → StandsInProcess IsOpen → StandsInProcess IsClose → ExcludeEachOther IsOpen IsClose
-    → (events : List EventText) → RiseInPlace events → (opens closes : List ℕ) → ArePlacesOf (λ place. (process : ℕ) × IsOpen events process place) opens
-    → ArePlacesOf (λ place. (process : ℕ) × IsClose events process place) closes → (found : OpenAndStray) → found.unclosed ≡ length opens
-    → found.strays ≡ length closes → IsPermutation (opens ++ closes) found.rows → IsSorted nat_cmp found.rows
-    → (said : OpenAndStrayText) × KeepsOpenAndStray found said
-    × AreOpenAndStray (λ place. (process : ℕ) × IsOpen events process place) (λ place. (process : ℕ) × IsClose events process place) events said
-open_and_stray_kept IsOpen IsClose open_stands close_stands exclude events rise opens closes opened closed found many_opens many_closes moved sorted =
-    let SomeOpen = λ (place : ℕ). (process : ℕ) × IsOpen events process place in
-    let SomeClose = λ (place : ℕ). (process : ℕ) × IsClose events process place in
+pub open_and_stray_kept : (read : EventText → Option (PendingItem ℕ)) → KeepsPlace place_of read → (events : List EventText) → RiseInPlace events
+    → (opens closes : List ℕ) → ArePlacesOf (IsOpenStill read events) opens → ArePlacesOf (IsStrayClose read events) closes → (found : OpenAndStray)
+    → found.unclosed ≡ length opens → found.strays ≡ length closes → IsPermutation (opens ++ closes) found.rows → IsSorted nat_cmp found.rows
+    → (said : OpenAndStrayText) × KeepsOpenAndStray found said × AreOpenAndStray read events said
+open_and_stray_kept read keeps events rise opens closes opened closed found many_opens many_closes moved sorted =
+    let SomeOpen = IsOpenStill read events in
+    let SomeClose = IsStrayClose read events in
     let both = both_sorted SomeOpen SomeClose opens closes found.rows
-    (λ p open_is close_is. exclude events open_is.0 close_is.0 p rise open_is.1 close_is.1) opened closed moved sorted in
+    (λ p open_is close_is. apart read keeps events open_is.0 close_is.0 p rise open_is.1 close_is.1) opened closed moved sorted in
     let stands : (p : ℕ) → SomeOpen p ⊎ SomeClose p → (e : EventText) × Contains events e × (e.place ≡ p)
     = λ p is.
     ⊎_elim
-    (λ (open_is : SomeOpen p). let at = open_stands events open_is.0 p open_is.1 in (at.0, at.1, at.3))
-    (λ (close_is : SomeClose p). let at = close_stands events close_is.0 p close_is.1 in (at.0, at.1, at.3))
+    (λ (open_is : SomeOpen p). let at = open_stands read keeps events open_is.0 p open_is.1 in (at.0, at.1, at.3))
+    (λ (close_is : SomeClose p). let at = stray_stands read keeps events close_is.0 p close_is.1 in (at.0, at.1, at.3))
     is in
     let rows = events_at (λ p. SomeOpen p ⊎ SomeClose p) events stands found.rows both in (
       record { unclosed = length opens; strays = length closes; rows = rows.0 },

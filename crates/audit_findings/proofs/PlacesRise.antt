@@ -148,11 +148,11 @@ events_rise capture wholes is = wholes_rise (wholes_of wholes) (all_whole 16 Non
 -- ---- the rows of a capture
 
 pub flags_rise : (capture : List ℕ) (wholes : List WholeFrame) (said : FindingsText) → IsInGrammar capture wholes → AreFindings (wholes_of wholes) said
-    → IsStrictlyIncreasing (map (λ (e : EventText). e.place) said.flags)
+    → IsStrictlyIncreasing (map (λ (e : EventText). e.place) said.events.flags)
 flags_rise capture wholes said is are =
     let place : EventText → ℕ = λ e. e.place in
     let events = events_of_wholes (wholes_of wholes) in
-    subst (λ (es : List EventText). IsStrictlyIncreasing (map place es)) (sym are.flags)
+    subst (λ (es : List EventText). IsStrictlyIncreasing (map place es)) (sym are.events.flags)
     (increasing_places place (flagged events) (rising_kept place has_unknown_flags events (events_rise capture wholes is)))
 
 some_is : {A : Type 0} (x y : A) → Some x ≡ Some y → x ≡ y
@@ -169,16 +169,20 @@ bad_there o None b is = let wrong : None ≡ Some b = is in cc
 bad_there o (Some x) b is = ap (λ (y : BadOwned). y.owner.place) (sym (some_is (record { owner = o.of.owner; bad = x }) b is))
 
 pub objects_rise : (capture : List ℕ) (wholes : List WholeFrame) (said : FindingsText) → IsInGrammar capture wholes → AreFindings (wholes_of wholes) said
-    → IsStrictlyIncreasing (map (λ (b : BadOwned). b.owner.place) said.bad_objects)
+    → IsStrictlyIncreasing (map (λ (b : BadOwned). b.owner.place) said.events.bad_objects)
 objects_rise capture wholes said is are =
     let events = events_of_wholes (wholes_of wholes) in
-    let outcomes = are.objects.outcomes in
+    let outcomes = are.events.objects.outcomes in
     let owner : Attached → ℕ = λ a. a.owner.place in
     let place : BadOwned → ℕ = λ b. b.owner.place in
     let attachments = rising_made (λ (e : EventText). e.place) owner attached_to (λ e a made. attached_there e e.entry a made) events
     (events_rise capture wholes is) in
     let owners = pairs_unmap (λ (a b : Attached). owner a < owner b) (λ (o : Outcome). o.of) outcomes
-    (subst (PlacesRise owner) (sym are.objects.are.each) attachments) in
-    subst (λ (bs : List BadOwned). IsStrictlyIncreasing (map place bs)) (sym are.objects.bad_are)
+    (subst (PlacesRise owner) (sym are.events.objects.are.each) attachments) in
+    subst (λ (bs : List BadOwned). IsStrictlyIncreasing (map place bs)) (sym are.events.objects.bad_are)
     (increasing_places place (bad_objects outcomes)
     (rising_made (λ (o : Outcome). o.of.owner.place) place bad_of (λ o b made. bad_there o o.bad b made) outcomes owners))
+
+-- the frames of a capture stand apart
+pub stand_apart : (frames : List Frame) (done : List WholeFrame) → Show frames (wholes_of done) → AllPairs StandApart frames
+stand_apart frames done show = views_apart frames (wholes_of done) show (wholes_apart done)

@@ -19,11 +19,11 @@ use Rattle.audit_findings.proofs.Rising.{pairs_map, pairs_unmap}
 
 -- the events of each thread can be summarised
 abbrev pub FitThreads : List (Thread × Event) → Type 0
-FitThreads fed = EachFits same_key (IsPlaced event_place) fed
+FitThreads fed = EachFits same_thread (IsPlaced event_place) fed
 
 -- and these entries sum them
 abbrev pub SumsFedViews : List (Thread × ThreadCalls) → List (Thread × Event) → Type 0
-SumsFedViews entries fed = SumsInOrder same_key ThreadCallsSum entries fed
+SumsFedViews entries fed = SumsInOrder same_thread ThreadCallsSum entries fed
 
 -- views of few events are placed as these are
 pub views_placed : (views : List Event) → IsPlaced (λ (e : EventText). e.place) (map event_text views) → IsPlaced event_place views
@@ -37,11 +37,11 @@ fit_views views few key =
     let placed = views_placed views few.0 in
     let fed = map fed_view views in
     let long = length-map views fed_view in
-    let fewer = length-read (under same_key key) fed in
+    let fewer = length-read (under same_thread key) fed in
     let short = placed.0 in
     let rise : PlacesRise (λ (e : Thread × Event). e.1.place) fed
     = pairs_map (λ (a b : Thread × Event). a.1.place < b.1.place) fed_view views placed.1 in
-    (omega (arith, long, fewer, short), items_rise same_key key event_place fed rise)
+    (omega (arith, long, fewer, short), items_rise same_thread key event_place fed rise)
 
 -- views of events with others behind them
 pub views_behind : (first second : List Event) (events others : List EventText) → events ≡ map event_text first → others ≡ map event_text second

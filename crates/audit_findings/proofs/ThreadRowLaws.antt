@@ -37,7 +37,7 @@ both_true true b is = (refl, is)
 both_true false b is = let no : ⊥ = cc in absurd no
 
 -- equal keys are one
-pub one_key : (a b : Thread) → same_key a b ≡ true → a ≡ b
+pub one_key : (a b : Thread) → same_thread a b ≡ true → a ≡ b
 one_key a b same =
     let both = both_true (same_process a.process b.process) (eqb a.number b.number) same in
     let make : ℕ → ℕ → Thread = λ p n. record { process = record { number = p }; number = n } in
@@ -45,7 +45,7 @@ one_key a b same =
 
 -- the events of this thread, in their order
 abbrev pub texts_of : Thread → List EventText → List EventText
-texts_of key events = filter (λ e. same_key key (thread_key e)) events
+texts_of key events = filter (λ e. same_thread key (thread_of e)) events
 
 -- what passes a test is in the list, and passes it
 kept_from : {X : Type 0} (test : X → Bool) (xs : List X) (x : X) → In x (filter test xs) → In x xs × (test x ≡ true)
@@ -60,17 +60,17 @@ kept_from {X} test (y ∷ xs) x here =
     ] refl here
 
 -- an event of a thread is one of all events, and has the thread's key
-pub of_thread : (key : Thread) (events : List EventText) (e : EventText) → Contains (texts_of key events) e → Contains events e × (key ≡ thread_key e)
+pub of_thread : (key : Thread) (events : List EventText) (e : EventText) → Contains (texts_of key events) e → Contains events e × (key ≡ thread_of e)
 of_thread key events e c =
-    let found = kept_from (λ (x : EventText). same_key key (thread_key x)) events e (in_list (texts_of key events) e c) in
-    (contained events e found.0, one_key key (thread_key e) found.1)
+    let found = kept_from (λ (x : EventText). same_thread key (thread_of x)) events e (in_list (texts_of key events) e c) in
+    (contained events e found.0, one_key key (thread_of e) found.1)
 
 -- the views that are fed under a key are those of its thread's events
-pub texts_fed : (key : Thread) (views : List Event) → map event_text (items_of same_key key (map fed_view views)) ≡ texts_of key (map event_text views)
+pub texts_fed : (key : Thread) (views : List Event) → map event_text (items_of same_thread key (map fed_view views)) ≡ texts_of key (map event_text views)
 texts_fed key [] = refl
 texts_fed key (v ∷ views) =
     let rest = texts_fed key views in
-    elim (same_key key (thread_key (event_text v))) as (λ b. map event_text (cons_option (cond b (Some v) None) (items_of same_key key (map fed_view views)))
+    elim (same_thread key (thread_of (event_text v))) as (λ b. map event_text (cons_option (cond b (Some v) None) (items_of same_thread key (map fed_view views)))
     ≡ cond b (event_text v ∷ texts_of key (map event_text views)) (texts_of key (map event_text views))) [
       | true ↦ ap (λ (t : List EventText). event_text v ∷ t) rest
       | false ↦ rest
@@ -93,33 +93,33 @@ module _ {X : Type 0} (event : X → EventText) (IsIn : List (JudgedOf EventText
     (stands : (events : List EventText) (x : X) → IsIn (judged_of text_reads events) x → Contains events (event x)) where
   -- things at one place are of one thread
   pub one_thread : (events : List EventText) → RiseInPlace events → (key other : Thread) (x y : X) → IsOfKey IsIn events key x → IsOfKey IsIn events other y
-      → (event x).place ≡ (event y).place → same_key key other ≡ true
+      → (event x).place ≡ (event y).place → same_thread key other ≡ true
   one_thread events rise key other x y is is_other same =
       let first = of_thread key events (event x) (stands (texts_of key events) x is) in
       let second = of_thread other events (event y) (stands (texts_of other events) y is_other) in
       let one : event x ≡ event y = one_place (λ (e : EventText). e.place) events rise (event x) (event y) first.0 second.0 same in
-      let keys : key ≡ other = first.1 ∙ ap thread_key one ∙ sym second.1 in
-      subst (λ (k : Thread). same_key key k ≡ true) keys (same_key_equiv.refl key)
+      let keys : key ≡ other = first.1 ∙ ap thread_of one ∙ sym second.1 in
+      subst (λ (k : Thread). same_thread key k ≡ true) keys (same_thread_equiv.refl key)
 
   module _ (entries : List (Thread × ThreadCalls)) (events : List EventText) (sums : SumsThreads entries events) where
     -- a thread with an event has an entry
-    key_there : (e : EventText) → Contains (texts_of (thread_key e) events) e → Contains (keys_of entries) (thread_key e)
+    key_there : (e : EventText) → Contains (texts_of (thread_of e) events) e → Contains (keys_of entries) (thread_of e)
     key_there e c =
-        let key = thread_key e in
+        let key = thread_of e in
         let views = sums.0 in
         ⊎_elim
-        (λ (found : list_any (same_key key) (keys_of entries) ≡ true). Contains-from_any one_key key (keys_of entries) found)
-        (λ (missing : list_any (same_key key) (keys_of entries) ≡ false).
-        let none = none_else same_key_equiv ThreadCallsSum entries (map fed_view views) sums.2 key missing in
+        (λ (found : list_any (same_thread key) (keys_of entries) ≡ true). Contains-from_any one_key key (keys_of entries) found)
+        (λ (missing : list_any (same_thread key) (keys_of entries) ≡ false).
+        let none = none_else same_thread_equiv ThreadCallsSum entries (map fed_view views) sums.2 key missing in
         let texts : texts_of key events ≡ [] = ap (texts_of key) sums.1 ∙ sym (texts_fed key views) ∙ ap (map event_text) none in
         absurd (contains_none e (subst (λ (t : List EventText). Contains t e) texts c)))
-        (cases_Bool (list_any (same_key key) (keys_of entries)))
+        (cases_Bool (list_any (same_thread key) (keys_of entries)))
 
     -- what is so of the thread of its own event is so of an entry's thread
     pub of_entries : (x : X) → IsOfOwn event IsIn events x ↔ ((e : Thread × ThreadCalls) × In e entries × IsOfKey IsIn events e.0 x)
     of_entries x = (
       λ is.
-          let key = thread_key (event x) in
+          let key = thread_of (event x) in
           let there = key_there (event x) (stands (texts_of key events) x is) in
           let found = in-map (λ (e : Thread × ThreadCalls). e.0) entries key (in_list (keys_of entries) key there) in
           (found.0, found.1, subst (λ (k : Thread). IsOfKey IsIn events k x) found.2 is),
@@ -151,7 +151,7 @@ send_stands events s is = stands_judged text_reads events is.position is.there s
 module _ (entries : List (Thread × ThreadCalls)) (events : List EventText) (sums : SumsThreads entries events) (rise : RiseInPlace events) where
   -- the events of an entry's thread
   abbrev own_views : Thread × ThreadCalls → List Event
-  own_views e = items_of same_key e.0 (map fed_view sums.0)
+  own_views e = items_of same_thread e.0 (map fed_view sums.0)
 
   abbrev SumsOwn : Thread × ThreadCalls → Type 0
   SumsOwn e = (own_views e ≢ []) × ThreadCallsSum e.1 (own_views e)
@@ -185,17 +185,17 @@ module _ (entries : List (Thread × ThreadCalls)) (events : List EventText) (sum
       (refused_told text_reads event_text texts_alike (own_views e) found (gives (own_views e) own.1) own.1.placed.1)
 
   each_own : All SumsOwn entries
-  each_own = each_sums same_key_equiv ThreadCallsSum entries (map fed_view sums.0) sums.2
+  each_own = each_sums same_thread_equiv ThreadCallsSum entries (map fed_view sums.0) sums.2
 
-  keys_differ : IsDistinct same_key (keys_of entries)
-  keys_differ = entries_distinct same_key_equiv ThreadCallsSum entries (map fed_view sums.0) sums.2
+  keys_differ : IsDistinct same_thread (keys_of entries)
+  keys_differ = entries_distinct same_thread_equiv ThreadCallsSum entries (map fed_view sums.0) sums.2
 
   module _ (gathered rows : ThreadRows) (in_turn : AreGatheredRows entries gathered) (sorted : AreSortedRows gathered rows) where
     kept_openers : (said : List (OpenerOf EventText)) × AreOpeners events said × (rows.openers.items ≡ map opener_row said)
     kept_openers =
         let event : OpenerOf EventText → EventText = λ o. o.event in
         let Is = IsOpenerOf text_reads in
-        gathered_rows same_key (λ (e : Thread × ThreadCalls). e.0) (λ e o. IsOfKey Is events e.0 o) (λ (f : CallFindings). map opener_text f.openers.items)
+        gathered_rows same_thread (λ (e : Thread × ThreadCalls). e.0) (λ e o. IsOfKey Is events e.0 o) (λ (f : CallFindings). map opener_text f.openers.items)
         opener_row (λ (r : OpenerRow). r.row.place)
         (λ e other x y is_first is_other same. one_thread event Is opener_stands events rise e.0 other.0 x y is_first is_other same)
         entries in_turn.founds (zip_stronger SumsOwn Gives _ openers_of entries in_turn.founds each_own in_turn.are) keys_differ
@@ -205,7 +205,7 @@ module _ (entries : List (Thread × ThreadCalls)) (events : List EventText) (sum
     kept_strays : (said : List EventText) × AreStrays events said × (rows.strays.items ≡ map (λ e. e.place) said)
     kept_strays =
         let event : EventText → EventText = λ e. e in
-        gathered_rows same_key (λ (e : Thread × ThreadCalls). e.0) (λ e t. IsOfKey IsStrayEvent events e.0 t)
+        gathered_rows same_thread (λ (e : Thread × ThreadCalls). e.0) (λ e t. IsOfKey IsStrayEvent events e.0 t)
         (λ (f : CallFindings). map event_text f.strays.items)
         (λ (e : EventText). e.place) (λ (n : ℕ). n)
         (λ e other x y is_first is_other same. one_thread event IsStrayEvent stray_stands events rise e.0 other.0 x y is_first is_other same)
@@ -216,7 +216,7 @@ module _ (entries : List (Thread × ThreadCalls)) (events : List EventText) (sum
     kept_sends : (said : List (RefusedOf EventText)) × AreSends events said × (rows.sends.items ≡ map send_row said)
     kept_sends =
         let event : RefusedOf EventText → EventText = λ s. s.event in
-        gathered_rows same_key (λ (e : Thread × ThreadCalls). e.0) (λ e s. IsOfKey IsRefusedSend events e.0 s)
+        gathered_rows same_thread (λ (e : Thread × ThreadCalls). e.0) (λ e s. IsOfKey IsRefusedSend events e.0 s)
         (λ (f : CallFindings). map send_text f.refused.items)
         send_row (λ (r : SendRow). r.place)
         (λ e other x y is_first is_other same. one_thread event IsRefusedSend send_stands events rise e.0 other.0 x y is_first is_other same)

@@ -8,9 +8,9 @@ use Rattle.event_core.specs.Events.{wholes_of}
 -- each bad object has a record above that of the one before it
 abbrev pub BadObjectsRise : Type 0
 BadObjectsRise = (capture : List ℕ) (wholes : List WholeFrame) (said : FindingsText) → IsInGrammar capture wholes
-    → AreFindings (wholes_of wholes) said → IsStrictlyIncreasing (map (λ b. b.owner.place) said.bad_objects)
+    → AreFindings (wholes_of wholes) said → IsStrictlyIncreasing (map (λ b. b.owner.place) said.events.bad_objects)
 
 -- each record with unknown flag bits stands above the one before it
 abbrev pub FlagsRise : Type 0
 FlagsRise = (capture : List ℕ) (wholes : List WholeFrame) (said : FindingsText) → IsInGrammar capture wholes
-    → AreFindings (wholes_of wholes) said → IsStrictlyIncreasing (map (λ e. e.place) said.flags)
+    → AreFindings (wholes_of wholes) said → IsStrictlyIncreasing (map (λ e. e.place) said.events.flags)

@@ -1,6 +1,7 @@
 -- What the sections `handles` and `nodes` have alike: rows of each process in turn, and how many of them are unbalanced
 -- (docs/REPORT.md).
-use Rattle.std.specs.Prelude.{◌≡◌, ℤ, pos, int_eq, not, Bool, List, count_by}
+use Rattle.std.specs.Prelude.{◌≡◌, ℤ, pos, not, Bool, List, count_by}
+use Rattle.std.specs.Ordering.{int_eq}
 use Rattle.capture_frame.specs.declared.process.Process.{Process}
 use Rattle.audit_findings.specs.declared.in_turn.OfProcess.{OfProcess}
 use Rattle.audit_findings.specs.declared.references.References.{References}

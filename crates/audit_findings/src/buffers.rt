@@ -9,8 +9,6 @@ pub(crate) struct BufferPairs;
 
 impl Paired for BufferPairs {
     ghost use Rattle.process_ledgers.specs.Items.{buffer_pending_of};
-    ghost use Rattle.process_ledgers.proofs.ItemPlaces.{pending_keeps};
-    ghost use Rattle.audit_findings.proofs.StandLaws.{no_buffers};
 
     ghost read = { buffer_pending_of };
 
@@ -21,8 +19,4 @@ impl Paired for BufferPairs {
     fn strays(ledgers: &ProcessLedgers) -> Result<Vec<u64>, AllocError> {
         ledgers.buffers.strays()
     }
-
-    ghost keeps = { pending_keeps };
-
-    ghost none_of = { no_buffers };
 }

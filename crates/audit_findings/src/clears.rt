@@ -9,8 +9,6 @@ pub(crate) struct ClearPairs;
 
 impl Paired for ClearPairs {
     ghost use Rattle.process_ledgers.specs.Items.{clear_item_of};
-    ghost use Rattle.process_ledgers.proofs.ItemPlaces.{clear_keeps};
-    ghost use Rattle.audit_findings.proofs.StandLaws.{no_clears};
 
     ghost read = { clear_item_of };
 
@@ -21,8 +19,4 @@ impl Paired for ClearPairs {
     fn strays(ledgers: &ProcessLedgers) -> Result<Vec<u64>, AllocError> {
         ledgers.clears.strays()
     }
-
-    ghost keeps = { clear_keeps };
-
-    ghost none_of = { no_clears };
 }

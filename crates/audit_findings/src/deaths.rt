@@ -9,8 +9,6 @@ pub(crate) struct DeathPairs;
 
 impl Paired for DeathPairs {
     ghost use Rattle.process_ledgers.specs.Items.{death_item_of};
-    ghost use Rattle.process_ledgers.proofs.ItemPlaces.{death_keeps};
-    ghost use Rattle.audit_findings.proofs.StandLaws.{no_deaths};
 
     ghost read = { death_item_of };
 
@@ -21,8 +19,4 @@ impl Paired for DeathPairs {
     fn strays(ledgers: &ProcessLedgers) -> Result<Vec<u64>, AllocError> {
         ledgers.deaths.strays()
     }
-
-    ghost keeps = { death_keeps };
-
-    ghost none_of = { no_deaths };
 }

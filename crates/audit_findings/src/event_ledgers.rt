@@ -56,7 +56,7 @@ impl EventLedgers {
     /// Those of these events and of the later ones.
     pub fn join(self, later: EventLedgers) -> Result<EventLedgers, AllocError>
         requires { CanJoin SumsEvents AreFewEvents self later }
-        ensures { IfOk result (Joins SumsEvents AreFewEvents self.entry later.entry) }
+        ensures { IfOk result (Joins SumsEvents AreFewEvents self later) }
     {
         // All are joined before one is looked at, so that less is left to drop at each `?`.
         let codes = self.codes.join(later.codes);

@@ -41,7 +41,7 @@ impl EventSections {
     /// Those of the ledgers of some events.
     pub(crate) fn of(alloc: Global, ledgers: EventLedgers) -> Result<Self, AllocError>
         requires { (events : List EventText) × SumsEvents ledgers events × AreFewEvents events }
-        ensures { IfOk result (λ kept. (events : List EventText) → SumsEvents ledgers.entry events →
+        ensures { IfOk result (λ kept. (events : List EventText) → SumsEvents ledgers events →
             (said : EventSectionsText) × AreEventSections events said × KeepEvents kept said) }
     {
         let codes = code_rows(alloc, &ledgers.codes)?;

@@ -22,7 +22,6 @@ struct Handles;
 
 impl InTurn for Handles {
     ghost use Rattle.audit_findings.specs.Handles.{AreHandlesOf};
-    ghost use Rattle.audit_findings.proofs.NoRows.{no_handles_of};
 
     type Row = HandleRow;
 
@@ -31,8 +30,6 @@ impl InTurn for Handles {
     fn rows(ledgers: &ProcessLedgers) -> Result<Vec<HandleRow>, AllocError> {
         ledgers.handles.rows()
     }
-
-    ghost none_of = { no_handles_of };
 }
 
 /// The section: the rows of each process in turn.

@@ -6,7 +6,7 @@ ghost use Rattle.transaction_view.specs.Grammar.{WholeFrame};
 ghost use Rattle.event_core.specs.Events.{events_of_wholes};
 ghost use Rattle.process_ledgers.specs.OfProcess.{AreOfProcesses};
 ghost use Rattle.process_ledgers.specs.Processes.{processes_of};
-ghost use Rattle.audit_findings.specs.InTurn.{AreInTurn, of_process};
+ghost use Rattle.audit_findings.specs.InTurn.{AreInTurn, HasNoRows, of_process};
 
 use capture_frame::Process;
 use process_ledgers::{ProcessLedgers, ProcessSummary};
@@ -22,10 +22,10 @@ pub struct OfProcess<R> {
 
 /// What the ledgers of a process list as rows.
 pub(crate) trait InTurn {
-    ghost use Rattle.std.specs.Prelude.{[], List, IfOk};
+    ghost use Rattle.std.specs.Prelude.{List, IfOk};
     ghost use Rattle.capture_frame.specs.declared.process.Process.{Process};
     ghost use Rattle.event_core.specs.Events.{EventText};
-    ghost use Rattle.process_ledgers.specs.OfProcess.{AreLedgersOf, HasNoItems};
+    ghost use Rattle.process_ledgers.specs.OfProcess.{AreLedgersOf};
 
     type Row: Copy;
 
@@ -36,10 +36,6 @@ pub(crate) trait InTurn {
     fn rows(ledgers: &ProcessLedgers) -> Result<Vec<Self::Row>, AllocError>
         ensures { IfOk result (λ rows. (events : List EventText) (process : Process) →
             AreLedgersOf ledgers.now events process → are_of events process rows.items) };
-
-    /// A process without an item has no row.
-    ghost none_of: { (events : List EventText) (process : Process) →
-        HasNoItems events process → are_of events process [] };
 }
 
 /// The rows of each process in turn.
@@ -47,7 +43,7 @@ pub(crate) fn rows_in_turn<S: InTurn>(
     alloc: Global,
     processes: &InOrder<Process, ProcessSummary>,
 ) -> Result<Vec<OfProcess<S::Row>>, AllocError>
-    ensures { IfOk result (λ rows. (wholes : List (Placed WholeFrame)) →
+    ensures { IfOk result (λ rows. HasNoRows S.are_of → (wholes : List (Placed WholeFrame)) →
         AreOfProcesses processes.now.entries.entries wholes →
         AreInTurn (S.are_of (events_of_wholes wholes)) (processes_of wholes) rows.items) }
 {

@@ -22,7 +22,6 @@ struct Nodes;
 
 impl InTurn for Nodes {
     ghost use Rattle.audit_findings.specs.Nodes.{AreNodesOf};
-    ghost use Rattle.audit_findings.proofs.NoRows.{no_nodes_of};
 
     type Row = NodeRow;
 
@@ -31,8 +30,6 @@ impl InTurn for Nodes {
     fn rows(ledgers: &ProcessLedgers) -> Result<Vec<NodeRow>, AllocError> {
         ledgers.nodes.rows()
     }
-
-    ghost none_of = { no_nodes_of };
 }
 
 /// The section: the rows of each process in turn.

@@ -23,7 +23,6 @@ struct Oneway;
 
 impl InTurn for Oneway {
     ghost use Rattle.audit_findings.specs.Oneway.{AreOnewayOf};
-    ghost use Rattle.audit_findings.proofs.NoRows.{no_oneway_of};
 
     type Row = OnewayRow;
 
@@ -32,8 +31,6 @@ impl InTurn for Oneway {
     fn rows(ledgers: &ProcessLedgers) -> Result<Vec<OnewayRow>, AllocError> {
         ledgers.oneway.rows()
     }
-
-    ghost none_of = { no_oneway_of };
 }
 
 /// The rows of the section: those of each process in turn.

@@ -4,7 +4,9 @@ ghost use Rattle.std.specs.Prelude.{List, IfOk};
 ghost use Rattle.capture_frame.specs.Units.{Placed};
 ghost use Rattle.transaction_view.specs.Grammar.{WholeFrame};
 ghost use Rattle.event_core.specs.Events.{events_of_wholes};
-ghost use Rattle.process_ledgers.specs.OfProcess.{AreOfProcesses};
+ghost use Rattle.pending_ledger.specs.Pending.{place_of};
+ghost use Rattle.process_ledgers.specs.Items.{KeepsPlace};
+ghost use Rattle.process_ledgers.specs.OfProcess.{AreOfProcesses, ReadsItems};
 ghost use Rattle.audit_findings.specs.Kept.{KeepsOpenAndStray};
 ghost use Rattle.audit_findings.specs.Places.{RiseInPlace, OpenAndStrayText, AreOpenAndStray};
 
@@ -19,14 +21,12 @@ use summary_law::InOrder;
 
 /// A ledger of opens and closes among those of a process.
 pub(crate) trait Paired {
-    ghost use Rattle.std.specs.Prelude.{◌≡◌, ℕ, [], List, Option, IfOk};
+    ghost use Rattle.std.specs.Prelude.{ℕ, List, Option, IfOk};
     ghost use Rattle.capture_frame.specs.declared.process.Process.{Process};
     ghost use Rattle.event_core.specs.Events.{EventText};
     ghost use Rattle.event_core.specs.declared.pending.PendingItem.{PendingItem};
-    ghost use Rattle.pending_ledger.specs.Pending.{ArePlacesOf, place_of};
-    ghost use Rattle.process_ledgers.specs.Items.{KeepsPlace};
-    ghost use Rattle.process_ledgers.specs.OfProcess.{AreLedgersOf, HasNoItems};
-    ghost use Rattle.process_ledgers.specs.Processes.{items_of_process};
+    ghost use Rattle.pending_ledger.specs.Pending.{ArePlacesOf};
+    ghost use Rattle.process_ledgers.specs.OfProcess.{AreLedgersOf};
     ghost use Rattle.audit_findings.specs.Places.{IsOpenIn, IsStrayIn};
 
     /// The open or the close that an event is.
@@ -43,13 +43,6 @@ pub(crate) trait Paired {
         ensures { IfOk result (λ places. (events : List EventText) (process : Process) →
             AreLedgersOf ledgers.now events process →
             ArePlacesOf (IsStrayIn read events process) places.items) };
-
-    /// An item has the place of its event.
-    ghost keeps: { KeepsPlace place_of read };
-
-    /// A process without an item has no open and no close.
-    ghost none_of: { (events : List EventText) (process : Process) →
-        HasNoItems events process → items_of_process read process events ≡ [] };
 }
 
 /// The opens that nothing closes, as a list.
@@ -59,17 +52,12 @@ pub(crate) struct Unclosed<P> {
 
 impl<P: Paired> Listed for Unclosed<P> {
     ghost use Rattle.audit_findings.specs.Places.{IsOpenIn};
-    ghost use Rattle.audit_findings.proofs.StandLaws.{open_stands, open_needs};
 
     ghost is_so = { IsOpenIn P.read };
 
     fn places(ledgers: &ProcessLedgers) -> Result<Vec<u64>, AllocError> {
         P::outstanding(ledgers)
     }
-
-    ghost stands = { open_stands P.read P.keeps };
-
-    ghost needs = { open_needs P.read P.none_of };
 }
 
 /// The closes of what is not open, as a list.
@@ -79,17 +67,12 @@ pub(crate) struct Strays<P> {
 
 impl<P: Paired> Listed for Strays<P> {
     ghost use Rattle.audit_findings.specs.Places.{IsStrayIn};
-    ghost use Rattle.audit_findings.proofs.StandLaws.{stray_stands, stray_needs};
 
     ghost is_so = { IsStrayIn P.read };
 
     fn places(ledgers: &ProcessLedgers) -> Result<Vec<u64>, AllocError> {
         P::strays(ledgers)
     }
-
-    ghost stands = { stray_stands P.read P.keeps };
-
-    ghost needs = { stray_needs P.read P.none_of };
 }
 
 /// Both, of all processes.
@@ -97,7 +80,8 @@ pub(crate) fn open_and_stray_of<P: Paired>(
     alloc: Global,
     processes: &InOrder<Process, ProcessSummary>,
 ) -> Result<OpenAndStray, AllocError>
-    ensures { IfOk result (λ found. (wholes : List (Placed WholeFrame)) →
+    ensures { IfOk result (λ found. KeepsPlace place_of P.read → ReadsItems P.read →
+        (wholes : List (Placed WholeFrame)) →
         AreOfProcesses processes.now.entries.entries wholes →
         RiseInPlace (events_of_wholes wholes) →
         (said : OpenAndStrayText) × KeepsOpenAndStray found said

@@ -5,8 +5,8 @@ ghost use Rattle.capture_frame.specs.Units.{Placed};
 ghost use Rattle.transaction_view.specs.Grammar.{WholeFrame};
 ghost use Rattle.event_core.specs.Events.{events_of_wholes};
 ghost use Rattle.pending_ledger.specs.Pending.{ArePlacesOf};
-ghost use Rattle.process_ledgers.specs.OfProcess.{AreOfProcesses};
-ghost use Rattle.audit_findings.specs.Places.{RiseInPlace, SomeProcess};
+ghost use Rattle.process_ledgers.specs.OfProcess.{AreOfProcesses, NeedsItems};
+ghost use Rattle.audit_findings.specs.Places.{RiseInPlace, SomeProcess, StandsInProcess};
 
 use capture_frame::Process;
 use process_ledgers::{ProcessLedgers, ProcessSummary};
@@ -19,8 +19,7 @@ pub(crate) trait Listed {
     ghost use Rattle.capture_frame.specs.declared.process.Process.{Process};
     ghost use Rattle.event_core.specs.Events.{EventText};
     ghost use Rattle.pending_ledger.specs.Pending.{ArePlacesOf};
-    ghost use Rattle.process_ledgers.specs.OfProcess.{AreLedgersOf, NeedsItems};
-    ghost use Rattle.audit_findings.specs.Places.{StandsInProcess};
+    ghost use Rattle.process_ledgers.specs.OfProcess.{AreLedgersOf};
 
     /// Among these events, the list of this process has this place.
     ghost is_so: { List EventText → Process → ℕ → Type 0 };
@@ -30,12 +29,6 @@ pub(crate) trait Listed {
         ensures { IfOk result (λ places. (events : List EventText) (process : Process) →
             AreLedgersOf ledgers.now events process →
             ArePlacesOf (is_so events process) places.items) };
-
-    /// An event of the process stands at each of them.
-    ghost stands: { StandsInProcess is_so };
-
-    /// A process without an item has none.
-    ghost needs: { NeedsItems is_so };
 }
 
 /// The places that the ledgers of all processes list, rising.
@@ -43,8 +36,8 @@ pub(crate) fn places_of<L: Listed>(
     alloc: Global,
     processes: &InOrder<Process, ProcessSummary>,
 ) -> Result<Vec<u64>, AllocError>
-    ensures { IfOk result (λ places. (wholes : List (Placed WholeFrame)) →
-        AreOfProcesses processes.now.entries.entries wholes →
+    ensures { IfOk result (λ places. StandsInProcess L.is_so → NeedsItems L.is_so →
+        (wholes : List (Placed WholeFrame)) → AreOfProcesses processes.now.entries.entries wholes →
         RiseInPlace (events_of_wholes wholes) →
         ArePlacesOf (SomeProcess (L.is_so (events_of_wholes wholes))) places.items) }
 {

@@ -9,15 +9,10 @@ pub(crate) struct Standing;
 
 impl Listed for Standing {
     ghost use Rattle.audit_findings.specs.Requests.{IsStandingIn};
-    ghost use Rattle.audit_findings.proofs.StandLaws.{request_stands, request_needs};
 
     ghost is_so = { IsStandingIn };
 
     fn places(ledgers: &ProcessLedgers) -> Result<Vec<u64>, AllocError> {
         ledgers.requests.outstanding()
     }
-
-    ghost stands = { request_stands };
-
-    ghost needs = { request_needs };
 }

@@ -41,6 +41,11 @@ abbrev pub IsOfProcess : Option (Box ProcessLedgers Global) → List EventText �
 IsOfProcess None events process = HasNoItems events process
 IsOfProcess (Some ledgers) events process = AreLedgersOf ledgers.value events process
 
+-- of a process without an item nothing is read
+abbrev pub ReadsItems : {I : Type 0} → (EventText → Option I) → Type 0
+ReadsItems read =
+    (events : List EventText) (process : Process) → HasNoItems events process → items_of_process read process events ≡ []
+
 -- where something is so of a process at some place, some event of the process is an item of a ledger
 abbrev pub NeedsItems : (List EventText → Process → ℕ → Type 0) → Type 0
 NeedsItems IsSo =

@@ -14,9 +14,6 @@ add-requires c =
     let events = c.requires.0 in
     (map code_item events, c.requires.1.codes, weighted_parts events (event_text c.args.event ∷ []) c.requires.2)
 
-pub add-requires-4 : goal.add-requires-4
-add-requires-4 c = (c.requires.0, c.requires.1.threads, c.requires.2)
-
 pub overflow_add-self-2 : goal.overflow_add-self-2
 overflow_add-self-2 c =
     let e = event_text c.args.event in
@@ -40,8 +37,8 @@ plus-self-requires-clause-received c =
 pub returns : goal.returns
 returns c =
     let e = event_text c.args.event in
-    on_ok_weaker c.add-4.result
-    (λ threads events sums fits.
+    on_ok_weaker c.add-3.result
+    (λ flags events sums fits.
     let records = sums.records in
     let long = length-append events (e ∷ []) in
     let opaque = sums.opaque in
@@ -56,7 +53,6 @@ returns c =
       oneway = counts_both c.args.self.now.oneway c.of.result c.plus-self.result events (e ∷ []) sums.oneway c.of.ensures
           c.plus-self.ensures.sent c.plus-self.ensures.received;
       objects = c.in_ok-add-2.ensures events sums.objects fits;
-      flags = c.in_ok-add-3.ensures events sums.flags;
-      threads = threads events sums.threads fits;
+      flags = flags events sums.flags;
     })
-    c.add-4.ensures
+    c.add-3.ensures

@@ -21,9 +21,6 @@ pub plus-requires-clause-received : goal.plus-requires-clause-received
 plus-requires-clause-received c =
     (counts_small c.args.self.oneway c.args.later.oneway c.requires.0 c.requires.1 c.requires.4.0.0 c.requires.2.oneway c.requires.3.oneway).1
 
-pub join-threads-requires : goal.join-threads-requires
-join-threads-requires c = (c.requires.0, c.requires.1, c.requires.2.threads, c.requires.3.threads, c.requires.4)
-
 pub returns : goal.returns
 returns c first second sums others fits =
     let records = sums.records in
@@ -41,5 +38,4 @@ returns c first second sums others fits =
           c.plus.ensures.sent c.plus.ensures.received;
       objects = c.in_ok-objects.ensures first second sums.objects others.objects fits;
       flags = c.in_ok-flags.ensures first second sums.flags others.flags;
-      threads = c.in_ok-threads.ensures first second sums.threads others.threads fits;
     }

@@ -5,10 +5,11 @@ use Rattle.event_core.proofs.EventsGiven.{none_yet}
 use Rattle.event_core.proofs.EventPlaces.{step_falls}
 use Rattle.event_core.specs.Events.{events_of_wholes}
 use Rattle.audit_findings.specs.Ledgers.{AreFewEvents, SumsEvents, SumsFrames}
+use Rattle.audit_findings.specs.ThreadLedger.{SumsThreadCalls}
 use Rattle.audit_findings.proofs.FrameLaws.{shown_good, shown_alone, few_with, few_next, all_given, given_next, texts_next}
 use Rattle.process_ledgers.specs.declared.process_items.ProcessItems.{ProcessItems}
 use Rattle.process_ledgers.specs.ProcessItems.{no_items, fed_by_all}
-use Rattle.audit_findings.proofs.FitLaws.{SumsFed, FitFed, fed_given, process_key, fit_with, fit_mark, fit_next, all_fed, fed_next}
+use Rattle.audit_findings.proofs.FitLaws.{SumsFed, FitFed, fed_given, fit_with, fit_mark, fit_next, all_fed, fed_next}
 use Rattle.audit_findings.proofs.SequenceLaws.{frame_count}
 use Rattle.audit_findings.proofs.ledgers.Ledgers.add.Goals as goal
 
@@ -24,8 +25,8 @@ pub add-requires : goal.add-requires
 add-requires c =
     let frame = c.args.frame in
     let wholes = c.requires.0 in
-    let process = process_key frame in
-    (fed_by_all wholes, c.requires.2.processes, fit_mark frame _ process (fit_with frame wholes c.requires.1 c.requires.3 c.requires.4))
+    let process = c.of_process-process.result in
+    (fed_by_all wholes, c.requires.2.processes, fit_mark frame _ process (fit_with frame process c.of_process-process.ensures wholes c.requires.1 c.requires.3 c.requires.4))
 
 pub of-events-requires : goal.of-events-requires
 of-events-requires c = shown_good c.args.frame c.requires.1 c.requires.3
@@ -36,6 +37,7 @@ loop-event-init c = (
   [],
   none_yet c.of-events.result [] c.of-events.ensures refl,
   λ before sums few. subst (SumsEvents c.args.self.now.events) (sym (append-nil before)) sums,
+  λ before sums few. subst (SumsThreadCalls c.args.self.now.threads) (sym (append-nil before)) sums,
   λ fed sums fit. subst (SumsFed _) (sym (append-nil fed)) sums,
 )
 
@@ -57,15 +59,29 @@ pub add-requires-in-Some-2 : goal.add-requires-in-Some-2
 add-requires-in-Some-2 c =
     let frame = c.args.frame in
     let wholes = c.requires.0 in
-    let process = process_key frame in
+    let before = events_of_wholes wholes in
+    let few = few_with before frame wholes c.requires.1 refl c.requires.3 c.requires.4 in
+    let i = c.loop-event.invariant in
+    let steps = rw c.in-Some.is at c.next_event.ensures in
+    let more = given_next frame c.loop-event.events c.next_event.new.self i.1 c.in-Some.event i.2 steps in (
+      before ++ map event_text i.1,
+      i.4 before c.requires.2.threads few,
+      subst AreFewEvents (sym (texts_next before i.1 c.in-Some.event)) (few_next before frame few c.next_event.new.self _ more),
+    )
+
+pub add-requires-in-Some-3 : goal.add-requires-in-Some-3
+add-requires-in-Some-3 c =
+    let frame = c.args.frame in
+    let wholes = c.requires.0 in
+    let process = c.of_process-process.result in
     let before = fed_by_all wholes ++ (process, no_items) ∷ [] in
-    let fit = fit_with frame wholes c.requires.1 c.requires.3 c.requires.4 in
+    let fit = fit_with frame process c.of_process-process.ensures wholes c.requires.1 c.requires.3 c.requires.4 in
     let i = c.loop-event.invariant in
     let steps = rw c.in-Some.is at c.next_event.ensures in
     let more = given_next frame c.loop-event.events c.next_event.new.self i.1 c.in-Some.event i.2 steps in
     let marked = c.in_ok-add.ensures (fed_by_all wholes) c.requires.2.processes (fit_mark frame before process fit) in (
       before ++ map (fed_given process) i.1,
-      i.4 before marked fit,
+      i.5 before marked fit,
       subst (λ (items : ProcessItems). FitFed ((before ++ map (fed_given process) i.1) ++ (process, items) ∷ [])) (sym c.of.ensures)
           (subst FitFed (sym (fed_next before process i.1 c.in-Some.event)) (fit_next before process frame fit c.next_event.new.self _ more)),
     )
@@ -76,6 +92,7 @@ loop-event-smaller c = step_falls c.loop-event.events c.in-Some.event c.next_eve
 pub loop-event-preserved : goal.loop-event-preserved
 loop-event-preserved c =
     let frame = c.args.frame in
+    let process = c.of_process-process.result in
     let i = c.loop-event.invariant in
     let found = c.in-Some.event in
     let steps = rw c.in-Some.is at c.next_event.ensures in
@@ -87,19 +104,24 @@ loop-event-preserved c =
           let fits = few_next before frame few c.next_event.new.self _ more in
           subst (SumsEvents c.add-in-Some.new.self) (texts_next before i.1 found)
           (c.in_ok-add-2.ensures (before ++ map event_text i.1) (i.3 before sums few) (subst AreFewEvents (sym (texts_next before i.1 found)) fits)),
+      λ before sums few.
+          let fits = few_next before frame few c.next_event.new.self _ more in
+          subst (SumsThreadCalls c.add-in-Some-2.new.self) (texts_next before i.1 found)
+          (c.in_ok-add-3.ensures (before ++ map event_text i.1) (i.4 before sums few) (subst AreFewEvents (sym (texts_next before i.1 found)) fits)),
       λ fed sums fit.
-          let fits = fit_next fed (process_key frame) frame fit c.next_event.new.self _ more in
-          let given = fed ++ map (fed_given (process_key frame)) i.1 in
-          let fits_one = subst FitFed (sym (fed_next fed (process_key frame) i.1 found)) fits in
-          subst (SumsFed _) (fed_next fed (process_key frame) i.1 found)
-          (subst (λ (items : ProcessItems). SumsFed c.add-in-Some-2.new.self.entries.entries (given ++ (process_key frame, items) ∷ [])) c.of.ensures
-          (c.in_ok-add-3.ensures given (i.4 fed sums fit)
-          (subst (λ (items : ProcessItems). FitFed (given ++ (process_key frame, items) ∷ [])) (sym c.of.ensures) fits_one))),
+          let fits = fit_next fed process frame fit c.next_event.new.self _ more in
+          let given = fed ++ map (fed_given process) i.1 in
+          let fits_one = subst FitFed (sym (fed_next fed process i.1 found)) fits in
+          subst (SumsFed _) (fed_next fed process i.1 found)
+          (subst (λ (items : ProcessItems). SumsFed c.add-in-Some-3.new.self.entries.entries (given ++ (process, items) ∷ [])) c.of.ensures
+          (c.in_ok-add-4.ensures given (i.5 fed sums fit)
+          (subst (λ (items : ProcessItems). FitFed (given ++ (process, items) ∷ [])) (sym c.of.ensures) fits_one))),
     )
 
 pub returns : goal.returns
 returns c wholes others sums show few =
     let frame = c.args.frame in
+    let process = c.of_process-process.result in
     let before = events_of_wholes wholes in
     let i = c.loop-event.invariant in
     let steps = rw c.in_default.is at c.next_event.ensures in
@@ -108,11 +130,12 @@ returns c wholes others sums show few =
       sequences = subst (λ s. SumsFrames s (wholes ++ others)) (sym i.0)
           (subst (λ t. SumsFrames c.with-self.result (wholes ++ t)) (sym alone.1) (c.with-self.ensures wholes alone.0 sums.sequences alone.2));
       processes =
-          let process = process_key frame in
           let fed = fed_by_all wholes ++ (process, no_items) ∷ [] in
-          let fit = fit_with frame wholes others show few in
-          subst (SumsFed _) (all_fed frame wholes others show c.loop-event.events c.next_event.new.self i.1 i.2 steps)
-          (i.4 fed (c.in_ok-add.ensures (fed_by_all wholes) sums.processes (fit_mark frame fed process fit)) fit);
+          let fit = fit_with frame process c.of_process-process.ensures wholes others show few in
+          subst (SumsFed _) (all_fed frame process c.of_process-process.ensures wholes others show c.loop-event.events c.next_event.new.self i.1 i.2 steps)
+          (i.5 fed (c.in_ok-add.ensures (fed_by_all wholes) sums.processes (fit_mark frame fed process fit)) fit);
       events = subst (SumsEvents c.loop-event.self.events) (all_given before frame wholes others refl show c.loop-event.events c.next_event.new.self i.1 i.2 steps)
           (i.3 before sums.events (few_with before frame wholes others refl show few));
+      threads = subst (SumsThreadCalls c.loop-event.self.threads) (all_given before frame wholes others refl show c.loop-event.events c.next_event.new.self i.1 i.2 steps)
+          (i.4 before sums.threads (few_with before frame wholes others refl show few));
     }

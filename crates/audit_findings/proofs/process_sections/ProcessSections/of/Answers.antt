@@ -1,34 +1,53 @@
-use Rattle.std.proofs.Common.{◌∙◌}
+use Rattle.std.proofs.Common.{refl, ◌∙◌}
 use Rattle.event_core.specs.Events.{events_of_wholes}
+use Rattle.process_ledgers.proofs.ItemPlaces.{clear_keeps, death_keeps, pending_keeps}
+use Rattle.process_ledgers.specs.Items.{buffer_pending_of}
+use Rattle.audit_findings.specs.Findings.{ProcessSectionsText}
 use Rattle.audit_findings.proofs.EventsAt.{events_at, stands_somewhere}
-use Rattle.audit_findings.proofs.StandLaws.{leaked_needs, stray_free_needs, request_needs, open_death_needs, stray_acknowledgement_needs, open_clear_needs, stray_confirmation_needs}
-use Rattle.audit_findings.proofs.StandLaws.{leaked_stands, stray_free_stands, request_stands, open_death_stands, stray_acknowledgement_stands, deaths_apart, open_clear_stands, stray_confirmation_stands, clears_apart}
+use Rattle.audit_findings.proofs.StandLaws.{no_buffers, no_clears, no_deaths, open_needs, open_stands, request_needs, request_stands, stray_needs, stray_stands}
 use Rattle.audit_findings.proofs.process_sections.ProcessSections.of.Goals as goal
 
 pub returns : goal.returns
 returns c wholes of rise =
     let events = events_of_wholes wholes in
-    let leaked = events_at _ events (stands_somewhere _ leaked_stands events) _ (c.in_ok-places_of.ensures leaked_stands leaked_needs wholes of rise) in
-    let strays = events_at _ events (stands_somewhere _ stray_free_stands events) _ (c.in_ok-places_of-2.ensures stray_free_stands stray_free_needs wholes of rise) in
+    let leaked_stand = open_stands buffer_pending_of pending_keeps in
+    let strays_stand = stray_stands buffer_pending_of pending_keeps in
+    let leaked = events_at _ events (stands_somewhere _ leaked_stand events) _
+    (c.in_ok-places_of.ensures leaked_stand (open_needs buffer_pending_of no_buffers) wholes of rise) in
+    let strays = events_at _ events (stands_somewhere _ strays_stand events) _
+    (c.in_ok-places_of-2.ensures strays_stand (stray_needs buffer_pending_of no_buffers) wholes of rise) in
     let standing = events_at _ events (stands_somewhere _ request_stands events) _ (c.in_ok-places_of-3.ensures request_stands request_needs wholes of rise) in
-    let deaths = c.in_ok-open_and_stray_of.ensures open_death_stands stray_acknowledgement_stands open_death_needs stray_acknowledgement_needs deaths_apart wholes of rise in
-    let clears = c.in_ok-open_and_stray_of-2.ensures open_clear_stands stray_confirmation_stands open_clear_needs stray_confirmation_needs clears_apart wholes of rise in
-    record {
-      handles = c.in_ok-handle_rows.ensures wholes of;
-      nodes = c.in_ok-node_rows.ensures wholes of;
+    let deaths = c.in_ok-open_and_stray_of.ensures death_keeps no_deaths wholes of rise in
+    let clears = c.in_ok-open_and_stray_of-2.ensures clear_keeps no_clears wholes of rise in
+    let said : ProcessSectionsText = record {
+      handles = c.in_ok-handles_of.field-0;
+      nodes = c.in_ok-nodes_of.field-0;
       leaked = leaked.0;
-      are_leaked = leaked.1;
-      leaked_kept = c.of.ensures ∙ leaked.2;
       stray_frees = strays.0;
-      are_stray_frees = strays.1;
-      stray_frees_kept = c.of-2.ensures ∙ strays.2;
       standing = standing.0;
-      are_standing = standing.1;
-      standing_kept = c.of-3.ensures ∙ standing.2;
       deaths = deaths.0;
-      are_deaths = deaths.2;
-      deaths_kept = deaths.1;
       clears = clears.0;
-      are_clears = clears.2;
-      clears_kept = clears.1;
-    }
+      oneway = c.in_ok-oneway_rows.field-0;
+    } in (
+      said,
+      record {
+        handles = c.in_ok-handles_of.ensures wholes of;
+        nodes = c.in_ok-nodes_of.ensures wholes of;
+        leaked = leaked.1;
+        stray_frees = strays.1;
+        standing = standing.1;
+        deaths = deaths.2;
+        clears = clears.2;
+        oneway = c.in_ok-oneway_rows.ensures wholes of;
+      },
+      record {
+        handles = refl;
+        nodes = refl;
+        leaked = c.of.ensures ∙ leaked.2;
+        stray_frees = c.of-2.ensures ∙ strays.2;
+        standing = c.of-3.ensures ∙ standing.2;
+        deaths = deaths.1;
+        clears = clears.1;
+        oneway = refl;
+      },
+    )

@@ -15,7 +15,7 @@ add-requires c =
     let fits = fit_behind views (event ∷ []) events (event_text event ∷ []) c.requires.1.1 refl c.requires.2 in (
       map fed_view views,
       c.requires.1.2,
-      subst (λ (t : Thread). FitThreads (map fed_view views ++ (t, event) ∷ [])) (sym c.of.ensures) fits,
+      subst (λ (t : Thread). FitThreads (map fed_view views ++ (t, event) ∷ [])) (sym c.of_thread.ensures) fits,
     )
 
 pub returns : goal.returns
@@ -26,10 +26,10 @@ returns c =
     let views = sums.0 in
     let fits = fit_behind views (event ∷ []) events (event_text event ∷ []) sums.1 refl few in
     let fed = adds (map fed_view views) sums.2
-    (subst (λ (t : Thread). FitThreads (map fed_view views ++ (t, event) ∷ [])) (sym c.of.ensures) fits) in (
+    (subst (λ (t : Thread). FitThreads (map fed_view views ++ (t, event) ∷ [])) (sym c.of_thread.ensures) fits) in (
       views ++ event ∷ [],
       views_behind views (event ∷ []) events (event_text event ∷ []) sums.1 refl,
       subst (SumsFedViews c.add.new.self.entries.entries) (sym (map-append fed_view views (event ∷ [])))
-          (subst (λ (t : Thread). SumsFedViews c.add.new.self.entries.entries (map fed_view views ++ (t, event) ∷ [])) c.of.ensures fed),
+          (subst (λ (t : Thread). SumsFedViews c.add.new.self.entries.entries (map fed_view views ++ (t, event) ∷ [])) c.of_thread.ensures fed),
     ))
     c.add.ensures

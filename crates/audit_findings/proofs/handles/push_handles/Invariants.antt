@@ -1,7 +1,0 @@
-use Rattle.std.proofs.Common.{◌≡◌, ◌++◌, map, take}
-use Rattle.audit_findings.specs.Handles.{process_handle}
-use Rattle.audit_findings.proofs.handles.push_handles.Given as goal
-
--- the rows so far are behind those that were there
-abbrev pub invariant-loop-row : goal.invariant-loop-row
-invariant-loop-row l = l.rows.items ≡ l.initial.rows.items ++ map (process_handle l.process) (take l.row-index l.row-items)

@@ -1,7 +1,0 @@
-use Rattle.audit_findings.proofs.ReferenceLaws.{NodesOf}
-use Rattle.audit_findings.proofs.TurnLaws.{Turning}
-use Rattle.audit_findings.proofs.nodes.node_rows.Given as goal
-
--- the rows are those of the entries before the rest, in turn
-abbrev pub invariant-loop-process : goal.invariant-loop-process
-invariant-loop-process l = Turning NodesOf l.fn.processes.entries.entries l.process-iterator l.rows.items
