@@ -34,3 +34,8 @@ pub mod ProcessLaws
 mod RecordCountLaws
 mod OnewayLaws
 mod OnewayCountLaws
+pub mod Listings
+pub mod CallListings
+pub mod PlaceListings
+pub mod RowListings
+mod SomeFindings
