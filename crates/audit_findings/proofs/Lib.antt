@@ -38,4 +38,5 @@ pub mod Listings
 pub mod CallListings
 pub mod PlaceListings
 pub mod RowListings
+mod SomeSections
 mod SomeFindings

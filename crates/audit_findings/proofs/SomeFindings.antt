@@ -7,6 +7,7 @@ use Rattle.audit_findings.specs.Frames.{wholes_of}
 use Rattle.audit_findings.proofs.CallListings.{some_openers}
 use Rattle.audit_findings.proofs.PlaceListings.{some_places}
 use Rattle.audit_findings.proofs.RowListings.{some_in_turn}
+use Rattle.audit_findings.proofs.SomeSections.{some_calls}
 
 pub some_findings : (capture : List ℕ) (wholes : List WholeFrame) → IsBytes capture → IsInGrammar capture wholes
     → (said : FindingsText) × AreFindings (wholes_of wholes) said
