@@ -39,4 +39,5 @@ pub mod CallListings
 pub mod PlaceListings
 pub mod RowListings
 mod SomeSections
+mod SomeObjects
 mod SomeFindings

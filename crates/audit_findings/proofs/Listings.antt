@@ -206,6 +206,6 @@ module _ {X : Type 0} (rank : X → ℕ) where
       λ x y at_x at_y same. one x y (listing.sound x at_x) (listing.sound y at_y) (exact_unsigned (rank x) (rank y) same) in (
         things,
         listed rank Is things (rises things (sorted_ascends by_rank (on_total rank nat_cmp_total) listing.list))
-        (λ x here. listing.sound x (in_sorted by_rank listing.list x here))
-        (λ x is. sorted_in by_rank listing.list exact x (listing.whole x is)),
+            (λ x here. listing.sound x (in_sorted by_rank listing.list x here))
+            (λ x is. sorted_in by_rank listing.list exact x (listing.whole x is)),
       )

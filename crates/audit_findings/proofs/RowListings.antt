@@ -93,15 +93,17 @@ module _ {K : Type 0} (cmp : K → K → Ordering) (laws : IsTotalOrder cmp) (ex
     made_rows {R} row_key make keyed things IsRow each =
         let named = named_keys things in
         let keys = sorted cmp named in
-        let is_key = is_named cmp key_of read things in
-        (map make keys, record {
-          rising = subst (IsStrictlySortedBy cmp) (sym (keys_back row_key make keyed keys)) (strictly_sorted cmp laws named);
-          named = All-map (λ (row : R). is_key (row_key row) ≡ true) make keys
-              (all_in (λ key. is_key (row_key (make key)) ≡ true) keys
-              (λ key here. ap is_key (keyed key) ∙ in_named things key (in_sorted cmp named key here)));
-          whole = λ key is. any_made row_key make keyed (eq_by_cmp cmp key) keys ∙ any_key named key (named_in things key is);
-          right = All-map IsRow make keys (all_in (λ key. IsRow (make key)) keys (λ key here. each key));
-        })
+        let is_key = is_named cmp key_of read things in (
+          map make keys,
+          record {
+            rising = subst (IsStrictlySortedBy cmp) (sym (keys_back row_key make keyed keys)) (strictly_sorted cmp laws named);
+            named = All-map (λ (row : R). is_key (row_key row) ≡ true) make keys
+                (all_in (λ key. is_key (row_key (make key)) ≡ true) keys
+                (λ key here. ap is_key (keyed key) ∙ in_named things key (in_sorted cmp named key here)));
+            whole = λ key is. any_made row_key make keyed (eq_by_cmp cmp key) keys ∙ any_key named key (named_in things key is);
+            right = All-map IsRow make keys (all_in (λ key. IsRow (make key)) keys (λ key here. each key));
+          },
+        )
 
   -- ---- a row for each key that items stand under
 
@@ -140,15 +142,17 @@ module _ {K : Type 0} (cmp : K → K → Ordering) (laws : IsTotalOrder cmp) (ex
       let keys = sorted cmp all in
       let make : K → K × ℕ × ℕ = λ key. (key, count_of cmp key items, sum_of cmp key items) in
       let row_key : K × ℕ × ℕ → K = λ row. row.0 in
-      let back : keys ≡ map row_key (map make keys) = sym (keys_back row_key make (λ key. refl) keys) in
-      (map make keys, record {
-        keys = subst (AreKeys cmp items) back (record {
-          rising = strictly_sorted cmp laws all;
-          came = all_in (λ key. 0 < count_of cmp key items) keys (λ key here. has_items items key (in_sorted cmp all key here));
-          whole = λ key some. any_key all key (items_has items key some);
-        });
-        right = All-map (IsTallyRow cmp items) make keys (all_in (λ key. IsTallyRow cmp items (make key)) keys (λ key here. record { count = refl; sum = refl }));
-      })
+      let back : keys ≡ map row_key (map make keys) = sym (keys_back row_key make (λ key. refl) keys) in (
+        map make keys,
+        record {
+          keys = subst (AreKeys cmp items) back (record {
+            rising = strictly_sorted cmp laws all;
+            came = all_in (λ key. 0 < count_of cmp key items) keys (λ key here. has_items items key (in_sorted cmp all key here));
+            whole = λ key some. any_key all key (items_has items key some);
+          });
+          right = All-map (IsTallyRow cmp items) make keys (all_in (λ key. IsTallyRow cmp items (make key)) keys (λ key here. record { count = refl; sum = refl }));
+        },
+      )
 
 -- ---- the rows of each process in turn
 

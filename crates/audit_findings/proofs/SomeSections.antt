@@ -76,9 +76,12 @@ some_calls events rise =
     } in (
       calls,
       served,
-      (openers, found.1,
+      (
+        openers,
+        found.1,
         record { answered = refl; failed = refl; unanswered = refl; rows = refl },
-        record { replied = refl; crossed = refl; left_open = refl; rows = refl }),
+        record { replied = refl; crossed = refl; left_open = refl; rows = refl },
+      ),
     )
 
 pub some_refused : (events : List EventText) → RiseInPlace events → (said : RefusedText) × AreRefused events said
@@ -165,15 +168,17 @@ some_codes words =
     let make : ℕ → CodeRow = λ word. record { word = word; count = count_by (λ other. eqb other word) words } in
     let row_word : CodeRow → ℕ = λ row. row.word in
     let back : map row_word (map make keys) ≡ keys = keys_back row_word make (λ word. refl) keys in
-    let Counted : CodeRow → Type 0 = λ row. (0 < row.count) × (row.count ≡ count_by (λ word. eqb word row.word) words) in
-    (map make keys, record {
-      rising = subst IsStrictlyIncreasing (sym back) (IsStrictlyIncreasing-from_sorted keys (strictly_sorted nat_cmp nat_cmp_total words));
-      counted = All-map Counted make keys
-          (all_in (λ word. Counted (make word)) keys (λ word here. (counted_once words word (in_sorted nat_cmp words word here), refl)));
-      whole = λ word there.
-          subst (λ (all : List ℕ). Contains all word) (sym back)
-          (contained keys word (key_in nat_cmp nat_cmp_total exact_unsigned words word (in_list words word there)));
-    })
+    let Counted : CodeRow → Type 0 = λ row. (0 < row.count) × (row.count ≡ count_by (λ word. eqb word row.word) words) in (
+      map make keys,
+      record {
+        rising = subst IsStrictlyIncreasing (sym back) (IsStrictlyIncreasing-from_sorted keys (strictly_sorted nat_cmp nat_cmp_total words));
+        counted = All-map Counted make keys
+            (all_in (λ word. Counted (make word)) keys (λ word here. (counted_once words word (in_sorted nat_cmp words word here), refl)));
+        whole = λ word there.
+            subst (λ (all : List ℕ). Contains all word) (sym back)
+            (contained keys word (key_in nat_cmp nat_cmp_total exact_unsigned words word (in_list words word there)));
+      },
+    )
 
 pub some_record_counts : (words : List ℕ) → (counts : RecordCounts) × AreRecordCounts words counts
 some_record_counts words =
