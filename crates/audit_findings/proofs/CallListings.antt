@@ -1,8 +1,8 @@
 -- The openers, the strays and the refused sends of judged events, each listed, and those of all threads.
-use Rattle.std.proofs.Common.{◌≡◌, ℕ, ◌+◌, ◌<◌, ◌⊎◌, inl, inr, Bool, true, cond, eqb, ◌&&◌, Option, Some, None, refl, sym, ap, ap₂, subst, ◌∙◌, arith}
+use Rattle.std.proofs.Common.{◌≡◌, ℕ, ◌+◌, ◌<◌, inl, inr, Bool, eqb, ◌&&◌, Option, Some, None, refl, sym, ap, ap₂, subst, ◌∙◌, arith}
 use Rattle.std.proofs.Common.{List, [], ◌∷◌, map, filter}
 use Rattle.std.specs.List.{enumerate_from}
-use Rattle.std.specs.Prelude.{Contains, slice_get}
+use Rattle.std.specs.Prelude.{slice_get}
 use Rattle.std.proofs.lemmas.Bool.{and_parts, eqb-true}
 use Rattle.event_core.specs.Events.{EventText}
 use Rattle.call_stacks.specs.Calls.{Reads, JudgedOf, OpenerOf, RefusedOf, bracket_read, judged_of, sides_of, verdict_read}
@@ -18,7 +18,7 @@ use Rattle.call_stacks.proofs.Numbered.{numbered, match_of, has_match, unmatched
 use Rattle.call_stacks.proofs.Retold.{stands_judged}
 use Rattle.pending_ledger.proofs.ListLaws.{one_place}
 use Rattle.summary_law.specs.Fits.{PlacesRise}
-use Rattle.audit_findings.specs.Calls.{CallsText, ServedText, RefusedText, AreOpeners, AreCallFindings, AreStrays, AreSends, AreRefused, judged_in_thread, text_reads}
+use Rattle.audit_findings.specs.Calls.{AreOpeners, AreStrays, AreSends, judged_in_thread, text_reads}
 use Rattle.audit_findings.specs.Places.{RiseInPlace}
 use Rattle.audit_findings.specs.Threads.{same_thread, thread_of}
 use Rattle.audit_findings.proofs.Listings.{Listing, in_kept, kept_in, listing_as, of_each, in_order}

@@ -40,4 +40,4 @@ pub mod PlaceListings
 pub mod RowListings
 mod SomeSections
 mod SomeObjects
-mod SomeFindings
+pub mod SomeFindings

@@ -1,5 +1,5 @@
 -- Lists of all that something holds of, and the same in rising order.
-use Rattle.std.proofs.Common.{◌≡◌, ℕ, ◌<◌, ◌⊎◌, inl, inr, Bool, true, false, cond, List, [], ◌∷◌, ◌++◌, map, filter, refl, sym, ap, subst, ◌∙◌}
+use Rattle.std.proofs.Common.{◌≡◌, ℕ, ◌⊎◌, inl, inr, Bool, true, false, cond, List, [], ◌∷◌, ◌++◌, filter, refl, sym, ap, subst, ◌∙◌}
 use Rattle.std.specs.Cmp.{IsTotalOrder}
 use Rattle.std.specs.List.{flat_map, AllByRecursion}
 use Rattle.std.specs.List.Sorted.{IsStrictlySortedBy}
@@ -9,7 +9,7 @@ use Rattle.std.specs.declared.cmp.Ordering.TheVariants.{Less, Equal, Greater}
 use Rattle.std.proofs.lemmas.Cmp.{nat_cmp_total, on_total, ranked}
 use Rattle.std.proofs.lemmas.Map.Lookups.{exact_unsigned}
 use Rattle.call_stacks.specs.Matching.{ListsInOrder}
-use Rattle.call_stacks.proofs.Members.{In, in-map, map-in, Rises, listed}
+use Rattle.call_stacks.proofs.Members.{In, Rises, listed}
 
 -- a list of all that something holds of, in some order, and perhaps more than once
 pub record Listing {X : Type 0} (Is : X → Type 0) : Type 0 where

@@ -1,10 +1,8 @@
 -- The places of the outstanding opens, of the stray closes and of the standing requests of a list of items, each listed,
 -- and those of all processes.
-use Rattle.std.proofs.Common.{◌≡◌, ◌≢◌, ℕ, ◌+◌, ◌<◌, ◌⊎◌, inl, inr, Bool, true, false, cond, not, ◌&&◌, eqb, Option, Some, None, refl, sym, ap, subst, ◌∙◌, arith}
-use Rattle.std.proofs.Common.{List, [], ◌∷◌, ◌++◌, length, map, append_assoc}
+use Rattle.std.proofs.Common.{◌≡◌, ◌≢◌, ℕ, ◌+◌, ◌⊎◌, inl, inr, Bool, true, false, cond, not, ◌&&◌, eqb, Option, Some, None, refl, sym, ap, subst, ◌∙◌, arith}
+use Rattle.std.proofs.Common.{List, [], ◌∷◌, ◌++◌, append_assoc}
 use Rattle.std.specs.List.{cons_option, last_or, list_any}
-use Rattle.std.specs.Ordering.{eq_by_cmp, nat_cmp}
-use Rattle.std.specs.Prelude.{Contains}
 use Rattle.std.proofs.lemmas.Bool.{and_parts, eqb-true, not-true}
 use Rattle.std.proofs.lemmas.List.{append-nil}
 use Rattle.event_core.specs.Events.{EventText}
@@ -15,7 +13,7 @@ use Rattle.event_core.specs.declared.request.RequestChange.{RequestChange}
 use Rattle.event_core.specs.declared.request.RequestChange.TheVariants.{Request, Clear, Dead}
 use Rattle.event_core.specs.declared.request.RequestItem.{RequestItem}
 use Rattle.event_core.specs.declared.request.RequestKey.{RequestKey}
-use Rattle.call_stacks.proofs.Members.{In, in_list, contained}
+use Rattle.call_stacks.proofs.Members.{In}
 use Rattle.pending_ledger.specs.Pending.{ArePlacesOf, IsOutstanding, IsStray, closes, changes_of, is_close, place_of}
 use Rattle.pending_ledger.specs.Requests.{IsStanding, ends, request_place}
 use Rattle.audit_findings.specs.Processes.{items_of_process}

@@ -1,12 +1,11 @@
 -- Rows in rising order of their keys: one for each key of a list, and the rows of each process in turn.
-use Rattle.std.proofs.Common.{◌≡◌, ℕ, ◌+◌, ◌<◌, ◌⊎◌, inl, inr, Bool, true, false, cond, ◌||◌, eqb, Option, Some, None, refl, sym, ap, ap₂, subst, ◌∙◌, arith}
-use Rattle.std.proofs.Common.{List, [], ◌∷◌, ◌++◌, length, map, All, filter_map, append_assoc}
+use Rattle.std.proofs.Common.{◌≡◌, ℕ, ◌<◌, inl, inr, Bool, true, false, cond, ◌||◌, Option, Some, None, refl, sym, ap, ap₂, subst, ◌∙◌, arith}
+use Rattle.std.proofs.Common.{List, [], ◌∷◌, length, map, All, filter_map}
 use Rattle.std.specs.Cmp.{IsTotalOrder}
 use Rattle.std.specs.List.{AllZip, cons_option, flat_map, list_any}
 use Rattle.std.specs.List.Sorted.{IsStrictlySortedBy}
 use Rattle.std.specs.Option.{option_map, option_map_or}
 use Rattle.std.specs.Ordering.{eq_by_cmp}
-use Rattle.std.specs.Prelude.{Contains}
 use Rattle.std.specs.declared.cmp.Ordering.{Ordering}
 use Rattle.std.proofs.lemmas.Bool.{or_cases, or_left, or_right}
 use Rattle.std.proofs.lemmas.Cmp.{eq_by_cmp_equiv}

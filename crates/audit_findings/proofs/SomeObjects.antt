@@ -1,11 +1,11 @@
 -- The attachments of a capture of bytes have their objects.
 use Rattle.std.proofs.Common.{◌≡◌, ℕ, ◌+◌, inl, inr, Bool, true, false, cond, Option, Some, None, refl, sym, ap, subst, ◌∙◌}
-use Rattle.std.proofs.Common.{List, [], ◌∷◌, ◌++◌, length, map}
+use Rattle.std.proofs.Common.{List, [], ◌∷◌, ◌++◌, length}
 use Rattle.std.specs.List.{find, flat_map}
-use Rattle.std.specs.Option.{option_map, unwrap_or}
+use Rattle.std.specs.Option.{option_map}
 use Rattle.std.proofs.lemmas.List.{append-nil, drop_at}
 use Rattle.std.proofs.lemmas.List.Elements.{All-cons, All-nil}
-use Rattle.capture_frame.specs.Envelope.{FrameText, attachments_place, file_header, frame_bytes}
+use Rattle.capture_frame.specs.Envelope.{attachments_place, file_header, frame_bytes}
 use Rattle.capture_frame.specs.Units.{AllStand, IsBytes, Placed, placed, placed_at}
 use Rattle.capture_frame.proofs.NumberLaws.{IsBytes-drop}
 use Rattle.object_view.specs.declared.sort.Sort.{Sort}
@@ -15,7 +15,7 @@ use Rattle.object_view.proofs.ListLaws.{some_objects}
 use Rattle.transaction_view.specs.Attachments.{EntryText, HasEntries, entry_bytes}
 use Rattle.transaction_view.specs.Grammar.{WholeFrame, IsInGrammar, whole_format}
 use Rattle.transaction_view.proofs.GrammarLaws.{IsBytes-front, IsBytes-attachments}
-use Rattle.event_core.specs.Events.{AttachmentText, EventText, attachment_of, attachment_text, belongs_to, event_of, events_of_whole, placed_entries, placed_records}
+use Rattle.event_core.specs.Events.{AttachmentText, EventText, attachment_of, attachment_text, belongs_to, event_of, events_of_whole, placed_records}
 use Rattle.call_stacks.proofs.Members.{In, in_list, contained, in-map}
 use Rattle.pending_ledger.proofs.ListLaws.{contains_read}
 use Rattle.audit_findings.specs.declared.sort_counts.SortCounts.{SortCounts}
