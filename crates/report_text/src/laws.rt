@@ -1,6 +1,7 @@
 //! Laws of the definitions, as contracts of functions that do nothing.
 
-ghost use Rattle.report_text.specs.Laws.{HasOneText, HasOneLine, HasNoTwoAnswers, HasExactlyOneText, HasExactlyOneLine};
+ghost use Rattle.report_text.specs.Laws.{HasOneText, HasOneLine, HasNoTwoAnswers};
+ghost use Rattle.report_text.specs.Laws.{HasExactlyOneText, HasExactlyOneLine};
 
 /// A capture has one text, whatever frames and findings are chosen for it: one report or one fault
 /// line, and never both. And it has one line of `first-fault`.
