@@ -1,5 +1,5 @@
 -- The openers, the strays and the refused sends of judged events, each listed, and those of all threads.
-use Rattle.std.proofs.Common.{◌≡◌, ℕ, ◌+◌, ◌<◌, inl, inr, Bool, eqb, ◌&&◌, Option, Some, None, refl, sym, ap, ap₂, subst, ◌∙◌, arith}
+use Rattle.std.proofs.Common.{◌≡◌, ℕ, ◌+◌, inl, inr, Bool, eqb, ◌&&◌, Option, Some, None, refl, sym, ap, ap₂, subst, ◌∙◌}
 use Rattle.std.proofs.Common.{List, [], ◌∷◌, map, filter}
 use Rattle.std.specs.List.{enumerate_from}
 use Rattle.std.specs.Prelude.{slice_get}
@@ -12,7 +12,7 @@ use Rattle.call_stacks.specs.Verdicts.{side_of}
 use Rattle.call_stacks.specs.declared.verdict.Verdict.{Verdict}
 use Rattle.call_stacks.specs.declared.verdict.Verdict.TheVariants.{Open}
 use Rattle.call_stacks.proofs.Lists.{judged_events, openers_rise}
-use Rattle.call_stacks.proofs.Members.{In, in_list, contained, in-map, map-in, in_get, get_in, Rises, rises_from_pairs, rises-map, map-rises}
+use Rattle.call_stacks.proofs.Members.{In, in_list, contained, in-map, map-in, in_get, get_in, Rises, rises_from_pairs, pairs_from_rises, rises-map, map-rises}
 use Rattle.call_stacks.proofs.Model.{strays, openers}
 use Rattle.call_stacks.proofs.Numbered.{numbered, match_of, has_match, unmatched_of, has_unmatched, stray_in, has_stray, side_there}
 use Rattle.call_stacks.proofs.Retold.{stands_judged}
@@ -24,20 +24,9 @@ use Rattle.audit_findings.specs.Threads.{same_thread, thread_of}
 use Rattle.audit_findings.proofs.Listings.{Listing, in_kept, kept_in, listing_as, of_each, in_order}
 use Rattle.audit_findings.proofs.Rising.{rising_kept}
 
--- ---- things of different ranks
-
 one_of_rank : {X : Type 0} (rank : X → ℕ) (xs : List X) → Rises rank xs → (a b : X) → In a xs → In b xs → rank a ≡ rank b → a ≡ b
-one_of_rank rank [] rises a b at_a at_b same = absurd at_a
-one_of_rank rank (x ∷ xs) rises a b (inl is) (inl is_too) same = is ∙ sym is_too
-one_of_rank rank (x ∷ xs) rises a b (inl is) (inr there) same =
-    let above : rank x < rank b = rises.0 b there in
-    let here : rank a ≡ rank x = ap rank is in
-    absurd (omega arith)
-one_of_rank rank (x ∷ xs) rises a b (inr there) (inl is) same =
-    let above : rank x < rank a = rises.0 a there in
-    let here : rank b ≡ rank x = ap rank is in
-    absurd (omega arith)
-one_of_rank rank (x ∷ xs) rises a b (inr there) (inr there_too) same = one_of_rank rank xs rises.1 a b there there_too same
+one_of_rank rank xs rises a b at_a at_b same =
+    one_place rank xs (pairs_from_rises rank xs rises) a b (contained xs a at_a) (contained xs b at_b) same
 
 -- ---- judged events
 
