@@ -28,3 +28,10 @@ pub mod TurnLaws
 mod RecordCountLaws
 mod OnewayCountLaws
 mod NoRows
+pub mod Listings
+pub mod CallListings
+pub mod PlaceListings
+pub mod RowListings
+mod SomeSections
+mod SomeObjects
+pub mod SomeFindings

@@ -6,4 +6,5 @@ pub mod ObjectOwners
 pub mod CallEvents
 pub mod SameRows
 pub mod OneText
+mod SomeText
 pub mod Vectors

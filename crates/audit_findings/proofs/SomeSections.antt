@@ -1,0 +1,280 @@
+-- Each section of a report has what is asked of it.
+use Rattle.std.proofs.Common.{◌≡◌, ℕ, ℤ, zero, suc, pos, negsuc, ◌+◌, ◌<◌, ◌≤◌, ◌⊎◌, inl, inr, Bool, not, ◌&&◌, eqb, Option, refl, sym, ap, subst, arith}
+use Rattle.std.proofs.Common.{List, [], ◌∷◌, ◌++◌, length, map, filter, take, append_assoc}
+use Rattle.std.specs.Cmp.{IsTotalOrder}
+use Rattle.std.specs.List.Sorted.{IsStrictlyIncreasing}
+use Rattle.std.specs.Ordering.{eq_by_cmp, nat_cmp}
+use Rattle.std.specs.Prelude.{Contains, count_by, ◌+ℤ◌, ◌≤ℤ◌}
+use Rattle.std.proofs.lemmas.Bool.{eq-eqb}
+use Rattle.std.proofs.lemmas.Cmp.{nat_cmp_total, on_total, then_total}
+use Rattle.std.proofs.lemmas.Int.{ints, by_lt_z}
+use Rattle.std.proofs.lemmas.List.{append-nil}
+use Rattle.std.proofs.lemmas.List.Elements.{All-map}
+use Rattle.std.proofs.lemmas.List.Sums.{length-filter}
+use Rattle.std.proofs.lemmas.Map.Keys.{IsStrictlyIncreasing-from_sorted}
+use Rattle.std.proofs.lemmas.Map.Lookups.{CmpEqualImpliesEq, exact_unsigned, exact_pairs}
+use Rattle.binder_code.specs.declared.record_kind.Kind.TheVariants.{BcFreeBuffer, BcRequestDeathNotification, BcClearDeathNotification, BrTransaction, BrTransactionSecCtx, BrReply, BrDeadBinder}
+use Rattle.capture_frame.specs.Units.{Placed}
+use Rattle.transaction_view.specs.Grammar.{WholeFrame}
+use Rattle.event_core.specs.Events.{EventText}
+use Rattle.event_core.specs.declared.node.NodeKey.{NodeKey}
+use Rattle.event_core.specs.declared.pending.PendingItem.{PendingItem}
+use Rattle.event_core.specs.declared.strength.Strength.TheVariants.{Strong, Weak}
+use Rattle.call_stacks.proofs.Members.{In, in_list, contained}
+use Rattle.handle_ledger.specs.Handles.{AreHandleRows, IsHandleRow, change_at_handle, handle_of}
+use Rattle.handle_ledger.specs.Nodes.{AreNodeRows, IsNodeRow, change_at_node, due_at_node, node_cmp, node_of}
+use Rattle.handle_ledger.specs.declared.handle_row.HandleRow.{HandleRow}
+use Rattle.handle_ledger.specs.declared.node_row.NodeRow.{NodeRow}
+use Rattle.pending_ledger.specs.Pending.{IsOutstanding, IsStray}
+use Rattle.pending_ledger.specs.Requests.{IsStanding}
+use Rattle.summary_law.proofs.CountLaws.{raised_counts, lowered_counts, kept_counts}
+use Rattle.summary_law.specs.Count.{Change, raises, lowers, keeps, total, IsCount, CountsOneMore}
+use Rattle.summary_law.specs.declared.count.Count.{Count}
+use Rattle.audit_findings.specs.declared.codes.CodeRow.{CodeRow}
+use Rattle.audit_findings.specs.declared.handles.ProcessHandle.{ProcessHandle}
+use Rattle.audit_findings.specs.declared.nodes.ProcessNode.{ProcessNode}
+use Rattle.audit_findings.specs.declared.record_counts.RecordCounts.{RecordCounts}
+use Rattle.audit_findings.specs.Buffers.{AreLeaked, AreStrayFrees, buffer_pending_of}
+use Rattle.audit_findings.specs.Calls.{CallsText, ServedText, RefusedText, AreCallFindings, AreRefused, is_call, is_answered, is_failed, is_replied, is_crossed, is_open, is_unanswered}
+use Rattle.audit_findings.specs.Clears.{AreClearFindings, clear_item_of}
+use Rattle.audit_findings.specs.Codes.{AreCodeRows}
+use Rattle.audit_findings.specs.Deaths.{AreDeathFindings, death_item_of}
+use Rattle.audit_findings.specs.Frames.{events_of_wholes}
+use Rattle.audit_findings.specs.Handles.{AreHandleFindings, AreHandlesOf, handle_item_of, process_handle}
+use Rattle.audit_findings.specs.Nodes.{AreNodeFindings, AreNodesOf, node_item_of, process_node}
+use Rattle.audit_findings.specs.Oneway.{OnewayText, AreOnewayFindings, AreOnewayOf, oneway_cmp, oneway_item_of, oneway_pair, process_oneway, sent_count, received_count}
+use Rattle.audit_findings.specs.Places.{AreEventsAt, AreOpenAndStray, IsCountOfPlaces, IsOpenStill, IsStrayClose, OpenAndStrayText, RiseInPlace}
+use Rattle.audit_findings.specs.Processes.{items_of_process, processes_of, read_of}
+use Rattle.audit_findings.specs.RecordCounts.{AreRecordCounts, times}
+use Rattle.audit_findings.specs.Requests.{AreStandingRequests, IsStandingRequest, request_item_of}
+use Rattle.audit_findings.proofs.CallListings.{some_openers, some_sends}
+use Rattle.audit_findings.proofs.EventsAt.{HasEventAt, events_at, stands_somewhere}
+use Rattle.audit_findings.proofs.Listings.{Listing, either, kept_in, sorted, in_sorted, strictly_sorted}
+use Rattle.audit_findings.proofs.OnewayLaws.{oneway_cmp_total, oneway_cmp_exact}
+use Rattle.audit_findings.proofs.PlaceListings.{outstanding_listing, stray_listing, standing_listing, of_processes, some_places}
+use Rattle.audit_findings.proofs.RowListings.{all_in, key_in, keys_back, made_rows, some_in_turn, tally_rows}
+use Rattle.audit_findings.proofs.StandLaws.{leaked_stands, stray_free_stands, open_death_stands, stray_acknowledgement_stands, open_clear_stands, stray_confirmation_stands, request_stands}
+
+-- ---- calls
+
+pub some_calls : (events : List EventText) → RiseInPlace events → (calls : CallsText) × (served : ServedText) × AreCallFindings events calls served
+some_calls events rise =
+    let found = some_openers events rise in
+    let openers = found.0 in
+    let calls : CallsText = record {
+      answered = count_by (λ o. is_call o && is_answered o.verdict) openers;
+      failed = count_by (λ o. is_call o && is_failed o.verdict) openers;
+      unanswered = count_by (λ o. is_call o && is_unanswered o.verdict) openers;
+      rows = filter (λ o. is_call o && not (is_answered o.verdict)) openers;
+    } in
+    let served : ServedText = record {
+      replied = count_by (λ o. not (is_call o) && is_replied o.verdict) openers;
+      crossed = count_by (λ o. not (is_call o) && is_crossed o.verdict) openers;
+      left_open = count_by (λ o. not (is_call o) && is_open o.verdict) openers;
+      rows = filter (λ o. not (is_call o) && not (is_replied o.verdict)) openers;
+    } in (
+      calls,
+      served,
+      (
+        openers,
+        found.1,
+        record { answered = refl; failed = refl; unanswered = refl; rows = refl },
+        record { replied = refl; crossed = refl; left_open = refl; rows = refl },
+      ),
+    )
+
+pub some_refused : (events : List EventText) → RiseInPlace events → (said : RefusedText) × AreRefused events said
+some_refused events rise =
+    let found = some_sends events rise in
+    let said : RefusedText = record { oneway = count_by (λ s. s.oneway) found.0; rows = map (λ s. s.event) found.0 } in
+    (said, (found.0, found.1, refl, refl))
+
+-- ---- rows that are events
+
+some_events : (IsSo : ℕ → Type 0) (events : List EventText) → Listing IsSo → ((place : ℕ) → IsSo place → HasEventAt events place)
+    → (said : List EventText) × AreEventsAt IsSo events said
+some_events IsSo events listing stands =
+    let places = some_places IsSo listing in
+    let found = events_at IsSo events stands places.0 places.1 in
+    (found.0, found.1)
+
+some_number : (IsSo : ℕ → Type 0) → Listing IsSo → (count : ℕ) × IsCountOfPlaces IsSo count
+some_number IsSo listing = let places = some_places IsSo listing in (length places.0, (places.0, places.1, refl))
+
+some_open_and_stray : (IsOpen IsClose : ℕ → Type 0) (events : List EventText) → Listing IsOpen → Listing IsClose
+    → ((place : ℕ) → IsOpen place → HasEventAt events place) → ((place : ℕ) → IsClose place → HasEventAt events place)
+    → (said : OpenAndStrayText) × AreOpenAndStray IsOpen IsClose events said
+some_open_and_stray IsOpen IsClose events opens closes open_stands close_stands =
+    let unclosed = some_number IsOpen opens in
+    let strays = some_number IsClose closes in
+    let rows = some_events (λ place. IsOpen place ⊎ IsClose place) events (either IsOpen IsClose opens closes)
+    (λ place is. elim is [ inl one ↦ open_stands place one | inr other ↦ close_stands place other ]) in
+    let said : OpenAndStrayText = record { unclosed = unclosed.0; strays = strays.0; rows = rows.0 } in
+    (said, record { unclosed = unclosed.1; strays = strays.1; rows = rows.1 })
+
+no_split : {I : Type 0} (earlier : List I) (item : I) (later : List I) → [] ≡ earlier ++ item ∷ later → ⊥
+no_split [] item later is = let no : ⊥ = cc in no
+no_split (first ∷ earlier) item later is = let no : ⊥ = cc in no
+
+opens_of : (read : EventText → Option (PendingItem ℕ)) (events : List EventText) → Listing (IsOpenStill read events)
+opens_of read =
+    of_processes read (IsOutstanding (eq_by_cmp nat_cmp)) (outstanding_listing (eq_by_cmp nat_cmp)) (λ at is. no_split is.earlier is.item is.later is.split)
+
+closes_of : (read : EventText → Option (PendingItem ℕ)) (events : List EventText) → Listing (IsStrayClose read events)
+closes_of read =
+    of_processes read (IsStray (eq_by_cmp nat_cmp)) (stray_listing (eq_by_cmp nat_cmp)) (λ at is. no_split is.earlier is.item is.later is.split)
+
+pub some_leaked : (events : List EventText) → (said : List EventText) × AreLeaked events said
+some_leaked events =
+    some_events (IsOpenStill buffer_pending_of events) events (opens_of buffer_pending_of events) (stands_somewhere _ leaked_stands events)
+
+pub some_stray_frees : (events : List EventText) → (said : List EventText) × AreStrayFrees events said
+some_stray_frees events =
+    some_events (IsStrayClose buffer_pending_of events) events (closes_of buffer_pending_of events) (stands_somewhere _ stray_free_stands events)
+
+pub some_standing : (events : List EventText) → (said : List EventText) × AreStandingRequests events said
+some_standing events =
+    some_events (IsStandingRequest events) events
+    (of_processes request_item_of IsStanding standing_listing (λ at is. no_split is.earlier is.item is.later is.split) events)
+    (stands_somewhere _ request_stands events)
+
+pub some_deaths : (events : List EventText) → (said : OpenAndStrayText) × AreDeathFindings events said
+some_deaths events =
+    some_open_and_stray (IsOpenStill death_item_of events) (IsStrayClose death_item_of events) events (opens_of death_item_of events)
+    (closes_of death_item_of events) (stands_somewhere _ open_death_stands events) (stands_somewhere _ stray_acknowledgement_stands events)
+
+pub some_clears : (events : List EventText) → (said : OpenAndStrayText) × AreClearFindings events said
+some_clears events =
+    some_open_and_stray (IsOpenStill clear_item_of events) (IsStrayClose clear_item_of events) events (opens_of clear_item_of events)
+    (closes_of clear_item_of events) (stands_somewhere _ open_clear_stands events) (stands_somewhere _ stray_confirmation_stands events)
+
+-- ---- code words
+
+some_there : {X : Type 0} (xs : List X) (x : X) → In x xs → 0 < length xs
+some_there [] x here = absurd here
+some_there (y ∷ xs) x here = omega arith
+
+-- a word that stands there is counted
+counted_once : (words : List ℕ) (word : ℕ) → In word words → 0 < count_by (λ other. eqb other word) words
+counted_once words word here =
+    let test : ℕ → Bool = λ other. eqb other word in
+    let some = some_there (filter test words) word (kept_in test words word here (eq-eqb word word refl)) in
+    omega (arith, length-filter test words)
+
+pub some_codes : (words : List ℕ) → (rows : List CodeRow) × AreCodeRows words rows
+some_codes words =
+    let keys = sorted nat_cmp words in
+    let make : ℕ → CodeRow = λ word. record { word = word; count = count_by (λ other. eqb other word) words } in
+    let row_word : CodeRow → ℕ = λ row. row.word in
+    let back : map row_word (map make keys) ≡ keys = keys_back row_word make (λ word. refl) keys in
+    let Counted : CodeRow → Type 0 = λ row. (0 < row.count) × (row.count ≡ count_by (λ word. eqb word row.word) words) in (
+      map make keys,
+      record {
+        rising = subst IsStrictlyIncreasing (sym back) (IsStrictlyIncreasing-from_sorted keys (strictly_sorted nat_cmp nat_cmp_total words));
+        counted = All-map Counted make keys
+            (all_in (λ word. Counted (make word)) keys (λ word here. (counted_once words word (in_sorted nat_cmp words word here), refl)));
+        whole = λ word there.
+            subst (λ (all : List ℕ). Contains all word) (sym back)
+            (contained keys word (key_in nat_cmp nat_cmp_total exact_unsigned words word (in_list words word there)));
+      },
+    )
+
+pub some_record_counts : (words : List ℕ) → (counts : RecordCounts) × AreRecordCounts words counts
+some_record_counts words =
+    let counts : RecordCounts = record {
+      deliveries = times BrTransaction words + times BrTransactionSecCtx words + times BrReply words;
+      frees = times BcFreeBuffer words;
+      requests = times BcRequestDeathNotification words;
+      deaths = times BrDeadBinder words;
+      clears = times BcClearDeathNotification words;
+    } in
+    (counts, record { deliveries = refl; frees = refl; requests = refl; deaths = refl; clears = refl })
+
+-- ---- counts
+
+one_more : (change : Change) (old : Count) → (new : Count) × CountsOneMore change old new
+one_more raises old =
+    let new : Count = record { sum = old.sum +ℤ pos 1; low = old.low } in
+    (new, raised_counts old new refl refl)
+one_more lowers old =
+    let sum : ℤ = old.sum +ℤ negsuc 0 in
+    by_lt_z {P = (new : Count) × CountsOneMore lowers old new} sum old.low
+    (λ below.
+    let new : Count = record { sum = sum; low = sum } in
+    (new, lowered_counts old new refl (inr refl) (omega (arith, ints, below)) (omega (arith, ints))))
+    (λ above.
+    let new : Count = record { sum = sum; low = old.low } in
+    (new, lowered_counts old new refl (inl refl) (omega (arith, ints)) (omega (arith, ints, above))))
+one_more keeps old = (old, kept_counts old)
+
+counted_behind : (done changes : List Change) (count : Count) → IsCount count done → (new : Count) × IsCount new (done ++ changes)
+counted_behind done [] count is = (count, subst (IsCount count) (sym (append-nil done)) is)
+counted_behind done (change ∷ changes) count is =
+    let next = one_more change count in
+    let rest = counted_behind (done ++ change ∷ []) changes next.0 (next.1 done is) in
+    (rest.0, subst (IsCount rest.0) (append_assoc done (change ∷ []) changes) rest.1)
+
+none_least : (n : ℕ) → n ≤ 0 → pos 0 ≤ℤ total (take n [])
+none_least zero within = omega (arith, ints)
+none_least (suc n) within = absurd (omega arith)
+
+some_count : (changes : List Change) → (count : Count) × IsCount count changes
+some_count changes =
+    let none : Count = record { sum = pos 0; low = pos 0 } in
+    counted_behind [] changes none (record { sum = refl; reached = (0, omega arith, refl); least = none_least })
+
+-- ---- handles and nodes
+
+handle_rows : (process : ℕ) (events : List EventText) → (rows : List HandleRow) × AreHandleRows (read_of handle_item_of process) events rows
+handle_rows process events =
+    let read = read_of handle_item_of process in
+    let strong = λ (handle : ℕ). some_count (map (change_at_handle read handle Strong) events) in
+    let weak = λ (handle : ℕ). some_count (map (change_at_handle read handle Weak) events) in
+    let make : ℕ → HandleRow = λ handle. record { handle = handle; strong = (strong handle).0; weak = (weak handle).0 } in
+    made_rows nat_cmp nat_cmp_total exact_unsigned handle_of read (λ (row : HandleRow). row.handle) make (λ handle. refl) events (IsHandleRow read events)
+    (λ handle. record { strong = (strong handle).1; weak = (weak handle).1 })
+
+node_cmp_total : IsTotalOrder node_cmp
+node_cmp_total = then_total (on_total (λ (key : NodeKey). key.ptr) nat_cmp_total) (on_total (λ (key : NodeKey). key.cookie) nat_cmp_total)
+
+node_cmp_exact : CmpEqualImpliesEq node_cmp
+node_cmp_exact x y same =
+    let both = exact_pairs nat_cmp nat_cmp exact_unsigned exact_unsigned (x.ptr, x.cookie) (y.ptr, y.cookie) same in
+    ap (λ (key : ℕ × ℕ). record { ptr = key.0; cookie = key.1 }) both
+
+node_rows : (process : ℕ) (events : List EventText) → (rows : List NodeRow) × AreNodeRows (read_of node_item_of process) events rows
+node_rows process events =
+    let read = read_of node_item_of process in
+    let strong = λ (key : NodeKey). some_count (map (change_at_node read key Strong) events) in
+    let weak = λ (key : NodeKey). some_count (map (change_at_node read key Weak) events) in
+    let make : NodeKey → NodeRow = λ key. record {
+      key = key;
+      strong = (strong key).0;
+      weak = (weak key).0;
+      strong_due = total (map (due_at_node read key Strong) events);
+      weak_due = total (map (due_at_node read key Weak) events);
+    } in
+    made_rows node_cmp node_cmp_total node_cmp_exact node_of read (λ (row : NodeRow). row.key) make (λ key. refl) events (IsNodeRow read events)
+    (λ key. record { strong = (strong key).1; weak = (weak key).1; strong_due = refl; weak_due = refl })
+
+pub some_handles : (wholes : List (Placed WholeFrame)) → (rows : List ProcessHandle) × AreHandleFindings wholes rows
+some_handles wholes =
+    let events = events_of_wholes wholes in
+    some_in_turn (AreHandlesOf events)
+    (λ process. let own = handle_rows process events in (map (process_handle process) own.0, (own.0, own.1, refl))) (processes_of wholes)
+
+pub some_nodes : (wholes : List (Placed WholeFrame)) → (rows : List ProcessNode) × AreNodeFindings wholes rows
+some_nodes wholes =
+    let events = events_of_wholes wholes in
+    some_in_turn (AreNodesOf events)
+    (λ process. let own = node_rows process events in (map (process_node process) own.0, (own.0, own.1, refl))) (processes_of wholes)
+
+pub some_oneway : (wholes : List (Placed WholeFrame)) → (said : OnewayText) × AreOnewayFindings wholes said
+some_oneway wholes =
+    let events = events_of_wholes wholes in
+    let rows = some_in_turn (AreOnewayOf events)
+    (λ process.
+    let own = tally_rows oneway_cmp oneway_cmp_total oneway_cmp_exact (map oneway_pair (items_of_process oneway_item_of process events)) in
+    (map (process_oneway process) own.0, (own.0, own.1, refl))) (processes_of wholes) in
+    let said : OnewayText = record { sent = sent_count events; received = received_count events; rows = rows.0 } in
+    (said, record { sent = refl; received = refl; rows = rows.1 })

@@ -1,0 +1,28 @@
+-- Every list of bytes has a text, and a line of `first-fault`.
+use Rattle.std.proofs.Common.{◌⊎◌, inl, inr, ℕ, List, refl}
+use Rattle.capture_frame.specs.declared.fault.Fault.{Fault}
+use Rattle.capture_frame.specs.Units.{IsBytes}
+use Rattle.capture_frame.proofs.CaptureLaws.{capture_outcome}
+use Rattle.transaction_view.specs.Grammar.{IsReadable, HasFirstFault, whole_format}
+use Rattle.transaction_view.proofs.GrammarLaws.{whole_decided}
+use Rattle.audit_findings.proofs.SomeFindings.{some_findings}
+use Rattle.report_text.specs.Answers.{IsTextOf, report, malformed, IsLineOn, none, named}
+use Rattle.report_text.specs.Fault.{fault_line, no_fault_line}
+use Rattle.report_text.specs.Text.{report_text}
+
+readable_or_faulty : (capture : List ℕ) → IsBytes capture → IsReadable capture ⊎ ((fault : Fault) × HasFirstFault capture fault)
+readable_or_faulty capture h = capture_outcome whole_format whole_decided capture h
+
+pub some_text : (capture : List ℕ) → IsBytes capture → (text : List ℕ) × IsTextOf capture text
+some_text capture h = elim (readable_or_faulty capture h) [
+  | inl readable ↦
+      let found = some_findings capture readable.0 h readable.1 in
+      (report_text found.0, report (readable.0, found.0, readable.1, found.1, refl))
+  | inr faulty ↦ (fault_line faulty.0, malformed faulty.0 faulty.1 refl)
+]
+
+pub some_line : (capture : List ℕ) → IsBytes capture → (line : List ℕ) × IsLineOn capture line
+some_line capture h = elim (readable_or_faulty capture h) [
+  | inl readable ↦ (no_fault_line, none readable refl)
+  | inr faulty ↦ (fault_line faulty.0, named faulty.0 faulty.1 refl)
+]
