@@ -22,12 +22,12 @@ TakesRows takes shows kept old new =
     (shown : List (List ℕ)) × AllZip shows kept shown × FoldsTo takes old shown new
 
 -- one behind another, lines were taken, which are these lines of whatever the findings tell
-abbrev pub TakesLines : {L : Type 0} → (L → List ℕ → L → Type 0) → (FindingsText → List (List ℕ)) → KeptFindings → L → L
-    → Type 0
-TakesLines takes lines_of found old new =
-    (lines : List (List ℕ)) × FoldsTo takes old lines new
-    × ((wholes : List WholeFrame) (said : FindingsText) → Tell wholes said found.frames found.sections
-    → lines ≡ lines_of said)
+pub record TakesLines {L : Type 0} (takes : L → List ℕ → L → Type 0) (lines_of : FindingsText → List (List ℕ))
+    (found : KeptFindings) (old new : L) : Type 0 where
+  pub lines : List (List ℕ)
+  pub taken : FoldsTo takes old lines new
+  pub told : (wholes : List WholeFrame) (said : FindingsText) → Tell wholes said found.frames found.sections
+      → lines ≡ lines_of said
 
 -- the head for so many rows, and lines that show what is kept of them, are these lines of whatever the findings tell
 abbrev pub TellsLines : {K : Type 0} → (FindingsText → List (List ℕ)) → (ℕ → List ℕ) → (K → List ℕ → Type 0)

@@ -1,4 +1,4 @@
-use Rattle.std.proofs.Common.{◌≡◌, ℕ, List, [], ◌∷◌, length, refl, sym, ap, ap₂, ◌∙◌}
+use Rattle.std.proofs.Common.{◌≡◌, ℕ, List, length, sym, ap, ap₂, ◌∙◌}
 use Rattle.std.proofs.lemmas.List.{length-map}
 use Rattle.std.proofs.lemmas.Result.{on_ok_weaker}
 use Rattle.capture_frame.specs.Envelope.{placed_frame}
@@ -6,8 +6,8 @@ use Rattle.transaction_view.specs.Grammar.{WholeFrame}
 use Rattle.audit_findings.specs.Findings.{FindingsText}
 use Rattle.audit_findings.specs.Frames.{wholes_of, placed_text}
 use Rattle.audit_findings.specs.Kept.{KeptFindings, Tell}
-use Rattle.report_text.specs.Text.{parts, totals}
-use Rattle.report_text.proofs.Pushes.{all_parts}
+use Rattle.report_text.specs.Text.{title, totals}
+use Rattle.report_text.proofs.Pushes.{one_pushed, none_pushed, ◌⨾◌}
 use Rattle.report_text.proofs.report.push_report.Goals as goal
 
 -- the totals are those of what the findings tell
@@ -22,21 +22,14 @@ totals_told found wholes said line tell is =
 
 pub returns : goal.returns
 returns g c =
-    let found = c.args.found.now in
-    let alone : List ℕ → List (List ℕ) = λ line. line ∷ [] in
     on_ok_weaker c.push_section-15.result
-    (λ flags.
-    all_parts g.L.Lines.takes found parts c.args.lines.now c.push_section-15.new.lines (
-      c.push_line.new.self,
-      (alone c.title_line.result.bytes, (c.push_line.new.self, c.in_ok-push_line.ensures, refl), λ wholes said tell. ap alone c.title_line.ensures),
-      (
-        c.push_line-2.new.self,
-        (
-          alone c.totals_line.result.bytes,
-          (c.push_line-2.new.self, c.in_ok-push_line-2.ensures, refl),
-          λ wholes said tell. ap alone (totals_told found wholes said c.totals_line.result.bytes tell c.totals_line.ensures),
-        ),
-        (c.push_section.new.lines, c.in_ok-push_section.ensures, (c.push_section-2.new.lines, c.in_ok-push_section-2.ensures, (c.push_section-3.new.lines, c.in_ok-push_section-3.ensures, (c.push_section-4.new.lines, c.in_ok-push_section-4.ensures, (c.push_section-5.new.lines, c.in_ok-push_section-5.ensures, (c.push_section-6.new.lines, c.in_ok-push_section-6.ensures, (c.push_section-7.new.lines, c.in_ok-push_section-7.ensures, (c.push_section-8.new.lines, c.in_ok-push_section-8.ensures, (c.push_section-9.new.lines, c.in_ok-push_section-9.ensures, (c.push_section-10.new.lines, c.in_ok-push_section-10.ensures, (c.push_section-11.new.lines, c.in_ok-push_section-11.ensures, (c.push_section-12.new.lines, c.in_ok-push_section-12.ensures, (c.push_section-13.new.lines, c.in_ok-push_section-13.ensures, (c.push_section-14.new.lines, c.in_ok-push_section-14.ensures, (c.push_section-15.new.lines, flags, refl))))))))))))))),
-      ),
-    ))
+    (λ last.
+    one_pushed c.title_line.result.bytes (λ said. title) c.in_ok-push_line.ensures (λ wholes said tell. c.title_line.ensures)
+    ⨾ one_pushed c.totals_line.result.bytes (λ said. totals said.frames said.records said.opaque said.missing) c.in_ok-push_line-2.ensures
+    (λ wholes said tell. totals_told c.args.found.now wholes said c.totals_line.result.bytes tell c.totals_line.ensures)
+    ⨾ c.in_ok-push_section.ensures ⨾ c.in_ok-push_section-2.ensures ⨾ c.in_ok-push_section-3.ensures ⨾ c.in_ok-push_section-4.ensures
+    ⨾ c.in_ok-push_section-5.ensures ⨾ c.in_ok-push_section-6.ensures ⨾ c.in_ok-push_section-7.ensures ⨾ c.in_ok-push_section-8.ensures
+    ⨾ c.in_ok-push_section-9.ensures ⨾ c.in_ok-push_section-10.ensures ⨾ c.in_ok-push_section-11.ensures ⨾ c.in_ok-push_section-12.ensures
+    ⨾ c.in_ok-push_section-13.ensures ⨾ c.in_ok-push_section-14.ensures
+    ⨾ last ⨾ none_pushed)
     c.push_section-15.ensures
