@@ -1,8 +1,9 @@
 -- Lines that are pushed one behind another.
-use Rattle.std.proofs.Common.{ℕ, List, [], ◌∷◌, ◌++◌, map, refl, sym, ap₂, subst}
-use Rattle.std.specs.List.{AllZip, FoldsTo, flat_map}
+use Rattle.std.proofs.Common.{◌≡◌, ℕ, List, [], ◌∷◌, ◌++◌, map, refl, sym, ap, ap₂, subst}
+use Rattle.std.specs.List.{AllZip, FoldsTo}
+use Rattle.transaction_view.specs.Grammar.{WholeFrame}
 use Rattle.audit_findings.specs.Findings.{FindingsText}
-use Rattle.audit_findings.specs.Kept.{KeptFindings}
+use Rattle.audit_findings.specs.Kept.{KeptFindings, Tell}
 use Rattle.report_text.specs.Pushed.{TakesLines}
 
 -- some lines, and then others
@@ -19,15 +20,26 @@ AllZip-mapped R f [] (y ∷ ys) all = absurd all
 AllZip-mapped R f (x ∷ xs) [] all = absurd all
 AllZip-mapped R f (x ∷ xs) (y ∷ ys) all = (all.0, AllZip-mapped R f xs ys all.1)
 
-module _ {L : Type 0} (takes : L → List ℕ → L → Type 0) (found : KeptFindings) where
-  -- the lines of parts, one part behind another
-  pub all_parts : (parts : List (FindingsText → List (List ℕ))) (a b : L) → FoldsTo (λ old part new. TakesLines takes part found old new) a parts b
-      → TakesLines takes (λ said. flat_map (λ part. part said) parts) found a b
-  all_parts [] a b folds = ([], folds, λ wholes said tell. refl)
-  all_parts (part ∷ parts) a b folds =
-      let first = folds.1 in
-      let others = all_parts parts folds.0 b folds.2 in (
-        first.0 ++ others.0,
-        FoldsTo-append takes a folds.0 b first.0 others.0 first.1 others.1,
-        λ wholes said tell. ap₂ (λ (x y : List (List ℕ)). x ++ y) (first.2 wholes said tell) (others.2 wholes said tell),
-      )
+-- one line that is pushed
+pub one_pushed : {L : Type 0} {takes : L → List ℕ → L → Type 0} {found : KeptFindings} {old new : L} (line : List ℕ) (line_of : FindingsText → List ℕ)
+    → takes old line new → ((wholes : List WholeFrame) (said : FindingsText) → Tell wholes said found.frames found.sections → line ≡ line_of said)
+    → TakesLines takes (λ said. line_of said ∷ []) found old new
+one_pushed {new = new} line line_of takes told = record {
+  lines = line ∷ [];
+  taken = (new, takes, refl);
+  told = λ wholes said tell. ap (λ (l : List ℕ). l ∷ []) (told wholes said tell);
+}
+
+-- no line behind them
+pub none_pushed : {L : Type 0} {takes : L → List ℕ → L → Type 0} {found : KeptFindings} {at : L} → TakesLines takes (λ said. []) found at at
+none_pushed = record { lines = []; taken = refl; told = λ wholes said tell. refl }
+
+infixr 20 ◌⨾◌
+-- lines that are pushed, and then others
+pub ◌⨾◌ : {L : Type 0} {takes : L → List ℕ → L → Type 0} {found : KeptFindings} {p q : FindingsText → List (List ℕ)} {a b c : L}
+    → TakesLines takes p found a b → TakesLines takes q found b c → TakesLines takes (λ said. p said ++ q said) found a c
+◌⨾◌ {takes = takes} {a = a} {b = b} {c = c} first others = record {
+  lines = first.lines ++ others.lines;
+  taken = FoldsTo-append takes a b c first.lines others.lines first.taken others.taken;
+  told = λ wholes said tell. ap₂ (λ (x y : List (List ℕ)). x ++ y) (first.told wholes said tell) (others.told wholes said tell);
+}

@@ -1,14 +1,14 @@
 -- The lines of the section `buffers` (docs/REPORT.md).
-use Rattle.std.specs.Prelude.{ℕ, List, [], ◌∷◌, ◌++◌, length, map, codes, Option, Some}
+use Rattle.std.specs.Prelude.{ℕ, List, [], ◌++◌, codes, Option, Some}
 use Rattle.std.specs.Fmt.{decimal}
 use Rattle.binder_code.specs.Commands.{name_of}
 use Rattle.event_core.specs.Events.{EventText}
 use Rattle.event_core.specs.declared.buffer.BufferItem.{BufferItem}
 use Rattle.event_core.specs.declared.buffer.BufferItem.TheVariants.{Delivery}
-use Rattle.process_ledgers.specs.Items.{buffer_item_of}
-use Rattle.audit_findings.specs.Findings.{FindingsText}
+use Rattle.audit_findings.specs.Buffers.{buffer_item_of}
 use Rattle.report_text.specs.EventRow.{row_start}
 use Rattle.report_text.specs.Line.{hex_number}
+use Rattle.report_text.specs.Section.{SectionText}
 
 -- the head: how many deliveries there are, and how many leaked ones among them
 abbrev pub buffers_head : ℕ → ℕ → List ℕ
@@ -25,5 +25,9 @@ abbrev pub buffers_row : EventText → List ℕ
 buffers_row e = row_start e ++ delivery_fields (buffer_item_of e)
 
 -- the section
-abbrev pub buffers_lines : FindingsText → List (List ℕ)
-buffers_lines said = buffers_head said.counts.deliveries (length said.leaked) ∷ map buffers_row said.leaked
+abbrev pub buffers_section : SectionText EventText
+buffers_section = record {
+  head = λ said rows. buffers_head said.counts.deliveries rows;
+  rows = λ said. said.leaked;
+  line = buffers_row;
+}

@@ -1,11 +1,11 @@
 -- The lines of the section `calls` (docs/REPORT.md).
-use Rattle.std.specs.Prelude.{ℕ, ◌+◌, List, ◌∷◌, ◌++◌, map, codes}
+use Rattle.std.specs.Prelude.{ℕ, ◌+◌, List, ◌++◌, codes}
 use Rattle.std.specs.Fmt.{decimal}
 use Rattle.transaction_view.specs.Transaction.{target_handle}
 use Rattle.event_core.specs.Events.{EventText}
 use Rattle.call_stacks.specs.Calls.{OpenerOf}
-use Rattle.audit_findings.specs.Findings.{FindingsText}
 use Rattle.report_text.specs.CallRow.{call_row}
+use Rattle.report_text.specs.Section.{SectionText}
 
 -- the head: how many calls there are, and how many of each sort among them
 abbrev pub calls_head : ℕ → ℕ → ℕ → List ℕ
@@ -22,6 +22,9 @@ abbrev pub calls_row : OpenerOf EventText → List ℕ
 calls_row call = call_row target_field call
 
 -- the section
-abbrev pub calls_lines : FindingsText → List (List ℕ)
-calls_lines said =
-    calls_head said.calls.answered said.calls.failed said.calls.unanswered ∷ map calls_row said.calls.rows
+abbrev pub calls_section : SectionText (OpenerOf EventText)
+calls_section = record {
+  head = λ said rows. calls_head said.calls.answered said.calls.failed said.calls.unanswered;
+  rows = λ said. said.calls.rows;
+  line = calls_row;
+}

@@ -2,15 +2,22 @@
 -- none (docs/REPORT.md).
 use Rattle.std.specs.Prelude.{ℕ, List, codes}
 use Rattle.event_core.specs.Events.{EventText}
-use Rattle.process_ledgers.specs.Items.{clear_item_of}
-use Rattle.audit_findings.specs.Findings.{FindingsText}
-use Rattle.report_text.specs.OpenAndStray.{open_and_stray_row, open_and_stray_lines}
+use Rattle.audit_findings.specs.Clears.{clear_item_of}
+use Rattle.report_text.specs.OpenAndStray.{open_and_stray_head, open_and_stray_row}
+use Rattle.report_text.specs.Section.{SectionText}
+
+-- the head: how many there are in all, how many of them are unconfirmed, how many stray ones
+abbrev pub clears_head : ℕ → ℕ → ℕ → List ℕ
+clears_head all unclosed strays = open_and_stray_head (codes "clears") (codes "unconfirmed") all unclosed strays
 
 -- a row: place, process, cookie, what it is called
 abbrev pub clears_row : EventText → List ℕ
 clears_row e = open_and_stray_row (codes "unconfirmed") clear_item_of e
 
 -- the section
-abbrev pub clears_lines : FindingsText → List (List ℕ)
-clears_lines said =
-    open_and_stray_lines (codes "clears") (codes "unconfirmed") clear_item_of said.counts.clears said.clears
+abbrev pub clears_section : SectionText EventText
+clears_section = record {
+  head = λ said rows. clears_head said.counts.clears said.clears.unclosed said.clears.strays;
+  rows = λ said. said.clears.rows;
+  line = clears_row;
+}

@@ -1,12 +1,12 @@
 -- The lines of the section `codes` (docs/REPORT.md).
-use Rattle.std.specs.Prelude.{ℕ, List, ◌∷◌, ◌++◌, [], length, map, codes, Option, Some, None}
+use Rattle.std.specs.Prelude.{ℕ, List, ◌++◌, [], codes, Option, Some, None}
 use Rattle.std.specs.Fmt.{decimal}
 use Rattle.std.specs.Result.{result_ok}
 use Rattle.binder_code.specs.declared.record_kind.Kind.{Kind}
 use Rattle.binder_code.specs.Commands.{kind_of, protocol_of_word, name_of}
 use Rattle.audit_findings.specs.declared.codes.CodeRow.{CodeRow}
-use Rattle.audit_findings.specs.Findings.{FindingsText}
 use Rattle.report_text.specs.Line.{hex_word}
+use Rattle.report_text.specs.Section.{SectionText}
 
 -- the name of a kind, and nothing where there is none
 abbrev pub name_of_kind : Option Kind → List ℕ
@@ -26,5 +26,5 @@ abbrev pub codes_row : CodeRow → List ℕ
 codes_row row = codes "  " ++ hex_word row.word ++ codes " " ++ name_of_word row.word ++ codes " " ++ decimal row.count
 
 -- the section
-abbrev pub codes_lines : FindingsText → List (List ℕ)
-codes_lines said = codes_head (length said.codes) ∷ map codes_row said.codes
+abbrev pub codes_section : SectionText CodeRow
+codes_section = record { head = λ said rows. codes_head rows; rows = λ said. said.codes; line = codes_row }

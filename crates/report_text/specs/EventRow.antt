@@ -3,14 +3,15 @@ use Rattle.std.specs.Prelude.{ℕ, List, ◌++◌, codes}
 use Rattle.std.specs.Fmt.{decimal}
 use Rattle.binder_code.specs.Commands.{name_of}
 use Rattle.event_core.specs.Events.{EventText}
+use Rattle.report_text.specs.Process.{process_field, thread_field}
 
 -- place and process of its record
 abbrev pub row_start : EventText → List ℕ
-row_start e = codes "  " ++ decimal e.place ++ codes " " ++ decimal e.process
+row_start e = codes "  " ++ decimal e.place ++ codes " " ++ process_field e.process
 
 -- and its thread
 abbrev pub thread_start : EventText → List ℕ
-thread_start e = row_start e ++ codes " " ++ decimal e.thread
+thread_start e = row_start e ++ codes " " ++ thread_field e.thread
 
 -- and its kind
 abbrev pub kind_row : EventText → List ℕ

@@ -1,11 +1,11 @@
 -- The lines of the section `flags` (docs/REPORT.md).
-use Rattle.std.specs.Prelude.{ℕ, List, ◌∷◌, ◌++◌, length, map, codes}
+use Rattle.std.specs.Prelude.{ℕ, List, ◌++◌, codes}
 use Rattle.std.specs.Fmt.{decimal}
 use Rattle.event_core.specs.Events.{EventText}
-use Rattle.audit_findings.specs.Findings.{FindingsText}
 use Rattle.audit_findings.specs.Flags.{unknown_flags}
 use Rattle.report_text.specs.EventRow.{row_start}
 use Rattle.report_text.specs.Line.{hex_word}
+use Rattle.report_text.specs.Section.{SectionText}
 
 -- the head: how many rows there are
 abbrev pub flags_head : ℕ → List ℕ
@@ -16,5 +16,5 @@ abbrev pub flags_row : EventText → List ℕ
 flags_row e = row_start e ++ codes " " ++ hex_word (unknown_flags e)
 
 -- the section
-abbrev pub flags_lines : FindingsText → List (List ℕ)
-flags_lines said = flags_head (length said.flags) ∷ map flags_row said.flags
+abbrev pub flags_section : SectionText EventText
+flags_section = record { head = λ said. flags_head; rows = λ said. said.flags; line = flags_row }

@@ -1,13 +1,13 @@
 -- The lines of the section `frees` (docs/REPORT.md).
-use Rattle.std.specs.Prelude.{ℕ, List, [], ◌∷◌, ◌++◌, length, map, codes, Option, Some}
+use Rattle.std.specs.Prelude.{ℕ, List, [], ◌++◌, codes, Option, Some}
 use Rattle.std.specs.Fmt.{decimal}
 use Rattle.event_core.specs.Events.{EventText}
 use Rattle.event_core.specs.declared.buffer.BufferItem.{BufferItem}
 use Rattle.event_core.specs.declared.buffer.BufferItem.TheVariants.{Free}
-use Rattle.process_ledgers.specs.Items.{buffer_item_of}
-use Rattle.audit_findings.specs.Findings.{FindingsText}
+use Rattle.audit_findings.specs.Buffers.{buffer_item_of}
 use Rattle.report_text.specs.EventRow.{row_start}
 use Rattle.report_text.specs.Line.{hex_number}
+use Rattle.report_text.specs.Section.{SectionText}
 
 -- the head: how many frees there are, and how many stray ones among them
 abbrev pub frees_head : ℕ → ℕ → List ℕ
@@ -23,5 +23,9 @@ abbrev pub frees_row : EventText → List ℕ
 frees_row e = row_start e ++ free_fields (buffer_item_of e)
 
 -- the section
-abbrev pub frees_lines : FindingsText → List (List ℕ)
-frees_lines said = frees_head said.counts.frees (length said.stray_frees) ∷ map frees_row said.stray_frees
+abbrev pub frees_section : SectionText EventText
+frees_section = record {
+  head = λ said rows. frees_head said.counts.frees rows;
+  rows = λ said. said.stray_frees;
+  line = frees_row;
+}

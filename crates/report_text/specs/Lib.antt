@@ -1,5 +1,8 @@
+pub mod Section
 pub mod Line
+pub mod Process
 pub mod EventRow
+pub mod ProcessRow
 pub mod Codes
 pub mod CallRow
 pub mod Calls

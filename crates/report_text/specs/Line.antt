@@ -1,7 +1,6 @@
 -- The parts of a line (docs/REPORT.md).
-use Rattle.std.specs.Prelude.{ℕ, ℤ, pos, zero, suc, ◌/◌, ◌%◌, Bool, not, List, [], ◌∷◌, ◌++◌, codes, false}
+use Rattle.std.specs.Prelude.{ℕ, zero, suc, ◌/◌, ◌%◌, List, [], ◌∷◌, ◌++◌, codes, false}
 use Rattle.std.specs.Fmt.{digit_glyph, digits}
-use Rattle.std.specs.Ordering.{int_eq}
 
 -- the last k hexadecimal digits of a number, lower case
 abbrev pub hex_digits : ℕ → ℕ → List ℕ
@@ -15,10 +14,6 @@ hex_word word = codes "0x" ++ hex_digits 8 word
 -- `0x` and the hexadecimal digits of a number, lower case and without leading zeros; `0x0` for zero
 abbrev pub hex_number : ℕ → List ℕ
 hex_number n = codes "0x" ++ digits 16 false n
-
--- whether a number is not zero
-abbrev pub is_not_zero : ℤ → Bool
-is_not_zero n = not (int_eq n (pos 0))
 
 -- a line, ended by one line feed
 abbrev pub ended : List ℕ → List ℕ

@@ -1,11 +1,12 @@
 -- The lines of the section `objects` (docs/REPORT.md).
-use Rattle.std.specs.Prelude.{ℕ, List, ◌∷◌, ◌++◌, length, map, codes}
+use Rattle.std.specs.Prelude.{ℕ, List, ◌++◌, codes}
 use Rattle.std.specs.Fmt.{decimal}
 use Rattle.object_view.specs.declared.bad_object.Cause.{Cause}
 use Rattle.object_view.specs.declared.bad_object.Cause.TheVariants.{ListLength, Misaligned, Overlap, Short, UnknownSort}
 use Rattle.audit_findings.specs.declared.sort_counts.SortCounts.{SortCounts}
-use Rattle.audit_findings.specs.Findings.{FindingsText}
 use Rattle.audit_findings.specs.Objects.{BadOwned}
+use Rattle.report_text.specs.EventRow.{row_start}
+use Rattle.report_text.specs.Section.{SectionText}
 
 -- the head: how many good objects of each sort there are, and how many bad ones
 abbrev pub objects_head : SortCounts → ℕ → List ℕ
@@ -26,9 +27,13 @@ cause_name UnknownSort = codes "UnknownSort"
 -- a row: place and process of the owning record, index, offset, cause
 abbrev pub objects_row : BadOwned → List ℕ
 objects_row row =
-    codes "  " ++ decimal row.owner.place ++ codes " " ++ decimal row.owner.process ++ codes " "
-    ++ decimal row.bad.index ++ codes " " ++ decimal row.bad.offset ++ codes " " ++ cause_name row.bad.cause
+    row_start row.owner ++ codes " " ++ decimal row.bad.index ++ codes " " ++ decimal row.bad.offset
+    ++ codes " " ++ cause_name row.bad.cause
 
 -- the section
-abbrev pub objects_lines : FindingsText → List (List ℕ)
-objects_lines said = objects_head said.objects (length said.bad_objects) ∷ map objects_row said.bad_objects
+abbrev pub objects_section : SectionText BadOwned
+objects_section = record {
+  head = λ said rows. objects_head said.objects rows;
+  rows = λ said. said.bad_objects;
+  line = objects_row;
+}

@@ -1,10 +1,11 @@
 -- The lines of the section `oneway` (docs/REPORT.md).
-use Rattle.std.specs.Prelude.{ℕ, List, ◌∷◌, ◌++◌, map, codes}
+use Rattle.std.specs.Prelude.{ℕ, List, ◌++◌, codes}
 use Rattle.std.specs.Fmt.{decimal}
 use Rattle.event_core.specs.declared.oneway.OnewayKey.{OnewayKey}
 use Rattle.event_core.specs.declared.oneway.OnewayKey.TheVariants.{Sent, Received}
 use Rattle.audit_findings.specs.declared.oneway.OnewayRow.{OnewayRow}
-use Rattle.audit_findings.specs.Findings.{FindingsText}
+use Rattle.report_text.specs.ProcessRow.{process_start}
+use Rattle.report_text.specs.Section.{SectionText}
 
 -- the head: how many oneway transactions are sent and received, and how many of the sent ones are refused
 abbrev pub oneway_head : ℕ → ℕ → ℕ → List ℕ
@@ -20,10 +21,13 @@ key_fields Received = codes "received"
 -- a row: process, these fields, count, sum
 abbrev pub oneway_row : OnewayRow → List ℕ
 oneway_row row =
-    codes "  " ++ decimal row.process ++ codes " " ++ key_fields row.key ++ codes " " ++ decimal row.count
+    process_start row.process ++ codes " " ++ key_fields row.key ++ codes " " ++ decimal row.count
     ++ codes " " ++ decimal row.sum
 
 -- the section
-abbrev pub oneway_lines : FindingsText → List (List ℕ)
-oneway_lines said =
-    oneway_head said.oneway.sent said.oneway.received said.refused.oneway ∷ map oneway_row said.oneway.rows
+abbrev pub oneway_section : SectionText OnewayRow
+oneway_section = record {
+  head = λ said rows. oneway_head said.oneway.sent said.oneway.received said.refused.oneway;
+  rows = λ said. said.oneway.rows;
+  line = oneway_row;
+}

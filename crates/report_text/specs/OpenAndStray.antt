@@ -1,12 +1,11 @@
 -- The lines of a section of unclosed opens and stray closes (docs/REPORT.md). Each section has a name, and a word for
 -- an unclosed open.
-use Rattle.std.specs.Prelude.{ℕ, List, [], ◌∷◌, ◌++◌, map, codes, Option, Some, None}
+use Rattle.std.specs.Prelude.{ℕ, List, [], ◌++◌, codes, Option, Some, None}
 use Rattle.std.specs.Fmt.{decimal}
 use Rattle.event_core.specs.Events.{EventText}
 use Rattle.event_core.specs.declared.pending.PendingChange.{PendingChange}
 use Rattle.event_core.specs.declared.pending.PendingChange.TheVariants.{Open, Close}
 use Rattle.event_core.specs.declared.pending.PendingItem.{PendingItem}
-use Rattle.audit_findings.specs.Places.{OpenAndStrayText}
 use Rattle.report_text.specs.EventRow.{row_start}
 use Rattle.report_text.specs.Line.{hex_number}
 
@@ -30,9 +29,3 @@ open_and_stray_fields unclosed None = []
 -- a row: place, process, and these fields
 abbrev pub open_and_stray_row : List ℕ → (EventText → Option (PendingItem ℕ)) → EventText → List ℕ
 open_and_stray_row unclosed read e = row_start e ++ open_and_stray_fields unclosed (read e)
-
--- the section
-abbrev pub open_and_stray_lines : List ℕ → List ℕ → (EventText → Option (PendingItem ℕ)) → ℕ → OpenAndStrayText
-    → List (List ℕ)
-open_and_stray_lines name unclosed read all said =
-    open_and_stray_head name unclosed all said.unclosed said.strays ∷ map (open_and_stray_row unclosed read) said.rows

@@ -1,13 +1,14 @@
 -- The lines of the section `refused` (docs/REPORT.md).
-use Rattle.std.specs.Prelude.{ℕ, List, ◌∷◌, ◌++◌, length, map, codes}
+use Rattle.std.specs.Prelude.{ℕ, List, ◌++◌, codes}
 use Rattle.std.specs.Fmt.{decimal}
-use Rattle.audit_findings.specs.Findings.{FindingsText}
+use Rattle.event_core.specs.Events.{EventText}
 use Rattle.report_text.specs.EventRow.{kind_row}
+use Rattle.report_text.specs.Section.{SectionText}
 
 -- the head: how many rows there are
 abbrev pub refused_head : ℕ → List ℕ
 refused_head rows = codes "refused " ++ decimal rows
 
--- the section; a row has place, process, thread and kind of the error reply
-abbrev pub refused_lines : FindingsText → List (List ℕ)
-refused_lines said = refused_head (length said.refused.rows) ∷ map kind_row said.refused.rows
+-- the section; a row has place, process, thread, kind of the error reply
+abbrev pub refused_section : SectionText EventText
+refused_section = record { head = λ said. refused_head; rows = λ said. said.refused.rows; line = kind_row }

@@ -1,14 +1,14 @@
 -- The lines of the section `requests` (docs/REPORT.md).
-use Rattle.std.specs.Prelude.{ℕ, List, [], ◌∷◌, ◌++◌, length, map, codes, Option, Some}
+use Rattle.std.specs.Prelude.{ℕ, List, [], ◌++◌, codes, Option, Some}
 use Rattle.std.specs.Fmt.{decimal}
 use Rattle.event_core.specs.Events.{EventText}
 use Rattle.event_core.specs.declared.request.RequestChange.{RequestChange}
 use Rattle.event_core.specs.declared.request.RequestChange.TheVariants.{Request}
 use Rattle.event_core.specs.declared.request.RequestItem.{RequestItem}
-use Rattle.audit_findings.specs.Findings.{FindingsText}
-use Rattle.process_ledgers.specs.Items.{request_item_of}
+use Rattle.audit_findings.specs.Requests.{request_item_of}
 use Rattle.report_text.specs.EventRow.{row_start}
 use Rattle.report_text.specs.Line.{hex_number}
+use Rattle.report_text.specs.Section.{SectionText}
 
 -- the head: how many requests there are, and how many that still stand
 abbrev pub requests_head : ℕ → ℕ → List ℕ
@@ -29,6 +29,9 @@ abbrev pub requests_row : EventText → List ℕ
 requests_row e = row_start e ++ request_fields (request_item_of e)
 
 -- the section
-abbrev pub requests_lines : FindingsText → List (List ℕ)
-requests_lines said =
-    requests_head said.counts.requests (length said.standing) ∷ map requests_row said.standing
+abbrev pub requests_section : SectionText EventText
+requests_section = record {
+  head = λ said rows. requests_head said.counts.requests rows;
+  rows = λ said. said.standing;
+  line = requests_row;
+}

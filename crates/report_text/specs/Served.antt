@@ -1,11 +1,11 @@
 -- The lines of the section `served` (docs/REPORT.md).
-use Rattle.std.specs.Prelude.{ℕ, ◌+◌, List, ◌∷◌, ◌++◌, map, codes}
+use Rattle.std.specs.Prelude.{ℕ, ◌+◌, List, ◌++◌, codes}
 use Rattle.std.specs.Fmt.{decimal, signed_decimal}
 use Rattle.transaction_view.specs.Transaction.{sender_pid}
 use Rattle.event_core.specs.Events.{EventText}
 use Rattle.call_stacks.specs.Calls.{OpenerOf}
-use Rattle.audit_findings.specs.Findings.{FindingsText}
 use Rattle.report_text.specs.CallRow.{call_row}
+use Rattle.report_text.specs.Section.{SectionText}
 
 -- the head: how many served calls there are, and how many of each sort among them
 abbrev pub served_head : ℕ → ℕ → ℕ → List ℕ
@@ -22,6 +22,9 @@ abbrev pub served_row : OpenerOf EventText → List ℕ
 served_row call = call_row sender_field call
 
 -- the section
-abbrev pub served_lines : FindingsText → List (List ℕ)
-served_lines said =
-    served_head said.served.replied said.served.crossed said.served.left_open ∷ map served_row said.served.rows
+abbrev pub served_section : SectionText (OpenerOf EventText)
+served_section = record {
+  head = λ said rows. served_head said.served.replied said.served.crossed said.served.left_open;
+  rows = λ said. said.served.rows;
+  line = served_row;
+}

@@ -1,13 +1,14 @@
 -- The lines of the section `strays` (docs/REPORT.md).
-use Rattle.std.specs.Prelude.{ℕ, List, ◌∷◌, ◌++◌, length, map, codes}
+use Rattle.std.specs.Prelude.{ℕ, List, ◌++◌, codes}
 use Rattle.std.specs.Fmt.{decimal}
-use Rattle.audit_findings.specs.Findings.{FindingsText}
+use Rattle.event_core.specs.Events.{EventText}
 use Rattle.report_text.specs.EventRow.{kind_row}
+use Rattle.report_text.specs.Section.{SectionText}
 
 -- the head: how many rows there are
 abbrev pub strays_head : ℕ → List ℕ
 strays_head rows = codes "strays " ++ decimal rows
 
 -- the section; a row has place, process, thread, kind
-abbrev pub strays_lines : FindingsText → List (List ℕ)
-strays_lines said = strays_head (length said.strays) ∷ map kind_row said.strays
+abbrev pub strays_section : SectionText EventText
+strays_section = record { head = λ said. strays_head; rows = λ said. said.strays; line = kind_row }

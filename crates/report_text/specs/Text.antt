@@ -6,21 +6,22 @@ use Rattle.transaction_view.specs.Grammar.{WholeFrame, IsInGrammar}
 use Rattle.audit_findings.specs.Findings.{FindingsText, AreFindings}
 use Rattle.event_core.specs.Events.{wholes_of}
 use Rattle.report_text.specs.Line.{ended}
-use Rattle.report_text.specs.Codes.{codes_lines}
-use Rattle.report_text.specs.Calls.{calls_lines}
-use Rattle.report_text.specs.Served.{served_lines}
-use Rattle.report_text.specs.Strays.{strays_lines}
-use Rattle.report_text.specs.Refused.{refused_lines}
-use Rattle.report_text.specs.Handles.{handles_lines}
-use Rattle.report_text.specs.Nodes.{nodes_lines}
-use Rattle.report_text.specs.Buffers.{buffers_lines}
-use Rattle.report_text.specs.Frees.{frees_lines}
-use Rattle.report_text.specs.Requests.{requests_lines}
-use Rattle.report_text.specs.Deaths.{deaths_lines}
-use Rattle.report_text.specs.Clears.{clears_lines}
-use Rattle.report_text.specs.Oneway.{oneway_lines}
-use Rattle.report_text.specs.Objects.{objects_lines}
-use Rattle.report_text.specs.Flags.{flags_lines}
+use Rattle.report_text.specs.Section.{lines_of}
+use Rattle.report_text.specs.Codes.{codes_section}
+use Rattle.report_text.specs.Calls.{calls_section}
+use Rattle.report_text.specs.Served.{served_section}
+use Rattle.report_text.specs.Strays.{strays_section}
+use Rattle.report_text.specs.Refused.{refused_section}
+use Rattle.report_text.specs.Handles.{handles_section}
+use Rattle.report_text.specs.Nodes.{nodes_section}
+use Rattle.report_text.specs.Buffers.{buffers_section}
+use Rattle.report_text.specs.Frees.{frees_section}
+use Rattle.report_text.specs.Requests.{requests_section}
+use Rattle.report_text.specs.Deaths.{deaths_section}
+use Rattle.report_text.specs.Clears.{clears_section}
+use Rattle.report_text.specs.Oneway.{oneway_section}
+use Rattle.report_text.specs.Objects.{objects_section}
+use Rattle.report_text.specs.Flags.{flags_section}
 
 -- the title
 abbrev pub title : List ℕ
@@ -41,9 +42,10 @@ totals_lines said = totals said.frames said.records said.opaque said.missing ∷
 -- the parts of the report, in their order: the first two lines, and the sections
 abbrev pub parts : List (FindingsText → List (List ℕ))
 parts =
-    title_lines ∷ totals_lines ∷ codes_lines ∷ calls_lines ∷ served_lines ∷ strays_lines ∷ refused_lines
-    ∷ handles_lines ∷ nodes_lines ∷ buffers_lines ∷ frees_lines ∷ requests_lines ∷ deaths_lines ∷ clears_lines
-    ∷ oneway_lines ∷ objects_lines ∷ flags_lines ∷ []
+    title_lines ∷ totals_lines ∷ lines_of codes_section ∷ lines_of calls_section ∷ lines_of served_section
+    ∷ lines_of strays_section ∷ lines_of refused_section ∷ lines_of handles_section ∷ lines_of nodes_section
+    ∷ lines_of buffers_section ∷ lines_of frees_section ∷ lines_of requests_section ∷ lines_of deaths_section
+    ∷ lines_of clears_section ∷ lines_of oneway_section ∷ lines_of objects_section ∷ lines_of flags_section ∷ []
 
 -- the lines of the report, without their line feeds
 abbrev pub report_lines : FindingsText → List (List ℕ)

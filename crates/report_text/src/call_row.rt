@@ -6,20 +6,46 @@ ghost use Rattle.event_core.specs.Reading.{event_text};
 ghost use Rattle.report_text.specs.CallRow.{verdict_name, closer_field, record_fields, row_of_kept};
 
 use crate::events::thread_start;
-use crate::line::{Row, push_decimal};
-use crate::shown::Shown;
-use audit_findings::{CallRow, Findings};
+use crate::line::{Row, push_counted, push_decimal};
+use crate::section::Section;
+use audit_findings::{CallRow, Findings, Sections};
 use call_stacks::Verdict;
 use event_core::Event;
 use transaction_view::Transaction;
 
-/// What a section of calls tells of the other side of a call.
-pub(crate) trait OtherSide {
+/// A section of calls, each of which is kept as the place of its record, what became of the call,
+/// and the place of its closer.
+pub(crate) trait CallSection {
     ghost use Rattle.std.specs.Prelude.{◌≡◌, ◌≤◌, ◌+◌, ◌++◌, ℕ, List};
     ghost use Rattle.arrayvec.specs.ArrayString.{array_string_len};
+    ghost use Rattle.event_core.specs.Events.{EventText};
+    ghost use Rattle.call_stacks.specs.Calls.{OpenerOf};
+    ghost use Rattle.audit_findings.specs.declared.findings.Sections.{Sections};
+    ghost use Rattle.audit_findings.specs.Kept.{kept_call};
+    ghost use Rattle.report_text.specs.CallRow.{call_row};
+    ghost use Rattle.report_text.specs.Pushed.{Keeps, HaveEvents};
+    ghost use Rattle.report_text.specs.Section.{SectionText};
 
-    /// The field, by the payload of the call's record.
+    /// The section.
+    ghost section: { SectionText (OpenerOf EventText) };
+
+    /// Its head, of what findings keep, where it has so many rows.
+    ghost head_of: { Sections → ℕ → List ℕ };
+
+    /// What it tells of the other side of a call, by the payload of the call's record.
     ghost field: { List ℕ → List ℕ };
+
+    /// A row is told with that field.
+    ghost tells: { (call : OpenerOf EventText) → call_row field call ≡ section.line call };
+
+    /// The head, without its line feed.
+    fn head(&self, sections: &Sections, rows: usize) -> Row
+        ensures { result.bytes ≡ head_of sections.now rows };
+
+    /// What is kept of the calls.
+    fn calls<'f>(&self, found: &'f Findings<'_>) -> &'f [CallRow]
+        ensures kept { Keeps section kept_call (head_of found.now.sections) found.now result.now }
+        ensures events { HaveEvents section (λ call. call.event) found.now };
 
     /// Pushes the field.
     fn push_field(&self, line: &mut Row, transaction: Transaction<'_>)
@@ -29,32 +55,41 @@ pub(crate) trait OtherSide {
         ensures short { array_string_len line.new ≤ array_string_len line.old + 20 };
 }
 
-/// The rows of such a section, each kept as the place of its record, what became of the call, and
-/// the place of its closer.
+/// Such a section.
 #[derive(Clone, Copy)]
-pub(crate) struct CallRows<'f, 'c, S> {
-    pub section: S,
-    pub found: &'f Findings<'c>,
-}
+pub(crate) struct OfCalls<S>(pub S);
 
-impl<'f, 'c, S: OtherSide> Shown for CallRows<'f, 'c, S> {
+impl<S: CallSection> Section for OfCalls<S> {
     ghost use Rattle.audit_findings.specs.Lookup.{HasRecordIn};
     ghost use Rattle.report_text.specs.CallRow.{row_of_kept};
     ghost use Rattle.report_text.specs.Pushed.{ShowsEvent};
+    ghost use Rattle.report_text.specs.Section.{lines_of};
 
     type Kept = CallRow;
 
-    ghost can_show = { λ rows call. HasRecordIn rows.found.now.frames call.place };
+    ghost lines = { lines_of S.section };
 
-    ghost shows = { λ rows call line.
-        ShowsEvent (row_of_kept S.field call) rows.found.now.frames call.place line };
+    ghost head_of = { S.head_of };
 
-    fn line(&self, kept: &CallRow) -> Row {
-        row_line(&self.section, self.found.record_at(kept.place), *kept)
+    ghost can_show = { λ frames call. HasRecordIn frames call.place };
+
+    ghost shows = { λ frames call line.
+        ShowsEvent (row_of_kept S.field call) frames call.place line };
+
+    fn head(&self, sections: &Sections, rows: usize) -> Row {
+        self.0.head(sections, rows)
+    }
+
+    fn rows<'f>(&self, found: &'f Findings<'_>) -> &'f [CallRow] {
+        self.0.calls(found)
+    }
+
+    fn line(&self, found: &Findings<'_>, kept: &CallRow) -> Row {
+        call_row(&self.0, found.record_at(kept.place), *kept)
     }
 }
 
-fn row_line<S: OtherSide>(section: &S, event: Event<'_>, call: CallRow) -> Row
+fn call_row<S: CallSection>(section: &S, event: Event<'_>, call: CallRow) -> Row
     ensures { result.bytes ≡ row_of_kept S.field call (event_text event.entry) }
 {
     let mut line = thread_start(event);
@@ -67,7 +102,7 @@ fn row_line<S: OtherSide>(section: &S, event: Event<'_>, call: CallRow) -> Row
 }
 
 /// Pushes what a row says of the call's record.
-fn push_record<S: OtherSide>(section: &S, line: &mut Row, event: Event<'_>)
+fn push_record<S: CallSection>(section: &S, line: &mut Row, event: Event<'_>)
     requires { array_string_len line.old ≤ 64 }
     ensures text { line.new.bytes ≡ line.old.bytes
         ++ record_fields S.field (event_text event.entry) }
@@ -76,8 +111,7 @@ fn push_record<S: OtherSide>(section: &S, line: &mut Row, event: Event<'_>)
     if let Some(transaction) = event.transaction {
         line.push_str(" ");
         section.push_field(line, transaction);
-        line.push_str(" ");
-        push_decimal(line, u64::from(transaction.code()));
+        push_counted(line, " ", u64::from(transaction.code()));
     }
 }
 

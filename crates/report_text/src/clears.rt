@@ -1,52 +1,40 @@
 //! The section `clears`.
 
-ghost use Rattle.std.specs.Prelude.{OnOk};
-ghost use Rattle.report_text.specs.Clears.{clears_lines};
-ghost use Rattle.report_text.specs.Pushed.{TakesLines};
-
-use crate::events::{EventLine, EventRows};
+use crate::events::EventSection;
 use crate::line::Row;
-use crate::lines::Lines;
-use crate::open_and_stray::{head_line, row_line};
-use crate::shown::push_rows;
-use audit_findings::Findings;
+use crate::open_and_stray::{open_and_stray_head, open_and_stray_row};
+use audit_findings::{Findings, Sections};
 use event_core::{Event, clear_step};
-use std::alloc::{AllocError, Global};
-use std::thread::Threads;
 
-/// Pushes the lines of the section.
-pub(crate) fn push_clears<T: Threads + Sync, L: Lines>(
-    rt: &T,
-    alloc: Global,
-    found: &Findings<'_>,
-    lines: &mut L,
-) -> Result<(), AllocError>
-    ensures { OnOk result (TakesLines L.takes clears_lines found.now lines.old lines.new) }
-{
-    let sections = found.sections();
-    let places = sections.clears.rows.as_slice();
-    lines.push_line(&head_line(
-        "clears",
-        "unconfirmed",
-        sections.counts.clears,
-        &sections.clears,
-    ))?;
-    let section = Clears;
-    push_rows(rt, alloc, EventRows { section, found }, places, lines)
-}
-
+/// The section.
 #[derive(Clone, Copy)]
-struct Clears;
+pub(crate) struct Clears;
 
-impl EventLine for Clears {
+impl EventSection for Clears {
     ghost use Rattle.std.specs.Prelude.{refl};
-    ghost use Rattle.report_text.specs.Clears.{clears_row};
+    ghost use Rattle.report_text.specs.Clears.{clears_head, clears_section};
 
-    ghost row_of = { clears_row };
+    ghost section = { clears_section };
+
+    ghost head_of = { λ kept _.
+        clears_head kept.counts.clears kept.clears.unclosed kept.clears.strays };
 
     ghost bare = { λ e. refl };
 
-    fn event_line(&self, event: Event<'_>) -> Row {
-        row_line(event, clear_step(event), "unconfirmed")
+    fn head(&self, sections: &Sections, _rows: usize) -> Row {
+        open_and_stray_head(
+            "clears",
+            "unconfirmed",
+            sections.counts.clears,
+            &sections.clears,
+        )
+    }
+
+    fn places<'f>(&self, found: &'f Findings<'_>) -> &'f [u64] {
+        found.sections().clears.rows.as_slice()
+    }
+
+    fn line(&self, event: Event<'_>) -> Row {
+        open_and_stray_row(event, clear_step(event), "unconfirmed")
     }
 }

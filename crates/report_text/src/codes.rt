@@ -1,60 +1,48 @@
 //! The section `codes`.
 
-ghost use Rattle.std.specs.Prelude.{◌≡◌, ◌≤◌, length, OnOk};
-ghost use Rattle.report_text.specs.Codes.{codes_head, codes_row, codes_lines, name_of_word};
-ghost use Rattle.report_text.specs.Pushed.{TakesLines};
+ghost use Rattle.std.specs.Prelude.{◌≡◌, ◌≤◌, length};
+ghost use Rattle.report_text.specs.Codes.{codes_row, name_of_word};
 
-use crate::line::{Row, push_decimal, push_hex_word};
-use crate::lines::Lines;
-use crate::shown::{Shown, push_rows};
-use audit_findings::{CodeRow, Findings};
+use crate::line::{Row, push_counted, push_decimal, push_hex_word};
+use crate::section::Section;
+use audit_findings::{CodeRow, Findings, Sections};
 use binder_code::{Code, Protocol, kind};
-use std::alloc::{AllocError, Global};
-use std::thread::Threads;
 
-/// Pushes the lines of the section.
-pub(crate) fn push_codes<T: Threads + Sync, L: Lines>(
-    rt: &T,
-    alloc: Global,
-    found: &Findings<'_>,
-    lines: &mut L,
-) -> Result<(), AllocError>
-    ensures { OnOk result (TakesLines L.takes codes_lines found.now lines.old lines.new) }
-{
-    let rows = found.sections().codes.as_slice();
-    lines.push_line(&head_line(rows.len()))?;
-    push_rows(rt, alloc, CodeRows, rows, lines)
-}
-
-/// The rows of the section, which are kept as they are.
+/// The section, whose rows are kept as they are.
 #[derive(Clone, Copy)]
-pub(crate) struct CodeRows;
+pub(crate) struct Codes;
 
-impl Shown for CodeRows {
+impl Section for Codes {
     ghost use Rattle.std.specs.Prelude.{◌≡◌, ⊤};
-    ghost use Rattle.report_text.specs.Codes.{codes_row};
+    ghost use Rattle.report_text.specs.Codes.{codes_head, codes_row, codes_section};
+    ghost use Rattle.report_text.specs.Section.{lines_of};
 
     type Kept = CodeRow;
+
+    ghost lines = { lines_of codes_section };
+
+    ghost head_of = { λ _. codes_head };
 
     ghost can_show = { λ _ _. ⊤ };
 
     ghost shows = { λ _ row line. line ≡ codes_row row };
 
-    fn line(&self, kept: &CodeRow) -> Row {
-        row_line(*kept)
+    fn head(&self, _sections: &Sections, rows: usize) -> Row {
+        let mut line = Row::new();
+        push_counted(&mut line, "codes ", rows as u64);
+        line
+    }
+
+    fn rows<'f>(&self, found: &'f Findings<'_>) -> &'f [CodeRow] {
+        found.sections().codes.as_slice()
+    }
+
+    fn line(&self, _found: &Findings<'_>, kept: &CodeRow) -> Row {
+        codes_row(*kept)
     }
 }
 
-fn head_line(different: usize) -> Row
-    ensures { result.bytes ≡ codes_head different }
-{
-    let mut line = Row::new();
-    line.push_str("codes ");
-    push_decimal(&mut line, different as u64);
-    line
-}
-
-pub(crate) fn row_line(row: CodeRow) -> Row
+fn codes_row(row: CodeRow) -> Row
     ensures { result.bytes ≡ codes_row row }
 {
     let mut line = Row::new();
@@ -62,8 +50,7 @@ pub(crate) fn row_line(row: CodeRow) -> Row
     push_hex_word(&mut line, row.word);
     line.push_str(" ");
     line.push_str(word_name(row.word));
-    line.push_str(" ");
-    push_decimal(&mut line, row.count);
+    push_counted(&mut line, " ", row.count);
     line
 }
 

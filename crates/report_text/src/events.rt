@@ -1,51 +1,78 @@
-//! Rows that are events, which are read from the capture again.
+//! Sections whose rows are events, which are read from the capture again.
 
 ghost use Rattle.std.specs.Prelude.{◌≡◌, ◌≤◌};
 ghost use Rattle.arrayvec.specs.ArrayString.{array_string_len};
 ghost use Rattle.event_core.specs.Reading.{event_text};
 ghost use Rattle.report_text.specs.EventRow.{row_start, thread_start, kind_row};
 
-use crate::line::{Row, push_decimal};
-use crate::shown::Shown;
-use audit_findings::Findings;
+use crate::line::{Row, push_counted};
+use crate::process::{push_process, push_thread};
+use crate::section::Section;
+use audit_findings::{Findings, Sections};
 use event_core::Event;
 
-/// How the rows of a section are made into lines, each of them an event.
-pub(crate) trait EventLine {
+/// A section each of whose rows is an event, kept as the place of its record.
+pub(crate) trait EventSection {
     ghost use Rattle.std.specs.Prelude.{◌≡◌, ℕ, List, None};
     ghost use Rattle.event_core.specs.Events.{EventText};
     ghost use Rattle.event_core.specs.Reading.{event_text};
+    ghost use Rattle.audit_findings.specs.declared.findings.Sections.{Sections};
+    ghost use Rattle.report_text.specs.Pushed.{Keeps, HaveEvents};
+    ghost use Rattle.report_text.specs.Section.{SectionText};
 
-    /// The row of an event.
-    ghost row_of: { EventText → List ℕ };
+    /// The section.
+    ghost section: { SectionText EventText };
 
-    /// It says nothing of an attachment.
-    ghost bare: { (e : EventText) → row_of (record e { entry = None }) ≡ row_of e };
+    /// Its head, of what findings keep, where it has so many rows.
+    ghost head_of: { Sections → ℕ → List ℕ };
+
+    /// A row says nothing of an attachment.
+    ghost bare: { (e : EventText) → section.line (record e { entry = None }) ≡ section.line e };
+
+    /// The head, without its line feed.
+    fn head(&self, sections: &Sections, rows: usize) -> Row
+        ensures { result.bytes ≡ head_of sections.now rows };
+
+    /// The places of the rows' records.
+    fn places<'f>(&self, found: &'f Findings<'_>) -> &'f [u64]
+        ensures kept { Keeps section (λ e. e.place) (head_of found.now.sections)
+            found.now result.now }
+        ensures events { HaveEvents section (λ e. e) found.now };
 
     /// The row of an event, without its line feed.
-    fn event_line(&self, event: Event<'_>) -> Row
-        ensures { result.bytes ≡ row_of (event_text event.entry) };
+    fn line(&self, event: Event<'_>) -> Row
+        ensures { result.bytes ≡ section.line (event_text event.entry) };
 }
 
-/// The rows of such a section, each kept as the place of its record.
+/// Such a section.
 #[derive(Clone, Copy)]
-pub(crate) struct EventRows<'f, 'c, S> {
-    pub section: S,
-    pub found: &'f Findings<'c>,
-}
+pub(crate) struct OfEvents<S>(pub S);
 
-impl<'f, 'c, S: EventLine> Shown for EventRows<'f, 'c, S> {
+impl<S: EventSection> Section for OfEvents<S> {
     ghost use Rattle.audit_findings.specs.Lookup.{HasRecordIn};
     ghost use Rattle.report_text.specs.Pushed.{ShowsEvent};
+    ghost use Rattle.report_text.specs.Section.{lines_of};
 
     type Kept = u64;
 
-    ghost can_show = { λ rows place. HasRecordIn rows.found.now.frames place };
+    ghost lines = { lines_of S.section };
 
-    ghost shows = { λ rows place line. ShowsEvent S.row_of rows.found.now.frames place line };
+    ghost head_of = { S.head_of };
 
-    fn line(&self, kept: &u64) -> Row {
-        self.section.event_line(self.found.record_at(*kept))
+    ghost can_show = { HasRecordIn };
+
+    ghost shows = { ShowsEvent S.section.line };
+
+    fn head(&self, sections: &Sections, rows: usize) -> Row {
+        self.0.head(sections, rows)
+    }
+
+    fn rows<'f>(&self, found: &'f Findings<'_>) -> &'f [u64] {
+        self.0.places(found)
+    }
+
+    fn line(&self, found: &Findings<'_>, kept: &u64) -> Row {
+        self.0.line(found.record_at(*kept))
     }
 }
 
@@ -55,10 +82,9 @@ pub(crate) fn row_start(event: Event<'_>) -> Row
     ensures short { array_string_len result ≤ 43 }
 {
     let mut line = Row::new();
-    line.push_str("  ");
-    push_decimal(&mut line, event.place);
+    push_counted(&mut line, "  ", event.place);
     line.push_str(" ");
-    push_decimal(&mut line, u64::from(event.process));
+    push_process(&mut line, event.process);
     line
 }
 
@@ -69,29 +95,12 @@ pub(crate) fn thread_start(event: Event<'_>) -> Row
 {
     let mut line = row_start(event);
     line.push_str(" ");
-    push_decimal(&mut line, u64::from(event.thread));
+    push_thread(&mut line, event.thread);
     line
 }
 
-/// The rows of sections whose events are told by their kinds.
-#[derive(Clone, Copy)]
-pub(crate) struct Kinds;
-
-impl EventLine for Kinds {
-    ghost use Rattle.std.specs.Prelude.{refl};
-    ghost use Rattle.report_text.specs.EventRow.{kind_row};
-
-    ghost row_of = { kind_row };
-
-    ghost bare = { λ e. refl };
-
-    fn event_line(&self, event: Event<'_>) -> Row {
-        kind_row(event)
-    }
-}
-
 /// A row with place, process, thread and kind of its event.
-fn kind_row(event: Event<'_>) -> Row
+pub(crate) fn kind_row(event: Event<'_>) -> Row
     ensures { result.bytes ≡ kind_row (event_text event.entry) }
 {
     let mut line = thread_start(event);

@@ -1,62 +1,46 @@
 //! The section `flags`.
 
-ghost use Rattle.std.specs.Prelude.{◌≡◌, OnOk};
+ghost use Rattle.std.specs.Prelude.{◌≡◌};
 ghost use Rattle.event_core.specs.Reading.{event_text};
 ghost use Rattle.audit_findings.specs.Flags.{unknown_flags};
-ghost use Rattle.report_text.specs.Flags.{flags_head, flags_row, flags_lines};
-ghost use Rattle.report_text.specs.Pushed.{TakesLines};
+ghost use Rattle.report_text.specs.Flags.{flags_row};
 
-use crate::events::{EventLine, EventRows, row_start};
-use crate::line::{Row, push_decimal, push_hex_word};
-use crate::lines::Lines;
-use crate::shown::push_rows;
-use audit_findings::Findings;
+use crate::events::{EventSection, row_start};
+use crate::line::{Row, push_counted, push_hex_word};
+use audit_findings::{Findings, Sections};
 use binder_code::unknown_bits;
 use event_core::Event;
-use std::alloc::{AllocError, Global};
-use std::thread::Threads;
 
-/// Pushes the lines of the section.
-pub(crate) fn push_flags<T: Threads + Sync, L: Lines>(
-    rt: &T,
-    alloc: Global,
-    found: &Findings<'_>,
-    lines: &mut L,
-) -> Result<(), AllocError>
-    ensures { OnOk result (TakesLines L.takes flags_lines found.now lines.old lines.new) }
-{
-    let places = found.sections().flags.as_slice();
-    lines.push_line(&head_line(places.len()))?;
-    let section = Flagged;
-    push_rows(rt, alloc, EventRows { section, found }, places, lines)
-}
-
+/// The section.
 #[derive(Clone, Copy)]
-struct Flagged;
+pub(crate) struct Flags;
 
-impl EventLine for Flagged {
+impl EventSection for Flags {
     ghost use Rattle.std.specs.Prelude.{refl};
-    ghost use Rattle.report_text.specs.Flags.{flags_row};
+    ghost use Rattle.report_text.specs.Flags.{flags_head, flags_section};
 
-    ghost row_of = { flags_row };
+    ghost section = { flags_section };
+
+    ghost head_of = { λ _. flags_head };
 
     ghost bare = { λ e. refl };
 
-    fn event_line(&self, event: Event<'_>) -> Row {
-        row_line(event)
+    fn head(&self, _sections: &Sections, rows: usize) -> Row {
+        let mut line = Row::new();
+        push_counted(&mut line, "flags ", rows as u64);
+        line
+    }
+
+    fn places<'f>(&self, found: &'f Findings<'_>) -> &'f [u64] {
+        found.sections().flags.as_slice()
+    }
+
+    fn line(&self, event: Event<'_>) -> Row {
+        flags_row(event)
     }
 }
 
-fn head_line(rows: usize) -> Row
-    ensures { result.bytes ≡ flags_head rows }
-{
-    let mut line = Row::new();
-    line.push_str("flags ");
-    push_decimal(&mut line, rows as u64);
-    line
-}
-
-fn row_line(event: Event<'_>) -> Row
+fn flags_row(event: Event<'_>) -> Row
     ensures { result.bytes ≡ flags_row (event_text event.entry) }
 {
     let mut line = row_start(event);

@@ -1,58 +1,49 @@
 //! The section `handles`.
 
-ghost use Rattle.std.specs.Prelude.{◌≡◌, OnOk, filter, length};
-ghost use Rattle.report_text.specs.Handles.{handles_head, handles_row, handles_lines, is_unbalanced_handle};
-ghost use Rattle.report_text.specs.Pushed.{TakesLines};
+ghost use Rattle.std.specs.Prelude.{◌≡◌, filter, length};
+ghost use Rattle.report_text.specs.Handles.{handles_row, is_unbalanced_handle};
 
-use crate::line::{Row, push_decimal, push_signed};
-use crate::lines::Lines;
-use crate::shown::{Shown, push_rows};
-use audit_findings::{Findings, ProcessHandle};
-use std::alloc::{AllocError, Global};
-use std::thread::Threads;
+use crate::line::{Row, push_counted};
+use crate::process_row::{process_start, push_count, unbalanced_head};
+use crate::section::Section;
+use audit_findings::{Findings, ProcessHandle, Sections};
 
-/// Pushes the lines of the section.
-pub(crate) fn push_handles<T: Threads + Sync, L: Lines>(
-    rt: &T,
-    alloc: Global,
-    found: &Findings<'_>,
-    lines: &mut L,
-) -> Result<(), AllocError>
-    ensures { OnOk result (TakesLines L.takes handles_lines found.now lines.old lines.new) }
-{
-    let rows = found.sections().handles.as_slice();
-    lines.push_line(&head_line(rows))?;
-    push_rows(rt, alloc, HandleRows, rows, lines)
-}
-
-/// The rows of the section, which are kept as they are.
+/// The section, whose rows are kept as they are.
 #[derive(Clone, Copy)]
-struct HandleRows;
+pub(crate) struct Handles;
 
-impl Shown for HandleRows {
-    ghost use Rattle.std.specs.Prelude.{◌≡◌, ⊤};
-    ghost use Rattle.report_text.specs.Handles.{handles_row};
+impl Section for Handles {
+    ghost use Rattle.std.specs.Prelude.{◌≡◌, ⊤, codes, filter, length};
+    ghost use Rattle.report_text.specs.Handles.{handles_row, handles_section, is_unbalanced_handle};
+    ghost use Rattle.report_text.specs.ProcessRow.{unbalanced_head};
+    ghost use Rattle.report_text.specs.Section.{lines_of};
 
     type Kept = ProcessHandle;
+
+    ghost lines = { lines_of handles_section };
+
+    ghost head_of = { λ kept rows. unbalanced_head (codes "handles") rows
+        (length (filter is_unbalanced_handle kept.handles)) };
 
     ghost can_show = { λ _ _. ⊤ };
 
     ghost shows = { λ _ row line. line ≡ handles_row row };
 
-    fn line(&self, kept: &ProcessHandle) -> Row {
-        row_line(*kept)
+    fn head(&self, sections: &Sections, rows: usize) -> Row {
+        unbalanced_head(
+            "handles",
+            rows,
+            unbalanced_count(sections.handles.as_slice()),
+        )
     }
-}
 
-fn head_line(rows: &[ProcessHandle]) -> Row
-    ensures { result.bytes ≡ handles_head rows.now }
-{
-    let mut line = Row::new();
-    line.push_str("handles ");
-    push_decimal(&mut line, rows.len() as u64);
-    line.push_str(" unbalanced ");
-    push_decimal(&mut line, unbalanced_count(rows) as u64);
-    line
+    fn rows<'f>(&self, found: &'f Findings<'_>) -> &'f [ProcessHandle] {
+        found.sections().handles.as_slice()
+    }
+
+    fn line(&self, _found: &Findings<'_>, kept: &ProcessHandle) -> Row {
+        handles_row(*kept)
+    }
 }
 
 fn unbalanced_count(rows: &[ProcessHandle]) -> usize
@@ -67,21 +58,12 @@ fn is_unbalanced(row: &ProcessHandle) -> bool
     row.strong != 0 || row.weak != 0
 }
 
-pub(crate) fn row_line(row: ProcessHandle) -> Row
+fn handles_row(row: ProcessHandle) -> Row
     ensures { result.bytes ≡ handles_row row }
 {
-    let mut line = Row::new();
-    line.push_str("  ");
-    push_decimal(&mut line, u64::from(row.process));
-    line.push_str(" ");
-    push_decimal(&mut line, u64::from(row.handle));
-    line.push_str(" ");
-    push_signed(&mut line, row.strong);
-    line.push_str(" ");
-    push_signed(&mut line, row.strong_low);
-    line.push_str(" ");
-    push_signed(&mut line, row.weak);
-    line.push_str(" ");
-    push_signed(&mut line, row.weak_low);
+    let mut line = process_start(row.process);
+    push_counted(&mut line, " ", u64::from(row.handle));
+    push_count(&mut line, row.strong, row.strong_low);
+    push_count(&mut line, row.weak, row.weak_low);
     line
 }

@@ -19,11 +19,13 @@ mod nodes;
 mod objects;
 mod oneway;
 mod open_and_stray;
+mod process;
+mod process_row;
 mod refused;
 mod report;
 mod requests;
+mod section;
 mod served;
-mod shown;
 mod strays;
 
 pub use fault::fault_text;

@@ -20,6 +20,16 @@ pub(crate) fn push_decimal(line: &mut Row, number: u64)
     line.push_str(buffer.format(number));
 }
 
+/// Pushes a word, and a number in decimal.
+pub(crate) fn push_counted(line: &mut Row, word: &str, number: u64)
+    requires { array_string_len line.old + length word.now + 20 ≤ 256 }
+    ensures text { line.new.bytes ≡ line.old.bytes ++ word.now ++ decimal number }
+    ensures short { array_string_len line.new ≤ array_string_len line.old + length word.now + 20 }
+{
+    line.push_str(word);
+    push_decimal(line, number);
+}
+
 /// Pushes a number that may take 128 bits, in decimal.
 pub(crate) fn push_wide(line: &mut Row, number: u128)
     requires { array_string_len line.old + 39 ≤ 256 }

@@ -1,58 +1,45 @@
 //! The section `nodes`.
 
-ghost use Rattle.std.specs.Prelude.{◌≡◌, OnOk, filter, length};
-ghost use Rattle.report_text.specs.Nodes.{nodes_head, nodes_row, nodes_lines, is_unbalanced_node};
-ghost use Rattle.report_text.specs.Pushed.{TakesLines};
+ghost use Rattle.std.specs.Prelude.{◌≡◌, filter, length};
+ghost use Rattle.report_text.specs.Nodes.{nodes_row, is_unbalanced_node};
 
-use crate::line::{Row, push_decimal, push_hex_number, push_signed};
-use crate::lines::Lines;
-use crate::shown::{Shown, push_rows};
-use audit_findings::{Findings, ProcessNode};
-use std::alloc::{AllocError, Global};
-use std::thread::Threads;
+use crate::line::{Row, push_hex_number, push_signed};
+use crate::process_row::{process_start, push_count, unbalanced_head};
+use crate::section::Section;
+use audit_findings::{Findings, ProcessNode, Sections};
 
-/// Pushes the lines of the section.
-pub(crate) fn push_nodes<T: Threads + Sync, L: Lines>(
-    rt: &T,
-    alloc: Global,
-    found: &Findings<'_>,
-    lines: &mut L,
-) -> Result<(), AllocError>
-    ensures { OnOk result (TakesLines L.takes nodes_lines found.now lines.old lines.new) }
-{
-    let rows = found.sections().nodes.as_slice();
-    lines.push_line(&head_line(rows))?;
-    push_rows(rt, alloc, NodeRows, rows, lines)
-}
-
-/// The rows of the section, which are kept as they are.
+/// The section, whose rows are kept as they are.
 #[derive(Clone, Copy)]
-struct NodeRows;
+pub(crate) struct Nodes;
 
-impl Shown for NodeRows {
-    ghost use Rattle.std.specs.Prelude.{◌≡◌, ⊤};
-    ghost use Rattle.report_text.specs.Nodes.{nodes_row};
+impl Section for Nodes {
+    ghost use Rattle.std.specs.Prelude.{◌≡◌, ⊤, codes, filter, length};
+    ghost use Rattle.report_text.specs.Nodes.{nodes_row, nodes_section, is_unbalanced_node};
+    ghost use Rattle.report_text.specs.ProcessRow.{unbalanced_head};
+    ghost use Rattle.report_text.specs.Section.{lines_of};
 
     type Kept = ProcessNode;
+
+    ghost lines = { lines_of nodes_section };
+
+    ghost head_of = { λ kept rows. unbalanced_head (codes "nodes") rows
+        (length (filter is_unbalanced_node kept.nodes)) };
 
     ghost can_show = { λ _ _. ⊤ };
 
     ghost shows = { λ _ row line. line ≡ nodes_row row };
 
-    fn line(&self, kept: &ProcessNode) -> Row {
-        row_line(*kept)
+    fn head(&self, sections: &Sections, rows: usize) -> Row {
+        unbalanced_head("nodes", rows, unbalanced_count(sections.nodes.as_slice()))
     }
-}
 
-fn head_line(rows: &[ProcessNode]) -> Row
-    ensures { result.bytes ≡ nodes_head rows.now }
-{
-    let mut line = Row::new();
-    line.push_str("nodes ");
-    push_decimal(&mut line, rows.len() as u64);
-    line.push_str(" unbalanced ");
-    push_decimal(&mut line, unbalanced_count(rows) as u64);
-    line
+    fn rows<'f>(&self, found: &'f Findings<'_>) -> &'f [ProcessNode] {
+        found.sections().nodes.as_slice()
+    }
+
+    fn line(&self, _found: &Findings<'_>, kept: &ProcessNode) -> Row {
+        nodes_row(*kept)
+    }
 }
 
 fn unbalanced_count(rows: &[ProcessNode]) -> usize
@@ -67,24 +54,16 @@ fn is_unbalanced(row: &ProcessNode) -> bool
     row.strong != 0 || row.weak != 0 || row.strong_due != 0 || row.weak_due != 0
 }
 
-pub(crate) fn row_line(row: ProcessNode) -> Row
+fn nodes_row(row: ProcessNode) -> Row
     ensures { result.bytes ≡ nodes_row row }
 {
-    let mut line = Row::new();
-    line.push_str("  ");
-    push_decimal(&mut line, u64::from(row.process));
+    let mut line = process_start(row.process);
     line.push_str(" ");
     push_hex_number(&mut line, row.ptr);
     line.push_str(" ");
     push_hex_number(&mut line, row.cookie);
-    line.push_str(" ");
-    push_signed(&mut line, row.strong);
-    line.push_str(" ");
-    push_signed(&mut line, row.strong_low);
-    line.push_str(" ");
-    push_signed(&mut line, row.weak);
-    line.push_str(" ");
-    push_signed(&mut line, row.weak_low);
+    push_count(&mut line, row.strong, row.strong_low);
+    push_count(&mut line, row.weak, row.weak_low);
     line.push_str(" ");
     push_signed(&mut line, row.strong_due);
     line.push_str(" ");

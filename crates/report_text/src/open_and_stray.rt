@@ -6,33 +6,34 @@ ghost use Rattle.report_text.specs.EventRow.{row_start};
 ghost use Rattle.report_text.specs.OpenAndStray.{open_and_stray_head, open_and_stray_fields};
 
 use crate::events::row_start;
-use crate::line::{Row, push_decimal, push_hex_number};
+use crate::line::{Row, push_counted, push_hex_number};
 use audit_findings::OpenAndStray;
 use event_core::{Event, PendingChange, PendingItem};
 
 /// The head of a section that has this name, and this word for an open without its close. There
 /// are so many opens in all.
-pub(crate) fn head_line(name: &str, unclosed: &str, all: u64, found: &OpenAndStray) -> Row
+pub(crate) fn open_and_stray_head(name: &str, unclosed: &str, all: u64, kept: &OpenAndStray) -> Row
     requires name { length name.now ≤ 16 }
     requires unclosed { length unclosed.now ≤ 16 }
-    ensures { result.bytes ≡ open_and_stray_head name.now unclosed.now all found.now.unclosed
-        found.now.strays }
+    ensures { result.bytes ≡ open_and_stray_head name.now unclosed.now all kept.now.unclosed
+        kept.now.strays }
 {
     let mut line = Row::new();
     line.push_str(name);
-    line.push_str(" ");
-    push_decimal(&mut line, all);
+    push_counted(&mut line, " ", all);
     line.push_str(" ");
     line.push_str(unclosed);
-    line.push_str(" ");
-    push_decimal(&mut line, found.unclosed);
-    line.push_str(" stray ");
-    push_decimal(&mut line, found.strays);
+    push_counted(&mut line, " ", kept.unclosed);
+    push_counted(&mut line, " stray ", kept.strays);
     line
 }
 
 /// The row of an event that is this open or close.
-pub(crate) fn row_line(event: Event<'_>, item: Option<PendingItem<u64>>, unclosed: &str) -> Row
+pub(crate) fn open_and_stray_row(
+    event: Event<'_>,
+    item: Option<PendingItem<u64>>,
+    unclosed: &str,
+) -> Row
     requires { length unclosed.now ≤ 16 }
     ensures { result.bytes ≡ row_start (event_text event.entry)
         ++ open_and_stray_fields unclosed.now item }

@@ -1,37 +1,35 @@
 //! The section `refused`.
 
-ghost use Rattle.std.specs.Prelude.{◌≡◌, OnOk};
-ghost use Rattle.report_text.specs.Pushed.{TakesLines};
-ghost use Rattle.report_text.specs.Refused.{refused_head, refused_lines};
+use crate::events::{EventSection, kind_row};
+use crate::line::{Row, push_counted};
+use audit_findings::{Findings, Sections};
+use event_core::Event;
 
-use crate::events::{EventRows, Kinds};
-use crate::line::{Row, push_decimal};
-use crate::lines::Lines;
-use crate::shown::push_rows;
-use audit_findings::Findings;
-use std::alloc::{AllocError, Global};
-use std::thread::Threads;
+/// The section, whose rows are told by their kinds.
+#[derive(Clone, Copy)]
+pub(crate) struct Refused;
 
-/// Pushes the lines of the section.
-pub(crate) fn push_refused<T: Threads + Sync, L: Lines>(
-    rt: &T,
-    alloc: Global,
-    found: &Findings<'_>,
-    lines: &mut L,
-) -> Result<(), AllocError>
-    ensures { OnOk result (TakesLines L.takes refused_lines found.now lines.old lines.new) }
-{
-    let places = found.sections().refused.rows.as_slice();
-    lines.push_line(&head_line(places.len()))?;
-    let section = Kinds;
-    push_rows(rt, alloc, EventRows { section, found }, places, lines)
-}
+impl EventSection for Refused {
+    ghost use Rattle.std.specs.Prelude.{refl};
+    ghost use Rattle.report_text.specs.Refused.{refused_head, refused_section};
 
-fn head_line(rows: usize) -> Row
-    ensures { result.bytes ≡ refused_head rows }
-{
-    let mut line = Row::new();
-    line.push_str("refused ");
-    push_decimal(&mut line, rows as u64);
-    line
+    ghost section = { refused_section };
+
+    ghost head_of = { λ _. refused_head };
+
+    ghost bare = { λ e. refl };
+
+    fn head(&self, _sections: &Sections, rows: usize) -> Row {
+        let mut line = Row::new();
+        push_counted(&mut line, "refused ", rows as u64);
+        line
+    }
+
+    fn places<'f>(&self, found: &'f Findings<'_>) -> &'f [u64] {
+        found.sections().refused.rows.as_slice()
+    }
+
+    fn line(&self, event: Event<'_>) -> Row {
+        kind_row(event)
+    }
 }

@@ -1,45 +1,32 @@
 //! The whole report.
 
-ghost use Rattle.std.specs.Prelude.{◌≡◌, ◌≤◌, ℕ, List, [], ◌∷◌, All, map, length, IfOk, OnOk, string_bytes};
-ghost use Rattle.std.specs.List.{FoldsTo};
+ghost use Rattle.std.specs.Prelude.{◌≡◌, ◌≤◌, List, All, map, length, IfOk, OnOk, string_bytes};
 ghost use Rattle.transaction_view.specs.Grammar.{WholeFrame};
 ghost use Rattle.audit_findings.specs.Findings.{FindingsText};
 ghost use Rattle.audit_findings.specs.Kept.{Tell};
 ghost use Rattle.report_text.specs.Pushed.{TakesLines};
-ghost use Rattle.report_text.specs.Codes.{codes_lines};
-ghost use Rattle.report_text.specs.Calls.{calls_lines};
-ghost use Rattle.report_text.specs.Served.{served_lines};
-ghost use Rattle.report_text.specs.Strays.{strays_lines};
-ghost use Rattle.report_text.specs.Refused.{refused_lines};
-ghost use Rattle.report_text.specs.Handles.{handles_lines};
-ghost use Rattle.report_text.specs.Nodes.{nodes_lines};
-ghost use Rattle.report_text.specs.Buffers.{buffers_lines};
-ghost use Rattle.report_text.specs.Frees.{frees_lines};
-ghost use Rattle.report_text.specs.Requests.{requests_lines};
-ghost use Rattle.report_text.specs.Deaths.{deaths_lines};
-ghost use Rattle.report_text.specs.Clears.{clears_lines};
-ghost use Rattle.report_text.specs.Oneway.{oneway_lines};
-ghost use Rattle.report_text.specs.Objects.{objects_lines};
-ghost use Rattle.report_text.specs.Flags.{flags_lines};
-ghost use Rattle.report_text.specs.Text.{title, title_lines, totals, totals_lines, report_lines, report_text};
+ghost use Rattle.report_text.specs.Text.{title, totals, report_lines, report_text};
 
-use crate::buffers::push_buffers;
-use crate::calls::push_calls;
-use crate::clears::push_clears;
-use crate::codes::push_codes;
-use crate::deaths::push_deaths;
-use crate::flags::push_flags;
-use crate::frees::push_frees;
-use crate::handles::push_handles;
-use crate::line::{Row, push_decimal};
+use crate::buffers::Buffers;
+use crate::call_row::OfCalls;
+use crate::calls::Calls;
+use crate::clears::Clears;
+use crate::codes::Codes;
+use crate::deaths::Deaths;
+use crate::events::OfEvents;
+use crate::flags::Flags;
+use crate::frees::Frees;
+use crate::handles::Handles;
+use crate::line::{Row, push_counted};
 use crate::lines::Lines;
-use crate::nodes::push_nodes;
-use crate::objects::push_objects;
-use crate::oneway::push_oneway;
-use crate::refused::push_refused;
-use crate::requests::push_requests;
-use crate::served::push_served;
-use crate::strays::push_strays;
+use crate::nodes::Nodes;
+use crate::objects::Objects;
+use crate::oneway::Oneway;
+use crate::refused::Refused;
+use crate::requests::Requests;
+use crate::section::push_section;
+use crate::served::Served;
+use crate::strays::Strays;
 use audit_findings::Findings;
 use std::alloc::{AllocError, Global};
 use std::thread::Threads;
@@ -76,7 +63,8 @@ pub fn text<T: Threads + Sync>(
     Ok(text)
 }
 
-/// Pushes the lines of the report.
+/// Pushes the lines of the report, in its order. The sections are of different types, so no array
+/// holds them: these calls are the list. Nothing is dropped here, so the many ways out cost little.
 fn push_report<T: Threads + Sync, L: Lines>(
     rt: &T,
     alloc: Global,
@@ -85,70 +73,23 @@ fn push_report<T: Threads + Sync, L: Lines>(
 ) -> Result<(), AllocError>
     ensures { OnOk result (TakesLines L.takes report_lines found.now lines.old lines.new) }
 {
-    push_to_refused(rt, alloc, found, lines)?;
-    push_to_frees(rt, alloc, found, lines)?;
-    push_to_flags(rt, alloc, found, lines)
-}
-
-/// Pushes the first two lines, and the sections from `codes` to `refused`.
-fn push_to_refused<T: Threads + Sync, L: Lines>(
-    rt: &T,
-    alloc: Global,
-    found: &Findings<'_>,
-    lines: &mut L,
-) -> Result<(), AllocError>
-    ensures { OnOk result (FoldsTo
-        (λ old (part : FindingsText → List (List ℕ)) new. TakesLines L.takes part found.now old new)
-        lines.old
-        (title_lines ∷ totals_lines ∷ codes_lines ∷ calls_lines ∷ served_lines
-        ∷ strays_lines ∷ refused_lines ∷ []) lines.new) }
-{
     lines.push_line(&title_line())?;
     lines.push_line(&totals_line(found))?;
-    push_codes(rt, alloc, found, lines)?;
-    push_calls(rt, alloc, found, lines)?;
-    push_served(rt, alloc, found, lines)?;
-    push_strays(rt, alloc, found, lines)?;
-    push_refused(rt, alloc, found, lines)
-}
-
-/// Pushes the sections from `handles` to `frees`.
-fn push_to_frees<T: Threads + Sync, L: Lines>(
-    rt: &T,
-    alloc: Global,
-    found: &Findings<'_>,
-    lines: &mut L,
-) -> Result<(), AllocError>
-    ensures { OnOk result (FoldsTo
-        (λ old (part : FindingsText → List (List ℕ)) new. TakesLines L.takes part found.now old new)
-        lines.old
-        (handles_lines ∷ nodes_lines ∷ buffers_lines ∷ frees_lines ∷ []) lines.new) }
-{
-    push_handles(rt, alloc, found, lines)?;
-    push_nodes(rt, alloc, found, lines)?;
-    push_buffers(rt, alloc, found, lines)?;
-    push_frees(rt, alloc, found, lines)
-}
-
-/// Pushes the sections from `requests` to `flags`.
-fn push_to_flags<T: Threads + Sync, L: Lines>(
-    rt: &T,
-    alloc: Global,
-    found: &Findings<'_>,
-    lines: &mut L,
-) -> Result<(), AllocError>
-    ensures { OnOk result (FoldsTo
-        (λ old (part : FindingsText → List (List ℕ)) new. TakesLines L.takes part found.now old new)
-        lines.old
-        (requests_lines ∷ deaths_lines ∷ clears_lines ∷ oneway_lines ∷ objects_lines
-        ∷ flags_lines ∷ []) lines.new) }
-{
-    push_requests(rt, alloc, found, lines)?;
-    push_deaths(rt, alloc, found, lines)?;
-    push_clears(rt, alloc, found, lines)?;
-    push_oneway(rt, alloc, found, lines)?;
-    push_objects(rt, alloc, found, lines)?;
-    push_flags(rt, alloc, found, lines)
+    push_section(rt, alloc, Codes, found, lines)?;
+    push_section(rt, alloc, OfCalls(Calls), found, lines)?;
+    push_section(rt, alloc, OfCalls(Served), found, lines)?;
+    push_section(rt, alloc, OfEvents(Strays), found, lines)?;
+    push_section(rt, alloc, OfEvents(Refused), found, lines)?;
+    push_section(rt, alloc, Handles, found, lines)?;
+    push_section(rt, alloc, Nodes, found, lines)?;
+    push_section(rt, alloc, OfEvents(Buffers), found, lines)?;
+    push_section(rt, alloc, OfEvents(Frees), found, lines)?;
+    push_section(rt, alloc, OfEvents(Requests), found, lines)?;
+    push_section(rt, alloc, OfEvents(Deaths), found, lines)?;
+    push_section(rt, alloc, OfEvents(Clears), found, lines)?;
+    push_section(rt, alloc, Oneway, found, lines)?;
+    push_section(rt, alloc, Objects, found, lines)?;
+    push_section(rt, alloc, OfEvents(Flags), found, lines)
 }
 
 fn title_line() -> Row
@@ -165,13 +106,9 @@ fn totals_line(found: &Findings<'_>) -> Row
 {
     let sections = found.sections();
     let mut line = Row::new();
-    line.push_str("frames ");
-    push_decimal(&mut line, found.frames().len() as u64);
-    line.push_str(" records ");
-    push_decimal(&mut line, sections.records);
-    line.push_str(" opaque ");
-    push_decimal(&mut line, sections.opaque);
-    line.push_str(" missing ");
-    push_decimal(&mut line, sections.missing);
+    push_counted(&mut line, "frames ", found.frames().len() as u64);
+    push_counted(&mut line, " records ", sections.records);
+    push_counted(&mut line, " opaque ", sections.opaque);
+    push_counted(&mut line, " missing ", sections.missing);
     line
 }

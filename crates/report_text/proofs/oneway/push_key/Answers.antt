@@ -5,4 +5,4 @@ use Rattle.report_text.proofs.oneway.push_key.Goals as goal
 
 pub returns-in-Received-clause-text : goal.returns-in-Received-clause-text
 returns-in-Received-clause-text c =
-    c.push_str-in-Received.ensures.bytes ∙ ap (λ (key : OnewayKey). c.args.line.now.bytes ++ key_fields key) (sym c.in-Received.is)
+    c.push_str.ensures.bytes ∙ ap (λ (key : OnewayKey). c.args.line.now.bytes ++ key_fields key) (sym c.in-Received.is)

@@ -1,46 +1,35 @@
-use Rattle.std.proofs.Common.{ℕ, List, [], ◌∷◌, ◌++◌}
+use Rattle.std.proofs.Common.{◌≡◌, ℕ, List, length, sym, ap, ap₂, ◌∙◌}
+use Rattle.std.proofs.lemmas.List.{length-map}
 use Rattle.std.proofs.lemmas.Result.{on_ok_weaker}
+use Rattle.capture_frame.specs.Envelope.{placed_frame}
+use Rattle.transaction_view.specs.Grammar.{WholeFrame}
 use Rattle.audit_findings.specs.Findings.{FindingsText}
-use Rattle.report_text.specs.Pushed.{TakesLines}
-use Rattle.report_text.specs.Codes.{codes_lines}
-use Rattle.report_text.specs.Calls.{calls_lines}
-use Rattle.report_text.specs.Served.{served_lines}
-use Rattle.report_text.specs.Strays.{strays_lines}
-use Rattle.report_text.specs.Refused.{refused_lines}
-use Rattle.report_text.specs.Handles.{handles_lines}
-use Rattle.report_text.specs.Nodes.{nodes_lines}
-use Rattle.report_text.specs.Buffers.{buffers_lines}
-use Rattle.report_text.specs.Frees.{frees_lines}
-use Rattle.report_text.specs.Requests.{requests_lines}
-use Rattle.report_text.specs.Deaths.{deaths_lines}
-use Rattle.report_text.specs.Clears.{clears_lines}
-use Rattle.report_text.specs.Oneway.{oneway_lines}
-use Rattle.report_text.specs.Objects.{objects_lines}
-use Rattle.report_text.specs.Flags.{flags_lines}
-use Rattle.report_text.specs.Text.{title_lines, totals_lines, parts}
-use Rattle.report_text.proofs.Pushes.{FoldsTo-append, all_parts}
+use Rattle.audit_findings.specs.Frames.{wholes_of, placed_text}
+use Rattle.audit_findings.specs.Kept.{KeptFindings, Tell}
+use Rattle.report_text.specs.Text.{title, totals}
+use Rattle.report_text.proofs.Pushes.{one_pushed, none_pushed, ◌⨾◌}
 use Rattle.report_text.proofs.report.push_report.Goals as goal
 
-abbrev to_refused : List (FindingsText → List (List ℕ))
-to_refused = title_lines ∷ totals_lines ∷ codes_lines ∷ calls_lines ∷ served_lines ∷ strays_lines ∷ refused_lines ∷ []
-
-abbrev to_frees : List (FindingsText → List (List ℕ))
-to_frees = handles_lines ∷ nodes_lines ∷ buffers_lines ∷ frees_lines ∷ []
-
-abbrev to_flags : List (FindingsText → List (List ℕ))
-to_flags = requests_lines ∷ deaths_lines ∷ clears_lines ∷ oneway_lines ∷ objects_lines ∷ flags_lines ∷ []
+-- the totals are those of what the findings tell
+totals_told : (found : KeptFindings) (wholes : List WholeFrame) (said : FindingsText) (line : List ℕ) → Tell wholes said found.frames found.sections
+    → line ≡ totals (length found.frames) found.sections.records found.sections.opaque found.sections.missing
+    → line ≡ totals said.frames said.records said.opaque said.missing
+totals_told found wholes said line tell is =
+    let count : length found.frames ≡ said.frames =
+    sym (length-map found.frames placed_frame) ∙ ap length tell.show.stand ∙ length-map (wholes_of wholes) placed_text ∙ sym tell.are.frames in
+    is ∙ ap₂ (λ (f r : ℕ). totals f r found.sections.opaque found.sections.missing) count tell.keep.records
+    ∙ ap₂ (λ (o m : ℕ). totals said.frames said.records o m) tell.keep.opaque tell.keep.missing
 
 pub returns : goal.returns
 returns g c =
-    let found = c.args.found.now in
-    let took : _ → (FindingsText → List (List ℕ)) → _ → _ = λ old part new. TakesLines g.L.Lines.takes part found old new in
-    let start = c.args.lines.now in
-    let refused = c.push_to_refused.new.lines in
-    let frees = c.push_to_frees.new.lines in
-    let end = c.push_to_flags.new.lines in
-    on_ok_weaker c.push_to_flags.result
-    (λ flags.
-    all_parts g.L.Lines.takes found parts start end
-    (FoldsTo-append took start refused end to_refused (to_frees ++ to_flags) c.in_ok-push_to_refused.ensures
-    (FoldsTo-append took refused frees end to_frees to_flags c.in_ok-push_to_frees.ensures flags)))
-    c.push_to_flags.ensures
+    on_ok_weaker c.push_section-15.result
+    (λ last.
+    one_pushed c.title_line.result.bytes (λ said. title) c.in_ok-push_line.ensures (λ wholes said tell. c.title_line.ensures)
+    ⨾ one_pushed c.totals_line.result.bytes (λ said. totals said.frames said.records said.opaque said.missing) c.in_ok-push_line-2.ensures
+    (λ wholes said tell. totals_told c.args.found.now wholes said c.totals_line.result.bytes tell c.totals_line.ensures)
+    ⨾ c.in_ok-push_section.ensures ⨾ c.in_ok-push_section-2.ensures ⨾ c.in_ok-push_section-3.ensures ⨾ c.in_ok-push_section-4.ensures
+    ⨾ c.in_ok-push_section-5.ensures ⨾ c.in_ok-push_section-6.ensures ⨾ c.in_ok-push_section-7.ensures ⨾ c.in_ok-push_section-8.ensures
+    ⨾ c.in_ok-push_section-9.ensures ⨾ c.in_ok-push_section-10.ensures ⨾ c.in_ok-push_section-11.ensures ⨾ c.in_ok-push_section-12.ensures
+    ⨾ c.in_ok-push_section-13.ensures ⨾ c.in_ok-push_section-14.ensures
+    ⨾ last ⨾ none_pushed)
+    c.push_section-15.ensures

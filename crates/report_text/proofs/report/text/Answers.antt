@@ -10,5 +10,5 @@ pub returns : goal.returns
 unfolding report_text
 returns g c = λ wholes said tell.
     let pushed = c.in_ok-push_report.ensures in
-    taken _ (λ (text : _). string_bytes text) ended (λ old new line takes. takes) c.new-text.result c.push_report.new.lines pushed.0 pushed.1
-    ∙ ap (λ (t : List ℕ). t ++ flat_map ended pushed.0) c.new-text.ensures.bytes ∙ ap (flat_map ended) (pushed.2 wholes said tell)
+    taken _ (λ (text : _). string_bytes text) ended (λ old new line takes. takes) c.new-text.result c.push_report.new.lines pushed.lines pushed.taken
+    ∙ ap (λ (t : List ℕ). t ++ flat_map ended pushed.lines) c.new-text.ensures.bytes ∙ ap (flat_map ended) (pushed.told wholes said tell)

@@ -1,0 +1,7 @@
+use Rattle.audit_findings.specs.Frames.{wholes_of, events_of_wholes}
+use Rattle.report_text.proofs.CallEvents.{openers_there}
+use Rattle.report_text.proofs.calls.CallsCallSection.calls.Goals as goal
+
+pub returns-clause-events : goal.returns-clause-events
+returns-clause-events c = λ wholes said tell.
+    openers_there (events_of_wholes (wholes_of wholes)) tell.are.calls.0 _ said.calls.rows tell.are.calls.1 tell.are.calls.2.rows

@@ -1,0 +1,43 @@
+//! What the sections of each process in turn, `handles`, `nodes` and `oneway`, have alike.
+
+ghost use Rattle.std.specs.Prelude.{◌≡◌, ◌≤◌, ◌+◌, ◌++◌, length};
+ghost use Rattle.arrayvec.specs.ArrayString.{array_string_len};
+ghost use Rattle.report_text.specs.ProcessRow.{process_start, count_fields, unbalanced_head};
+
+use crate::line::{Row, push_counted, push_signed};
+use crate::process::push_process;
+
+/// A row with its process.
+pub(crate) fn process_start(process: u32) -> Row
+    ensures text { result.bytes ≡ process_start process }
+    ensures short { array_string_len result ≤ 22 }
+{
+    let mut line = Row::new();
+    line.push_str("  ");
+    push_process(&mut line, process);
+    line
+}
+
+/// Pushes a count of references, and its low.
+pub(crate) fn push_count(line: &mut Row, count: i64, low: i64)
+    requires { array_string_len line.old + 42 ≤ 256 }
+    ensures text { line.new.bytes ≡ line.old.bytes ++ count_fields count low }
+    ensures short { array_string_len line.new ≤ array_string_len line.old + 42 }
+{
+    line.push_str(" ");
+    push_signed(line, count);
+    line.push_str(" ");
+    push_signed(line, low);
+}
+
+/// The head of a section that has this name.
+pub(crate) fn unbalanced_head(name: &str, rows: usize, unbalanced: usize) -> Row
+    requires { length name.now ≤ 16 }
+    ensures { result.bytes ≡ unbalanced_head name.now rows unbalanced }
+{
+    let mut line = Row::new();
+    line.push_str(name);
+    push_counted(&mut line, " ", rows as u64);
+    push_counted(&mut line, " unbalanced ", unbalanced as u64);
+    line
+}
