@@ -20,7 +20,7 @@ use Rattle.pending_ledger.proofs.ListLaws.{one_place}
 use Rattle.summary_law.specs.Fits.{PlacesRise}
 use Rattle.audit_findings.specs.Calls.{AreOpeners, AreStrays, AreSends, judged_in_thread, text_reads}
 use Rattle.audit_findings.specs.Places.{RiseInPlace}
-use Rattle.audit_findings.specs.Threads.{same_thread, thread_of}
+use Rattle.audit_findings.specs.Threads.{is_of_thread, events_of_thread}
 use Rattle.audit_findings.proofs.Listings.{Listing, in_kept, kept_in, listing_as, of_each, in_order}
 use Rattle.audit_findings.proofs.Rising.{rising_kept}
 

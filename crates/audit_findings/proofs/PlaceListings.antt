@@ -16,7 +16,7 @@ use Rattle.event_core.specs.declared.request.RequestKey.{RequestKey}
 use Rattle.call_stacks.proofs.Members.{In}
 use Rattle.pending_ledger.specs.Pending.{ArePlacesOf, IsOutstanding, IsStray, closes, changes_of, is_close, place_of}
 use Rattle.pending_ledger.specs.Requests.{IsStanding, ends, request_place}
-use Rattle.audit_findings.specs.Processes.{items_of_process}
+use Rattle.process_ledgers.specs.Processes.{items_of_process}
 use Rattle.audit_findings.proofs.Listings.{Listing, listing_as, of_each, in_order}
 
 -- ---- the items of a list that pass a test, which sees what stands before an item and behind it

@@ -16,7 +16,7 @@ use Rattle.call_stacks.proofs.Members.{In}
 use Rattle.handle_ledger.specs.Rows.{AreRows, is_named}
 use Rattle.summary_law.specs.ByKey.{items_of}
 use Rattle.summary_law.specs.Tally.{AreKeys, AreTallyRows, IsTallyRow, count_of, sum_of}
-use Rattle.audit_findings.specs.Processes.{AreInTurn}
+use Rattle.audit_findings.specs.InTurn.{AreInTurn}
 use Rattle.audit_findings.proofs.Listings.{sorted, in_sorted, sorted_in, strictly_sorted}
 
 pub all_in : {X : Type 0} (P : X → Type 0) (xs : List X) → ((x : X) → In x xs → P x) → All P xs

@@ -6,7 +6,7 @@ use Rattle.transaction_view.specs.Grammar.{WholeFrame, IsInGrammar}
 use Rattle.audit_findings.specs.Codes.{code_words, is_opaque}
 use Rattle.audit_findings.specs.Findings.{FindingsText, AreFindings, missing_count}
 use Rattle.audit_findings.specs.Flags.{flagged}
-use Rattle.audit_findings.specs.Frames.{events_of_wholes, wholes_of}
+use Rattle.event_core.specs.Events.{events_of_wholes, wholes_of}
 use Rattle.audit_findings.proofs.CallListings.{some_strays}
 use Rattle.audit_findings.proofs.PlacesRise.{events_rise}
 use Rattle.audit_findings.proofs.SomeObjects.{some_of_objects}

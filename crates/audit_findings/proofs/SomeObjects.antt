@@ -19,7 +19,7 @@ use Rattle.event_core.specs.Events.{AttachmentText, EventText, attachment_of, at
 use Rattle.call_stacks.proofs.Members.{In, in_list, contained, in-map}
 use Rattle.pending_ledger.proofs.ListLaws.{contains_read}
 use Rattle.audit_findings.specs.declared.sort_counts.SortCounts.{SortCounts}
-use Rattle.audit_findings.specs.Frames.{events_of_wholes, wholes_of}
+use Rattle.event_core.specs.Events.{events_of_wholes, wholes_of}
 use Rattle.audit_findings.specs.Objects.{Attached, AreObjectFindings, AreOutcomes, BadOwned, IsOutcome, Outcome, attached_to, attachments_of, bad_objects, count_of, good_objects, times_of}
 use Rattle.audit_findings.proofs.Listings.{in_flat}
 

@@ -34,23 +34,31 @@ use Rattle.audit_findings.specs.declared.codes.CodeRow.{CodeRow}
 use Rattle.audit_findings.specs.declared.handles.ProcessHandle.{ProcessHandle}
 use Rattle.audit_findings.specs.declared.nodes.ProcessNode.{ProcessNode}
 use Rattle.audit_findings.specs.declared.record_counts.RecordCounts.{RecordCounts}
-use Rattle.audit_findings.specs.Buffers.{AreLeaked, AreStrayFrees, buffer_pending_of}
+use Rattle.audit_findings.specs.Buffers.{AreLeaked, AreStrayFrees}
+use Rattle.process_ledgers.specs.Items.{buffer_pending_of}
 use Rattle.audit_findings.specs.Calls.{CallsText, ServedText, RefusedText, AreCallFindings, AreRefused, is_call, is_answered, is_failed, is_replied, is_crossed, is_open, is_unanswered}
-use Rattle.audit_findings.specs.Clears.{AreClearFindings, clear_item_of}
+use Rattle.audit_findings.specs.Clears.{AreClearFindings}
+use Rattle.process_ledgers.specs.Items.{clear_item_of}
 use Rattle.audit_findings.specs.Codes.{AreCodeRows}
-use Rattle.audit_findings.specs.Deaths.{AreDeathFindings, death_item_of}
-use Rattle.audit_findings.specs.Frames.{events_of_wholes}
-use Rattle.audit_findings.specs.Handles.{AreHandleFindings, AreHandlesOf, handle_item_of, process_handle}
-use Rattle.audit_findings.specs.Nodes.{AreNodeFindings, AreNodesOf, node_item_of, process_node}
-use Rattle.audit_findings.specs.Oneway.{OnewayText, AreOnewayFindings, AreOnewayOf, oneway_cmp, oneway_item_of, oneway_pair, process_oneway, sent_count, received_count}
+use Rattle.audit_findings.specs.Deaths.{AreDeathFindings}
+use Rattle.process_ledgers.specs.Items.{death_item_of}
+use Rattle.event_core.specs.Events.{events_of_wholes}
+use Rattle.audit_findings.specs.Handles.{AreHandleFindings, AreHandlesOf, process_handle}
+use Rattle.process_ledgers.specs.Items.{handle_item_of}
+use Rattle.audit_findings.specs.Nodes.{AreNodeFindings, AreNodesOf, process_node}
+use Rattle.process_ledgers.specs.Items.{node_item_of}
+use Rattle.audit_findings.specs.Oneway.{OnewayText, AreOnewayFindings, AreOnewayOf, process_oneway, sent_count, received_count}
+use Rattle.process_ledgers.specs.OnewayLedger.{oneway_cmp, oneway_pair}
+use Rattle.process_ledgers.specs.Items.{oneway_item_of}
 use Rattle.audit_findings.specs.Places.{AreEventsAt, AreOpenAndStray, IsCountOfPlaces, IsOpenStill, IsStrayClose, OpenAndStrayText, RiseInPlace}
-use Rattle.audit_findings.specs.Processes.{items_of_process, processes_of, read_of}
+use Rattle.process_ledgers.specs.Processes.{items_of_process, processes_of, read_of}
 use Rattle.audit_findings.specs.RecordCounts.{AreRecordCounts, times}
-use Rattle.audit_findings.specs.Requests.{AreStandingRequests, IsStandingRequest, request_item_of}
+use Rattle.audit_findings.specs.Requests.{AreStandingRequests, IsStandingRequest}
+use Rattle.process_ledgers.specs.Items.{request_item_of}
 use Rattle.audit_findings.proofs.CallListings.{some_openers, some_sends}
 use Rattle.audit_findings.proofs.EventsAt.{HasEventAt, events_at, stands_somewhere}
 use Rattle.audit_findings.proofs.Listings.{Listing, either, kept_in, sorted, in_sorted, strictly_sorted}
-use Rattle.audit_findings.proofs.OnewayLaws.{oneway_cmp_total, oneway_cmp_exact}
+use Rattle.process_ledgers.proofs.OnewayLaws.{oneway_cmp_total, oneway_cmp_exact}
 use Rattle.audit_findings.proofs.PlaceListings.{outstanding_listing, stray_listing, standing_listing, of_processes, some_places}
 use Rattle.audit_findings.proofs.RowListings.{all_in, key_in, keys_back, made_rows, some_in_turn, tally_rows}
 use Rattle.audit_findings.proofs.StandLaws.{leaked_stands, stray_free_stands, open_death_stands, stray_acknowledgement_stands, open_clear_stands, stray_confirmation_stands, request_stands}

@@ -1,13 +1,14 @@
 -- Lemmas on what the rows of a parse ask for.
-use Rattle.std.proofs.Common.{◌≡◌, ℕ, ◌<◌, ◌≤◌, ◌^◌, List, Option, Some, None, IfSome, IfNone, codes, arith, refl, sym, ◌∙◌, option_map}
+use Rattle.std.proofs.Common.{◌≡◌, ℕ, ◌<◌, ◌≤◌, ◌^◌, List, Option, Some, None, IfSome, IfNone, codes, arith, refl, sym, ◌∙◌, option_map, ◌⊎◌, inl, inr}
 use Rattle.std.specs.Str.Parse.{ParsesUnsigned, ExplainsUnsignedError, HasUnsignedDigitsIfOk, IsNumeral, digits_value, without_leading_plus}
 use Rattle.std.specs.declared.num.ParseIntError.{ParseIntError}
 use Rattle.std.specs.declared.result.Result.{Result}
 use Rattle.std.specs.Borrow.{Bor}
 use Rattle.clap.specs.Words.{ReadsOne, Row, Text, first_of, one_of}
-use Rattle.audit_program.specs.CommandLine.{AsksFirstFault, AsksReport, ReadsNumber}
+use Rattle.audit_program.specs.CommandLine.{AsksFirstFault, AsksReport, HasNumbers, ReadsNumber}
+use Rattle.audit_run.specs.declared.answers.Question.{Question}
+use Rattle.audit_run.specs.declared.answers.Question.TheVariants.{Report, FirstFault}
 use Rattle.audit_run.specs.declared.answers.Request.{Request}
-use Rattle.audit_run.specs.declared.answers.Request.TheVariants.{Report, FirstFault}
 
 pub IfNone-always : {T : Type 0} {P : Type 0} (o : Option T) → P → IfNone o P
 IfNone-always None p = p
@@ -53,21 +54,23 @@ file_missing (Some s) o is = tt
 
 -- a report wants its two numbers and its file, and the first fault its file
 module _ (rows : List Row) where
+  no_number : (question : Question) → HasNumbers rows question
+      → ((n : ℕ) → ReadsNumber (codes "workers") rows n → 2 ^ 64 ≤ n)
+      ⊎ ((n : ℕ) → ReadsNumber (codes "piece") rows n → 2 ^ 64 ≤ n) → ⊥
+  no_number (Report workers piece) has (inl large) =
+      let big = large workers.number has.0 in let small = workers.at_most_64 in omega arith
+  no_number (Report workers piece) has (inr large) =
+      let big = large piece.frames has.1 in let small = piece.at_most_65536 in omega arith
+  no_number FirstFault has large = has
+
   pub no_workers : ((n : ℕ) → ReadsNumber (codes "workers") rows n → 2 ^ 64 ≤ n) → (request : Request) → ¬ AsksReport rows request
-  no_workers large (Report workers piece file) asks =
-      let big = large workers.number asks.0 in let small = workers.at_most_64 in omega arith
-  no_workers large (FirstFault file) asks = asks
+  no_workers large request asks = no_number request.question asks.0 (inl large)
 
   pub no_piece : ((n : ℕ) → ReadsNumber (codes "piece") rows n → 2 ^ 64 ≤ n) → (request : Request) → ¬ AsksReport rows request
-  no_piece large (Report workers piece file) asks =
-      let big = large piece.frames asks.1 in let small = piece.at_most_65536 in omega arith
-  no_piece large (FirstFault file) asks = asks
+  no_piece large request asks = no_number request.question asks.0 (inr large)
 
   pub no_report_file : first_of (codes "file") rows ≡ None → (request : Request) → ¬ AsksReport rows request
-  no_report_file none (Report workers piece file) asks =
-      let bad : None ≡ Some file.now = sym none ∙ asks.2 in cc
-  no_report_file none (FirstFault file) asks = asks
+  no_report_file none request asks = let bad : None ≡ Some request.file.now = sym none ∙ asks.1 in cc
 
   pub no_fault_file : first_of (codes "file") rows ≡ None → (request : Request) → ¬ AsksFirstFault rows request
-  no_fault_file none (Report workers piece file) asks = asks
-  no_fault_file none (FirstFault file) asks = let bad : None ≡ Some file.now = sym none ∙ asks in cc
+  no_fault_file none request asks = let bad : None ≡ Some request.file.now = sym none ∙ asks.1 in cc

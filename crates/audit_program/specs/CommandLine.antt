@@ -4,8 +4,9 @@ use Rattle.std.specs.Str.Parse.{IsNumeral, digits_value, without_leading_plus}
 use Rattle.clap.specs.Words.{App, Row, Rule, Text, fault_of, first_of, new_app, new_rule, one_of, subcommand_of, with_rule, with_subcommand}
 use Rattle.clap.specs.declared.builder.action.ArgAction.TheVariants.{Set}
 use Rattle.clap.specs.declared.builder.value_parser.ValueParser.TheVariants.{Unsigned}
+use Rattle.audit_run.specs.declared.answers.Question.{Question}
+use Rattle.audit_run.specs.declared.answers.Question.TheVariants.{Report, FirstFault}
 use Rattle.audit_run.specs.declared.answers.Request.{Request}
-use Rattle.audit_run.specs.declared.answers.Request.TheVariants.{Report, FirstFault}
 
 -- an option with a number from 1 to `most`
 abbrev pub number_rule : Text → ℕ → Text → Rule
@@ -37,17 +38,23 @@ ReadsNumber name rows n =
     (text : Text) × (one_of name rows ≡ Some text) × IsNumeral 10 (without_leading_plus text) ×
     (n ≡ digits_value 10 (without_leading_plus text))
 
+-- the file that the rows name
+abbrev pub NamesFile : List Row → Request → Type 0
+NamesFile rows request = first_of (codes "file") rows ≡ Some request.file.now
+
+-- the report, by the numbers of the two options
+abbrev pub HasNumbers : List Row → Question → Type 0
+HasNumbers rows (Report workers piece) =
+    ReadsNumber (codes "workers") rows workers.number × ReadsNumber (codes "piece") rows piece.frames
+HasNumbers rows FirstFault = ⊥
+
 -- what the rows of the subcommand `report` ask for
 abbrev pub AsksReport : List Row → Request → Type 0
-AsksReport rows (Report workers piece file) =
-    ReadsNumber (codes "workers") rows workers.number × ReadsNumber (codes "piece") rows piece.frames
-    × (first_of (codes "file") rows ≡ Some file.now)
-AsksReport rows (FirstFault file) = ⊥
+AsksReport rows request = HasNumbers rows request.question × NamesFile rows request
 
 -- what the rows of the subcommand `first-fault` ask for
 abbrev pub AsksFirstFault : List Row → Request → Type 0
-AsksFirstFault rows (Report workers piece file) = ⊥
-AsksFirstFault rows (FirstFault file) = first_of (codes "file") rows ≡ Some file.now
+AsksFirstFault rows request = (request.question ≡ FirstFault) × NamesFile rows request
 
 -- what the subcommand that was met asks for, by its name and its rows
 abbrev pub AsksFor : Option (Text × List Row) → Request → Type 0

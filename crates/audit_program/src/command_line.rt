@@ -4,7 +4,7 @@ ghost use Rattle.clap.specs.Words.{app_of, first_of, found_of, kind_of, rows_of,
 ghost use Rattle.audit_program.specs.CommandLine.{AreTaken, AsksFirstFault, AsksFor, AsksReport, ReadsNumber, WordsAskFor, audit_app, file_rule, number_rule};
 ghost use Rattle.audit_run.specs.declared.answers.Request.{Request};
 
-use audit_run::{Piece, Request, RunError, Workers};
+use audit_run::{Piece, Question, Request, RunError, Workers};
 use audit_streams::Failure;
 use clap::error::ErrorKind;
 use clap::{Arg, ArgAction, ArgMatches, Command, Error, value_parser};
@@ -100,11 +100,8 @@ fn report_of<'a>(matches: &ArgMatches<'a>) -> Option<Request<'a>>
     let workers = Workers::new(number_of(matches, "workers")?)?;
     let piece = Piece::new(number_of(matches, "piece")?)?;
     let file = file_of(matches)?;
-    Some(Request::Report {
-        workers,
-        piece,
-        file,
-    })
+    let question = Question::Report { workers, piece };
+    Some(Request { question, file })
 }
 
 fn first_fault_of<'a>(matches: &ArgMatches<'a>) -> Option<Request<'a>>
@@ -113,7 +110,8 @@ fn first_fault_of<'a>(matches: &ArgMatches<'a>) -> Option<Request<'a>>
         ((request : Request) → ¬ AsksFirstFault (rows_of (found_of matches.now)) request) }
 {
     let file = file_of(matches)?;
-    Some(Request::FirstFault { file })
+    let question = Question::FirstFault;
+    Some(Request { question, file })
 }
 
 fn request_of<'a>(matches: &ArgMatches<'a>) -> Option<Request<'a>>

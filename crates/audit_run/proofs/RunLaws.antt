@@ -1,46 +1,38 @@
--- What a run rests on: what holds of the bytes that were read holds of those that the reader had.
-use Rattle.std.proofs.Common.{◌≡◌, ℕ, List, Option, Some, None, Result, Ok, Err, sym, subst}
-use Rattle.std.specs.Prelude.{IfOk, IfErr, IfSome}
+-- What a run rests on: what came of a failed write, and what is said besides of the same text.
+use Rattle.std.proofs.Common.{◌≡◌, ℕ, List, Option, Result, Err, sym, subst}
 use Rattle.capture_frame.specs.declared.fault.Fault.{Fault}
 use Rattle.audit_streams.specs.declared.run_error.RunError.{RunError}
 use Rattle.audit_streams.specs.declared.run_error.RunError.TheVariants.{Memory, TooLarge, Read, Write, Open}
 use Rattle.audit_streams.specs.KnownBytes.{AppendsPrefix}
-use Rattle.audit_run.specs.Run.{IsRead, IsOfRead, StaysOrBegins}
+use Rattle.audit_run.specs.Run.{Breaks, FileGives, IsAnswered, ReaderGives, Runs, given, none_given}
 use Rattle.report_text.specs.Fault.{fault_line}
 
-known : (bytes : Option (List ℕ)) (read : List ℕ) (P : List ℕ → Type 0) → IfSome bytes (λ b. read ≡ b) → P read → IfSome bytes P
-known None read P same holds = tt
-known (Some b) read P same holds = subst P same holds
+-- what a reader gives is what a file gives that was opened
+file_gives : (had : Option (List ℕ)) (error : RunError) → ReaderGives had (Err error) → FileGives (Err error)
+file_gives had Memory gives = gives
+file_gives had TooLarge gives = tt
+file_gives had Read gives = gives
+file_gives had Write gives = gives
+file_gives had Open gives = absurd gives
 
--- an answer about the bytes that were read is one about those that the reader had
-pub answer_known : {A E : Type 0} (result : Result A E) (bytes : Option (List ℕ)) (read : List ℕ) (P : List ℕ → A → Type 0) → IfSome bytes (λ b. read ≡ b)
-    → IfOk result (P read) → IfOk result (λ a. IfSome bytes (λ b. P b a))
-answer_known (Ok a) bytes read P same holds = known bytes read (λ b. P b a) same holds
-answer_known (Err e) bytes read P same holds = holds
+pub run_on_file : {A : Type 0} (had : Option (List ℕ)) (IsOn : List ℕ → List ℕ → Type 0) (GoesWith : List ℕ → A → Type 0)
+    (old new : Option (List ℕ)) (result : Result A RunError) → Runs (ReaderGives had) IsOn GoesWith old new result
+    → Runs FileGives IsOn GoesWith old new result
+run_on_file had IsOn GoesWith old new result (given capture gives writes) = given capture gives.1 writes
+run_on_file had IsOn GoesWith old new result (none_given error gives is keeps) =
+    none_given error (file_gives had error gives) is keeps
 
--- an answer about the bytes that were read is one about some capture that was read
-pub answer_read : {A E : Type 0} (result : Result A E) (had : Option (List ℕ)) (bytes : List ℕ) (P : List ℕ → A → Type 0) → IsRead had bytes
-    → IfOk result (P bytes)
-    → IfOk result (λ a. (capture : List ℕ) × IsRead had capture × P capture a)
-answer_read (Ok a) had bytes P read holds = (bytes, read, holds)
-answer_read (Err e) had bytes P read holds = holds
-
--- what is begun is of the bytes that were read, so it is of some capture that was read
-begun_read : (IsOf : List ℕ → List ℕ → Type 0) (had : Option (List ℕ)) (bytes : List ℕ) (old new : Option (List ℕ)) (error : RunError) → IsRead had bytes
-    → StaysOrBegins (IsOf bytes) old new error → StaysOrBegins (IsOfRead IsOf had) old new error
-begun_read IsOf had bytes old new Memory read begun = begun
-begun_read IsOf had bytes old new TooLarge read begun = begun
-begun_read IsOf had bytes old new Read read begun = begun
-begun_read IsOf had bytes old new Open read begun = begun
-begun_read IsOf had bytes old new Write read begun = (begun.0, (bytes, read, begun.1), begun.2)
-
-pub failure_read : {A : Type 0} (result : Result A RunError) (IsOf : List ℕ → List ℕ → Type 0) (had : Option (List ℕ)) (bytes : List ℕ)
-    (old new : Option (List ℕ)) → IsRead had bytes
-    → IfErr result (StaysOrBegins (IsOf bytes) old new) → IfErr result (StaysOrBegins (IsOfRead IsOf had) old new)
-failure_read (Ok a) IsOf had bytes old new read begun = begun
-failure_read (Err error) IsOf had bytes old new read begun = begun_read IsOf had bytes old new error read begun
+-- an answer of another kind to the same text
+pub answered_by : {A B : Type 0} (IsOn : List ℕ → List ℕ → Type 0) (GoesWith : List ℕ → A → Type 0)
+    (GoesWithOther : List ℕ → B → Type 0) (capture : List ℕ) (old new : Option (List ℕ)) (answer : A) (other : B)
+    → IsAnswered IsOn GoesWith capture old new answer → (GoesWith capture answer → GoesWithOther capture other)
+    → IsAnswered IsOn GoesWithOther capture old new other
+answered_by IsOn GoesWith GoesWithOther capture old new answer other answered goes =
+    record { text = answered.text; right = answered.right; written = answered.written; goes = goes answered.goes }
 
 -- a line that names the first fault and could not be written
-pub line_unwritten : (IsSuch : List ℕ → Type 0) (fault : Fault) (error : RunError) (old new : Option (List ℕ)) → IsSuch (fault_line fault) → error ≡ Write
-    → AppendsPrefix old new (fault_line fault) → StaysOrBegins IsSuch old new error
-line_unwritten IsSuch fault error old new such is begun = subst (StaysOrBegins IsSuch old new) (sym is) (fault_line fault, such, begun)
+pub line_begun : (IsOn : List ℕ → List ℕ → Type 0) (capture : List ℕ) (fault : Fault) (error : RunError) (old new : Option (List ℕ))
+    → IsOn capture (fault_line fault) → error ≡ Write → AppendsPrefix old new (fault_line fault)
+    → Breaks IsOn capture old new error
+line_begun IsOn capture fault error old new right is begun =
+    subst (Breaks IsOn capture old new) (sym is) (record { text = fault_line fault; right = right; begun = begun })

@@ -1,4 +1,4 @@
-pub mod Request
+pub mod Question
 pub mod Run
 pub use Rattle.audit_streams.specs.KnownBytes
 pub use Rattle.audit_streams.specs.RunError

@@ -1,52 +1,80 @@
--- What a run writes.
-use Rattle.std.specs.Prelude.{◌≡◌, ℕ, ◌≤◌, ◌<◌, List, length, Option, Some, None, IfSome, ⊤}
+-- What a run comes to: what reading gave, what stands written of it, and what is answered. Nobody knows beforehand what
+-- a file or a pipe has, nor what a terminal holds; of such a reader or writer the clauses on its bytes say nothing.
+use Rattle.std.specs.Prelude.{◌≡◌, ℕ, ◌≤◌, ◌<◌, List, length, Option, Some, None, IfSome, Result, Ok, Err, ⊤}
 use Rattle.std.specs.Io.KnownBytes.{Appends, Keeps}
 use Rattle.capture_frame.specs.declared.fault.Fault.{Fault}
+use Rattle.transaction_view.specs.Grammar.{IsReadable, HasFirstFault}
 use Rattle.audit_join.specs.declared.limits.TheConstants.{CAPTURE_LIMIT}
+use Rattle.audit_streams.specs.KnownBytes.{AppendsPrefix}
+use Rattle.audit_streams.specs.declared.run_error.RunError.{RunError}
+use Rattle.audit_streams.specs.declared.run_error.RunError.TheVariants.{Memory, TooLarge, Read, Write, Open}
 use Rattle.audit_run.specs.declared.runs.Written.{Written}
 use Rattle.audit_run.specs.declared.runs.Written.TheVariants.{Report, Malformed}
-use Rattle.audit_streams.specs.declared.run_error.RunError.{RunError}
-use Rattle.audit_streams.specs.declared.run_error.RunError.TheVariants.{Memory, Write, Open}
-use Rattle.transaction_view.specs.Grammar.{IsReadable, HasFirstFault}
-use Rattle.audit_streams.specs.KnownBytes.{AppendsPrefix}
-use Rattle.report_text.specs.Fault.{fault_line, no_fault_line}
-use Rattle.report_text.specs.Text.{IsReportOn}
 
--- a report: the capture is in the grammar, and its report was written; a malformed capture: the fault is its
--- first, and the line that names it was written. Nothing else was.
-abbrev pub Reports : List ℕ → Option (List ℕ) → Option (List ℕ) → Written → Type 0
-Reports capture old new Report = (text : List ℕ) × IsReportOn capture text × Appends old new text
-Reports capture old new (Malformed fault) = HasFirstFault capture fault × Appends old new (fault_line fault)
+-- what a reader gives that had these bytes, where they are known: all of them, and within the limit; or no capture, of
+-- which TooLarge comes only where they pass the limit
+abbrev pub ReaderGives : Option (List ℕ) → Result (List ℕ) RunError → Type 0
+ReaderGives had (Ok capture) = IfSome had (λ bytes. capture ≡ bytes) × (length capture ≤ CAPTURE_LIMIT)
+ReaderGives had (Err Memory) = ⊤
+ReaderGives had (Err TooLarge) = IfSome had (λ bytes. CAPTURE_LIMIT < length bytes)
+ReaderGives had (Err Read) = ⊤
+ReaderGives had (Err Write) = ⊥
+ReaderGives had (Err Open) = ⊥
 
--- after a failed write a prefix of such a text was written, and after another fault nothing
-abbrev pub StaysOrBegins : (List ℕ → Type 0) → Option (List ℕ) → Option (List ℕ) → RunError → Type 0
-StaysOrBegins IsSuch old new Write = (text : List ℕ) × IsSuch text × AppendsPrefix old new text
-StaysOrBegins IsSuch old new _ = Keeps old new
+-- what a file gives, which is opened first: some capture within the limit, or none
+abbrev pub FileGives : Result (List ℕ) RunError → Type 0
+FileGives (Ok capture) = length capture ≤ CAPTURE_LIMIT
+FileGives (Err Write) = ⊥
+FileGives (Err _) = ⊤
 
--- the first fault was named, or it was said that there is none
-abbrev pub NamesFirstFault : List ℕ → Option (List ℕ) → Option (List ℕ) → Option Fault → Type 0
-NamesFirstFault capture old new None = IsReadable capture × Appends old new no_fault_line
-NamesFirstFault capture old new (Some fault) = HasFirstFault capture fault × Appends old new (fault_line fault)
+-- a text on what was read was written whole, and what is answered goes with what was read
+pub record IsAnswered {C A : Type 0} (IsOn : C → List ℕ → Type 0) (GoesWith : C → A → Type 0) (capture : C)
+    (old new : Option (List ℕ)) (answer : A) : Type 0 where
+  -- a text that is right for what was read
+  pub text : List ℕ
+  pub right : IsOn capture text
+  -- the writer has grown by that text, and by nothing else
+  pub written : Appends old new text
+  -- what the answer says of what was read
+  pub goes : GoesWith capture answer
 
--- a capture that was read: within the limit, and all that the reader had where that is known
-abbrev pub IsRead : Option (List ℕ) → List ℕ → Type 0
-IsRead had capture = IfSome had (λ bytes. capture ≡ bytes) × (length capture ≤ CAPTURE_LIMIT)
+-- a write failed: the writer has grown by a prefix of a text that is right for what was read
+pub record IsBegun {C : Type 0} (IsOn : C → List ℕ → Type 0) (capture : C) (old new : Option (List ℕ)) : Type 0 where
+  pub text : List ℕ
+  pub right : IsOn capture text
+  pub begun : AppendsPrefix old new text
 
--- the text is of a capture that was read
-abbrev pub IsOfRead : (List ℕ → List ℕ → Type 0) → Option (List ℕ) → List ℕ → Type 0
-IsOfRead IsOf had text = (capture : List ℕ) × IsRead had capture × IsOf capture text
+-- what stands written where no answer came of what was read: nothing for want of memory, and after a failed write a
+-- prefix; there is no other error
+abbrev pub Breaks : {C : Type 0} → (C → List ℕ → Type 0) → C → Option (List ℕ) → Option (List ℕ) → RunError → Type 0
+Breaks IsOn capture old new Memory = Keeps old new
+Breaks IsOn capture old new TooLarge = ⊥
+Breaks IsOn capture old new Read = ⊥
+Breaks IsOn capture old new Write = IsBegun IsOn capture old new
+Breaks IsOn capture old new Open = ⊥
 
--- a run opens no file
-abbrev pub IsRunFault : RunError → Type 0
-IsRunFault Open = ⊥
-IsRunFault _ = ⊤
+-- what comes of a capture at hand
+abbrev pub Writes : {C A : Type 0} → (C → List ℕ → Type 0) → (C → A → Type 0) → C → Option (List ℕ)
+    → Option (List ℕ) → Result A RunError → Type 0
+Writes IsOn GoesWith capture old new (Ok answer) = IsAnswered IsOn GoesWith capture old new answer
+Writes IsOn GoesWith capture old new (Err error) = Breaks IsOn capture old new error
 
--- once the capture is read, memory may run out or a write fail
-abbrev pub IsAnswerFault : RunError → Type 0
-IsAnswerFault Memory = ⊤
-IsAnswerFault Write = ⊤
-IsAnswerFault _ = ⊥
+-- What comes of a reader or a file, by what reading gives (`Gives`), which texts are right for that (`IsOn`) and what an
+-- answer says of it (`GoesWith`); then what the writer held before and holds after, and the answer. A capture was given,
+-- and this came of it; or none was, which is answered, and nothing was written.
+pub data Runs {C A : Type 0} (Gives : Result C RunError → Type 0) (IsOn : C → List ℕ → Type 0)
+    (GoesWith : C → A → Type 0) (old new : Option (List ℕ)) (result : Result A RunError) : Type 0 where
+  given : (capture : C) → Gives (Ok capture) → Writes IsOn GoesWith capture old new result
+      → Runs Gives IsOn GoesWith old new result
+  none_given : (error : RunError) → Gives (Err error) → result ≡ Err error → Keeps old new
+      → Runs Gives IsOn GoesWith old new result
 
--- the capture has more bytes than are allowed
-abbrev pub IsTooLarge : List ℕ → Type 0
-IsTooLarge capture = CAPTURE_LIMIT < length capture
+-- a report is answered of a capture in the grammar alone, and a fault where it is the first
+abbrev pub GoesWithWritten : List ℕ → Written → Type 0
+GoesWithWritten capture Report = IsReadable capture
+GoesWithWritten capture (Malformed fault) = HasFirstFault capture fault
+
+-- no fault is answered of a capture in the grammar alone, and a fault where it is the first
+abbrev pub GoesWithFault : List ℕ → Option Fault → Type 0
+GoesWithFault capture None = IsReadable capture
+GoesWithFault capture (Some fault) = HasFirstFault capture fault

@@ -5,7 +5,7 @@
 mod answers;
 mod runs;
 
-pub use crate::answers::{Request, answer, answer_file};
+pub use crate::answers::{Question, Request, answer, answer_file, write_answer};
 pub use crate::runs::{Written, run, run_first_fault, run_gated, write_first_fault};
 pub use audit_join::{CAPTURE_LIMIT, Piece};
 pub use audit_streams::{RunError, read_capture, write_text};

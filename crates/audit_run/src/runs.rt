@@ -1,10 +1,10 @@
 //! From the bytes of a reader to the bytes of a writer.
 
-ghost use Rattle.std.specs.Prelude.{◌≡◌, ◌<◌, ◌≤◌, ℕ, List, length, IfOk, IfErr, IfSome, OnOk, OnErr, IsErrOf, IsOkUnless, string_bytes};
+ghost use Rattle.std.specs.Prelude.{◌≡◌, ◌≤◌, List, length, IfOk, IfErr, OnOk, OnErr, IsOkUnless, string_bytes};
 ghost use Rattle.std.specs.Io.KnownBytes.{Appends};
 ghost use Rattle.audit_streams.specs.KnownBytes.{AppendsPrefix};
 ghost use Rattle.report_text.specs.Fault.{fault_line};
-ghost use Rattle.audit_run.specs.Run.{Reports, NamesFirstFault, IsRead, IsOfRead, StaysOrBegins, IsRunFault, IsAnswerFault};
+ghost use Rattle.audit_run.specs.Run.{GoesWithFault, GoesWithWritten, ReaderGives, Runs, Writes};
 ghost use Rattle.report_text.specs.Answers.{IsTextOf, IsLineOn};
 ghost use Rattle.report_text.specs.Text.{IsReportOn, report_text};
 ghost use Rattle.transaction_view.specs.Grammar.{WholeFrame};
@@ -44,24 +44,8 @@ pub fn run<T: Threads + Sync, R: Read, W: Write>(
     piece: Piece,
 ) -> Result<Written, RunError>
     // What is written is the definitions' text of what was read, and nothing else.
-    ensures written { IfOk result (λ written. IfSome (R.remaining reader.old) (λ capture.
-        Reports capture (W.contents writer.old) (W.contents writer.new) written)) }
-    ensures within { OnOk result (IfSome (R.remaining reader.old) (λ capture.
-        length capture ≤ CAPTURE_LIMIT)) }
-
-    // Of a reader whose bytes nobody knows beforehand, the same of some capture.
-    ensures read { IfOk result
-        (λ written. (capture : List ℕ) × IsRead (R.remaining reader.old) capture
-        × Reports capture (W.contents writer.old) (W.contents writer.new) written) }
-
-    // After a failed write a prefix of the text stands written, and after another fault nothing.
-    ensures failed { IfErr result (λ error. IfSome (R.remaining reader.old) (λ capture.
-        StaysOrBegins (IsTextOf capture) (W.contents writer.old) (W.contents writer.new) error)) }
-    ensures begun { IfErr result (StaysOrBegins (IsOfRead IsTextOf (R.remaining reader.old))
-        (W.contents writer.old) (W.contents writer.new)) }
-    ensures too_large { IsErrOf result RunError.TooLarge
-        → IfSome (R.remaining reader.old) (λ capture. CAPTURE_LIMIT < length capture) }
-    ensures fault { IfErr result IsRunFault }
+    ensures { Runs (ReaderGives (R.remaining reader.old)) IsTextOf GoesWithWritten
+        (W.contents writer.old) (W.contents writer.new) result }
 {
     run_gated(rt, alloc, reader, writer, workers, piece, &NoGate)
 }
@@ -77,31 +61,24 @@ pub fn run_gated<T: Threads + Sync, R: Read, W: Write, G: Gate + Sync>(
     gate: &G,
 ) -> Result<Written, RunError>
     // What is written is the definitions' text of what was read, and nothing else.
-    ensures written { IfOk result (λ written. IfSome (R.remaining reader.old) (λ capture.
-        Reports capture (W.contents writer.old) (W.contents writer.new) written)) }
-    ensures within { OnOk result (IfSome (R.remaining reader.old) (λ capture.
-        length capture ≤ CAPTURE_LIMIT)) }
-
-    // Of a reader whose bytes nobody knows beforehand, the same of some capture.
-    ensures read { IfOk result
-        (λ written. (capture : List ℕ) × IsRead (R.remaining reader.old) capture
-        × Reports capture (W.contents writer.old) (W.contents writer.new) written) }
-
-    // After a failed write a prefix of the text stands written, and after another fault nothing.
-    ensures failed { IfErr result (λ error. IfSome (R.remaining reader.old) (λ capture.
-        StaysOrBegins (IsTextOf capture) (W.contents writer.old) (W.contents writer.new) error)) }
-    ensures begun { IfErr result (StaysOrBegins (IsOfRead IsTextOf (R.remaining reader.old))
-        (W.contents writer.old) (W.contents writer.new)) }
-    ensures too_large { IsErrOf result RunError.TooLarge
-        → IfSome (R.remaining reader.old) (λ capture. CAPTURE_LIMIT < length capture) }
-    ensures fault { IfErr result IsRunFault }
+    ensures { Runs (ReaderGives (R.remaining reader.old)) IsTextOf GoesWithWritten
+        (W.contents writer.old) (W.contents writer.new) result }
 {
-    let capture = read_capture(alloc, reader, CAPTURE_LIMIT)?;
-    write_answer(rt, alloc, capture.as_slice(), writer, workers, piece, gate)
+    let capture = read_within(alloc, reader)?;
+    write_report(rt, alloc, capture.as_slice(), writer, workers, piece, gate)
+}
+
+/// Reads a capture whole, within the limit.
+pub(crate) fn read_within<R: Read>(alloc: Global, reader: &mut R) -> Result<Vec<u8>, RunError>
+    ensures capture { IfOk result
+        (λ capture. ReaderGives (R.remaining reader.old) (Ok capture.items)) }
+    ensures none { IfErr result (λ error. ReaderGives (R.remaining reader.old) (Err error)) }
+{
+    read_capture(alloc, reader, CAPTURE_LIMIT)
 }
 
 /// Writes the report on a capture, or the line that names its first fault.
-fn write_answer<T: Threads + Sync, W: Write, G: Gate + Sync>(
+pub(crate) fn write_report<T: Threads + Sync, W: Write, G: Gate + Sync>(
     rt: &T,
     alloc: Global,
     capture: &[u8],
@@ -111,11 +88,8 @@ fn write_answer<T: Threads + Sync, W: Write, G: Gate + Sync>(
     gate: &G,
 ) -> Result<Written, RunError>
     requires { length capture.now ≤ CAPTURE_LIMIT }
-    ensures written { IfOk result
-        (Reports capture.now (W.contents writer.old) (W.contents writer.new)) }
-    ensures failed { IfErr result
-        (StaysOrBegins (IsTextOf capture.now) (W.contents writer.old) (W.contents writer.new)) }
-    ensures fault { IfErr result IsAnswerFault }
+    ensures { Writes IsTextOf GoesWithWritten capture.now
+        (W.contents writer.old) (W.contents writer.new) result }
 {
     match report_on(rt, alloc, capture, workers, piece, gate) {
         Ok(text) => {
@@ -170,22 +144,10 @@ pub fn run_first_fault<R: Read, W: Write>(
     reader: &mut R,
     writer: &mut W,
 ) -> Result<Option<Fault>, RunError>
-    ensures written { IfOk result (λ fault. IfSome (R.remaining reader.old) (λ capture.
-        NamesFirstFault capture (W.contents writer.old) (W.contents writer.new) fault)) }
-    ensures within { OnOk result (IfSome (R.remaining reader.old) (λ capture.
-        length capture ≤ CAPTURE_LIMIT)) }
-    ensures read { IfOk result
-        (λ fault. (capture : List ℕ) × IsRead (R.remaining reader.old) capture
-        × NamesFirstFault capture (W.contents writer.old) (W.contents writer.new) fault) }
-    ensures failed { IfErr result (λ error. IfSome (R.remaining reader.old) (λ capture.
-        StaysOrBegins (IsLineOn capture) (W.contents writer.old) (W.contents writer.new) error)) }
-    ensures begun { IfErr result (StaysOrBegins (IsOfRead IsLineOn (R.remaining reader.old))
-        (W.contents writer.old) (W.contents writer.new)) }
-    ensures too_large { IsErrOf result RunError.TooLarge
-        → IfSome (R.remaining reader.old) (λ capture. CAPTURE_LIMIT < length capture) }
-    ensures fault { IfErr result IsRunFault }
+    ensures { Runs (ReaderGives (R.remaining reader.old)) IsLineOn GoesWithFault
+        (W.contents writer.old) (W.contents writer.new) result }
 {
-    let capture = read_capture(alloc, reader, CAPTURE_LIMIT)?;
+    let capture = read_within(alloc, reader)?;
     write_first_fault(capture.as_slice(), writer)
 }
 
@@ -194,10 +156,8 @@ pub fn write_first_fault<W: Write>(
     capture: &[u8],
     writer: &mut W,
 ) -> Result<Option<Fault>, RunError>
-    ensures written { IfOk result
-        (NamesFirstFault capture.now (W.contents writer.old) (W.contents writer.new)) }
-    ensures failed { IfErr result
-        (StaysOrBegins (IsLineOn capture.now) (W.contents writer.old) (W.contents writer.new)) }
+    ensures written { Writes IsLineOn GoesWithFault capture.now
+        (W.contents writer.old) (W.contents writer.new) result }
     ensures fault { IsOkUnless result RunError.Write }
 {
     match first_fault(capture) {

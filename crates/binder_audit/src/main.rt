@@ -4,7 +4,8 @@
 use audit_program::ended;
 pub use audit_program::program;
 pub use audit_run::{
-    CAPTURE_LIMIT, Piece, RunError, Workers, Written, read_capture, run, run_first_fault,
+    CAPTURE_LIMIT, Gate, NoGate, Piece, RunError, Workers, Written, read_capture, run,
+    run_first_fault, run_gated,
 };
 use std::env;
 use std::process::ExitCode;

@@ -7,7 +7,7 @@ use Rattle.std.proofs.lemmas.List.Elements.{All-map}
 use Rattle.transaction_view.specs.Grammar.{WholeFrame}
 use Rattle.event_core.specs.Events.{EventText}
 use Rattle.audit_findings.specs.Findings.{FindingsText}
-use Rattle.audit_findings.specs.Frames.{wholes_of}
+use Rattle.event_core.specs.Events.{wholes_of}
 use Rattle.audit_findings.specs.Kept.{KeptFindings, AreOfFrames, Tell}
 use Rattle.audit_findings.specs.Lookup.{HasRecordIn}
 use Rattle.audit_findings.proofs.RecordsThere.{has_record_in}

@@ -2,7 +2,7 @@
 -- none (docs/REPORT.md).
 use Rattle.std.specs.Prelude.{ℕ, List, codes}
 use Rattle.event_core.specs.Events.{EventText}
-use Rattle.audit_findings.specs.Clears.{clear_item_of}
+use Rattle.process_ledgers.specs.Items.{clear_item_of}
 use Rattle.report_text.specs.OpenAndStray.{open_and_stray_head, open_and_stray_row}
 use Rattle.report_text.specs.Section.{SectionText}
 

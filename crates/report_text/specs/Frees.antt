@@ -4,7 +4,7 @@ use Rattle.std.specs.Fmt.{decimal}
 use Rattle.event_core.specs.Events.{EventText}
 use Rattle.event_core.specs.declared.buffer.BufferItem.{BufferItem}
 use Rattle.event_core.specs.declared.buffer.BufferItem.TheVariants.{Free}
-use Rattle.audit_findings.specs.Buffers.{buffer_item_of}
+use Rattle.process_ledgers.specs.Items.{buffer_item_of}
 use Rattle.report_text.specs.EventRow.{row_start}
 use Rattle.report_text.specs.Line.{hex_number}
 use Rattle.report_text.specs.Section.{SectionText}

@@ -6,7 +6,8 @@ use Rattle.capture_frame.specs.Units.{Placed}
 use Rattle.transaction_view.specs.Grammar.{WholeFrame}
 use Rattle.event_core.specs.Events.{EventText}
 use Rattle.audit_findings.specs.Findings.{FindingsText}
-use Rattle.audit_findings.specs.Frames.{Show, wholes_of, events_of_wholes}
+use Rattle.audit_findings.specs.Frames.{Show}
+use Rattle.event_core.specs.Events.{wholes_of, events_of_wholes}
 use Rattle.audit_findings.specs.Kept.{KeptFindings, Tell}
 use Rattle.report_text.specs.Section.{SectionText}
 

@@ -5,7 +5,7 @@ use Rattle.event_core.specs.Events.{EventText}
 use Rattle.event_core.specs.declared.request.RequestChange.{RequestChange}
 use Rattle.event_core.specs.declared.request.RequestChange.TheVariants.{Request}
 use Rattle.event_core.specs.declared.request.RequestItem.{RequestItem}
-use Rattle.audit_findings.specs.Requests.{request_item_of}
+use Rattle.process_ledgers.specs.Items.{request_item_of}
 use Rattle.report_text.specs.EventRow.{row_start}
 use Rattle.report_text.specs.Line.{hex_number}
 use Rattle.report_text.specs.Section.{SectionText}

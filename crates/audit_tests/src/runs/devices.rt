@@ -2,7 +2,7 @@
 //! failed call is the last one, and before it the text was written byte for byte.
 
 use crate::devices::{Drip, Sink};
-use audit_run::{Piece, Request, RunError, Workers, answer};
+use audit_run::{Piece, Question, RunError, Workers, answer};
 use std::alloc::Global;
 use std::io::ErrorKind;
 use std::process::Abort;
@@ -49,11 +49,11 @@ type Seen = (Result<u8, RunError>, [u64; 4]);
 fn seen<T: Threads + Sync>(
     rt: &T,
     alloc: Global,
-    request: Request<'_>,
+    question: Question,
     mut reader: Drip<'_>,
     mut sink: Sink<'_>,
 ) -> Seen {
-    let outcome = answer(rt, alloc, request, &mut reader, &mut sink);
+    let outcome = answer(rt, alloc, question, &mut reader, &mut sink);
     let counts = [reader.reads, sink.writes, sink.taken as u64, sink.flushes];
     (outcome, counts)
 }
@@ -63,21 +63,20 @@ fn expect<T: Abort>(rt: &T, seen: Seen, outcome: Result<u8, RunError>, counts: [
     assert_eq!(rt; seen.1, counts);
 }
 
-fn report() -> Option<Request<'static>> {
-    Some(Request::Report {
+fn report() -> Option<Question> {
+    Some(Question::Report {
         workers: Workers::new(1)?,
         piece: Piece::new(1)?,
-        file: "",
     })
 }
 
-const FIRST_FAULT: Request<'static> = Request::FirstFault { file: "" };
+const FIRST_FAULT: Question = Question::FirstFault;
 
 /// Nothing is written, and that read is the last one.
-fn fail_read<T: Threads + Abort + Sync>(rt: &T, alloc: Global, request: Request<'_>, at: u64) {
+fn fail_read<T: Threads + Abort + Sync>(rt: &T, alloc: Global, question: Question, at: u64) {
     for kind in [ErrorKind::Other, ErrorKind::Interrupted] {
         let reader = Drip::failing(CAPTURE, at, kind);
-        let seen = seen(rt, alloc, request, reader, Sink::new(b""));
+        let seen = seen(rt, alloc, question, reader, Sink::new(b""));
         expect(rt, seen, Err(RunError::Read), [at, 0, 0, 0]);
     }
 }
@@ -96,13 +95,13 @@ fn each_read_fails(rt: HostRuntime) -> Result<(), Fail> {
 fn fail_write<T: Threads + Abort + Sync>(
     rt: &T,
     alloc: Global,
-    request: Request<'_>,
+    question: Question,
     text: &[u8],
     at: u64,
 ) {
     for fault in [Some(ErrorKind::Other), Some(ErrorKind::Interrupted), None] {
         let sink = Sink::failing(text, at, fault);
-        let seen = seen(rt, alloc, request, Drip::new(CAPTURE), sink);
+        let seen = seen(rt, alloc, question, Drip::new(CAPTURE), sink);
         expect(
             rt,
             seen,
@@ -113,23 +112,18 @@ fn fail_write<T: Threads + Abort + Sync>(
 }
 
 /// Each write of the text fails, then its flush, then nothing.
-fn fail_writes<T: Threads + Abort + Sync>(
-    rt: &T,
-    alloc: Global,
-    request: Request<'_>,
-    text: &[u8],
-) {
+fn fail_writes<T: Threads + Abort + Sync>(rt: &T, alloc: Global, question: Question, text: &[u8]) {
     let length = text.len() as u64;
     for at in 1..=length {
-        fail_write(rt, alloc, request, text, at);
+        fail_write(rt, alloc, question, text, at);
     }
     let all = [READS, length, length, 1];
     for kind in [ErrorKind::Other, ErrorKind::Interrupted] {
         let sink = Sink::unflushed(text, kind);
-        let seen = seen(rt, alloc, request, Drip::new(CAPTURE), sink);
+        let seen = seen(rt, alloc, question, Drip::new(CAPTURE), sink);
         expect(rt, seen, Err(RunError::Write), all);
     }
-    let seen = seen(rt, alloc, request, Drip::new(CAPTURE), Sink::new(text));
+    let seen = seen(rt, alloc, question, Drip::new(CAPTURE), Sink::new(text));
     expect(rt, seen, Ok(0), all);
 }
 

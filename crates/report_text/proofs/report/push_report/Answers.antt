@@ -4,7 +4,8 @@ use Rattle.std.proofs.lemmas.Result.{on_ok_weaker}
 use Rattle.capture_frame.specs.Envelope.{placed_frame}
 use Rattle.transaction_view.specs.Grammar.{WholeFrame}
 use Rattle.audit_findings.specs.Findings.{FindingsText}
-use Rattle.audit_findings.specs.Frames.{wholes_of, placed_text}
+use Rattle.event_core.specs.Events.{wholes_of}
+use Rattle.event_core.specs.Events.{placed_text}
 use Rattle.audit_findings.specs.Kept.{KeptFindings, Tell}
 use Rattle.report_text.specs.Text.{title, totals}
 use Rattle.report_text.proofs.Pushes.{one_pushed, none_pushed, ◌⨾◌}

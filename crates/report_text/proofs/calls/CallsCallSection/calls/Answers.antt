@@ -1,4 +1,4 @@
-use Rattle.audit_findings.specs.Frames.{wholes_of, events_of_wholes}
+use Rattle.event_core.specs.Events.{wholes_of, events_of_wholes}
 use Rattle.report_text.proofs.CallEvents.{openers_there}
 use Rattle.report_text.proofs.calls.CallsCallSection.calls.Goals as goal
 

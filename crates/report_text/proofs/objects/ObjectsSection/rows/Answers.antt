@@ -1,7 +1,7 @@
 use Rattle.std.proofs.Common.{refl, ap, ◌∙◌}
 use Rattle.audit_findings.specs.declared.findings.Sections.{Sections}
 use Rattle.audit_findings.specs.declared.objects.BadRow.{BadRow}
-use Rattle.audit_findings.specs.Frames.{wholes_of, events_of_wholes}
+use Rattle.event_core.specs.Events.{wholes_of, events_of_wholes}
 use Rattle.audit_findings.specs.Kept.{kept_bad}
 use Rattle.report_text.specs.Objects.{objects_head, objects_row, objects_section}
 use Rattle.report_text.specs.Pushed.{HaveEvents, Keeps}
