@@ -7,8 +7,8 @@
 
 Each of its rules stands in docs/ENVELOPE.md, docs/COMMANDS.md or docs/REPORT.md, and it shares no
 code with the auditor. It puts what belongs together into one list, goes through the lists and
-counts: it keeps no stack and no ledger, joins nothing, and takes some seconds for a million records.
-The status is 2 where the capture is malformed, and else 0.
+counts: it keeps no stack and no ledger, joins nothing, and takes some seconds for a million
+records. The status is 2 where the capture is malformed, and else 0.
 
 FOLDER is crates/audit_cases. --check looks at the cases that have a capture and an answer about it.
 It is silent where all is well, else it names each case that differs, with status 1.
@@ -241,7 +241,8 @@ def read_entries(frame, records):
     """The attachment entries of a frame, each by the offset of its record."""
     if not frame.attachments:
         return {}
-    owners = {record.offset: record for record in records if record.kind in TRANSACTIONS_AND_REPLIES}
+    owners = {record.offset: record for record in records
+              if record.kind in TRANSACTIONS_AND_REPLIES}
     entries, attached, at, latest = {}, frame.attachments, 0, -1
     while at < len(attached):
         place, body = frame.place + 32 + len(frame.commands) + at, at + 12
@@ -337,7 +338,7 @@ def is_mark(event):
 
 
 def refused_sends(thread):
-    """Of each event of a thread the send that it tells to be refused; None where it tells of none."""
+    """Of each event of a thread the send that it tells to be refused; None where of none."""
     sends, latest = [], None
     for event in thread:
         tells = (event.kind in ERROR_REPLIES and latest is not None
@@ -530,8 +531,8 @@ class Ledger(NamedTuple):
         """What is opened and has no later close of its key."""
         found = []
         for same in self.of_each_key(events):
-            last_close = max((event.place for event in same if event.kind in self.closes), default=-1)
-            found += [event for event in same if event.place > last_close]
+            closes = [event.place for event in same if event.kind in self.closes]
+            found += [event for event in same if event.place > max(closes, default=-1)]
         return by_place(found)
 
     def strays(self, events):
