@@ -1,10 +1,12 @@
-/* Refuses growths of a program's memory, for checks/refuse. Preloaded, it counts the calls of malloc, calloc, realloc and
-   their aligned forms, and refuses the one numbered REFUSE_AT or, with REFUSE_FROM, that one and all behind it. Each
-   refusal is a line in the file REFUSE_LOG, written at once: a program with threads may end without this library's end. */
+/* Refuses growths of a program's memory, for checks/refuse. Preloaded, it counts the calls of malloc, calloc, realloc
+   and their aligned forms, and refuses the one numbered REFUSE_AT or, with REFUSE_FROM, that one and all behind it. Each
+   refusal is a line in the file REFUSE_LOG, and so is each thread that was started. A line is written at once: a
+   program with threads may end without this library's end. */
 #define _GNU_SOURCE
 #include <dlfcn.h>
 #include <errno.h>
 #include <fcntl.h>
+#include <pthread.h>
 #include <stdatomic.h>
 #include <stdlib.h>
 #include <string.h>
@@ -18,9 +20,11 @@ extern void *__libc_memalign(size_t, size_t);
 static atomic_long calls;
 static long at = -1, from = -1;
 static int log_file = -1;
+static int (*create)(pthread_t *, const pthread_attr_t *, void *(*)(void *), void *);
 
 __attribute__((constructor)) static void begin(void)
 {
+	*(void **)&create = dlsym(RTLD_NEXT, "pthread_create");
 	const char *word = getenv("REFUSE_LOG");
 	if (word)
 		log_file = open(word, O_WRONLY | O_APPEND | O_CREAT | O_CLOEXEC, 0600);
@@ -29,6 +33,12 @@ __attribute__((constructor)) static void begin(void)
 	at = word ? atol(word) : -1;
 	word = getenv("REFUSE_FROM");
 	from = word ? atol(word) : -1;
+}
+
+static void tell(const char *line, int length)
+{
+	if (log_file >= 0 && write(log_file, line, length) != length)
+		_exit(99);
 }
 
 static int refused(const char *call, size_t size)
@@ -49,8 +59,7 @@ static int refused(const char *call, size_t size)
 	while (count)
 		line[length++] = digits[--count];
 	line[length++] = '\n';
-	if (log_file >= 0 && write(log_file, line, length) != length)
-		_exit(99);
+	tell(line, length);
 	errno = ENOMEM;
 	return 1;
 }
@@ -75,4 +84,12 @@ int posix_memalign(void **out, size_t align, size_t size)
 		return ENOMEM;
 	*out = __libc_memalign(align, size);
 	return *out ? 0 : ENOMEM;
+}
+
+int pthread_create(pthread_t *thread, const pthread_attr_t *attributes, void *(*body)(void *), void *argument)
+{
+	int failed = create(thread, attributes, body, argument);
+	if (!failed)
+		tell("thread\n", 7);
+	return failed;
 }

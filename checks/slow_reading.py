@@ -6,16 +6,19 @@
     checks/slow_reading.py --check FOLDER       compares the answers of the cases with its own
 
 Each of its rules stands in docs/ENVELOPE.md, docs/COMMANDS.md or docs/REPORT.md, and it shares no
-code with the auditor. It looks through lists and counts: it keeps no stack and no ledger, and takes
-time that grows with the square of the records. The status is 2 where the capture is malformed, and
-else 0.
+code with the auditor. It puts what belongs together into one list, goes through the lists and
+counts: it keeps no stack and no ledger, joins nothing, and takes some seconds for a million
+records. The status is 2 where the capture is malformed, and else 0.
 
 FOLDER is crates/audit_cases. --check looks at the cases that have a capture and an answer about it.
 It is silent where all is well, else it names each case that differs, with status 1.
 """
 
 import pathlib
+import struct
 import sys
+from collections import Counter
+from itertools import accumulate
 from typing import NamedTuple
 
 # ---- the tables: by number, the payload sizes and the names that go with them
@@ -119,7 +122,6 @@ class Record(NamedTuple):
 
 
 class Entry(NamedTuple):
-    offset: int  # that of its record
     body: bytes
     listed: bytes
 
@@ -181,23 +183,28 @@ def judge_file_header(capture):
         raise Fault("HeaderReserved", 12)
 
 
+# Sequence, process, thread, direction, reserved, command length, attachment length, reserved.
+FRAME_HEADER = struct.Struct("<QIIB3sIII")
+
+
 def read_frame(capture, place, before):
     """The frame that begins there, behind these frames."""
-    header, behind = capture[place:place + 32], capture[place + 32:]
-    if len(header) < 32:
+    if place + 32 > len(capture):
         raise Fault("FrameShort", place)
-    sequence, direction = number(header, 0, 8), header[16]
+    sequence, process, thread, direction, reserved, commands, attachments, reserved_too = (
+        FRAME_HEADER.unpack_from(capture, place))
     if before and sequence <= before[-1].sequence:
         raise Fault("FrameSequence", place)
     if direction not in DIRECTIONS:
         raise Fault("FrameDirection", place)
-    if number(header, 17, 3) != 0 or number(header, 28, 4) != 0:
+    if any(reserved) or reserved_too != 0:
         raise Fault("FrameReserved", place)
-    commands, attachments = number(header, 20, 4), number(header, 24, 4)
-    if commands + attachments > len(behind):
+    first = place + 32
+    second, end = first + commands, first + commands + attachments
+    if end > len(capture):
         raise Fault("FrameLength", place)
-    return Frame(place, sequence, number(header, 8, 4), number(header, 12, 4), direction,
-                 behind[:commands], behind[commands:commands + attachments])
+    return Frame(place, sequence, process, thread, direction,
+                 capture[first:second], capture[second:end])
 
 
 def kind_of(code, direction, place):
@@ -215,40 +222,43 @@ def kind_of(code, direction, place):
 
 
 def read_records(frame):
-    records, offset = [], 0
-    while offset < len(frame.commands):
-        place = frame.place + 32 + offset
-        left = frame.commands[offset:]
-        if len(left) < 4:
+    records, commands, offset = [], frame.commands, 0
+    while offset < len(commands):
+        place, first = frame.place + 32 + offset, offset + 4
+        if first > len(commands):
             raise Fault("RecordShort", place)
-        code = number(left, 0, 4)
+        code = number(commands, offset, 4)
         kind = kind_of(code, frame.direction, place)
-        size = code >> 16 & 0x3FFF
-        if size > len(left) - 4:
+        end = first + (code >> 16 & 0x3FFF)
+        if end > len(commands):
             raise Fault("RecordShort", place)
-        records.append(Record(offset, code, kind, left[4:4 + size]))
-        offset += 4 + size
+        records.append(Record(offset, code, kind, commands[first:end]))
+        offset = end
     return records
 
 
 def read_entries(frame, records):
-    entries, at = [], 0
-    while at < len(frame.attachments):
-        place = frame.place + 32 + len(frame.commands) + at
-        left = frame.attachments[at:]
-        if len(left) < 12:
+    """The attachment entries of a frame, each by the offset of its record."""
+    if not frame.attachments:
+        return {}
+    owners = {record.offset: record for record in records
+              if record.kind in TRANSACTIONS_AND_REPLIES}
+    entries, attached, at, latest = {}, frame.attachments, 0, -1
+    while at < len(attached):
+        place, body = frame.place + 32 + len(frame.commands) + at, at + 12
+        if body > len(attached):
             raise Fault("AttachShort", place)
-        offset, d, o = number(left, 0, 4), number(left, 4, 4), number(left, 8, 4)
-        if d + o > len(left) - 12:
+        offset, d, o = (number(attached, field, 4) for field in (at, at + 4, at + 8))
+        listed, end = body + d, body + d + o
+        if end > len(attached):
             raise Fault("AttachShort", place)
-        owners = [record for record in records
-                  if record.offset == offset and record.kind in TRANSACTIONS_AND_REPLIES]
-        if not owners or (entries and offset <= entries[-1].offset):
+        if offset not in owners or offset <= latest:
             raise Fault("AttachRecord", place)
-        if (d, o) != (number(owners[0].payload, 32, 8), number(owners[0].payload, 40, 8)):
+        owner = owners[offset].payload
+        if (d, o) != (number(owner, 32, 8), number(owner, 40, 8)):
             raise Fault("AttachSize", place)
-        entries.append(Entry(offset, left[12:12 + d], left[12 + d:12 + d + o]))
-        at += 12 + d + o
+        entries[offset] = Entry(attached[body:listed], attached[listed:end])
+        at, latest = end, offset
     return entries
 
 
@@ -256,13 +266,9 @@ def events_of(frame):
     """The records of a frame, each with its attachment entry if it has one."""
     records = read_records(frame)
     entries = read_entries(frame, records)
-    events = []
-    for record in records:
-        owned = [entry for entry in entries if entry.offset == record.offset]
-        events.append(Event(frame.place + 32 + record.offset, frame.process, frame.thread,
-                            record.code, record.kind, record.payload,
-                            owned[0] if owned else None))
-    return events
+    return [Event(frame.place + 32 + record.offset, frame.process, frame.thread,
+                  record.code, record.kind, record.payload, entries.get(record.offset))
+            for record in records]
 
 
 def read_capture(capture):
@@ -285,6 +291,18 @@ def different(things):
     return list(dict.fromkeys(things))
 
 
+def grouped(things, key):
+    """Of each key the list of the things that have it, in their order."""
+    groups = {}
+    for thing in things:
+        groups.setdefault(key(thing), []).append(thing)
+    return groups
+
+
+def by_place(events):
+    return sorted(events, key=lambda event: event.place)
+
+
 def of_kind(events, *kinds):
     return [event for event in events if event.kind in kinds]
 
@@ -296,10 +314,8 @@ def totals(frames, events):
 
 
 def codes(events):
-    rows = []
-    for code in sorted(different(event.code for event in events)):
-        same = [event for event in events if event.code == code]
-        rows.append(f"  0x{code:08x} {same[0].kind} {len(same)}")
+    found = Counter((event.code, event.kind) for event in events)
+    rows = [f"  0x{code:08x} {kind} {found[code, kind]}" for code, kind in sorted(found)]
     return [f"codes {len(rows)}", *rows]
 
 
@@ -321,34 +337,43 @@ def is_mark(event):
         *SENT_TRANSACTIONS, *SENT_REPLIES, "BR_REPLY", *CONFIRMATIONS, *ERROR_REPLIES)
 
 
-def refused_send(thread, index):
-    """The send that this event of a thread tells to be refused; None where it tells of none."""
-    if thread[index].kind not in ERROR_REPLIES:
-        return None
-    latest = [event for event in thread[:index] if is_mark(event)][-1:]
-    sends = [event for event in latest if is_oneway_send(event) or event.kind in SENT_REPLIES]
-    return sends[0] if sends else None
+def refused_sends(thread):
+    """Of each event of a thread the send that it tells to be refused; None where of none."""
+    sends, latest = [], None
+    for event in thread:
+        tells = (event.kind in ERROR_REPLIES and latest is not None
+                 and (is_oneway_send(latest) or latest.kind in SENT_REPLIES))
+        sends.append(latest if tells else None)
+        if is_mark(event):
+            latest = event
+    return sends
 
 
 def is_opener(event):
     return event.kind in (*SENT_TRANSACTIONS, *GOT_TRANSACTIONS) and not is_oneway(event)
 
 
-def is_closer(thread, index):
-    return (thread[index].kind in ("BR_REPLY", *SENT_REPLIES)
-            or thread[index].kind in ERROR_REPLIES and refused_send(thread, index) is None)
+def is_closer(event, refused):
+    """Whether an event closes, which tells of this refused send or of none."""
+    return (event.kind in ("BR_REPLY", *SENT_REPLIES)
+            or event.kind in ERROR_REPLIES and refused is None)
 
 
-def closer_of(openers, closers, index):
-    """Where the opener there is closed: the first place up to which, the opener included, there
-    are as many closers as openers. The lists tell of each event of the thread what it is."""
-    opened = closed = 0
-    for end in range(index, len(openers)):
-        opened += openers[end]
-        closed += closers[end]
-        if opened == closed:
-            return end
-    return None
+def ends_of(openers, closers):
+    """Where each opener is closed: the first place up to which, the opener included, there are as
+    many closers as openers; None where there is none. The lists tell of each event of the thread
+    what it is.
+
+    The height of a place is how many openers stand before it less how many closers. So an opener is
+    closed by the first event behind which the height is again what it was before the opener."""
+    steps = (opens - closes for opens, closes in zip(openers, closers))
+    heights = list(accumulate(steps, initial=0))
+    ends, first_behind = {}, {}
+    for index in reversed(range(len(openers))):
+        first_behind[heights[index + 1]] = index
+        if openers[index]:
+            ends[index] = first_behind.get(heights[index])
+    return ends
 
 
 def verdict(opener, closer):
@@ -369,31 +394,29 @@ class Calls(NamedTuple):
 
 
 def calls_of_thread(thread):
+    sends = refused_sends(thread)
     openers = [is_opener(event) for event in thread]
-    closers = [is_closer(thread, index) for index in range(len(thread))]
-    judged, matched = [], []
-    for index in range(len(thread)):
-        if openers[index]:
-            end = closer_of(openers, closers, index)
-            closer = None if end is None else thread[end]
-            matched.append(end)
-            judged.append((thread[index], verdict(thread[index], closer), closer))
+    closers = [is_closer(event, send) for event, send in zip(thread, sends)]
+    ends = ends_of(openers, closers)
+    judged = []
+    for index, end in ends.items():
+        closer = None if end is None else thread[end]
+        judged.append((thread[index], verdict(thread[index], closer), closer))
+    matched = set(ends.values())
     strays = [event for index, event in enumerate(thread)
               if closers[index] and index not in matched]
-    told = [(event, refused_send(thread, index)) for index, event in enumerate(thread)]
-    return Calls(judged, strays, [row for row in told if row[1] is not None])
+    refused = [(event, send) for event, send in zip(thread, sends) if send is not None]
+    return Calls(judged, strays, refused)
 
 
 def calls_of(events):
     judged, strays, refused = [], [], []
-    for name in different((event.process, event.thread) for event in events):
-        thread = calls_of_thread(
-            [event for event in events if (event.process, event.thread) == name])
+    for events_of_thread in grouped(events, lambda event: (event.process, event.thread)).values():
+        thread = calls_of_thread(events_of_thread)
         judged += thread.judged
         strays += thread.strays
         refused += thread.refused
-    return Calls(sorted(judged, key=lambda row: row[0].place),
-                 sorted(strays, key=lambda event: event.place),
+    return Calls(sorted(judged, key=lambda row: row[0].place), by_place(strays),
                  sorted(refused, key=lambda row: row[0].place))
 
 
@@ -446,6 +469,17 @@ def count(events, up, down):
     return values[-1], min(values)
 
 
+def of_each_process(processes, events):
+    """Each of the processes, and with it those of the events that are its own."""
+    own = grouped(events, lambda event: event.process)
+    return [(process, own.get(process, [])) for process in processes]
+
+
+def of_rising_keys(events, key):
+    """Each key of these events, rising, and with it the events that have it."""
+    return sorted(grouped(events, key).items())
+
+
 def handle_of(event):
     return number(event.payload, 0, 4)
 
@@ -453,10 +487,8 @@ def handle_of(event):
 def handles(processes, events):
     named = of_kind(events, "BC_ACQUIRE", "BC_RELEASE", "BC_INCREFS", "BC_DECREFS")
     rows, unbalanced = [], 0
-    for process in processes:
-        own = [event for event in named if event.process == process]
-        for handle in sorted(different(map(handle_of, own))):
-            same = [event for event in own if handle_of(event) == handle]
+    for process, own in of_each_process(processes, named):
+        for handle, same in of_rising_keys(own, handle_of):
             strong, strong_low = count(same, "BC_ACQUIRE", "BC_RELEASE")
             weak, weak_low = count(same, "BC_INCREFS", "BC_DECREFS")
             unbalanced += (strong, weak) != (0, 0)
@@ -472,10 +504,8 @@ def nodes(processes, events):
     named = of_kind(events, "BR_ACQUIRE", "BR_RELEASE", "BR_INCREFS", "BR_DECREFS",
                     "BC_ACQUIRE_DONE", "BC_INCREFS_DONE")
     rows, unbalanced = [], 0
-    for process in processes:
-        own = [event for event in named if event.process == process]
-        for ptr, cookie in sorted(different(map(node_of, own))):
-            same = [event for event in own if node_of(event) == (ptr, cookie)]
+    for process, own in of_each_process(processes, named):
+        for (ptr, cookie), same in of_rising_keys(own, node_of):
             strong, strong_low = count(same, "BR_ACQUIRE", "BR_RELEASE")
             weak, weak_low = count(same, "BR_INCREFS", "BR_DECREFS")
             strong_due, _ = count(same, "BR_ACQUIRE", "BC_ACQUIRE_DONE")
@@ -492,25 +522,27 @@ class Ledger(NamedTuple):
     closes: tuple
     key: object  # of an event, its key
 
-    def same(self, events, event):
-        """The events of these that have the key of this one, in its process."""
-        return [other for other in of_kind(events, *self.opens, *self.closes)
-                if (other.process, self.key(other)) == (event.process, self.key(event))]
+    def of_each_key(self, events):
+        """The lists of those of these events that have one key in one process."""
+        ours = of_kind(events, *self.opens, *self.closes)
+        return grouped(ours, lambda event: (event.process, self.key(event))).values()
 
     def outstanding(self, events):
         """What is opened and has no later close of its key."""
-        return [event for event in of_kind(events, *self.opens)
-                if not any(other.place > event.place and other.kind in self.closes
-                           for other in self.same(events, event))]
+        found = []
+        for same in self.of_each_key(events):
+            closes = [event.place for event in same if event.kind in self.closes]
+            found += [event for event in same if event.place > max(closes, default=-1)]
+        return by_place(found)
 
     def strays(self, events):
         """The closes whose latest earlier event of their key is no open."""
         found = []
-        for event in of_kind(events, *self.closes):
-            earlier = [other for other in self.same(events, event) if other.place < event.place]
-            if not earlier or earlier[-1].kind in self.closes:
-                found.append(event)
-        return found
+        for same in self.of_each_key(events):
+            found += [event for before, event in zip([None, *same], same)
+                      if event.kind in self.closes
+                      and (before is None or before.kind in self.closes)]
+        return by_place(found)
 
 
 def cookie_of(event):
@@ -553,20 +585,22 @@ def frees(events):
             *(f"  {event.place} {event.process} 0x{BUFFERS.key(event):x}" for event in stray)]
 
 
-def ends(request, event):
-    """Whether this event, if it stands behind the request, ends it."""
-    if event.process != request.process:
-        return False
-    if event.kind == "BC_CLEAR_DEATH_NOTIFICATION":
-        return event.payload == request.payload
-    return event.kind == "BR_DEAD_BINDER" and cookie_of(event) == cookie_behind_handle(request)
+def last_places(events, key):
+    """Of each key the place of the last of these events that has it."""
+    return {key(event): event.place for event in events}
 
 
 def requests(events):
+    """A request stands if nothing ends it behind it: a clear of its process with its handle and
+    cookie, which are the payload of both, or a death of its process with its cookie."""
     made = of_kind(events, "BC_REQUEST_DEATH_NOTIFICATION")
-    standing = [request for request in made
-                if not any(event.place > request.place and ends(request, event)
-                           for event in events)]
+    cleared = last_places(of_kind(events, "BC_CLEAR_DEATH_NOTIFICATION"),
+                          lambda clear: (clear.process, clear.payload))
+    died = last_places(of_kind(events, "BR_DEAD_BINDER"),
+                       lambda death: (death.process, cookie_of(death)))
+    standing = [request for request in made if request.place > max(
+        cleared.get((request.process, request.payload), -1),
+        died.get((request.process, cookie_behind_handle(request)), -1))]
     return [f"requests {len(made)} standing {len(standing)}",
             *(f"  {event.place} {event.process} {handle_of(event)}"
               f" 0x{cookie_behind_handle(event):x}" for event in standing)]
@@ -603,12 +637,10 @@ def oneway(processes, events, found):
     received = [event for event in of_kind(events, *GOT_TRANSACTIONS) if is_oneway(event)]
     refused = [send for _, send in found.refused if is_oneway_send(send)]
     rows = []
-    for process in processes:
-        own = [event for event in sent if event.process == process]
-        for handle in sorted(different(map(target_handle, own))):
-            same = [event for event in own if target_handle(event) == handle]
+    for (process, sends), (_, got) in zip(
+            of_each_process(processes, sent), of_each_process(processes, received)):
+        for handle, same in of_rising_keys(sends, target_handle):
             rows.append(f"  {process} sent {handle} {sizes(same)}")
-        got = [event for event in received if event.process == process]
         if got:
             rows.append(f"  {process} received {sizes(got)}")
     return [f"oneway sent {len(sent)} received {len(received)} refused {len(refused)}", *rows]
@@ -658,7 +690,8 @@ def objects(events):
             if bad is not None:
                 index, offset, cause = bad
                 rows.append(f"  {event.place} {event.process} {index} {offset} {cause}")
-    counts = " ".join(f"{name} {names.count(name)}" for name, _ in SORTS.values())
+    found = Counter(names)
+    counts = " ".join(f"{name} {found[name]}" for name, _ in SORTS.values())
     return [f"objects {counts} bad {len(rows)}", *rows]
 
 
