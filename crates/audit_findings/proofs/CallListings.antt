@@ -4,7 +4,10 @@ use Rattle.std.proofs.Common.{List, [], ◌∷◌, map, filter}
 use Rattle.std.specs.List.{enumerate_from}
 use Rattle.std.specs.Prelude.{slice_get}
 use Rattle.std.proofs.lemmas.Bool.{and_parts, eqb-true}
-use Rattle.event_core.specs.Events.{EventText}
+use Rattle.capture_frame.proofs.ProcessLaws.{same_thread_eq}
+use Rattle.capture_frame.specs.declared.process.Thread.{Thread}
+use Rattle.capture_frame.specs.Process.{same_thread}
+use Rattle.event_core.specs.Events.{EventText, thread_of}
 use Rattle.call_stacks.specs.Calls.{Reads, JudgedOf, OpenerOf, RefusedOf, bracket_read, judged_of, sides_of, verdict_read}
 use Rattle.call_stacks.specs.Calls.{HasVerdict, closed_by, left_open, IsOpenerOf, IsStrayEvent, IsRefusedSend, is_refused, is_oneway}
 use Rattle.call_stacks.specs.Matching.{Side, opener, ListsInOrder}
@@ -217,12 +220,10 @@ module _ {E : Type 0} (reads : Reads E) where
 -- ---- of all threads
 
 -- the thread of an event of a thread is that thread
-one_thread : (events : List EventText) (e other : EventText) → In other (thread_of e events) → thread_of e events ≡ thread_of other events
+one_thread : (events : List EventText) (e other : EventText) → In other (events_of_thread e events) → events_of_thread e events ≡ events_of_thread other events
 one_thread events e other here =
-    let both = and_parts (eqb e.process other.process) (eqb e.thread other.thread) (in_kept (same_thread e) events other here).1 in
-    let process : e.process ≡ other.process = eqb-true e.process other.process both.0 in
-    let thread : e.thread ≡ other.thread = eqb-true e.thread other.thread both.1 in
-    ap₂ (λ (p t : ℕ). filter (λ (x : EventText). eqb p x.process && eqb t x.thread) events) process thread
+    let same = same_thread_eq (thread_of e) (thread_of other) (in_kept (is_of_thread e) events other here).1 in
+    ap (λ (thread : Thread). filter (λ (x : EventText). same_thread thread (thread_of x)) events) same
 
 module _ {X : Type 0} (event : X → EventText) (Is : List (JudgedOf EventText) → X → Type 0)
     (stands : (events : List EventText) (x : X) → Is (judged_of text_reads events) x → In (event x) events)
@@ -235,13 +236,13 @@ module _ {X : Type 0} (event : X → EventText) (Is : List (JudgedOf EventText) 
 
   in_events : (events : List EventText) (x : X) → IsOfThread events x → In (event x) events
   in_events events x is =
-      (in_kept (same_thread (event x)) events (event x) (stands (thread_of (event x) events) x is)).0
+      (in_kept (is_of_thread (event x)) events (event x) (stands (events_of_thread (event x) events) x is)).0
 
   of_threads : (events : List EventText) → Listing (IsOfThread events)
   of_threads events =
       listing_as (λ x. (e : EventText) × In e events × Is (judged_in_thread events e) x) (IsOfThread events)
       (λ x is.
-      let same = one_thread events is.0 (event x) (stands (thread_of is.0 events) x is.2) in
+      let same = one_thread events is.0 (event x) (stands (events_of_thread is.0 events) x is.2) in
       subst (λ (thread : List EventText). Is (judged_of text_reads thread) x) same is.2)
       (λ x is. (event x, in_events events x is, is))
       (of_each (λ e. Is (judged_in_thread events e)) (λ e. listing (judged_in_thread events e)) events)
@@ -251,7 +252,7 @@ module _ {X : Type 0} (event : X → EventText) (Is : List (JudgedOf EventText) 
   one_of_thread events rise a b is is_too same =
       let here : event a ≡ event b = one_place (λ (e : EventText). e.place) events rise (event a) (event b)
       (contained events (event a) (in_events events a is)) (contained events (event b) (in_events events b is_too)) same in
-      one (thread_of (event a) events) (rising_kept (λ (e : EventText). e.place) (same_thread (event a)) events rise) a b is
+      one (events_of_thread (event a) events) (rising_kept (λ (e : EventText). e.place) (is_of_thread (event a)) events rise) a b is
       (subst (λ (e : EventText). Is (judged_in_thread events e) b) (sym here) is_too) same
 
   pub all_threads : (events : List EventText) → RiseInPlace events

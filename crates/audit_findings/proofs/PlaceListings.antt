@@ -5,7 +5,7 @@ use Rattle.std.proofs.Common.{List, [], ◌∷◌, ◌++◌, append_assoc}
 use Rattle.std.specs.List.{cons_option, last_or, list_any}
 use Rattle.std.proofs.lemmas.Bool.{and_parts, eqb-true, not-true}
 use Rattle.std.proofs.lemmas.List.{append-nil}
-use Rattle.event_core.specs.Events.{EventText}
+use Rattle.event_core.specs.Events.{EventText, process_of}
 use Rattle.event_core.specs.declared.pending.PendingChange.{PendingChange}
 use Rattle.event_core.specs.declared.pending.PendingChange.TheVariants.{Open, Close}
 use Rattle.event_core.specs.declared.pending.PendingItem.{PendingItem}
@@ -16,6 +16,9 @@ use Rattle.event_core.specs.declared.request.RequestKey.{RequestKey}
 use Rattle.call_stacks.proofs.Members.{In}
 use Rattle.pending_ledger.specs.Pending.{ArePlacesOf, IsOutstanding, IsStray, closes, changes_of, is_close, place_of}
 use Rattle.pending_ledger.specs.Requests.{IsStanding, ends, request_place}
+use Rattle.capture_frame.proofs.ProcessLaws.{same_process_eq}
+use Rattle.capture_frame.specs.declared.process.Process.{Process}
+use Rattle.capture_frame.specs.Process.{same_process}
 use Rattle.process_ledgers.specs.Processes.{items_of_process}
 use Rattle.audit_findings.proofs.Listings.{Listing, listing_as, of_each, in_order}
 
@@ -205,15 +208,15 @@ standing_listing items =
 -- ---- of all processes
 
 -- an event of the process, or none of its items
-of_process : {I : Type 0} (read : EventText → Option I) (process : ℕ) (events : List EventText)
-    → ((e : EventText) × In e events × (e.process ≡ process)) ⊎ (items_of_process read process events ≡ [])
+of_process : {I : Type 0} (read : EventText → Option I) (process : Process) (events : List EventText)
+    → ((e : EventText) × In e events × (process_of e ≡ process)) ⊎ (items_of_process read process events ≡ [])
 of_process read process [] = inr refl
 of_process {I} read process (e ∷ events) =
     let rest = items_of_process read process events in
-    elim (eqb process e.process)
-    as (λ b. (eqb process e.process ≡ b)
-    → ((x : EventText) × In x (e ∷ events) × (x.process ≡ process)) ⊎ (cons_option (cond b (read e) None) rest ≡ [])) [
-      | true ↦ λ same. inl (e, inl refl, sym (eqb-true process e.process same))
+    elim (same_process process (process_of e))
+    as (λ b. (same_process process (process_of e) ≡ b)
+    → ((x : EventText) × In x (e ∷ events) × (process_of x ≡ process)) ⊎ (cons_option (cond b (read e) None) rest ≡ [])) [
+      | true ↦ λ same. inl (e, inl refl, sym (same_process_eq process (process_of e) same))
       | false ↦ λ other. elim (of_process read process events) [
         | inl found ↦ inl (found.0, inr found.1, found.2)
         | inr none ↦ inr none
@@ -224,17 +227,17 @@ module _ {I : Type 0} (read : EventText → Option I) (Is : List I → ℕ → T
     (none : (at : ℕ) → Is [] at → ⊥) where
   -- something is so of the items of some process
   abbrev IsOfSome : List EventText → ℕ → Type 0
-  IsOfSome events at = (process : ℕ) × Is (items_of_process read process events) at
+  IsOfSome events at = (process : Process) × Is (items_of_process read process events) at
 
   pub of_processes : (events : List EventText) → Listing (IsOfSome events)
   of_processes events =
-      listing_as (λ at. (e : EventText) × In e events × Is (items_of_process read e.process events) at) (IsOfSome events)
-      (λ at is. (is.0.process, is.2))
+      listing_as (λ at. (e : EventText) × In e events × Is (items_of_process read (process_of e) events) at) (IsOfSome events)
+      (λ at is. (process_of is.0, is.2))
       (λ at is. elim (of_process read is.0 events) [
-        | inl found ↦ (found.0, found.1, subst (λ (process : ℕ). Is (items_of_process read process events) at) (sym found.2) is.1)
+        | inl found ↦ (found.0, found.1, subst (λ (process : Process). Is (items_of_process read process events) at) (sym found.2) is.1)
         | inr empty ↦ absurd (none at (subst (λ (items : List I). Is items at) empty is.1))
       ])
-      (of_each (λ e. Is (items_of_process read e.process events)) (λ e. listing (items_of_process read e.process events)) events)
+      (of_each (λ e. Is (items_of_process read (process_of e) events)) (λ e. listing (items_of_process read (process_of e) events)) events)
 
 -- ---- rising places
 

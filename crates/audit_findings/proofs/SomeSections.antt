@@ -14,10 +14,12 @@ use Rattle.std.proofs.lemmas.List.Sums.{length-filter}
 use Rattle.std.proofs.lemmas.Map.Keys.{IsStrictlyIncreasing-from_sorted}
 use Rattle.std.proofs.lemmas.Map.Lookups.{CmpEqualImpliesEq, exact_unsigned, exact_pairs}
 use Rattle.binder_code.specs.declared.record_kind.Kind.TheVariants.{BcFreeBuffer, BcRequestDeathNotification, BcClearDeathNotification, BrTransaction, BrTransactionSecCtx, BrReply, BrDeadBinder}
+use Rattle.capture_frame.specs.declared.process.Process.{Process}
 use Rattle.capture_frame.specs.Units.{Placed}
 use Rattle.transaction_view.specs.Grammar.{WholeFrame}
 use Rattle.event_core.specs.Events.{EventText}
 use Rattle.event_core.specs.declared.node.NodeKey.{NodeKey}
+use Rattle.event_core.specs.declared.oneway.OnewayKey.{OnewayKey}
 use Rattle.event_core.specs.declared.pending.PendingItem.{PendingItem}
 use Rattle.event_core.specs.declared.strength.Strength.TheVariants.{Strong, Weak}
 use Rattle.call_stacks.proofs.Members.{In, in_list, contained}
@@ -25,47 +27,42 @@ use Rattle.handle_ledger.specs.Handles.{AreHandleRows, IsHandleRow, change_at_ha
 use Rattle.handle_ledger.specs.Nodes.{AreNodeRows, IsNodeRow, change_at_node, due_at_node, node_cmp, node_of}
 use Rattle.handle_ledger.specs.declared.handle_row.HandleRow.{HandleRow}
 use Rattle.handle_ledger.specs.declared.node_row.NodeRow.{NodeRow}
-use Rattle.pending_ledger.specs.Pending.{IsOutstanding, IsStray}
+use Rattle.pending_ledger.specs.Pending.{IsOutstanding, IsStray, place_of}
 use Rattle.pending_ledger.specs.Requests.{IsStanding}
 use Rattle.summary_law.proofs.CountLaws.{raised_counts, lowered_counts, kept_counts}
 use Rattle.summary_law.specs.Count.{Change, raises, lowers, keeps, total, IsCount, CountsOneMore}
 use Rattle.summary_law.specs.declared.count.Count.{Count}
 use Rattle.audit_findings.specs.declared.codes.CodeRow.{CodeRow}
-use Rattle.audit_findings.specs.declared.handles.ProcessHandle.{ProcessHandle}
-use Rattle.audit_findings.specs.declared.nodes.ProcessNode.{ProcessNode}
 use Rattle.audit_findings.specs.declared.record_counts.RecordCounts.{RecordCounts}
 use Rattle.audit_findings.specs.Buffers.{AreLeaked, AreStrayFrees}
-use Rattle.process_ledgers.specs.Items.{buffer_pending_of}
 use Rattle.audit_findings.specs.Calls.{CallsText, ServedText, RefusedText, AreCallFindings, AreRefused, is_call, is_answered, is_failed, is_replied, is_crossed, is_open, is_unanswered}
-use Rattle.audit_findings.specs.Clears.{AreClearFindings}
-use Rattle.process_ledgers.specs.Items.{clear_item_of}
 use Rattle.audit_findings.specs.Codes.{AreCodeRows}
-use Rattle.audit_findings.specs.Deaths.{AreDeathFindings}
-use Rattle.process_ledgers.specs.Items.{death_item_of}
 use Rattle.event_core.specs.Events.{events_of_wholes}
-use Rattle.audit_findings.specs.Handles.{AreHandleFindings, AreHandlesOf, process_handle}
-use Rattle.process_ledgers.specs.Items.{handle_item_of}
-use Rattle.audit_findings.specs.Nodes.{AreNodeFindings, AreNodesOf, process_node}
-use Rattle.process_ledgers.specs.Items.{node_item_of}
-use Rattle.audit_findings.specs.Oneway.{OnewayText, AreOnewayFindings, AreOnewayOf, process_oneway, sent_count, received_count}
+use Rattle.audit_findings.specs.Handles.{AreHandleFindings, AreHandlesOf, is_unbalanced_handle}
+use Rattle.audit_findings.specs.Nodes.{AreNodeFindings, AreNodesOf, is_unbalanced_node}
+use Rattle.audit_findings.specs.Oneway.{AreOnewayOf, AreOnewayRows}
 use Rattle.process_ledgers.specs.OnewayLedger.{oneway_cmp, oneway_pair}
-use Rattle.process_ledgers.specs.Items.{oneway_item_of}
-use Rattle.audit_findings.specs.Places.{AreEventsAt, AreOpenAndStray, IsCountOfPlaces, IsOpenStill, IsStrayClose, OpenAndStrayText, RiseInPlace}
+use Rattle.audit_findings.specs.Places.{AreEventsAt, AreOpenAndStray, IsCountOfPlaces, IsOpenStill, IsStrayClose, OpenAndStrayText, RiseInPlace, SomeProcess}
+use Rattle.process_ledgers.proofs.ItemPlaces.{clear_keeps, death_keeps, pending_keeps}
+use Rattle.process_ledgers.specs.Items.{KeepsPlace, buffer_pending_of, clear_item_of, death_item_of, handle_item_of, node_item_of, oneway_item_of, request_item_of}
 use Rattle.process_ledgers.specs.Processes.{items_of_process, processes_of, read_of}
+use Rattle.audit_findings.specs.declared.in_turn.OfProcess.{OfProcess}
+use Rattle.audit_findings.specs.declared.references.References.{References}
+use Rattle.audit_findings.specs.Findings.{CallSectionsText, AreCallSections, ProcessSectionsText, AreProcessSections}
+use Rattle.audit_findings.specs.References.{AreReferences}
 use Rattle.audit_findings.specs.RecordCounts.{AreRecordCounts, times}
-use Rattle.audit_findings.specs.Requests.{AreStandingRequests, IsStandingRequest}
-use Rattle.process_ledgers.specs.Items.{request_item_of}
-use Rattle.audit_findings.proofs.CallListings.{some_openers, some_sends}
+use Rattle.audit_findings.specs.Requests.{AreStandingRequests, IsStandingIn}
+use Rattle.audit_findings.proofs.CallListings.{some_openers, some_sends, some_strays}
 use Rattle.audit_findings.proofs.EventsAt.{HasEventAt, events_at, stands_somewhere}
 use Rattle.audit_findings.proofs.Listings.{Listing, either, kept_in, sorted, in_sorted, strictly_sorted}
 use Rattle.process_ledgers.proofs.OnewayLaws.{oneway_cmp_total, oneway_cmp_exact}
 use Rattle.audit_findings.proofs.PlaceListings.{outstanding_listing, stray_listing, standing_listing, of_processes, some_places}
 use Rattle.audit_findings.proofs.RowListings.{all_in, key_in, keys_back, made_rows, some_in_turn, tally_rows}
-use Rattle.audit_findings.proofs.StandLaws.{leaked_stands, stray_free_stands, open_death_stands, stray_acknowledgement_stands, open_clear_stands, stray_confirmation_stands, request_stands}
+use Rattle.audit_findings.proofs.StandLaws.{open_stands, stray_stands, request_stands}
 
 -- ---- calls
 
-pub some_calls : (events : List EventText) → RiseInPlace events → (calls : CallsText) × (served : ServedText) × AreCallFindings events calls served
+some_calls : (events : List EventText) → RiseInPlace events → (calls : CallsText) × (served : ServedText) × AreCallFindings events calls served
 some_calls events rise =
     let found = some_openers events rise in
     let openers = found.0 in
@@ -91,7 +88,7 @@ some_calls events rise =
       ),
     )
 
-pub some_refused : (events : List EventText) → RiseInPlace events → (said : RefusedText) × AreRefused events said
+some_refused : (events : List EventText) → RiseInPlace events → (said : RefusedText) × AreRefused events said
 some_refused events rise =
     let found = some_sends events rise in
     let said : RefusedText = record { oneway = count_by (λ s. s.oneway) found.0; rows = map (λ s. s.event) found.0 } in
@@ -109,17 +106,6 @@ some_events IsSo events listing stands =
 some_number : (IsSo : ℕ → Type 0) → Listing IsSo → (count : ℕ) × IsCountOfPlaces IsSo count
 some_number IsSo listing = let places = some_places IsSo listing in (length places.0, (places.0, places.1, refl))
 
-some_open_and_stray : (IsOpen IsClose : ℕ → Type 0) (events : List EventText) → Listing IsOpen → Listing IsClose
-    → ((place : ℕ) → IsOpen place → HasEventAt events place) → ((place : ℕ) → IsClose place → HasEventAt events place)
-    → (said : OpenAndStrayText) × AreOpenAndStray IsOpen IsClose events said
-some_open_and_stray IsOpen IsClose events opens closes open_stands close_stands =
-    let unclosed = some_number IsOpen opens in
-    let strays = some_number IsClose closes in
-    let rows = some_events (λ place. IsOpen place ⊎ IsClose place) events (either IsOpen IsClose opens closes)
-    (λ place is. elim is [ inl one ↦ open_stands place one | inr other ↦ close_stands place other ]) in
-    let said : OpenAndStrayText = record { unclosed = unclosed.0; strays = strays.0; rows = rows.0 } in
-    (said, record { unclosed = unclosed.1; strays = strays.1; rows = rows.1 })
-
 no_split : {I : Type 0} (earlier : List I) (item : I) (later : List I) → [] ≡ earlier ++ item ∷ later → ⊥
 no_split [] item later is = let no : ⊥ = cc in no
 no_split (first ∷ earlier) item later is = let no : ⊥ = cc in no
@@ -132,29 +118,36 @@ closes_of : (read : EventText → Option (PendingItem ℕ)) (events : List Event
 closes_of read =
     of_processes read (IsStray (eq_by_cmp nat_cmp)) (stray_listing (eq_by_cmp nat_cmp)) (λ at is. no_split is.earlier is.item is.later is.split)
 
-pub some_leaked : (events : List EventText) → (said : List EventText) × AreLeaked events said
+some_open_and_stray : (read : EventText → Option (PendingItem ℕ)) → KeepsPlace place_of read → (events : List EventText)
+    → (said : OpenAndStrayText) × AreOpenAndStray read events said
+some_open_and_stray read placed events =
+    let IsOpen = IsOpenStill read events in
+    let IsClose = IsStrayClose read events in
+    let unclosed = some_number IsOpen (opens_of read events) in
+    let strays = some_number IsClose (closes_of read events) in
+    let rows = some_events (λ place. IsOpen place ⊎ IsClose place) events (either IsOpen IsClose (opens_of read events) (closes_of read events))
+    (λ place is. elim is [
+      | inl one ↦ stands_somewhere _ (open_stands read placed) events place one
+      | inr other ↦ stands_somewhere _ (stray_stands read placed) events place other
+    ]) in
+    let said : OpenAndStrayText = record { unclosed = unclosed.0; strays = strays.0; rows = rows.0 } in
+    (said, record { unclosed = unclosed.1; strays = strays.1; rows = rows.1 })
+
+some_leaked : (events : List EventText) → (said : List EventText) × AreLeaked events said
 some_leaked events =
-    some_events (IsOpenStill buffer_pending_of events) events (opens_of buffer_pending_of events) (stands_somewhere _ leaked_stands events)
+    some_events (IsOpenStill buffer_pending_of events) events (opens_of buffer_pending_of events)
+    (stands_somewhere _ (open_stands buffer_pending_of pending_keeps) events)
 
-pub some_stray_frees : (events : List EventText) → (said : List EventText) × AreStrayFrees events said
+some_stray_frees : (events : List EventText) → (said : List EventText) × AreStrayFrees events said
 some_stray_frees events =
-    some_events (IsStrayClose buffer_pending_of events) events (closes_of buffer_pending_of events) (stands_somewhere _ stray_free_stands events)
+    some_events (IsStrayClose buffer_pending_of events) events (closes_of buffer_pending_of events)
+    (stands_somewhere _ (stray_stands buffer_pending_of pending_keeps) events)
 
-pub some_standing : (events : List EventText) → (said : List EventText) × AreStandingRequests events said
+some_standing : (events : List EventText) → (said : List EventText) × AreStandingRequests events said
 some_standing events =
-    some_events (IsStandingRequest events) events
+    some_events (SomeProcess (IsStandingIn events)) events
     (of_processes request_item_of IsStanding standing_listing (λ at is. no_split is.earlier is.item is.later is.split) events)
     (stands_somewhere _ request_stands events)
-
-pub some_deaths : (events : List EventText) → (said : OpenAndStrayText) × AreDeathFindings events said
-some_deaths events =
-    some_open_and_stray (IsOpenStill death_item_of events) (IsStrayClose death_item_of events) events (opens_of death_item_of events)
-    (closes_of death_item_of events) (stands_somewhere _ open_death_stands events) (stands_somewhere _ stray_acknowledgement_stands events)
-
-pub some_clears : (events : List EventText) → (said : OpenAndStrayText) × AreClearFindings events said
-some_clears events =
-    some_open_and_stray (IsOpenStill clear_item_of events) (IsStrayClose clear_item_of events) events (opens_of clear_item_of events)
-    (closes_of clear_item_of events) (stands_somewhere _ open_clear_stands events) (stands_somewhere _ stray_confirmation_stands events)
 
 -- ---- code words
 
@@ -233,7 +226,7 @@ some_count changes =
 
 -- ---- handles and nodes
 
-handle_rows : (process : ℕ) (events : List EventText) → (rows : List HandleRow) × AreHandleRows (read_of handle_item_of process) events rows
+handle_rows : (process : Process) (events : List EventText) → (rows : List HandleRow) × AreHandleRows (read_of handle_item_of process) events rows
 handle_rows process events =
     let read = read_of handle_item_of process in
     let strong = λ (handle : ℕ). some_count (map (change_at_handle read handle Strong) events) in
@@ -250,7 +243,7 @@ node_cmp_exact x y same =
     let both = exact_pairs nat_cmp nat_cmp exact_unsigned exact_unsigned (x.ptr, x.cookie) (y.ptr, y.cookie) same in
     ap (λ (key : ℕ × ℕ). record { ptr = key.0; cookie = key.1 }) both
 
-node_rows : (process : ℕ) (events : List EventText) → (rows : List NodeRow) × AreNodeRows (read_of node_item_of process) events rows
+node_rows : (process : Process) (events : List EventText) → (rows : List NodeRow) × AreNodeRows (read_of node_item_of process) events rows
 node_rows process events =
     let read = read_of node_item_of process in
     let strong = λ (key : NodeKey). some_count (map (change_at_node read key Strong) events) in
@@ -265,24 +258,70 @@ node_rows process events =
     made_rows node_cmp node_cmp_total node_cmp_exact node_of read (λ (row : NodeRow). row.key) make (λ key. refl) events (IsNodeRow read events)
     (λ key. record { strong = (strong key).1; weak = (weak key).1; strong_due = refl; weak_due = refl })
 
-pub some_handles : (wholes : List (Placed WholeFrame)) → (rows : List ProcessHandle) × AreHandleFindings wholes rows
+some_references : {R : Type 0} (AreOf : Process → List R → Type 0) (is_unbalanced : R → Bool) → ((process : Process) → (rows : List R) × AreOf process rows)
+    → (processes : List Process) → (said : References R) × AreReferences AreOf is_unbalanced processes said
+some_references {R} AreOf is_unbalanced some processes =
+    let rows = some_in_turn AreOf some processes in
+    let said : References R = record { unbalanced = count_by (λ (row : OfProcess R). is_unbalanced row.row) rows.0; rows = rows.0 } in
+    (said, record { rows = rows.1; unbalanced = refl })
+
+some_handles : (wholes : List (Placed WholeFrame)) → (said : References HandleRow) × AreHandleFindings wholes said
 some_handles wholes =
     let events = events_of_wholes wholes in
-    some_in_turn (AreHandlesOf events)
-    (λ process. let own = handle_rows process events in (map (process_handle process) own.0, (own.0, own.1, refl))) (processes_of wholes)
+    some_references (AreHandlesOf events) is_unbalanced_handle (λ process. handle_rows process events) (processes_of wholes)
 
-pub some_nodes : (wholes : List (Placed WholeFrame)) → (rows : List ProcessNode) × AreNodeFindings wholes rows
+some_nodes : (wholes : List (Placed WholeFrame)) → (said : References NodeRow) × AreNodeFindings wholes said
 some_nodes wholes =
     let events = events_of_wholes wholes in
-    some_in_turn (AreNodesOf events)
-    (λ process. let own = node_rows process events in (map (process_node process) own.0, (own.0, own.1, refl))) (processes_of wholes)
+    some_references (AreNodesOf events) is_unbalanced_node (λ process. node_rows process events) (processes_of wholes)
 
-pub some_oneway : (wholes : List (Placed WholeFrame)) → (said : OnewayText) × AreOnewayFindings wholes said
+some_oneway : (wholes : List (Placed WholeFrame)) → (rows : List (OfProcess (OnewayKey × ℕ × ℕ))) × AreOnewayRows wholes rows
 some_oneway wholes =
     let events = events_of_wholes wholes in
-    let rows = some_in_turn (AreOnewayOf events)
-    (λ process.
-    let own = tally_rows oneway_cmp oneway_cmp_total oneway_cmp_exact (map oneway_pair (items_of_process oneway_item_of process events)) in
-    (map (process_oneway process) own.0, (own.0, own.1, refl))) (processes_of wholes) in
-    let said : OnewayText = record { sent = sent_count events; received = received_count events; rows = rows.0 } in
-    (said, record { sent = refl; received = refl; rows = rows.1 })
+    some_in_turn (AreOnewayOf events)
+    (λ process. tally_rows oneway_cmp oneway_cmp_total oneway_cmp_exact (map oneway_pair (items_of_process oneway_item_of process events)))
+    (processes_of wholes)
+
+-- ---- the parts of the findings
+
+pub some_call_sections : (events : List EventText) → RiseInPlace events → (said : CallSectionsText) × AreCallSections events said
+some_call_sections events rise =
+    let calls = some_calls events rise in
+    let strays = some_strays events rise in
+    let refused = some_refused events rise in
+    let said : CallSectionsText = record { calls = calls.0; served = calls.1; strays = strays.0; refused = refused.0 } in
+    (said, record { calls = calls.2; strays = strays.1; refused = refused.1 })
+
+pub some_process_sections : (wholes : List (Placed WholeFrame)) → (said : ProcessSectionsText) × AreProcessSections wholes said
+some_process_sections wholes =
+    let events = events_of_wholes wholes in
+    let handles = some_handles wholes in
+    let nodes = some_nodes wholes in
+    let leaked = some_leaked events in
+    let stray_frees = some_stray_frees events in
+    let standing = some_standing events in
+    let deaths = some_open_and_stray death_item_of death_keeps events in
+    let clears = some_open_and_stray clear_item_of clear_keeps events in
+    let oneway = some_oneway wholes in
+    let said : ProcessSectionsText = record {
+      handles = handles.0;
+      nodes = nodes.0;
+      leaked = leaked.0;
+      stray_frees = stray_frees.0;
+      standing = standing.0;
+      deaths = deaths.0;
+      clears = clears.0;
+      oneway = oneway.0;
+    } in (
+      said,
+      record {
+        handles = handles.1;
+        nodes = nodes.1;
+        leaked = leaked.1;
+        stray_frees = stray_frees.1;
+        standing = standing.1;
+        deaths = deaths.1;
+        clears = clears.1;
+        oneway = oneway.1;
+      },
+    )

@@ -29,19 +29,8 @@ use Rattle.capture_frame.specs.Process.{same_thread}
 use Rattle.audit_findings.specs.ThreadLedger.{fed_view, SumsThreads}
 use Rattle.audit_findings.specs.ThreadRows.{opener_text, opener_row, send_text, send_row, AreGatheredRows, AreSortedRows, KeepRows}
 use Rattle.summary_law.proofs.InOrderLaws.{entries_distinct, each_sums, none_else}
-use Rattle.capture_frame.proofs.ProcessLaws.{same_thread_equiv}
+use Rattle.capture_frame.proofs.ProcessLaws.{same_thread_eq, same_thread_equiv}
 use Rattle.audit_findings.proofs.SortedRows.{gathered_rows}
-
-both_true : (a b : Bool) → (a && b) ≡ true → (a ≡ true) × (b ≡ true)
-both_true true b is = (refl, is)
-both_true false b is = let no : ⊥ = cc in absurd no
-
--- equal keys are one
-pub one_key : (a b : Thread) → same_thread a b ≡ true → a ≡ b
-one_key a b same =
-    let both = both_true (same_process a.process b.process) (eqb a.number b.number) same in
-    let make : ℕ → ℕ → Thread = λ p n. record { process = record { number = p }; number = n } in
-    ap₂ make (eqb-true a.process.number b.process.number both.0) (eqb-true a.number b.number both.1)
 
 -- the events of this thread, in their order
 abbrev pub texts_of : Thread → List EventText → List EventText
@@ -63,7 +52,7 @@ kept_from {X} test (y ∷ xs) x here =
 pub of_thread : (key : Thread) (events : List EventText) (e : EventText) → Contains (texts_of key events) e → Contains events e × (key ≡ thread_of e)
 of_thread key events e c =
     let found = kept_from (λ (x : EventText). same_thread key (thread_of x)) events e (in_list (texts_of key events) e c) in
-    (contained events e found.0, one_key key (thread_of e) found.1)
+    (contained events e found.0, same_thread_eq key (thread_of e) found.1)
 
 -- the views that are fed under a key are those of its thread's events
 pub texts_fed : (key : Thread) (views : List Event) → map event_text (items_of same_thread key (map fed_view views)) ≡ texts_of key (map event_text views)
@@ -108,7 +97,7 @@ module _ {X : Type 0} (event : X → EventText) (IsIn : List (JudgedOf EventText
         let key = thread_of e in
         let views = sums.0 in
         ⊎_elim
-        (λ (found : list_any (same_thread key) (keys_of entries) ≡ true). Contains-from_any one_key key (keys_of entries) found)
+        (λ (found : list_any (same_thread key) (keys_of entries) ≡ true). Contains-from_any same_thread_eq key (keys_of entries) found)
         (λ (missing : list_any (same_thread key) (keys_of entries) ≡ false).
         let none = none_else same_thread_equiv ThreadCallsSum entries (map fed_view views) sums.2 key missing in
         let texts : texts_of key events ≡ [] = ap (texts_of key) sums.1 ∙ sym (texts_fed key views) ∙ ap (map event_text) none in

@@ -27,7 +27,7 @@ buffers_row e = row_start e ++ delivery_fields (buffer_item_of e)
 -- the section
 abbrev pub buffers_section : SectionText EventText
 buffers_section = record {
-  head = λ said rows. buffers_head said.counts.deliveries rows;
-  rows = λ said. said.leaked;
+  head = λ said rows. buffers_head said.events.counts.deliveries rows;
+  rows = λ said. said.processes.leaked;
   line = buffers_row;
 }

@@ -24,7 +24,7 @@ calls_row call = call_row target_field call
 -- the section
 abbrev pub calls_section : SectionText (OpenerOf EventText)
 calls_section = record {
-  head = λ said rows. calls_head said.calls.answered said.calls.failed said.calls.unanswered;
-  rows = λ said. said.calls.rows;
+  head = λ said rows. calls_head said.calls.calls.answered said.calls.calls.failed said.calls.calls.unanswered;
+  rows = λ said. said.calls.calls.rows;
   line = calls_row;
 }

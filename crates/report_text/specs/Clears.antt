@@ -17,7 +17,7 @@ clears_row e = open_and_stray_row (codes "unconfirmed") clear_item_of e
 -- the section
 abbrev pub clears_section : SectionText EventText
 clears_section = record {
-  head = λ said rows. clears_head said.counts.clears said.clears.unclosed said.clears.strays;
-  rows = λ said. said.clears.rows;
+  head = λ said rows. clears_head said.events.counts.clears said.processes.clears.unclosed said.processes.clears.strays;
+  rows = λ said. said.processes.clears.rows;
   line = clears_row;
 }

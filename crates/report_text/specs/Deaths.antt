@@ -16,7 +16,7 @@ deaths_row e = open_and_stray_row (codes "unacknowledged") death_item_of e
 -- the section
 abbrev pub deaths_section : SectionText EventText
 deaths_section = record {
-  head = λ said rows. deaths_head said.counts.deaths said.deaths.unclosed said.deaths.strays;
-  rows = λ said. said.deaths.rows;
+  head = λ said rows. deaths_head said.events.counts.deaths said.processes.deaths.unclosed said.processes.deaths.strays;
+  rows = λ said. said.processes.deaths.rows;
   line = deaths_row;
 }

@@ -18,7 +18,7 @@ handles_row row =
 -- the section
 abbrev pub handles_section : SectionText ProcessHandle
 handles_section = record {
-  head = λ said rows. unbalanced_head (codes "handles") rows (length (filter is_unbalanced_handle said.handles));
-  rows = λ said. said.handles;
+  head = λ said rows. unbalanced_head (codes "handles") rows said.processes.handles.unbalanced;
+  rows = λ said. said.processes.handles.rows;
   line = handles_row;
 }

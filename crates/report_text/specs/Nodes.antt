@@ -22,7 +22,7 @@ nodes_row row =
 -- the section
 abbrev pub nodes_section : SectionText ProcessNode
 nodes_section = record {
-  head = λ said rows. unbalanced_head (codes "nodes") rows (length (filter is_unbalanced_node said.nodes));
-  rows = λ said. said.nodes;
+  head = λ said rows. unbalanced_head (codes "nodes") rows said.processes.nodes.unbalanced;
+  rows = λ said. said.processes.nodes.rows;
   line = nodes_row;
 }

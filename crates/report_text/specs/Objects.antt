@@ -33,7 +33,7 @@ objects_row row =
 -- the section
 abbrev pub objects_section : SectionText BadOwned
 objects_section = record {
-  head = λ said rows. objects_head said.objects rows;
-  rows = λ said. said.bad_objects;
+  head = λ said rows. objects_head said.events.objects rows;
+  rows = λ said. said.events.bad_objects;
   line = objects_row;
 }

@@ -27,7 +27,7 @@ oneway_row row =
 -- the section
 abbrev pub oneway_section : SectionText OnewayRow
 oneway_section = record {
-  head = λ said rows. oneway_head said.oneway.sent said.oneway.received said.refused.oneway;
-  rows = λ said. said.oneway.rows;
+  head = λ said rows. oneway_head said.events.oneway.sent said.events.oneway.received said.calls.refused.oneway;
+  rows = λ said. said.processes.oneway;
   line = oneway_row;
 }

@@ -1,11 +1,12 @@
 -- How a process and a thread are spelled in a row, whatever the section (docs/REPORT.md).
 use Rattle.std.specs.Prelude.{ℕ, List}
 use Rattle.std.specs.Fmt.{decimal}
+use Rattle.capture_frame.specs.declared.process.Process.{Process}
 
 -- a process
-abbrev pub process_field : ℕ → List ℕ
-process_field process = decimal process
+abbrev pub process_field : Process → List ℕ
+process_field process = decimal process.number
 
--- a thread
+-- the number of a thread, whose process is spelled before it
 abbrev pub thread_field : ℕ → List ℕ
 thread_field thread = decimal thread

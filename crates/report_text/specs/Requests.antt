@@ -31,7 +31,7 @@ requests_row e = row_start e ++ request_fields (request_item_of e)
 -- the section
 abbrev pub requests_section : SectionText EventText
 requests_section = record {
-  head = λ said rows. requests_head said.counts.requests rows;
-  rows = λ said. said.standing;
+  head = λ said rows. requests_head said.events.counts.requests rows;
+  rows = λ said. said.processes.standing;
   line = requests_row;
 }

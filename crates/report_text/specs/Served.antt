@@ -24,7 +24,7 @@ served_row call = call_row sender_field call
 -- the section
 abbrev pub served_section : SectionText (OpenerOf EventText)
 served_section = record {
-  head = λ said rows. served_head said.served.replied said.served.crossed said.served.left_open;
-  rows = λ said. said.served.rows;
+  head = λ said rows. served_head said.calls.served.replied said.calls.served.crossed said.calls.served.left_open;
+  rows = λ said. said.calls.served.rows;
   line = served_row;
 }

@@ -37,7 +37,7 @@ totals frames records opaque missing =
     ++ codes " opaque " ++ decimal opaque ++ codes " missing " ++ decimal missing
 
 abbrev pub totals_lines : FindingsText → List (List ℕ)
-totals_lines said = totals said.frames said.records said.opaque said.missing ∷ []
+totals_lines said = totals said.frames said.events.records said.events.opaque said.missing ∷ []
 
 -- the parts of the report, in their order: the first two lines, and the sections
 abbrev pub parts : List (FindingsText → List (List ℕ))

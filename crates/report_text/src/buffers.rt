@@ -19,19 +19,19 @@ impl EventSection for Buffers {
 
     ghost section = { buffers_section };
 
-    ghost head_of = { λ kept. buffers_head kept.counts.deliveries };
+    ghost head_of = { λ kept. buffers_head kept.events.counts.deliveries };
 
     ghost bare = { λ e. refl };
 
     fn head(&self, sections: &Sections, rows: usize) -> Row {
         let mut line = Row::new();
-        push_counted(&mut line, "buffers ", sections.counts.deliveries);
+        push_counted(&mut line, "buffers ", sections.events.counts.deliveries);
         push_counted(&mut line, " leaked ", rows as u64);
         line
     }
 
     fn places<'f>(&self, found: &'f Findings<'_>) -> &'f [u64] {
-        found.sections().leaked.as_slice()
+        found.sections().processes.leaked.as_slice()
     }
 
     fn line(&self, event: Event<'_>) -> Row {

@@ -16,14 +16,14 @@ impl CallSection for Calls {
     ghost section = { calls_section };
 
     ghost head_of = { λ kept _.
-        calls_head kept.calls.answered kept.calls.failed kept.calls.unanswered };
+        calls_head kept.calls.calls.answered kept.calls.calls.failed kept.calls.calls.unanswered };
 
     ghost field = { target_field };
 
     ghost tells = { λ call. refl };
 
     fn head(&self, sections: &Sections, _rows: usize) -> Row {
-        let calls = &sections.calls;
+        let calls = &sections.calls.calls;
         let mut line = Row::new();
         line.push_str("calls ");
         push_sum(&mut line, calls.answered, calls.failed, calls.unanswered);
@@ -34,7 +34,7 @@ impl CallSection for Calls {
     }
 
     fn calls<'f>(&self, found: &'f Findings<'_>) -> &'f [CallRow] {
-        found.sections().calls.rows.as_slice()
+        found.sections().calls.calls.rows.as_slice()
     }
 
     // The handle that a call goes to.

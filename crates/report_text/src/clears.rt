@@ -17,7 +17,7 @@ impl EventSection for Clears {
     ghost section = { clears_section };
 
     ghost head_of = { λ kept _.
-        clears_head kept.counts.clears kept.clears.unclosed kept.clears.strays };
+        clears_head kept.events.counts.clears kept.processes.clears.unclosed kept.processes.clears.strays };
 
     ghost bare = { λ e. refl };
 
@@ -25,13 +25,13 @@ impl EventSection for Clears {
         open_and_stray_head(
             "clears",
             "unconfirmed",
-            sections.counts.clears,
-            &sections.clears,
+            sections.events.counts.clears,
+            &sections.processes.clears,
         )
     }
 
     fn places<'f>(&self, found: &'f Findings<'_>) -> &'f [u64] {
-        found.sections().clears.rows.as_slice()
+        found.sections().processes.clears.rows.as_slice()
     }
 
     fn line(&self, event: Event<'_>) -> Row {

@@ -34,7 +34,7 @@ impl Section for Codes {
     }
 
     fn rows<'f>(&self, found: &'f Findings<'_>) -> &'f [CodeRow] {
-        found.sections().codes.as_slice()
+        found.sections().events.codes.as_slice()
     }
 
     fn line(&self, _found: &Findings<'_>, kept: &CodeRow) -> Row {

@@ -17,7 +17,7 @@ impl EventSection for Deaths {
     ghost section = { deaths_section };
 
     ghost head_of = { λ kept _.
-        deaths_head kept.counts.deaths kept.deaths.unclosed kept.deaths.strays };
+        deaths_head kept.events.counts.deaths kept.processes.deaths.unclosed kept.processes.deaths.strays };
 
     ghost bare = { λ e. refl };
 
@@ -25,13 +25,13 @@ impl EventSection for Deaths {
         open_and_stray_head(
             "deaths",
             "unacknowledged",
-            sections.counts.deaths,
-            &sections.deaths,
+            sections.events.counts.deaths,
+            &sections.processes.deaths,
         )
     }
 
     fn places<'f>(&self, found: &'f Findings<'_>) -> &'f [u64] {
-        found.sections().deaths.rows.as_slice()
+        found.sections().processes.deaths.rows.as_slice()
     }
 
     fn line(&self, event: Event<'_>) -> Row {

@@ -32,7 +32,7 @@ impl EventSection for Flags {
     }
 
     fn places<'f>(&self, found: &'f Findings<'_>) -> &'f [u64] {
-        found.sections().flags.as_slice()
+        found.sections().events.flags.as_slice()
     }
 
     fn line(&self, event: Event<'_>) -> Row {

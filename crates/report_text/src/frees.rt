@@ -19,19 +19,19 @@ impl EventSection for Frees {
 
     ghost section = { frees_section };
 
-    ghost head_of = { λ kept. frees_head kept.counts.frees };
+    ghost head_of = { λ kept. frees_head kept.events.counts.frees };
 
     ghost bare = { λ e. refl };
 
     fn head(&self, sections: &Sections, rows: usize) -> Row {
         let mut line = Row::new();
-        push_counted(&mut line, "frees ", sections.counts.frees);
+        push_counted(&mut line, "frees ", sections.events.counts.frees);
         push_counted(&mut line, " stray ", rows as u64);
         line
     }
 
     fn places<'f>(&self, found: &'f Findings<'_>) -> &'f [u64] {
-        found.sections().stray_frees.as_slice()
+        found.sections().processes.stray_frees.as_slice()
     }
 
     fn line(&self, event: Event<'_>) -> Row {

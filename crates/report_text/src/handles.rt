@@ -23,7 +23,7 @@ impl Section for Handles {
     ghost lines = { lines_of handles_section };
 
     ghost head_of = { λ kept rows. unbalanced_head (codes "handles") rows
-        (length (filter is_unbalanced_handle kept.handles)) };
+        kept.processes.handles.unbalanced };
 
     ghost can_show = { λ _ _. ⊤ };
 
@@ -33,12 +33,12 @@ impl Section for Handles {
         unbalanced_head(
             "handles",
             rows,
-            unbalanced_count(sections.handles.as_slice()),
+            unbalanced_count(sections.processes.handles.as_slice()),
         )
     }
 
     fn rows<'f>(&self, found: &'f Findings<'_>) -> &'f [ProcessHandle] {
-        found.sections().handles.as_slice()
+        found.sections().processes.handles.as_slice()
     }
 
     fn line(&self, _found: &Findings<'_>, kept: &ProcessHandle) -> Row {

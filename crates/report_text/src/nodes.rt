@@ -23,18 +23,18 @@ impl Section for Nodes {
     ghost lines = { lines_of nodes_section };
 
     ghost head_of = { λ kept rows. unbalanced_head (codes "nodes") rows
-        (length (filter is_unbalanced_node kept.nodes)) };
+        kept.processes.nodes.unbalanced };
 
     ghost can_show = { λ _ _. ⊤ };
 
     ghost shows = { λ _ row line. line ≡ nodes_row row };
 
     fn head(&self, sections: &Sections, rows: usize) -> Row {
-        unbalanced_head("nodes", rows, unbalanced_count(sections.nodes.as_slice()))
+        unbalanced_head("nodes", rows, unbalanced_count(sections.processes.nodes.as_slice()))
     }
 
     fn rows<'f>(&self, found: &'f Findings<'_>) -> &'f [ProcessNode] {
-        found.sections().nodes.as_slice()
+        found.sections().processes.nodes.as_slice()
     }
 
     fn line(&self, _found: &Findings<'_>, kept: &ProcessNode) -> Row {

@@ -25,7 +25,7 @@ impl Section for Objects {
 
     ghost lines = { lines_of objects_section };
 
-    ghost head_of = { λ kept. objects_head kept.objects };
+    ghost head_of = { λ kept. objects_head kept.events.objects };
 
     ghost can_show = { λ frames row. HasRecordIn frames row.owner };
 
@@ -33,7 +33,7 @@ impl Section for Objects {
         ShowsEvent (λ e. objects_row (record { owner = e; bad = row.bad })) frames row.owner line };
 
     fn head(&self, sections: &Sections, rows: usize) -> Row {
-        let counts = sections.objects;
+        let counts = sections.events.objects;
         let mut line = Row::new();
         push_counted(&mut line, "objects binder ", counts.binder);
         push_counted(&mut line, " weak_binder ", counts.weak_binder);
@@ -47,7 +47,7 @@ impl Section for Objects {
     }
 
     fn rows<'f>(&self, found: &'f Findings<'_>) -> &'f [BadRow] {
-        found.sections().bad_objects.as_slice()
+        found.sections().events.bad_objects.as_slice()
     }
 
     fn line(&self, found: &Findings<'_>, kept: &BadRow) -> Row {

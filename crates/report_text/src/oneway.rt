@@ -24,7 +24,7 @@ impl Section for Oneway {
     ghost lines = { lines_of oneway_section };
 
     ghost head_of = { λ kept _.
-        oneway_head kept.oneway.sent kept.oneway.received kept.refused.oneway };
+        oneway_head kept.events.oneway.sent kept.events.oneway.received kept.calls.refused.oneway };
 
     ghost can_show = { λ _ _. ⊤ };
 
@@ -32,14 +32,14 @@ impl Section for Oneway {
 
     fn head(&self, sections: &Sections, _rows: usize) -> Row {
         let mut line = Row::new();
-        push_counted(&mut line, "oneway sent ", sections.oneway.sent);
-        push_counted(&mut line, " received ", sections.oneway.received);
-        push_counted(&mut line, " refused ", sections.refused.oneway);
+        push_counted(&mut line, "oneway sent ", sections.events.oneway.sent);
+        push_counted(&mut line, " received ", sections.events.oneway.received);
+        push_counted(&mut line, " refused ", sections.calls.refused.oneway);
         line
     }
 
     fn rows<'f>(&self, found: &'f Findings<'_>) -> &'f [OnewayRow] {
-        found.sections().oneway.rows.as_slice()
+        found.sections().processes.oneway.as_slice()
     }
 
     fn line(&self, _found: &Findings<'_>, kept: &OnewayRow) -> Row {

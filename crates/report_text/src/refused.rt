@@ -26,7 +26,7 @@ impl EventSection for Refused {
     }
 
     fn places<'f>(&self, found: &'f Findings<'_>) -> &'f [u64] {
-        found.sections().refused.rows.as_slice()
+        found.sections().calls.refused.rows.as_slice()
     }
 
     fn line(&self, event: Event<'_>) -> Row {

@@ -101,14 +101,14 @@ fn title_line() -> Row
 }
 
 fn totals_line(found: &Findings<'_>) -> Row
-    ensures { result.bytes ≡ totals (length found.now.frames) found.now.sections.records
-        found.now.sections.opaque found.now.sections.missing }
+    ensures { result.bytes ≡ totals (length found.now.frames) found.now.sections.events.records
+        found.now.sections.events.opaque found.now.sections.missing }
 {
     let sections = found.sections();
     let mut line = Row::new();
     push_counted(&mut line, "frames ", found.frames().len() as u64);
-    push_counted(&mut line, " records ", sections.records);
-    push_counted(&mut line, " opaque ", sections.opaque);
+    push_counted(&mut line, " records ", sections.events.records);
+    push_counted(&mut line, " opaque ", sections.events.opaque);
     push_counted(&mut line, " missing ", sections.missing);
     line
 }

@@ -19,19 +19,19 @@ impl EventSection for Requests {
 
     ghost section = { requests_section };
 
-    ghost head_of = { λ kept. requests_head kept.counts.requests };
+    ghost head_of = { λ kept. requests_head kept.events.counts.requests };
 
     ghost bare = { λ e. refl };
 
     fn head(&self, sections: &Sections, rows: usize) -> Row {
         let mut line = Row::new();
-        push_counted(&mut line, "requests ", sections.counts.requests);
+        push_counted(&mut line, "requests ", sections.events.counts.requests);
         push_counted(&mut line, " standing ", rows as u64);
         line
     }
 
     fn places<'f>(&self, found: &'f Findings<'_>) -> &'f [u64] {
-        found.sections().standing.as_slice()
+        found.sections().processes.standing.as_slice()
     }
 
     fn line(&self, event: Event<'_>) -> Row {

@@ -16,14 +16,14 @@ impl CallSection for Served {
     ghost section = { served_section };
 
     ghost head_of = { λ kept _.
-        served_head kept.served.replied kept.served.crossed kept.served.left_open };
+        served_head kept.calls.served.replied kept.calls.served.crossed kept.calls.served.left_open };
 
     ghost field = { sender_field };
 
     ghost tells = { λ call. refl };
 
     fn head(&self, sections: &Sections, _rows: usize) -> Row {
-        let served = &sections.served;
+        let served = &sections.calls.served;
         let mut line = Row::new();
         line.push_str("served ");
         push_sum(&mut line, served.replied, served.crossed, served.left_open);
@@ -34,7 +34,7 @@ impl CallSection for Served {
     }
 
     fn calls<'f>(&self, found: &'f Findings<'_>) -> &'f [CallRow] {
-        found.sections().served.rows.as_slice()
+        found.sections().calls.served.rows.as_slice()
     }
 
     // The process that a served call comes from.

@@ -26,7 +26,7 @@ impl EventSection for Strays {
     }
 
     fn places<'f>(&self, found: &'f Findings<'_>) -> &'f [u64] {
-        found.sections().strays.as_slice()
+        found.sections().calls.strays.as_slice()
     }
 
     fn line(&self, event: Event<'_>) -> Row {
