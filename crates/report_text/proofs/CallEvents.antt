@@ -22,11 +22,11 @@ judged_there : (events : List EventText) (e : EventText) (position : ℕ) (there
 judged_there events e position there stands =
     let judged = judged_in_thread events e in
     let event : JudgedOf EventText → EventText = λ j. j.event in
-    let thread = thread_of e events in
+    let thread = events_of_thread e events in
     let inside : Contains thread there.event =
     subst (λ (es : List EventText). Contains es there.event) (judged_events text_reads (bracket_read text_reads) None thread)
     (contained (map event judged) there.event (map-in event judged there (get_in judged position there stands))) in
-    All-contains (Contains events) thread there.event (All-filter (same_thread e) (Contains events) events (All-contains_itself events)) inside
+    All-contains (Contains events) thread there.event (All-filter (is_of_thread e) (Contains events) events (All-contains_itself events)) inside
 
 -- so what is listed in order has events, where all that it lists has
 listed_there : {X : Type 0} (rank : X → ℕ) (Is : X → Type 0) (event : X → EventText) (events : List EventText)

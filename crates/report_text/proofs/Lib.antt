@@ -4,7 +4,6 @@ pub mod Sections
 pub mod Listed
 pub mod ObjectOwners
 pub mod CallEvents
-pub mod SameRows
 pub mod OneText
 mod SomeText
 pub mod Vectors

@@ -12,7 +12,9 @@ use Rattle.object_view.specs.Objects.{bad_at}
 use Rattle.event_core.specs.declared.oneway.OnewayKey.TheVariants.{Sent, Received}
 use Rattle.event_core.specs.Events.{EventText}
 use Rattle.call_stacks.specs.declared.verdict.Verdict.TheVariants.{Failed, Crossed, Open}
+use Rattle.capture_frame.specs.declared.process.Process.{Process}
 use Rattle.audit_findings.specs.Findings.{FindingsText}
+use Rattle.audit_findings.specs.InTurn.{of_process}
 use Rattle.report_text.specs.Calls.{calls_row}
 use Rattle.report_text.specs.Codes.{codes_row}
 use Rattle.report_text.specs.Deaths.{deaths_row}
@@ -27,29 +29,40 @@ use Rattle.report_text.specs.Oneway.{oneway_row}
 use Rattle.report_text.specs.Served.{served_row}
 use Rattle.report_text.specs.Text.{report_text}
 
+-- a process by its number
+abbrev numbered : ℕ → Process
+numbered number = record { number = number }
+
 nothing : FindingsText
 nothing = record {
   frames = 0;
-  records = 0;
-  opaque = 0;
   missing = 0;
-  codes = [];
-  counts = record { deliveries = 0; frees = 0; requests = 0; deaths = 0; clears = 0 };
-  calls = record { answered = 0; failed = 0; unanswered = 0; rows = [] };
-  served = record { replied = 0; crossed = 0; left_open = 0; rows = [] };
-  strays = [];
-  refused = record { oneway = 0; rows = [] };
-  handles = [];
-  nodes = [];
-  leaked = [];
-  stray_frees = [];
-  standing = [];
-  deaths = record { unclosed = 0; strays = 0; rows = [] };
-  clears = record { unclosed = 0; strays = 0; rows = [] };
-  oneway = record { sent = 0; received = 0; rows = [] };
-  objects = record { binder = 0; weak_binder = 0; handle = 0; weak_handle = 0; fd = 0; fda = 0; ptr = 0 };
-  bad_objects = [];
-  flags = [];
+  events = record {
+    records = 0;
+    opaque = 0;
+    codes = [];
+    counts = record { deliveries = 0; frees = 0; requests = 0; deaths = 0; clears = 0 };
+    oneway = record { sent = 0; received = 0 };
+    objects = record { binder = 0; weak_binder = 0; handle = 0; weak_handle = 0; fd = 0; fda = 0; ptr = 0 };
+    bad_objects = [];
+    flags = [];
+  };
+  calls = record {
+    calls = record { answered = 0; failed = 0; unanswered = 0; rows = [] };
+    served = record { replied = 0; crossed = 0; left_open = 0; rows = [] };
+    strays = [];
+    refused = record { oneway = 0; rows = [] };
+  };
+  processes = record {
+    handles = record { unbalanced = 0; rows = [] };
+    nodes = record { unbalanced = 0; rows = [] };
+    leaked = [];
+    stray_frees = [];
+    standing = [];
+    deaths = record { unclosed = 0; strays = 0; rows = [] };
+    clears = record { unclosed = 0; strays = 0; rows = [] };
+    oneway = [];
+  };
 }
 
 -- `BC_TRANSACTION` to the handle 1 with flags 0x82
@@ -117,11 +130,11 @@ error_row : kind_row (record send { kind = BrFailedReply; payload = [] }) ≡ co
 unfolding send digits
 error_row = refl
 
-sent_row : oneway_row (record { process = 100; key = Sent 3; count = 2; sum = 36893488147419103230 }) ≡ codes "  100 sent 3 2 36893488147419103230"
+sent_row : oneway_row (of_process (numbered 100) (Sent 3, 2, 36893488147419103230)) ≡ codes "  100 sent 3 2 36893488147419103230"
 unfolding digits
 sent_row = refl
 
-received_row : oneway_row (record { process = 100; key = Received; count = 2; sum = 0 }) ≡ codes "  100 received 2 0"
+received_row : oneway_row (of_process (numbered 100) (Received, 2, 0)) ≡ codes "  100 received 2 0"
 unfolding digits
 received_row = refl
 
@@ -141,7 +154,7 @@ address_number : hex_number 0x70a0 ≡ codes "0x70a0"
 unfolding digits
 address_number = refl
 
-negative_row : handles_row (record { process = 100; handle = 2; strong = pos 0; strong_low = negsuc 1; weak = pos 1; weak_low = pos 0 })
+negative_row : handles_row (of_process (numbered 100) (record { handle = 2; strong = record { sum = pos 0; low = negsuc 1 }; weak = record { sum = pos 1; low = pos 0 } }))
     ≡ codes "  100 2 0 -2 1 0"
 negative_row = rw (hundred_said, zero_said, one_said, two_said) refl
 
@@ -202,21 +215,17 @@ unfolding most digits
 widest_objects = refl
 
 -- the least number is `negsuc` of one less than its amount
-widest_handle : handles_row (record { process = 4294967295; handle = 0; strong = negsuc 0; strong_low = negsuc 9223372036854775807; weak = pos 9223372036854775807; weak_low = pos 0 })
+widest_handle : handles_row (of_process (numbered 4294967295) (record { handle = 0; strong = record { sum = negsuc 0; low = negsuc 9223372036854775807 }; weak = record { sum = pos 9223372036854775807; low = pos 0 } }))
     ≡ codes "  4294967295 0 -1 -9223372036854775808 9223372036854775807 0"
 unfolding digits
 widest_handle = refl
 
-widest_node : nodes_row (record {
-  process = 7;
-  ptr = 0;
-  cookie = most;
-  strong = pos 10;
-  strong_low = negsuc 9;
-  weak = pos 2;
-  weak_low = negsuc 2;
+widest_node : nodes_row (of_process (numbered 7) (record {
+  key = record { ptr = 0; cookie = most };
+  strong = record { sum = pos 10; low = negsuc 9 };
+  weak = record { sum = pos 2; low = negsuc 2 };
   strong_due = pos 4;
   weak_due = negsuc 9223372036854775807;
-}) ≡ codes "  7 0x0 0xffffffffffffffff 10 -10 2 -3 4 -9223372036854775808"
+})) ≡ codes "  7 0x0 0xffffffffffffffff 10 -10 2 -3 4 -9223372036854775808"
 unfolding most digits
 widest_node = refl

@@ -2,12 +2,12 @@
 use Rattle.std.specs.Prelude.{ℕ, List, ◌++◌, codes}
 use Rattle.std.specs.Fmt.{decimal}
 use Rattle.binder_code.specs.Commands.{name_of}
-use Rattle.event_core.specs.Events.{EventText}
+use Rattle.event_core.specs.Events.{EventText, process_of}
 use Rattle.report_text.specs.Process.{process_field, thread_field}
 
 -- place and process of its record
 abbrev pub row_start : EventText → List ℕ
-row_start e = codes "  " ++ decimal e.place ++ codes " " ++ process_field e.process
+row_start e = codes "  " ++ decimal e.place ++ codes " " ++ process_field (process_of e)
 
 -- and its thread
 abbrev pub thread_start : EventText → List ℕ

@@ -1,20 +1,16 @@
 -- What the sections of each process in turn, `handles`, `nodes` and `oneway`, have alike (docs/REPORT.md).
-use Rattle.std.specs.Prelude.{ℕ, ℤ, Bool, not, pos, List, ◌++◌, codes}
+use Rattle.std.specs.Prelude.{ℕ, ℤ, List, ◌++◌, codes}
 use Rattle.std.specs.Fmt.{decimal, signed_decimal}
-use Rattle.std.specs.Ordering.{int_eq}
+use Rattle.capture_frame.specs.declared.process.Process.{Process}
 use Rattle.report_text.specs.Process.{process_field}
 
 -- a row begins with its process
-abbrev pub process_start : ℕ → List ℕ
+abbrev pub process_start : Process → List ℕ
 process_start process = codes "  " ++ process_field process
 
 -- a count of references, and its low
 abbrev pub count_fields : ℤ → ℤ → List ℕ
 count_fields count low = codes " " ++ signed_decimal count ++ codes " " ++ signed_decimal low
-
--- whether a number is not zero
-abbrev pub is_not_zero : ℤ → Bool
-is_not_zero n = not (int_eq n (pos 0))
 
 -- the head of a section of this name: how many rows there are, and how many unbalanced ones among them
 abbrev pub unbalanced_head : List ℕ → ℕ → ℕ → List ℕ

@@ -84,7 +84,7 @@ pub(crate) fn row_start(event: Event<'_>) -> Row
     let mut line = Row::new();
     push_counted(&mut line, "  ", event.place);
     line.push_str(" ");
-    push_process(&mut line, event.process);
+    push_process(&mut line, event.of_process());
     line
 }
 

@@ -7,7 +7,7 @@ ghost use Rattle.report_text.specs.Oneway.{oneway_row, key_fields};
 use crate::line::{Row, push_counted, push_wide};
 use crate::process_row::process_start;
 use crate::section::Section;
-use audit_findings::{Findings, OnewayRow, Sections};
+use audit_findings::{Findings, OfProcess, OnewayRow, Sections};
 use event_core::OnewayKey;
 
 /// The section, whose rows are kept as they are.
@@ -19,7 +19,7 @@ impl Section for Oneway {
     ghost use Rattle.report_text.specs.Oneway.{oneway_head, oneway_row, oneway_section};
     ghost use Rattle.report_text.specs.Section.{lines_of};
 
-    type Kept = OnewayRow;
+    type Kept = OfProcess<OnewayRow>;
 
     ghost lines = { lines_of oneway_section };
 
@@ -38,24 +38,25 @@ impl Section for Oneway {
         line
     }
 
-    fn rows<'f>(&self, found: &'f Findings<'_>) -> &'f [OnewayRow] {
+    fn rows<'f>(&self, found: &'f Findings<'_>) -> &'f [OfProcess<OnewayRow>] {
         found.sections().processes.oneway.as_slice()
     }
 
-    fn line(&self, _found: &Findings<'_>, kept: &OnewayRow) -> Row {
-        oneway_row(*kept)
+    fn line(&self, _found: &Findings<'_>, kept: &OfProcess<OnewayRow>) -> Row {
+        oneway_row(kept)
     }
 }
 
-fn oneway_row(row: OnewayRow) -> Row
-    ensures { result.bytes ≡ oneway_row row }
+fn oneway_row(of: &OfProcess<OnewayRow>) -> Row
+    ensures { result.bytes ≡ oneway_row of.now }
 {
-    let mut line = process_start(row.process);
+    let (key, count, sum) = of.row;
+    let mut line = process_start(of.process);
     line.push_str(" ");
-    push_key(&mut line, row.key);
-    push_counted(&mut line, " ", row.count);
+    push_key(&mut line, key);
+    push_counted(&mut line, " ", count);
     line.push_str(" ");
-    push_wide(&mut line, row.sum);
+    push_wide(&mut line, sum);
     line
 }
 

@@ -6,9 +6,10 @@ ghost use Rattle.report_text.specs.ProcessRow.{process_start, count_fields, unba
 
 use crate::line::{Row, push_counted, push_signed};
 use crate::process::push_process;
+use capture_frame::Process;
 
 /// A row with its process.
-pub(crate) fn process_start(process: u32) -> Row
+pub(crate) fn process_start(process: Process) -> Row
     ensures text { result.bytes ≡ process_start process }
     ensures short { array_string_len result ≤ 22 }
 {
@@ -31,13 +32,13 @@ pub(crate) fn push_count(line: &mut Row, count: i64, low: i64)
 }
 
 /// The head of a section that has this name.
-pub(crate) fn unbalanced_head(name: &str, rows: usize, unbalanced: usize) -> Row
+pub(crate) fn unbalanced_head(name: &str, rows: usize, unbalanced: u64) -> Row
     requires { length name.now ≤ 16 }
     ensures { result.bytes ≡ unbalanced_head name.now rows unbalanced }
 {
     let mut line = Row::new();
     line.push_str(name);
     push_counted(&mut line, " ", rows as u64);
-    push_counted(&mut line, " unbalanced ", unbalanced as u64);
+    push_counted(&mut line, " unbalanced ", unbalanced);
     line
 }

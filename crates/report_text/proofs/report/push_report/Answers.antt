@@ -13,20 +13,20 @@ use Rattle.report_text.proofs.report.push_report.Goals as goal
 
 -- the totals are those of what the findings tell
 totals_told : (found : KeptFindings) (wholes : List WholeFrame) (said : FindingsText) (line : List ℕ) → Tell wholes said found.frames found.sections
-    → line ≡ totals (length found.frames) found.sections.records found.sections.opaque found.sections.missing
-    → line ≡ totals said.frames said.records said.opaque said.missing
+    → line ≡ totals (length found.frames) found.sections.events.records found.sections.events.opaque found.sections.missing
+    → line ≡ totals said.frames said.events.records said.events.opaque said.missing
 totals_told found wholes said line tell is =
     let count : length found.frames ≡ said.frames =
     sym (length-map found.frames placed_frame) ∙ ap length tell.show.stand ∙ length-map (wholes_of wholes) placed_text ∙ sym tell.are.frames in
-    is ∙ ap₂ (λ (f r : ℕ). totals f r found.sections.opaque found.sections.missing) count tell.keep.records
-    ∙ ap₂ (λ (o m : ℕ). totals said.frames said.records o m) tell.keep.opaque tell.keep.missing
+    is ∙ ap₂ (λ (f r : ℕ). totals f r found.sections.events.opaque found.sections.missing) count tell.keep.events.records
+    ∙ ap₂ (λ (o m : ℕ). totals said.frames said.events.records o m) tell.keep.events.opaque tell.keep.missing
 
 pub returns : goal.returns
 returns g c =
     on_ok_weaker c.push_section-15.result
     (λ last.
     one_pushed c.title_line.result.bytes (λ said. title) c.in_ok-push_line.ensures (λ wholes said tell. c.title_line.ensures)
-    ⨾ one_pushed c.totals_line.result.bytes (λ said. totals said.frames said.records said.opaque said.missing) c.in_ok-push_line-2.ensures
+    ⨾ one_pushed c.totals_line.result.bytes (λ said. totals said.frames said.events.records said.events.opaque said.missing) c.in_ok-push_line-2.ensures
     (λ wholes said tell. totals_told c.args.found.now wholes said c.totals_line.result.bytes tell c.totals_line.ensures)
     ⨾ c.in_ok-push_section.ensures ⨾ c.in_ok-push_section-2.ensures ⨾ c.in_ok-push_section-3.ensures ⨾ c.in_ok-push_section-4.ensures
     ⨾ c.in_ok-push_section-5.ensures ⨾ c.in_ok-push_section-6.ensures ⨾ c.in_ok-push_section-7.ensures ⨾ c.in_ok-push_section-8.ensures

@@ -7,4 +7,4 @@ use Rattle.report_text.proofs.codes.CodesSection.rows.Goals as goal
 pub returns-clause-told : goal.returns-clause-told
 returns-clause-told c =
     whole_lines codes_section codes_head c.args.found.now c.as_slice.result.now (λ wholes said tell rows. refl)
-    (λ wholes said tell. c.as_slice.ensures ∙ ap (λ (s : Sections). s.codes) c.sections.ensures.value ∙ tell.keep.codes)
+    (λ wholes said tell. c.as_slice.ensures ∙ ap (λ (s : Sections). s.events.codes) c.sections.ensures.value ∙ tell.keep.events.codes)

@@ -8,4 +8,4 @@ use Rattle.report_text.proofs.flags.FlagsEventSection.places.Goals as goal
 pub returns-clause-events : goal.returns-clause-events
 returns-clause-events c = λ wholes said tell.
     let events = events_of_wholes (wholes_of wholes) in
-    subst (All (Contains events)) (sym tell.are.flags) (All-filter has_unknown_flags (Contains events) events (All-contains_itself events))
+    subst (All (Contains events)) (sym tell.are.events.flags) (All-filter has_unknown_flags (Contains events) events (All-contains_itself events))

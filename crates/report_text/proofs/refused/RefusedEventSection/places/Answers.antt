@@ -3,4 +3,4 @@ use Rattle.report_text.proofs.CallEvents.{refused_there}
 use Rattle.report_text.proofs.refused.RefusedEventSection.places.Goals as goal
 
 pub returns-clause-events : goal.returns-clause-events
-returns-clause-events c = λ wholes said tell. refused_there (events_of_wholes (wholes_of wholes)) said.refused tell.are.refused
+returns-clause-events c = λ wholes said tell. refused_there (events_of_wholes (wholes_of wholes)) said.calls.refused tell.are.calls.refused

@@ -4,4 +4,4 @@ use Rattle.report_text.proofs.served.ServedCallSection.calls.Goals as goal
 
 pub returns-clause-events : goal.returns-clause-events
 returns-clause-events c = λ wholes said tell.
-    openers_there (events_of_wholes (wholes_of wholes)) tell.are.calls.0 _ said.served.rows tell.are.calls.1 tell.are.calls.3.rows
+    openers_there (events_of_wholes (wholes_of wholes)) tell.are.calls.calls.0 _ said.calls.served.rows tell.are.calls.calls.1 tell.are.calls.calls.3.rows
