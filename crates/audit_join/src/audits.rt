@@ -5,7 +5,7 @@ ghost use Rattle.transaction_view.specs.Grammar.{WholeFrame};
 ghost use Rattle.audit_findings.specs.Frames.{AreGoodFrames, Show};
 ghost use Rattle.event_core.specs.Events.{wholes_of};
 ghost use Rattle.audit_findings.specs.Findings.{FindingsText};
-ghost use Rattle.audit_findings.specs.Kept.{Tell};
+ghost use Rattle.audit_findings.specs.Kept.{AreOfFrames, Tell, kept_findings};
 ghost use Rattle.audit_join.specs.Audit.{IsAudited, IsMalformed};
 ghost use Rattle.audit_join.specs.Summaries.{AreSummaries};
 ghost use Rattle.audit_join.specs.declared.limits.TheConstants.{CAPTURE_LIMIT};
@@ -14,7 +14,7 @@ use crate::audit_error::AuditError;
 use crate::limits::CAPTURE_LIMIT;
 use crate::piece::Piece;
 use crate::summaries::summaries_of;
-use audit_findings::{Findings, PieceSummary};
+use audit_findings::{Findings, PieceSummary, Sections};
 use capture_frame::{Cut, Frame, cut};
 use claim_board::{Gate, NoGate, Workers};
 use std::alloc::{AllocError, Global};
@@ -83,5 +83,14 @@ fn findings_of<'c, T: Threads + Sync>(
 {
     let whole = join_all(rt, alloc, parts, workers.get())?;
     let sections = whole.sections()?;
-    Ok(Findings::new(frames, sections))
+    Ok(look_again(frames, sections))
+}
+
+/// The findings of frames whose sections are made. Here both are at hand; what has to look at the
+/// capture a second time has its place here.
+fn look_again<'c>(frames: Vec<Frame<'c>>, sections: Sections) -> Findings<'c>
+    requires { AreOfFrames frames.items sections }
+    ensures { result ≡ kept_findings frames.entry.items sections }
+{
+    Findings::new(frames, sections)
 }

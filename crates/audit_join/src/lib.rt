@@ -13,8 +13,9 @@ mod summaries;
 
 pub use audit_error::AuditError;
 pub use audit_findings::{
-    BadRow, CallRow, Calls, CodeRow, Findings, Oneway, OnewayRow, OpenAndStray, PieceSummary,
-    ProcessHandle, ProcessNode, RecordCounts, Refused, Rows, Sections, Served, SortCounts,
+    BadRow, CallRow, CallSections, Calls, CodeRow, EventSections, Findings, OfProcess,
+    OnewayCounts, OnewayRow, OpenAndStray, PieceSummary, ProcessSections, RecordCounts, References,
+    Refused, Rows, Sections, Served, SortCounts,
 };
 pub use audits::{audit, audit_one};
 pub use limits::CAPTURE_LIMIT;

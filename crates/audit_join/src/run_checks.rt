@@ -7,8 +7,8 @@ ghost use Rattle.capture_frame.specs.Lookup.{StandApart};
 ghost use Rattle.audit_findings.specs.Summary.{SumsPiece};
 ghost use Rattle.audit_join.specs.Jobs.{AreSound, IsFirstIn, HasFirstAt};
 
-use audit_findings::{MOST_KEPT, PieceSummary, frame_at};
-use capture_frame::{Fault, Frame};
+use audit_findings::{MOST_KEPT, PieceSummary};
+use capture_frame::{Fault, Frame, frame_at};
 use std::alloc::{AllocError, Global};
 use summary_law::Summary;
 use transaction_view::check_frame;

@@ -4,8 +4,8 @@ use Rattle.event_core.specs.Events.{wholes_of}
 use Rattle.audit_findings.specs.Summary.{SumsPiece}
 use Rattle.audit_join.proofs.audits.findings_of.Goals as goal
 
-pub new-requires : goal.new-requires
-new-requires g c =
+pub look_again-requires : goal.look_again-requires
+look_again-requires g c =
     let parts = c.requires.parts in
     let sums = subst (SumsPiece c.in_ok-whole.whole) parts.joined
     (c.in_ok-whole.ensures parts.runs parts.each (subst AreGoodFrames (sym parts.joined) c.requires.good)) in
@@ -19,4 +19,4 @@ returns g c wholes show =
     let sums = subst (SumsPiece c.in_ok-whole.whole) parts.joined
     (c.in_ok-whole.ensures parts.runs parts.each (subst AreGoodFrames (sym parts.joined) c.requires.good)) in
     let said = c.in_ok-sections.ensures c.args.frames.items (wholes_of wholes) sums c.requires.good show in
-    (said.0, rw c.new.ensures (record { show = show; are = said.1; keep = said.2 }))
+    (said.0, rw c.look_again.ensures (record { show = show; are = said.1; keep = said.2 }))
