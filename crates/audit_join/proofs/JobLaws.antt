@@ -6,7 +6,7 @@ use Rattle.std.proofs.lemmas.List.{length-map, get_or-map}
 use Rattle.capture_frame.specs.declared.frame.Frame.{Frame}
 use Rattle.claim_board.specs.Running.{job_at}
 use Rattle.audit_join.specs.Jobs.{AreCut, IsJobOf, AreJobRuns, run_at}
-use Rattle.audit_join.specs.JobLists.{jobs_of}
+use Rattle.claim_board.specs.declared.job.Job.{Job}
 
 zip_at : {A B : Type 0} (R : A → B → Type 0) (xs : List A) (ys : List B) (i : ℕ) (d : A) (e : B) → AllZip R xs ys → i < length ys
     → R (get_or xs i d) (get_or ys i e)
@@ -20,25 +20,25 @@ zip_at R (x ∷ xs) (y ∷ ys) (suc i) d e all within = zip_at R xs ys i d e all
 abbrev pub lists_of : List (Bor (List Frame)) → List (List Frame)
 lists_of runs = map (λ (run : Bor (List Frame)). run.now) runs
 
-pub number_of_jobs : (runs : List (Bor (List Frame))) (can : AreJobRuns (lists_of runs)) → length runs ≡ length (jobs_of (lists_of runs) can).jobs
-number_of_jobs runs can =
-    let many = AllZip-long IsJobOf (lists_of runs) (jobs_of (lists_of runs) can).jobs (jobs_of (lists_of runs) can).each in
+pub number_of_jobs : (runs : List (Bor (List Frame))) (jobs : List Job) → AllZip IsJobOf (lists_of runs) jobs → length runs ≡ length jobs
+number_of_jobs runs jobs each =
+    let many = AllZip-long IsJobOf (lists_of runs) jobs each in
     sym (many ∙ length-map runs (λ (run : Bor (List Frame)). run.now))
 
-pub number_within : (runs : List (Bor (List Frame))) (can : AreJobRuns (lists_of runs)) (i : ℕ) → i < length (jobs_of (lists_of runs) can).jobs
+pub number_within : (runs : List (Bor (List Frame))) (jobs : List Job) → AllZip IsJobOf (lists_of runs) jobs → (i : ℕ) → i < length jobs
     → i < length runs
-number_within runs can i within = let many = number_of_jobs runs can in omega (arith, many, within)
+number_within runs jobs each i within = let many = number_of_jobs runs jobs each in omega (arith, many, within)
 
 -- the run with this number, as it is read
 pub run_is : (runs : List (Bor (List Frame))) (i : ℕ) (d : Bor (List Frame)) → i < length runs → run_at (lists_of runs) i ≡ (get_or runs i d).now
 run_is runs i d within = get_or-map (λ (run : Bor (List Frame)). run.now) runs i d [] within
 
 -- it is that job
-pub job_here : (runs : List (Bor (List Frame))) (can : AreJobRuns (lists_of runs)) (i : ℕ) (d : Bor (List Frame))
-    → i < length (jobs_of (lists_of runs) can).jobs → IsJobOf (get_or runs i d).now (job_at (jobs_of (lists_of runs) can).jobs i)
-job_here runs can i d within =
-    subst (λ (t : List Frame). IsJobOf t (job_at (jobs_of (lists_of runs) can).jobs i)) (run_is runs i d (number_within runs can i within))
-    (zip_at IsJobOf (lists_of runs) (jobs_of (lists_of runs) can).jobs i [] _ (jobs_of (lists_of runs) can).each within)
+pub job_here : (runs : List (Bor (List Frame))) (jobs : List Job) → AllZip IsJobOf (lists_of runs) jobs → (i : ℕ) (d : Bor (List Frame))
+    → i < length jobs → IsJobOf (get_or runs i d).now (job_at jobs i)
+job_here runs jobs each i d within =
+    subst (λ (t : List Frame). IsJobOf t (job_at jobs i)) (run_is runs i d (number_within runs jobs each i within))
+    (zip_at IsJobOf (lists_of runs) jobs i [] _ each within)
 
 -- and it has some frames, which stand apart
 pub some_here : (runs : List (Bor (List Frame))) → AreJobRuns (lists_of runs) → (i : ℕ) (d : Bor (List Frame)) → i < length runs
@@ -48,10 +48,8 @@ some_here runs can i d within =
     subst (λ (t : List Frame). (1 ≤ length t) × AreCut t) (run_is runs i d within) (can.some i [] inside, can.cut i [] inside)
 
 -- the number times the size of a view is within a word
-pub number_fits : (runs : List (Bor (List Frame))) (can : AreJobRuns (lists_of runs)) (i : ℕ) → i < length (jobs_of (lists_of runs) can).jobs
-    → i * 16 < 2 ^ 64
-number_fits runs can i within =
+pub number_fits : (runs : List (Bor (List Frame))) → AreJobRuns (lists_of runs) → (i : ℕ) → i < length runs → i * 16 < 2 ^ 64
+number_fits runs can i inside =
     let few = can.few in
     let many = length-map runs (λ (run : Bor (List Frame)). run.now) in
-    let inside = number_within runs can i within in
     omega (arith, few, many, inside)

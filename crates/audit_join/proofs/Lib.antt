@@ -1,5 +1,6 @@
 pub mod PartLaws
 pub mod RunLaws
+pub mod JobLists
 pub mod JobLaws
 pub mod CutLaws
 pub mod FaultLaws

@@ -1,6 +1,6 @@
 -- Frames in runs, which workers share as jobs: the jobs are as the board asks, and what is said of them is said of the frames.
 use Rattle.std.proofs.Common.{◌≡◌, ℕ, zero, suc, ◌<◌, ◌≤◌, List, [], ◌∷◌, ◌++◌, length, get_or, Option, Some, None, refl, sym, ap, subst, ◌∙◌, append_assoc, length-append, arith}
-use Rattle.std.specs.Prelude.{All, AllPairs, IfSome, slice_get}
+use Rattle.std.specs.Prelude.{All, AllPairs, IfOk, IfSome, Result, Ok, Err, Vec, slice_get}
 use Rattle.std.specs.List.{AllZip, sum_by}
 use Rattle.std.proofs.lemmas.List.Elements.{All-append, All-cons, All-head, All-tail, All-nil, All-weaker}
 use Rattle.std.proofs.lemmas.List.Sums.{sum_by-append}
@@ -15,14 +15,16 @@ use Rattle.claim_board.specs.Board.{AreJobs, EndsBefore}
 use Rattle.claim_board.specs.Orders.{AreFaultless, IsLeastFault}
 use Rattle.claim_board.specs.Results.{AreInOrder}
 use Rattle.claim_board.specs.Running.{AreWorkJobs, no_place}
+use Rattle.claim_board.specs.Work.{IsStop}
+use Rattle.claim_board.specs.declared.run.Stop.{Stop}
+use Rattle.claim_board.specs.declared.run.Stop.TheVariants.{Least, Memory as NoMemory}
 use Rattle.audit_findings.specs.declared.piece_summary.PieceSummary.{PieceSummary}
 use Rattle.capture_frame.specs.Lookup.{span_of, StandApart}
 use Rattle.audit_findings.specs.Summary.{SumsPiece}
 use Rattle.audit_findings.proofs.FrameLaws.{first_same}
 use Rattle.audit_join.specs.Jobs.{AreSound, HasFirstAt, IsFaultOf, IsJobOf, IsOfBytes, AreCut, AreJobRuns, run_at}
-use Rattle.audit_join.specs.JobLists.{jobs_of}
 use Rattle.audit_join.specs.Runs.{AreRuns}
-use Rattle.audit_join.specs.Summaries.{AreSummaries}
+use Rattle.audit_join.specs.Summaries.{AreSummaries, IsLeastOf}
 use Rattle.audit_join.proofs.FaultLaws.{fault_held}
 
 -- ---- the runs of cut frames
@@ -292,22 +294,30 @@ results_sum : (runs : List (List Frame)) (jobs : List Job) (parts : List PieceSu
 results_sum runs jobs parts each results =
     zip_from SumsPiece parts runs [] (results.count ∙ AllZip-long IsJobOf runs jobs each) results.each
 
--- ---- of frames that are cut into runs
+-- ---- of runs and their jobs
 
-module _ (n : ℕ) (frames : List Frame) (runs : List (List Frame)) (are : AreRuns n frames runs) (can : AreJobRuns runs) where
-  pub shared_jobs : AreCut frames → AreWorkJobs (jobs_of runs can).jobs
-  shared_jobs cut = work_jobs runs (jobs_of runs can).jobs (jobs_of runs can).each can (subst (AllPairs StandApart) (sym are.joined) cut.apart)
+with_both : {X E : Type 0} (r : Result X E) (A : Type 0) (P Q : X → Type 0) → ((x : X) → A → P x → Q x) → IfOk r (λ _. A) → IfOk r P → IfOk r Q
+with_both (Ok x) A P Q step a p = step x a p
+with_both (Err e) A P Q step a p = tt
 
-  pub shared_summaries : (parts : List PieceSummary) → AreFaultless (jobs_of runs can).jobs
-      → AreInOrder (λ i part. SumsPiece part (run_at runs i)) (length (jobs_of runs can).jobs) parts → AreSummaries frames parts
+module _ (runs : List (List Frame)) (can : AreJobRuns runs) (cut : AreCut (all_items runs)) (jobs : List Job) (each : AllZip IsJobOf runs jobs) where
+  pub shared_jobs : AreWorkJobs jobs
+  shared_jobs = work_jobs runs jobs each can cut.apart
+
+  shared_summaries : (parts : List PieceSummary) → AreFaultless jobs → AreInOrder (λ i part. SumsPiece part (run_at runs i)) (length jobs) parts
+      → AreSummaries (all_items runs) parts
   shared_summaries parts none results = record {
-    sound = subst AreSound are.joined (all_sound runs (jobs_of runs can).jobs (jobs_of runs can).each none);
+    sound = all_sound runs jobs each none;
     runs = runs;
-    joined = are.joined;
-    each = results_sum runs (jobs_of runs can).jobs parts (jobs_of runs can).each results;
+    joined = refl;
+    each = results_sum runs jobs parts each results;
   }
 
-  pub shared_fault : (x : ℕ) → AreCut frames → IsLeastFault (jobs_of runs can).jobs x → HasFirstAt frames x
-  shared_fault x cut least =
-      subst (λ (t : List Frame). HasFirstAt t x) are.joined
-      (least_first runs (jobs_of runs can).jobs x (jobs_of runs can).each (shared_jobs cut).in_order least)
+  pub all_summaries : {E Z : Type 0} (r : Result (Vec PieceSummary Z) E) → IfOk r (λ _. AreFaultless jobs)
+      → IfOk r (λ parts. AreInOrder (λ i part. SumsPiece part (run_at runs i)) (length jobs) parts.items)
+      → IfOk r (λ parts. AreSummaries (all_items runs) parts.items)
+  all_summaries r = with_both r _ _ _ (λ parts. shared_summaries parts.items)
+
+  pub shared_stop : (stop : Stop) → IsStop jobs stop → IsLeastOf (all_items runs) stop
+  shared_stop (Least x) least = least_first runs jobs x each shared_jobs.in_order least
+  shared_stop NoMemory _ = tt

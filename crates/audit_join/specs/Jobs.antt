@@ -1,6 +1,6 @@
 -- The first fault of what stands in frames, and the jobs that runs of frames are.
 use Rattle.std.specs.Prelude.{◌≡◌, ℕ, ◌≤◌, ◌^◌, List, length, ◌∷◌, ◌++◌, All, AllPairs, Option, Some, None, slice_index_or, []}
-use Rattle.std.specs.List.{AllZip, sum_by}
+use Rattle.std.specs.List.{sum_by}
 use Rattle.capture_frame.specs.declared.fault.Fault.{Fault}
 use Rattle.capture_frame.specs.declared.frame.Frame.{Frame}
 use Rattle.capture_frame.specs.Envelope.{frame_text}
@@ -55,11 +55,6 @@ pub record AreJobRuns (runs : List (List Frame)) : Type 0 where
   pub few : length runs ≤ 2 ^ 32
   pub some : All (λ run. 1 ≤ length run) runs
   pub cut : All AreCut runs
-
--- the jobs that these runs are
-pub record HaveJobs (runs : List (List Frame)) : Type 0 where
-  pub jobs : List Job
-  pub each : AllZip IsJobOf runs jobs
 
 -- the run with this number
 abbrev pub run_at : List (List Frame) → ℕ → List Frame

@@ -1,5 +1,4 @@
 pub mod Audit
 pub mod Runs
 pub mod Jobs
-pub mod JobLists
 pub mod Summaries

@@ -128,11 +128,6 @@ claimed_below n (c ∷ cs) z =
     All-cons (λ (c : ClaimedJob). c.job < n) c cs (head_below n c cs z (dec_le n c.job))
     (claimed_below n cs (λ x le. let e = z x le in omega arith))
 
-get_in : (l : List View) (i : ℕ) (v : View) → get_elem? l i ≡ some v → i < length l
-get_in [] i v e = absurd (some-ne-none v (sym e))
-get_in (x ∷ xs) zero v e = omega arith
-get_in (x ∷ xs) (suc i) v e = let r = get_in xs i v e in omega arith
-
 -- two views job_weight no more than all
 pub total-two : (f : View → ℕ) (l : List View) (i j : ℕ) (v w e : View) → f e ≡ 0 → get_elem? l i ≡ some v → j ≢ i → get_elem? l j ≡ some w
     → f v + f w ≤ total f l

@@ -1,6 +1,6 @@
 -- The opens and closes of one key: one list followed by another, and what stands at a place.
-use Rattle.std.proofs.Common.{◌≡◌, ◌≢◌, ℕ, ◌≤◌, ⊎_elim, Bool, true, false, cond, List, [], ◌∷◌, ◌++◌, length, map, drop, append_assoc}
-use Rattle.std.proofs.Common.{Option, Some, None, Contains, refl, sym, ap, subst, ◌∙◌, arith}
+use Rattle.std.proofs.Common.{◌≡◌, ◌≢◌, ℕ, ⊎_elim, Bool, true, false, cond, List, [], ◌∷◌, ◌++◌, map, drop, append_assoc}
+use Rattle.std.proofs.Common.{Option, Some, None, Contains, refl, sym, ap, subst, ◌∙◌}
 use Rattle.std.proofs.lemmas.Bool.{or_parts, or_from}
 use Rattle.std.proofs.lemmas.List.{map-append}
 use Rattle.std.proofs.lemmas.List.Folds.{list_any-append}
@@ -73,9 +73,6 @@ pub last_or-append : {X : Type 0} (o : Option X) (first second : List X) → las
 last_or-append o [] second = refl
 last_or-append o (x ∷ first) second = last_or-append (Some x) first second
 
-pub last_or-some : {X : Type 0} (o : Option X) (x : X) (xs : List X) → last_or o (x ∷ xs) ≡ last_or None (x ∷ xs)
-last_or-some o x xs = refl
-
 -- unmet closes, followed by more events
 pub unmet_places-append : (before : Option PendingChange) (first second : List KeyEvent)
     → unmet_places before (first ++ second) ≡ unmet_places before first ++ unmet_places (last_or before (map event_change first)) second
@@ -107,18 +104,6 @@ pub unmet_behind : (before : Option PendingChange) (events : List KeyEvent)
     → unmet_places before events ≡ drop (met_count before (first_change events)) (unmet_places None events)
 unmet_behind before [] = ap (λ (n : ℕ). drop {A = ℕ} n []) (sym (met_none before))
 unmet_behind before (event ∷ events) = unmet_at before event.place event.change (unmet_places (Some event.change) events)
-
--- a close that is met is a stray of its own list
-met_fits : (before : Option PendingChange) (place : ℕ) (change : PendingChange) (rest : List ℕ)
-    → met_count before (Some change) ≤ length (cond (is_unmet None change) (place ∷ rest) rest)
-met_fits (Some Open) place Open rest = omega arith
-met_fits (Some Open) place Close rest = omega arith
-met_fits (Some Close) place change rest = omega arith
-met_fits None place change rest = omega arith
-
-pub met_within : (before : Option PendingChange) (events : List KeyEvent) → met_count before (first_change events) ≤ length (unmet_places None events)
-met_within before [] = let none = met_none before in omega arith
-met_within before (event ∷ events) = met_fits before event.place event.change (unmet_places (Some event.change) events)
 
 pub unmet_is_close : (before : Option PendingChange) (change : PendingChange) → is_unmet before change ≡ true → change ≡ Close
 unmet_is_close before Open e = let no : ⊥ = cc in absurd no

@@ -1,5 +1,7 @@
+use Rattle.std.proofs.Math.Logic.{∥∥₁_elim}
+use Rattle.std.specs.Coded.{Coded-set, coded_ℕ}
 use Rattle.audit_join.proofs.JobLaws.{number_of_jobs}
 use Rattle.audit_join.proofs.piece_work.PieceWorkWork.jobs.Goals as goal
 
 pub returns : goal.returns
-returns c = number_of_jobs c.args.self.now.runs.now c.args.self.now.can_judge
+returns g c = ∥∥₁_elim c.args.self.now.are_jobs (Coded-set coded_ℕ _ _) (number_of_jobs c.args.self.now.runs.now _)

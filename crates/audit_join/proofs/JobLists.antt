@@ -1,6 +1,7 @@
 -- The jobs that runs of frames are, each with the place of its first fault, or none.
 use Rattle.std.specs.Prelude.{ℕ, ◌+◌, ◌≤◌, List, [], ◌∷◌, length, All, Option, Some, None}
 use Rattle.std.proofs.Common.{refl, ap, arith}
+use Rattle.std.specs.List.{AllZip}
 use Rattle.std.proofs.lemmas.List.Elements.{All-nil, All-cons, All-head, All-tail}
 use Rattle.capture_frame.specs.declared.fault.Fault.{Fault}
 use Rattle.capture_frame.specs.declared.fault.FaultKind.{FaultKind}
@@ -14,7 +15,7 @@ use Rattle.transaction_view.specs.Attachments.{entry_format}
 use Rattle.transaction_view.specs.FirstFault.{HasGoodContent, HasContentFault, ContentFails, in_records, in_entries}
 use Rattle.transaction_view.proofs.EntryLaws.{entries_decided}
 use Rattle.claim_board.specs.declared.job.Job.{Job}
-use Rattle.audit_join.specs.Jobs.{AreCut, IsFaultOf, IsJobOf, IsOfBytes, AreJobRuns, HaveJobs}
+use Rattle.audit_join.specs.Jobs.{AreCut, IsFaultOf, IsJobOf, IsOfBytes, AreJobRuns}
 
 -- the content of a frame is good, or has a first fault
 data Judged (frame : Frame) : Type 0 where
@@ -99,6 +100,11 @@ job_of (f ∷ frames) some fault = (
   record { start = f.place; fault = fault.0 },
   record { first = f; others = frames; are = refl; start = refl; fault = fault.1 },
 )
+
+-- the jobs that runs are
+pub record HaveJobs (runs : List (List Frame)) : Type 0 where
+  pub jobs : List Job
+  pub each : AllZip IsJobOf runs jobs
 
 -- each run is a job
 pub jobs_of : (runs : List (List Frame)) → AreJobRuns runs → HaveJobs runs
