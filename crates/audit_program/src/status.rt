@@ -1,5 +1,5 @@
 //! From the words of a command line to two streams and a status.
-ghost use Rattle.std.specs.Prelude.{◌≡◌, map, string_bytes};
+ghost use Rattle.std.specs.Prelude.{◌≡◌, IfOk, map, string_bytes};
 ghost use Rattle.std.specs.Process.{exit_status};
 ghost use Rattle.std.specs.Vec.Iter.{into_iter_items};
 ghost use Rattle.audit_streams.specs.KnownBytes.{AppendsPrefix};
@@ -9,7 +9,7 @@ ghost use Rattle.audit_program.specs.Program.{Ends, EndsOn};
 
 use crate::answers::answer_words;
 use audit_streams::{Failure, RunError};
-use std::alloc::Global;
+use std::alloc::{AllocError, Global};
 use std::env::Args;
 use std::fs::Files;
 use std::io;
@@ -83,8 +83,19 @@ fn program_on<T: Files + Threads + Sync, W: Write, E: Write>(
         (W.contents out.new)
         (E.contents err.old) (E.contents err.new) result }
 {
-    match words.collect::<Vec<String>>(alloc) {
+    match list_of(alloc, words) {
         Ok(words) => program(rt, alloc, words.as_slice(), out, err),
         Err(_) => ended_by(Failure::Run(RunError::Memory), err),
     }
+}
+
+/// These words in a list.
+fn list_of(alloc: Global, words: Args) -> Result<Vec<String>, AllocError>
+    ensures { IfOk result (λ list. list.items ≡ into_iter_items words) }
+{
+    let mut list = Vec::new(alloc);
+    for word in words {
+        list.push(word)?;
+    }
+    Ok(list)
 }

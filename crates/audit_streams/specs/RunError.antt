@@ -1,4 +1,5 @@
-use Rattle.std.specs.Prelude.{⊤}
+-- Why a run came to no answer.
+use Rattle.std.specs.Prelude.{ℕ, List, [], ◌∷◌, ◌++◌, codes, ⊤}
 use Rattle.audit_streams.specs.declared.run_error.RunError.{RunError}
 use Rattle.audit_streams.specs.declared.run_error.RunError.TheVariants.{Memory, TooLarge, Read, Write, Open}
 
@@ -9,3 +10,15 @@ IsReadingFault TooLarge = ⊤
 IsReadingFault Read = ⊤
 IsReadingFault Write = ⊥
 IsReadingFault Open = ⊥
+
+-- what standard error says of an error
+abbrev pub error_message : RunError → List ℕ
+error_message Memory = codes "fault Memory"
+error_message TooLarge = codes "fault TooLarge"
+error_message Read = codes "fault Read"
+error_message Write = codes "fault Write"
+error_message Open = codes "fault Open"
+
+-- that as a line, with its line feed
+abbrev pub error_line : RunError → List ℕ
+error_line error = error_message error ++ 10 ∷ []

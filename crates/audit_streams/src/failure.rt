@@ -36,11 +36,7 @@ impl Failure {
             Failure::Usage => {
                 "usage: binder_audit report [--workers N] [--piece N] FILE or first-fault FILE\n"
             }
-            Failure::Run(RunError::Memory) => "fault Memory\n",
-            Failure::Run(RunError::TooLarge) => "fault TooLarge\n",
-            Failure::Run(RunError::Read) => "fault Read\n",
-            Failure::Run(RunError::Write) => "fault Write\n",
-            Failure::Run(RunError::Open) => "fault Open\n",
+            Failure::Run(error) => error.line(),
         }
     }
 

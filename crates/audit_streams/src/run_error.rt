@@ -1,22 +1,36 @@
 //! Why a run came to no answer.
+ghost use Rattle.std.specs.Prelude.{◌≡◌};
+ghost use Rattle.audit_streams.specs.RunError.{error_line};
+
 use thiserror::Error;
 
-/// What ended a run.
+/// What ended a run. It is displayed as its line, without the line feed.
 #[derive(Clone, Copy, Debug, PartialEq, Eq, Error)]
+#[error("{}", self.line().trim_end())]
 pub enum RunError {
     /// Memory ran out.
-    #[error("fault Memory")]
     Memory,
     /// The capture has more bytes than are allowed.
-    #[error("fault TooLarge")]
     TooLarge,
     /// A read failed.
-    #[error("fault Read")]
     Read,
     /// A write or the flush failed, and a prefix of the text may stand written.
-    #[error("fault Write")]
     Write,
     /// The file could not be opened.
-    #[error("fault Open")]
     Open,
+}
+
+impl RunError {
+    /// The line of standard error.
+    pub fn line(self) -> &'static str
+        ensures { result.now ≡ error_line self }
+    {
+        match self {
+            RunError::Memory => "fault Memory\n",
+            RunError::TooLarge => "fault TooLarge\n",
+            RunError::Read => "fault Read\n",
+            RunError::Write => "fault Write\n",
+            RunError::Open => "fault Open\n",
+        }
+    }
 }

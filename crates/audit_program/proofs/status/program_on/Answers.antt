@@ -1,8 +1,6 @@
-use Rattle.std.proofs.Common.{◌≡◌, refl, ◌∙◌}
+use Rattle.std.proofs.Common.{◌≡◌, ◌∙◌}
 use Rattle.std.specs.Vec.Iter.{into_iter_items}
 use Rattle.std.proofs.KnownBytes.{Keeps-refl}
-use Rattle.std.proofs.lemmas.Iterator.{items_from_collect}
-use Rattle.std.proofs.lemmas.Iterator.Adapters.{YieldsList-from_vec}
 use Rattle.audit_streams.specs.declared.run_error.RunError.TheVariants.{Memory}
 use Rattle.audit_streams.specs.declared.failure.Failure.TheVariants.{Run}
 use Rattle.audit_program.specs.Program.{failed}
@@ -11,9 +9,7 @@ use Rattle.audit_program.proofs.status.program_on.Goals as goal
 -- the list has the words that were left
 pub returns-in-Ok : goal.returns-in-Ok
 returns-in-Ok g c =
-    let collected = items_from_collect c.collect.result c.collect.ensures.ran
-    (YieldsList-from_vec (into_iter_items c.args.words) refl c.args.words.rest.ok.0) in
-    let same : c.as_slice.result.now ≡ into_iter_items c.args.words = c.as_slice.ensures.value ∙ rw c.in-Ok.is at collected in
+    let same : c.as_slice.result.now ≡ into_iter_items c.args.words = c.as_slice.ensures.value ∙ c.in-Ok.ensures in
     rw (← same) c.program.ensures
 
 pub returns-in-Err : goal.returns-in-Err
