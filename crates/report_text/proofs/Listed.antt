@@ -4,14 +4,13 @@ use Rattle.std.specs.Prelude.{All}
 use Rattle.std.specs.List.{AllZip}
 use Rattle.std.proofs.lemmas.List.{length-map, map-id}
 use Rattle.std.proofs.lemmas.List.Elements.{All-map}
-use Rattle.transaction_view.specs.Grammar.{WholeFrame}
 use Rattle.event_core.specs.Events.{EventText}
 use Rattle.audit_findings.specs.Findings.{FindingsText}
-use Rattle.event_core.specs.Events.{wholes_of}
-use Rattle.audit_findings.specs.Kept.{KeptFindings, AreOfFrames, Tell}
+use Rattle.audit_findings.specs.Frames.{wholes_of}
+use Rattle.audit_findings.specs.Kept.{KeptFindings, AreOfFrames}
 use Rattle.audit_findings.specs.Lookup.{HasRecordIn}
 use Rattle.audit_findings.proofs.RecordsThere.{has_record_in}
-use Rattle.report_text.specs.Pushed.{HaveEvents, IsKept, Keeps, ShowsEvent, TellsLines}
+use Rattle.report_text.specs.Pushed.{HaveEvents, IsKept, Keeps, KeepsWhole, ShowsEvent, TellsLines}
 use Rattle.report_text.specs.Section.{SectionText, lines_of}
 use Rattle.report_text.proofs.Sections.{IsShownBy, shown_lines}
 
@@ -24,14 +23,12 @@ kept_lines section keep head_for kept said Shows is each shown shows =
     (is.head (length kept) ∙ ap (section.head said) (ap length is.rows ∙ length-map (section.rows said) keep))
     (shown_lines Shows keep section.line kept (section.rows said) shown is.rows each shows)
 
--- so it is of rows that are kept as they are
+-- so it is of rows that are kept whole
 pub whole_lines : {S : Type 0} (section : SectionText S) (head_for : ℕ → List ℕ) (found : KeptFindings) (kept : List S)
-    → ((wholes : List WholeFrame) (said : FindingsText) → Tell wholes said found.frames found.sections → (rows : ℕ) → head_for rows ≡ section.head said rows)
-    → ((wholes : List WholeFrame) (said : FindingsText) → Tell wholes said found.frames found.sections → kept ≡ section.rows said)
-    → TellsLines (lines_of section) head_for (λ row line. line ≡ section.line row) found kept
-whole_lines section head_for found kept head rows = λ wholes said tell shown shows.
+    → KeepsWhole section head_for found kept → TellsLines (lines_of section) head_for (λ row line. line ≡ section.line row) found kept
+whole_lines section head_for found kept keeps = λ wholes said tell shown shows.
     kept_lines section (λ row. row) head_for kept said (λ row line. line ≡ section.line row)
-    (record { head = head wholes said tell; rows = rows wholes said tell ∙ sym (map-id (section.rows said)) }) (λ k d within line is. is) shown shows
+    (record { head = (keeps wholes said tell).0; rows = (keeps wholes said tell).1 ∙ sym (map-id (section.rows said)) }) (λ k d within line is. is) shown shows
 
 -- and of rows that are kept with the places of their records, and read again
 module _ {S K : Type 0} (section : SectionText S) (keep : S → K) (place : K → ℕ) (owner : S → EventText)

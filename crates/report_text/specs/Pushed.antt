@@ -54,3 +54,9 @@ abbrev pub HaveEvents : {S : Type 0} → SectionText S → (S → EventText) →
 HaveEvents section owner found =
     (wholes : List WholeFrame) (said : FindingsText) → Tell wholes said found.frames found.sections
     → All (λ row. Contains (events_of_wholes (wholes_of wholes)) (owner row)) (section.rows said)
+
+-- whatever the findings tell, the head is this one, and the rows are kept whole
+abbrev pub KeepsWhole : {S : Type 0} → SectionText S → (ℕ → List ℕ) → KeptFindings → List S → Type 0
+KeepsWhole section head_for found kept =
+    (wholes : List WholeFrame) (said : FindingsText) → Tell wholes said found.frames found.sections
+    → ((rows : ℕ) → head_for rows ≡ section.head said rows) × (kept ≡ section.rows said)

@@ -1,9 +1,5 @@
 //! The section `buffers`.
 
-ghost use Rattle.std.specs.Prelude.{◌≡◌};
-ghost use Rattle.event_core.specs.Reading.{event_text};
-ghost use Rattle.report_text.specs.Buffers.{buffers_row};
-
 use crate::events::{EventSection, row_start};
 use crate::line::{Row, push_counted, push_hex_number};
 use audit_findings::{Findings, Sections};
@@ -35,28 +31,22 @@ impl EventSection for Buffers {
     }
 
     fn line(&self, event: Event<'_>) -> Row {
-        buffers_row(event)
+        let mut line = row_start(event);
+        if let Some(
+            BufferItem::Delivery {
+                address,
+                data_size,
+                kind,
+                ..
+            },
+        ) = buffer_step(event)
+        {
+            line.push_str(" ");
+            push_hex_number(&mut line, address);
+            push_counted(&mut line, " ", data_size);
+            line.push_str(" ");
+            line.push_str(kind.name());
+        }
+        line
     }
-}
-
-fn buffers_row(event: Event<'_>) -> Row
-    ensures { result.bytes ≡ buffers_row (event_text event.entry) }
-{
-    let mut line = row_start(event);
-    if let Some(
-        BufferItem::Delivery {
-            address,
-            data_size,
-            kind,
-            ..
-        },
-    ) = buffer_step(event)
-    {
-        line.push_str(" ");
-        push_hex_number(&mut line, address);
-        push_counted(&mut line, " ", data_size);
-        line.push_str(" ");
-        line.push_str(kind.name());
-    }
-    line
 }

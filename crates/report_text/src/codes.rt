@@ -1,31 +1,25 @@
 //! The section `codes`.
 
 ghost use Rattle.std.specs.Prelude.{◌≡◌, ◌≤◌, length};
-ghost use Rattle.report_text.specs.Codes.{codes_row, name_of_word};
+ghost use Rattle.report_text.specs.Codes.{name_of_word};
 
-use crate::line::{Row, push_counted, push_decimal, push_hex_word};
-use crate::section::Section;
+use crate::line::{Row, push_counted, push_hex_word};
+use crate::whole_rows::WholeSection;
 use audit_findings::{CodeRow, Findings, Sections};
 use binder_code::{Code, Protocol, kind};
 
-/// The section, whose rows are kept as they are.
+/// The section.
 #[derive(Clone, Copy)]
 pub(crate) struct Codes;
 
-impl Section for Codes {
-    ghost use Rattle.std.specs.Prelude.{◌≡◌, ⊤};
-    ghost use Rattle.report_text.specs.Codes.{codes_head, codes_row, codes_section};
-    ghost use Rattle.report_text.specs.Section.{lines_of};
+impl WholeSection for Codes {
+    ghost use Rattle.report_text.specs.Codes.{codes_head, codes_section};
 
     type Kept = CodeRow;
 
-    ghost lines = { lines_of codes_section };
+    ghost section = { codes_section };
 
     ghost head_of = { λ _. codes_head };
-
-    ghost can_show = { λ _ _. ⊤ };
-
-    ghost shows = { λ _ row line. line ≡ codes_row row };
 
     fn head(&self, _sections: &Sections, rows: usize) -> Row {
         let mut line = Row::new();
@@ -37,21 +31,15 @@ impl Section for Codes {
         found.sections().events.codes.as_slice()
     }
 
-    fn line(&self, _found: &Findings<'_>, kept: &CodeRow) -> Row {
-        codes_row(*kept)
+    fn line(&self, row: &CodeRow) -> Row {
+        let mut line = Row::new();
+        line.push_str("  ");
+        push_hex_word(&mut line, row.word);
+        line.push_str(" ");
+        line.push_str(word_name(row.word));
+        push_counted(&mut line, " ", row.count);
+        line
     }
-}
-
-fn codes_row(row: CodeRow) -> Row
-    ensures { result.bytes ≡ codes_row row }
-{
-    let mut line = Row::new();
-    line.push_str("  ");
-    push_hex_word(&mut line, row.word);
-    line.push_str(" ");
-    line.push_str(word_name(row.word));
-    push_counted(&mut line, " ", row.count);
-    line
 }
 
 /// The name of the record that a code word stands for.

@@ -3,7 +3,6 @@
 ghost use Rattle.std.specs.Prelude.{◌≡◌};
 ghost use Rattle.event_core.specs.Reading.{event_text};
 ghost use Rattle.audit_findings.specs.Flags.{unknown_flags};
-ghost use Rattle.report_text.specs.Flags.{flags_row};
 
 use crate::events::{EventSection, row_start};
 use crate::line::{Row, push_counted, push_hex_word};
@@ -36,17 +35,11 @@ impl EventSection for Flags {
     }
 
     fn line(&self, event: Event<'_>) -> Row {
-        flags_row(event)
+        let mut line = row_start(event);
+        line.push_str(" ");
+        push_hex_word(&mut line, unknown_flags(event));
+        line
     }
-}
-
-fn flags_row(event: Event<'_>) -> Row
-    ensures { result.bytes ≡ flags_row (event_text event.entry) }
-{
-    let mut line = row_start(event);
-    line.push_str(" ");
-    push_hex_word(&mut line, unknown_flags(event));
-    line
 }
 
 /// The flag bits of an event's record that the header does not name.

@@ -1,9 +1,5 @@
 //! The section `frees`.
 
-ghost use Rattle.std.specs.Prelude.{◌≡◌};
-ghost use Rattle.event_core.specs.Reading.{event_text};
-ghost use Rattle.report_text.specs.Frees.{frees_row};
-
 use crate::events::{EventSection, row_start};
 use crate::line::{Row, push_counted, push_hex_number};
 use audit_findings::{Findings, Sections};
@@ -35,17 +31,11 @@ impl EventSection for Frees {
     }
 
     fn line(&self, event: Event<'_>) -> Row {
-        frees_row(event)
+        let mut line = row_start(event);
+        if let Some(BufferItem::Free { address, .. }) = buffer_step(event) {
+            line.push_str(" ");
+            push_hex_number(&mut line, address);
+        }
+        line
     }
-}
-
-fn frees_row(event: Event<'_>) -> Row
-    ensures { result.bytes ≡ frees_row (event_text event.entry) }
-{
-    let mut line = row_start(event);
-    if let Some(BufferItem::Free { address, .. }) = buffer_step(event) {
-        line.push_str(" ");
-        push_hex_number(&mut line, address);
-    }
-    line
 }

@@ -1,55 +1,58 @@
 //! The section `handles`.
 
-ghost use Rattle.std.specs.Prelude.{◌≡◌};
-ghost use Rattle.report_text.specs.Handles.{handles_row};
+ghost use Rattle.std.specs.Prelude.{◌≡◌, filter, length};
+ghost use Rattle.report_text.specs.Handles.{is_unbalanced_handle};
 
 use crate::line::{Row, push_counted};
 use crate::process_row::{process_start, push_count, unbalanced_head};
-use crate::section::Section;
-use audit_findings::{Findings, OfProcess, Sections};
-use handle_ledger::HandleRow;
+use crate::whole_rows::WholeSection;
+use audit_findings::{Findings, ProcessHandle, Sections};
 
-/// The section, whose rows are kept as they are.
+/// The section.
 #[derive(Clone, Copy)]
 pub(crate) struct Handles;
 
-impl Section for Handles {
-    ghost use Rattle.std.specs.Prelude.{◌≡◌, ⊤, codes};
-    ghost use Rattle.report_text.specs.Handles.{handles_row, handles_section};
+impl WholeSection for Handles {
+    ghost use Rattle.std.specs.Prelude.{codes, filter, length};
+    ghost use Rattle.report_text.specs.Handles.{handles_section, is_unbalanced_handle};
     ghost use Rattle.report_text.specs.ProcessRow.{unbalanced_head};
-    ghost use Rattle.report_text.specs.Section.{lines_of};
 
-    type Kept = OfProcess<HandleRow>;
+    type Kept = ProcessHandle;
 
-    ghost lines = { lines_of handles_section };
+    ghost section = { handles_section };
 
-    ghost head_of = { λ kept rows.
-        unbalanced_head (codes "handles") rows kept.processes.handles.unbalanced };
-
-    ghost can_show = { λ _ _. ⊤ };
-
-    ghost shows = { λ _ row line. line ≡ handles_row row };
+    ghost head_of = { λ kept rows. unbalanced_head (codes "handles") rows
+        (length (filter is_unbalanced_handle kept.handles)) };
 
     fn head(&self, sections: &Sections, rows: usize) -> Row {
-        unbalanced_head("handles", rows, sections.processes.handles.unbalanced)
+        unbalanced_head(
+            "handles",
+            rows,
+            unbalanced_count(sections.handles.as_slice()),
+        )
     }
 
-    fn rows<'f>(&self, found: &'f Findings<'_>) -> &'f [OfProcess<HandleRow>] {
-        found.sections().processes.handles.rows.as_slice()
+    fn rows<'f>(&self, found: &'f Findings<'_>) -> &'f [ProcessHandle] {
+        found.sections().handles.as_slice()
     }
 
-    fn line(&self, _found: &Findings<'_>, kept: &OfProcess<HandleRow>) -> Row {
-        handles_row(kept)
+    fn line(&self, row: &ProcessHandle) -> Row {
+        let mut line = process_start(row.process);
+        push_counted(&mut line, " ", u64::from(row.handle));
+        push_count(&mut line, row.strong, row.strong_low);
+        push_count(&mut line, row.weak, row.weak_low);
+        line
     }
 }
 
-fn handles_row(of: &OfProcess<HandleRow>) -> Row
-    ensures { result.bytes ≡ handles_row of.now }
+fn unbalanced_count(rows: &[ProcessHandle]) -> usize
+    ensures { result ≡ length (filter is_unbalanced_handle rows.now) }
 {
-    let row = &of.row;
-    let mut line = process_start(of.process);
-    push_counted(&mut line, " ", u64::from(row.handle));
-    push_count(&mut line, row.strong.sum, row.strong.low);
-    push_count(&mut line, row.weak.sum, row.weak.low);
-    line
+    rows.iter().filter(|row| is_unbalanced(row)).count()
+}
+
+fn is_unbalanced(row: &ProcessHandle) -> bool
+    ensures { result ≡ is_unbalanced_handle row.now }
+{
+    row.strong != 0 || row.weak != 0
 }

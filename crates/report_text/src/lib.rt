@@ -27,6 +27,7 @@ mod requests;
 mod section;
 mod served;
 mod strays;
+mod whole_rows;
 
 pub use fault::fault_text;
 pub use line::Row;

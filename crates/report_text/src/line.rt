@@ -1,6 +1,6 @@
 //! The parts of a line.
 
-ghost use Rattle.std.specs.Prelude.{◌≡◌, ◌+◌, ◌≤◌, ◌<◌, ◌^◌, ◌++◌, ◌∷◌, [], length, false};
+ghost use Rattle.std.specs.Prelude.{◌≡◌, ◌+◌, ◌≤◌, ◌<◌, ◌++◌, length, false};
 ghost use Rattle.std.specs.Fmt.{decimal, digit_glyph, digits, signed_decimal};
 ghost use Rattle.arrayvec.specs.ArrayString.{array_string_len};
 ghost use Rattle.report_text.specs.Line.{hex_digits, hex_number, hex_word};

@@ -2,62 +2,49 @@
 
 ghost use Rattle.std.specs.Prelude.{◌≡◌, ◌≤◌, ◌+◌, ◌++◌};
 ghost use Rattle.arrayvec.specs.ArrayString.{array_string_len};
-ghost use Rattle.report_text.specs.Oneway.{oneway_row, key_fields};
+ghost use Rattle.report_text.specs.Oneway.{key_fields};
 
 use crate::line::{Row, push_counted, push_wide};
 use crate::process_row::process_start;
-use crate::section::Section;
-use audit_findings::{Findings, OfProcess, OnewayRow, Sections};
+use crate::whole_rows::WholeSection;
+use audit_findings::{Findings, OnewayRow, Sections};
 use event_core::OnewayKey;
 
-/// The section, whose rows are kept as they are.
+/// The section.
 #[derive(Clone, Copy)]
 pub(crate) struct Oneway;
 
-impl Section for Oneway {
-    ghost use Rattle.std.specs.Prelude.{◌≡◌, ⊤};
-    ghost use Rattle.report_text.specs.Oneway.{oneway_head, oneway_row, oneway_section};
-    ghost use Rattle.report_text.specs.Section.{lines_of};
+impl WholeSection for Oneway {
+    ghost use Rattle.report_text.specs.Oneway.{oneway_head, oneway_section};
 
-    type Kept = OfProcess<OnewayRow>;
+    type Kept = OnewayRow;
 
-    ghost lines = { lines_of oneway_section };
+    ghost section = { oneway_section };
 
     ghost head_of = { λ kept _.
-        oneway_head kept.events.oneway.sent kept.events.oneway.received kept.calls.refused.oneway };
-
-    ghost can_show = { λ _ _. ⊤ };
-
-    ghost shows = { λ _ row line. line ≡ oneway_row row };
+        oneway_head kept.oneway.sent kept.oneway.received kept.refused.oneway };
 
     fn head(&self, sections: &Sections, _rows: usize) -> Row {
         let mut line = Row::new();
-        push_counted(&mut line, "oneway sent ", sections.events.oneway.sent);
-        push_counted(&mut line, " received ", sections.events.oneway.received);
-        push_counted(&mut line, " refused ", sections.calls.refused.oneway);
+        push_counted(&mut line, "oneway sent ", sections.oneway.sent);
+        push_counted(&mut line, " received ", sections.oneway.received);
+        push_counted(&mut line, " refused ", sections.refused.oneway);
         line
     }
 
-    fn rows<'f>(&self, found: &'f Findings<'_>) -> &'f [OfProcess<OnewayRow>] {
-        found.sections().processes.oneway.as_slice()
+    fn rows<'f>(&self, found: &'f Findings<'_>) -> &'f [OnewayRow] {
+        found.sections().oneway.rows.as_slice()
     }
 
-    fn line(&self, _found: &Findings<'_>, kept: &OfProcess<OnewayRow>) -> Row {
-        oneway_row(kept)
+    fn line(&self, row: &OnewayRow) -> Row {
+        let mut line = process_start(row.process);
+        line.push_str(" ");
+        push_key(&mut line, row.key);
+        push_counted(&mut line, " ", row.count);
+        line.push_str(" ");
+        push_wide(&mut line, row.sum);
+        line
     }
-}
-
-fn oneway_row(of: &OfProcess<OnewayRow>) -> Row
-    ensures { result.bytes ≡ oneway_row of.now }
-{
-    let (key, count, sum) = of.row;
-    let mut line = process_start(of.process);
-    line.push_str(" ");
-    push_key(&mut line, key);
-    push_counted(&mut line, " ", count);
-    line.push_str(" ");
-    push_wide(&mut line, sum);
-    line
 }
 
 /// Pushes whether they are sent, and to which handle, or received.

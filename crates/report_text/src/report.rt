@@ -27,6 +27,7 @@ use crate::requests::Requests;
 use crate::section::push_section;
 use crate::served::Served;
 use crate::strays::Strays;
+use crate::whole_rows::OfRows;
 use audit_findings::Findings;
 use std::alloc::{AllocError, Global};
 use std::thread::Threads;
@@ -75,19 +76,19 @@ fn push_report<T: Threads + Sync, L: Lines>(
 {
     lines.push_line(&title_line())?;
     lines.push_line(&totals_line(found))?;
-    push_section(rt, alloc, Codes, found, lines)?;
+    push_section(rt, alloc, OfRows(Codes), found, lines)?;
     push_section(rt, alloc, OfCalls(Calls), found, lines)?;
     push_section(rt, alloc, OfCalls(Served), found, lines)?;
     push_section(rt, alloc, OfEvents(Strays), found, lines)?;
     push_section(rt, alloc, OfEvents(Refused), found, lines)?;
-    push_section(rt, alloc, Handles, found, lines)?;
-    push_section(rt, alloc, Nodes, found, lines)?;
+    push_section(rt, alloc, OfRows(Handles), found, lines)?;
+    push_section(rt, alloc, OfRows(Nodes), found, lines)?;
     push_section(rt, alloc, OfEvents(Buffers), found, lines)?;
     push_section(rt, alloc, OfEvents(Frees), found, lines)?;
     push_section(rt, alloc, OfEvents(Requests), found, lines)?;
     push_section(rt, alloc, OfEvents(Deaths), found, lines)?;
     push_section(rt, alloc, OfEvents(Clears), found, lines)?;
-    push_section(rt, alloc, Oneway, found, lines)?;
+    push_section(rt, alloc, OfRows(Oneway), found, lines)?;
     push_section(rt, alloc, Objects, found, lines)?;
     push_section(rt, alloc, OfEvents(Flags), found, lines)
 }

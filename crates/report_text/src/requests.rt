@@ -1,9 +1,5 @@
 //! The section `requests`.
 
-ghost use Rattle.std.specs.Prelude.{◌≡◌};
-ghost use Rattle.event_core.specs.Reading.{event_text};
-ghost use Rattle.report_text.specs.Requests.{requests_row};
-
 use crate::events::{EventSection, row_start};
 use crate::line::{Row, push_counted, push_hex_number};
 use audit_findings::{Findings, Sections};
@@ -35,24 +31,18 @@ impl EventSection for Requests {
     }
 
     fn line(&self, event: Event<'_>) -> Row {
-        requests_row(event)
+        let mut line = row_start(event);
+        if let Some(
+            RequestItem {
+                change: RequestChange::Request(key),
+                ..
+            },
+        ) = request_step(event)
+        {
+            push_counted(&mut line, " ", u64::from(key.handle));
+            line.push_str(" ");
+            push_hex_number(&mut line, key.cookie);
+        }
+        line
     }
-}
-
-fn requests_row(event: Event<'_>) -> Row
-    ensures { result.bytes ≡ requests_row (event_text event.entry) }
-{
-    let mut line = row_start(event);
-    if let Some(
-        RequestItem {
-            change: RequestChange::Request(key),
-            ..
-        },
-    ) = request_step(event)
-    {
-        push_counted(&mut line, " ", u64::from(key.handle));
-        line.push_str(" ");
-        push_hex_number(&mut line, key.cookie);
-    }
-    line
 }
