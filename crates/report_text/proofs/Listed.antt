@@ -6,7 +6,7 @@ use Rattle.std.proofs.lemmas.List.{length-map, map-id}
 use Rattle.std.proofs.lemmas.List.Elements.{All-map}
 use Rattle.event_core.specs.Events.{EventText}
 use Rattle.audit_findings.specs.Findings.{FindingsText}
-use Rattle.audit_findings.specs.Frames.{wholes_of}
+use Rattle.event_core.specs.Events.{wholes_of}
 use Rattle.audit_findings.specs.Kept.{KeptFindings, AreOfFrames}
 use Rattle.audit_findings.specs.Lookup.{HasRecordIn}
 use Rattle.audit_findings.proofs.RecordsThere.{has_record_in}

@@ -1,61 +1,48 @@
 //! The section `nodes`.
 
-ghost use Rattle.std.specs.Prelude.{◌≡◌, filter, length};
-ghost use Rattle.report_text.specs.Nodes.{is_unbalanced_node};
-
 use crate::line::{Row, push_hex_number, push_signed};
 use crate::process_row::{process_start, push_count, unbalanced_head};
 use crate::whole_rows::WholeSection;
-use audit_findings::{Findings, ProcessNode, Sections};
+use audit_findings::{Findings, OfProcess, Sections};
+use handle_ledger::NodeRow;
 
 /// The section.
 #[derive(Clone, Copy)]
 pub(crate) struct Nodes;
 
 impl WholeSection for Nodes {
-    ghost use Rattle.std.specs.Prelude.{codes, filter, length};
-    ghost use Rattle.report_text.specs.Nodes.{nodes_section, is_unbalanced_node};
+    ghost use Rattle.std.specs.Prelude.{codes};
+    ghost use Rattle.report_text.specs.Nodes.{nodes_section};
     ghost use Rattle.report_text.specs.ProcessRow.{unbalanced_head};
 
-    type Kept = ProcessNode;
+    type Kept = OfProcess<NodeRow>;
 
     ghost section = { nodes_section };
 
-    ghost head_of = { λ kept rows. unbalanced_head (codes "nodes") rows
-        (length (filter is_unbalanced_node kept.nodes)) };
+    ghost head_of = { λ kept rows.
+        unbalanced_head (codes "nodes") rows kept.processes.nodes.unbalanced };
 
     fn head(&self, sections: &Sections, rows: usize) -> Row {
-        unbalanced_head("nodes", rows, unbalanced_count(sections.nodes.as_slice()))
+        unbalanced_head("nodes", rows, sections.processes.nodes.unbalanced)
     }
 
-    fn rows<'f>(&self, found: &'f Findings<'_>) -> &'f [ProcessNode] {
-        found.sections().nodes.as_slice()
+    fn rows<'f>(&self, found: &'f Findings<'_>) -> &'f [OfProcess<NodeRow>] {
+        found.sections().processes.nodes.rows.as_slice()
     }
 
-    fn line(&self, row: &ProcessNode) -> Row {
-        let mut line = process_start(row.process);
+    fn line(&self, of: &OfProcess<NodeRow>) -> Row {
+        let row = &of.row;
+        let mut line = process_start(of.process);
         line.push_str(" ");
-        push_hex_number(&mut line, row.ptr);
+        push_hex_number(&mut line, row.key.ptr);
         line.push_str(" ");
-        push_hex_number(&mut line, row.cookie);
-        push_count(&mut line, row.strong, row.strong_low);
-        push_count(&mut line, row.weak, row.weak_low);
+        push_hex_number(&mut line, row.key.cookie);
+        push_count(&mut line, row.strong.sum, row.strong.low);
+        push_count(&mut line, row.weak.sum, row.weak.low);
         line.push_str(" ");
         push_signed(&mut line, row.strong_due);
         line.push_str(" ");
         push_signed(&mut line, row.weak_due);
         line
     }
-}
-
-fn unbalanced_count(rows: &[ProcessNode]) -> usize
-    ensures { result ≡ length (filter is_unbalanced_node rows.now) }
-{
-    rows.iter().filter(|row| is_unbalanced(row)).count()
-}
-
-fn is_unbalanced(row: &ProcessNode) -> bool
-    ensures { result ≡ is_unbalanced_node row.now }
-{
-    row.strong != 0 || row.weak != 0 || row.strong_due != 0 || row.weak_due != 0
 }

@@ -7,7 +7,7 @@ ghost use Rattle.report_text.specs.Oneway.{key_fields};
 use crate::line::{Row, push_counted, push_wide};
 use crate::process_row::process_start;
 use crate::whole_rows::WholeSection;
-use audit_findings::{Findings, OnewayRow, Sections};
+use audit_findings::{Findings, OfProcess, OnewayRow, Sections};
 use event_core::OnewayKey;
 
 /// The section.
@@ -17,32 +17,33 @@ pub(crate) struct Oneway;
 impl WholeSection for Oneway {
     ghost use Rattle.report_text.specs.Oneway.{oneway_head, oneway_section};
 
-    type Kept = OnewayRow;
+    type Kept = OfProcess<OnewayRow>;
 
     ghost section = { oneway_section };
 
     ghost head_of = { λ kept _.
-        oneway_head kept.oneway.sent kept.oneway.received kept.refused.oneway };
+        oneway_head kept.events.oneway.sent kept.events.oneway.received kept.calls.refused.oneway };
 
     fn head(&self, sections: &Sections, _rows: usize) -> Row {
         let mut line = Row::new();
-        push_counted(&mut line, "oneway sent ", sections.oneway.sent);
-        push_counted(&mut line, " received ", sections.oneway.received);
-        push_counted(&mut line, " refused ", sections.refused.oneway);
+        push_counted(&mut line, "oneway sent ", sections.events.oneway.sent);
+        push_counted(&mut line, " received ", sections.events.oneway.received);
+        push_counted(&mut line, " refused ", sections.calls.refused.oneway);
         line
     }
 
-    fn rows<'f>(&self, found: &'f Findings<'_>) -> &'f [OnewayRow] {
-        found.sections().oneway.rows.as_slice()
+    fn rows<'f>(&self, found: &'f Findings<'_>) -> &'f [OfProcess<OnewayRow>] {
+        found.sections().processes.oneway.as_slice()
     }
 
-    fn line(&self, row: &OnewayRow) -> Row {
-        let mut line = process_start(row.process);
+    fn line(&self, of: &OfProcess<OnewayRow>) -> Row {
+        let (key, count, sum) = of.row;
+        let mut line = process_start(of.process);
         line.push_str(" ");
-        push_key(&mut line, row.key);
-        push_counted(&mut line, " ", row.count);
+        push_key(&mut line, key);
+        push_counted(&mut line, " ", count);
         line.push_str(" ");
-        push_wide(&mut line, row.sum);
+        push_wide(&mut line, sum);
         line
     }
 }
