@@ -10,11 +10,11 @@ use Rattle.audit_findings.specs.Lookup.{HasRecordIn}
 use Rattle.audit_findings.proofs.RecordsThere.{has_record_in}
 
 -- at those of the section `flags`
-pub flags_there : (found : KeptFindings) → AreOfFrames found.frames found.sections → All (HasRecordIn found.frames) found.sections.flags
+pub flags_there : (found : KeptFindings) → AreOfFrames found.frames found.sections → All (HasRecordIn found.frames) found.sections.events.flags
 flags_there found (wholes, said, tell) =
     let events = events_of_wholes (wholes_of wholes) in
     let listed = All-filter has_unknown_flags (Contains events) events (All-contains_itself events) in
-    subst (All (HasRecordIn found.frames)) (sym (tell.keep.flags ∙ ap (map (λ (e : EventText). e.place)) tell.are.flags))
+    subst (All (HasRecordIn found.frames)) (sym (tell.keep.events.flags ∙ ap (map (λ (e : EventText). e.place)) tell.are.events.flags))
     (All-map (HasRecordIn found.frames) (λ (e : EventText). e.place) (flagged events)
     (All-weaker (Contains events) (λ (e : EventText). HasRecordIn found.frames e.place)
     (λ e there. has_record_in found.frames (wholes_of wholes) e tell.show there) (flagged events) listed))

@@ -16,14 +16,15 @@ ghost use Rattle.event_core.specs.Events.{wholes_of};
 ghost use Rattle.audit_join.specs.declared.limits.TheConstants.{CAPTURE_LIMIT};
 
 use audit_join::{
-    AuditError, BadRow, CodeRow, Findings, ProcessHandle, RecordCounts, Sections, SortCounts,
-    audit_one,
+    AuditError, BadRow, CodeRow, Findings, OfProcess, RecordCounts, Sections, SortCounts, audit_one,
 };
-use capture_frame::{Fault, FaultKind, Frame};
+use capture_frame::{Fault, FaultKind, Frame, Process};
 use captures::{RETURN_IN_A_WRITE, within_limit};
+use handle_ledger::HandleRow;
 use object_view::{BadObject, Cause};
 use std::process::Abort;
 use std::test::Fail;
+use summary_law::Count;
 
 /// How often each code word stands in the eight frames.
 const CODES: &[CodeRow] = &[
@@ -83,13 +84,13 @@ const COUNTS: RecordCounts = RecordCounts {
 };
 
 /// The handle that process 100 took a reference to.
-const HANDLES: &[ProcessHandle] = &[ProcessHandle {
-    process: 100,
-    handle: 1,
-    strong: 1,
-    strong_low: 0,
-    weak: 0,
-    weak_low: 0,
+const HANDLES: &[OfProcess<HandleRow>] = &[OfProcess {
+    process: Process { number: 100 },
+    row: HandleRow {
+        handle: 1,
+        strong: Count { sum: 1, low: 0 },
+        weak: Count { sum: 0, low: 0 },
+    },
 }];
 
 /// Where buffers are delivered that nobody frees: one to process 200, and one to process 100.
@@ -138,30 +139,30 @@ fn expect_sections(rt: &impl Abort, sections: &Sections) {
 }
 
 fn expect_records(rt: &impl Abort, sections: &Sections) {
-    assert_eq!(rt; sections.records, 13);
-    assert_eq!(rt; sections.opaque, 2);
+    assert_eq!(rt; sections.events.records, 13);
+    assert_eq!(rt; sections.events.opaque, 2);
     assert_eq!(rt; sections.missing, 9);
-    assert_eq!(rt; sections.codes.as_slice(), CODES);
-    assert_eq!(rt; sections.counts, COUNTS);
+    assert_eq!(rt; sections.events.codes.as_slice(), CODES);
+    assert_eq!(rt; sections.events.counts, COUNTS);
 }
 
 fn expect_references(rt: &impl Abort, sections: &Sections) {
-    assert_eq!(rt; sections.handles.as_slice(), HANDLES);
-    assert_eq!(rt; sections.nodes.len(), 0);
+    assert_eq!(rt; sections.processes.handles.rows.as_slice(), HANDLES);
+    assert_eq!(rt; sections.processes.nodes.rows.len(), 0);
 }
 
 fn expect_places(rt: &impl Abort, sections: &Sections) {
-    assert_eq!(rt; sections.leaked.as_slice(), LEAKED);
-    assert_eq!(rt; sections.stray_frees.len(), 0);
-    assert_eq!(rt; sections.standing.len(), 0);
-    assert_eq!(rt; sections.deaths.rows.len(), 0);
-    assert_eq!(rt; sections.clears.rows.len(), 0);
+    assert_eq!(rt; sections.processes.leaked.as_slice(), LEAKED);
+    assert_eq!(rt; sections.processes.stray_frees.len(), 0);
+    assert_eq!(rt; sections.processes.standing.len(), 0);
+    assert_eq!(rt; sections.processes.deaths.rows.len(), 0);
+    assert_eq!(rt; sections.processes.clears.rows.len(), 0);
 }
 
 fn expect_objects(rt: &impl Abort, sections: &Sections) {
-    assert_eq!(rt; sections.objects, OBJECTS);
-    assert_eq!(rt; sections.bad_objects.as_slice(), BAD_OBJECTS);
-    assert_eq!(rt; sections.flags.as_slice(), FLAGS);
+    assert_eq!(rt; sections.events.objects, OBJECTS);
+    assert_eq!(rt; sections.events.bad_objects.as_slice(), BAD_OBJECTS);
+    assert_eq!(rt; sections.events.flags.as_slice(), FLAGS);
 }
 
 /// The frames of the findings of a capture.

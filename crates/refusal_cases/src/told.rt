@@ -93,18 +93,26 @@ pub(crate) fn sections<W: Write>(sections: &Sections, out: &mut W) -> Result<(),
     line(
         out,
         "totals",
-        &[sections.records, sections.opaque, sections.missing],
+        &[
+            sections.events.records,
+            sections.events.opaque,
+            sections.missing,
+        ],
     )?;
-    codes(sections.codes.as_slice(), out)?;
+    codes(sections.events.codes.as_slice(), out)?;
     row_counts(sections, out)?;
-    line(out, "strays", sections.strays.as_slice())?;
-    line(out, "refused", sections.refused.rows.as_slice())?;
-    line(out, "leaked", sections.leaked.as_slice())?;
-    line(out, "stray frees", sections.stray_frees.as_slice())?;
-    line(out, "standing", sections.standing.as_slice())?;
-    line(out, "deaths", sections.deaths.rows.as_slice())?;
-    line(out, "clears", sections.clears.rows.as_slice())?;
-    line(out, "flags", sections.flags.as_slice())
+    line(out, "strays", sections.calls.strays.as_slice())?;
+    line(out, "refused", sections.calls.refused.rows.as_slice())?;
+    line(out, "leaked", sections.processes.leaked.as_slice())?;
+    line(
+        out,
+        "stray frees",
+        sections.processes.stray_frees.as_slice(),
+    )?;
+    line(out, "standing", sections.processes.standing.as_slice())?;
+    line(out, "deaths", sections.processes.deaths.rows.as_slice())?;
+    line(out, "clears", sections.processes.clears.rows.as_slice())?;
+    line(out, "flags", sections.events.flags.as_slice())
 }
 
 fn codes<W: Write>(rows: &[CodeRow], out: &mut W) -> Result<(), NoAnswer> {
@@ -115,9 +123,18 @@ fn codes<W: Write>(rows: &[CodeRow], out: &mut W) -> Result<(), NoAnswer> {
 }
 
 fn row_counts<W: Write>(sections: &Sections, out: &mut W) -> Result<(), NoAnswer> {
-    let (calls, served) = (sections.calls.rows.len(), sections.served.rows.len());
-    let (handles, nodes) = (sections.handles.len(), sections.nodes.len());
-    let (oneway, bad) = (sections.oneway.rows.len(), sections.bad_objects.len());
+    let (calls, served) = (
+        sections.calls.calls.rows.len(),
+        sections.calls.served.rows.len(),
+    );
+    let (handles, nodes) = (
+        sections.processes.handles.rows.len(),
+        sections.processes.nodes.rows.len(),
+    );
+    let (oneway, bad) = (
+        sections.processes.oneway.len(),
+        sections.events.bad_objects.len(),
+    );
     line(out, "calls and served", &[calls as u64, served as u64])?;
     line(out, "handles and nodes", &[handles as u64, nodes as u64])?;
     line(out, "oneway and bad objects", &[oneway as u64, bad as u64])

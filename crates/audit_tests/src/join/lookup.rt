@@ -81,7 +81,7 @@ fn expect_records(rt: &impl Abort, found: &Findings<'_>, places: &[u64])
 
 /// The records with unknown flags are.
 fn expect_flagged(rt: &impl Abort, found: &Findings<'_>) {
-    expect_records(rt, found, found.sections().flags.as_slice());
+    expect_records(rt, found, found.sections().events.flags.as_slice());
 }
 
 /// The frames have those sequences.

@@ -11,13 +11,15 @@ use super::one_pass::one_pass;
 use super::pieces::found_in_pieces;
 use super::{expect_sections, frames_of};
 use crate::meeting::{Meeting, RELEASE_FIRST};
-use audit_join::{AuditError, Findings, Piece, ProcessHandle, audit, audit_one};
-use capture_frame::{Fault, FaultKind, Frame};
+use audit_join::{AuditError, Findings, OfProcess, Piece, audit, audit_one};
+use capture_frame::{Fault, FaultKind, Frame, Process};
 use claim_board::{NoGate, Workers};
+use handle_ledger::HandleRow;
 use std::alloc::{AllocError, Global};
 use std::process::Abort;
 use std::test::Fail;
 use std::thread::Threads;
+use summary_law::Count;
 
 const WORKERS: &[u64] = &[1, 3, 64];
 
@@ -261,7 +263,7 @@ fn expect_frames<T: Threads + Sync + Abort>(
     let (workers, piece) = shares(64, 1)?;
     let found = audit(rt, alloc, capture, workers, piece, &NoGate)?;
     assert_eq!(rt; found.frames().len(), count);
-    assert_eq!(rt; found.sections().records, count as u64);
+    assert_eq!(rt; found.sections().events.records, count as u64);
     Ok(())
 }
 
@@ -277,13 +279,13 @@ fn more_workers_than_pieces(rt: HostRuntime) -> Result<(), Fail> {
 }
 
 /// The handle that is let go before it is taken.
-const HANDLES: &[ProcessHandle] = &[ProcessHandle {
-    process: 100,
-    handle: 3,
-    strong: 0,
-    strong_low: -1,
-    weak: 0,
-    weak_low: 0,
+const HANDLES: &[OfProcess<HandleRow>] = &[OfProcess {
+    process: Process { number: 100 },
+    row: HandleRow {
+        handle: 3,
+        strong: Count { sum: 0, low: -1 },
+        weak: Count { sum: 0, low: 0 },
+    },
 }];
 
 /// Two pieces are under way at one time.
@@ -293,7 +295,7 @@ fn two_pieces_meet(rt: HostRuntime) -> Result<(), Fail> {
     let (workers, piece) = shares(2, 1)?;
     let capture = within_limit(&rt, RELEASE_FIRST);
     let found = audit(&rt, rt.alloc(), capture, workers, piece, &gate)?;
-    assert_eq!(rt; found.sections().handles.as_slice(), HANDLES);
+    assert_eq!(rt; found.sections().processes.handles.rows.as_slice(), HANDLES);
     assert!(rt; gate.was_held());
     Ok(())
 }
