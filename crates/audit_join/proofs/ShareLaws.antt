@@ -296,16 +296,19 @@ results_sum runs jobs parts each results =
 
 -- ---- of runs and their jobs
 
-with_both : {X E : Type 0} (r : Result X E) (A : Type 0) (P Q : X → Type 0) → ((x : X) → A → P x → Q x) → IfOk r (λ _. A) → IfOk r P → IfOk r Q
+-- what follows of a result from a fact and what holds of it
+with_both : {X E : Type 0} (r : Result X E) (A : Type 0) (P Q : X → Type 0) → ((x : X) → A → P x → Q x)
+    → IfOk r (λ _. A) → IfOk r P → IfOk r Q
 with_both (Ok x) A P Q step a p = step x a p
 with_both (Err e) A P Q step a p = tt
 
-module _ (runs : List (List Frame)) (can : AreJobRuns runs) (cut : AreCut (all_items runs)) (jobs : List Job) (each : AllZip IsJobOf runs jobs) where
+module _ (runs : List (List Frame)) (can : AreJobRuns runs) (cut : AreCut (all_items runs)) (jobs : List Job)
+    (each : AllZip IsJobOf runs jobs) where
   pub shared_jobs : AreWorkJobs jobs
   shared_jobs = work_jobs runs jobs each can cut.apart
 
-  shared_summaries : (parts : List PieceSummary) → AreFaultless jobs → AreInOrder (λ i part. SumsPiece part (run_at runs i)) (length jobs) parts
-      → AreSummaries (all_items runs) parts
+  shared_summaries : (parts : List PieceSummary) → AreFaultless jobs
+      → AreInOrder (λ i part. SumsPiece part (run_at runs i)) (length jobs) parts → AreSummaries (all_items runs) parts
   shared_summaries parts none results = record {
     sound = all_sound runs jobs each none;
     runs = runs;

@@ -25,7 +25,8 @@ module _ (jobs : List Job) (workers least : ℕ) (u v : View) (last : IsLast job
   whole_at_end high gives list r = ends.whole jobs workers last.0 least last.1 last.3 last.2 v last.4 all stopped high gives list r
 
 -- a table of jobs is one of the work's own jobs, where they are the same, from its opening
-pub opened_at : (jobs jobs' : List Job) (workers : ℕ) (v : View) → jobs ≡ jobs' → v ≡ opening_view jobs workers → v ≡ opening_view jobs' workers
+pub opened_at : (jobs jobs' : List Job) (workers : ℕ) (v : View) → jobs ≡ jobs' → v ≡ opening_view jobs workers
+    → v ≡ opening_view jobs' workers
 opened_at jobs jobs' workers v a e = e ∙ ap (λ js. opening_view js workers) a
 
 -- to its end, with their number of workers

@@ -11,9 +11,11 @@ run_all-requires-after_bounds g c κs within =
 pub returns-clause-found : goal.returns-clause-found
 returns-clause-found g c =
     let r = c.requires in
-    all_summaries (lists_of c.args.runs.now) r.some r.cut _ (r.jobs _) c.run_all.result c.run_all.ensures.faultless c.run_all.ensures.results
+    let e = c.run_all.ensures in
+    all_summaries (lists_of c.args.runs.now) r.some r.cut _ (r.jobs _) c.run_all.result e.faultless e.results
 
 pub returns-clause-fault : goal.returns-clause-fault
 returns-clause-fault g c =
     let r = c.requires in
-    IfErr-weaker c.run_all.result _ _ (shared_stop (lists_of c.args.runs.now) r.some r.cut _ (r.jobs _)) c.run_all.ensures.stop
+    IfErr-weaker c.run_all.result _ _ (shared_stop (lists_of c.args.runs.now) r.some r.cut _ (r.jobs _))
+    c.run_all.ensures.stop

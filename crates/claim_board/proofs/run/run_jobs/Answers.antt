@@ -19,8 +19,8 @@ pub returns-then-least-lt18446744073709551615-clause-stop : goal.returns-then-le
 returns-then-least-lt18446744073709551615-clause-stop g c =
     let opened = c.in-Ok.ensures in
     let last = last_of _ _ _ _ _ _ c.requires.named opened.workers c.close_table-least.ensures in
-    least_at_end _ _ _ _ _ last (opened_at _ _ _ _ c.requires.named opened.view) c.share-shared.ensures.same.1 c.in-Ok-shared.ensures.done.0
-    (omega (arith, c.if-least-lt18446744073709551615.true))
+    least_at_end _ _ _ _ _ last (opened_at _ _ _ _ c.requires.named opened.view) c.share-shared.ensures.same.1
+    c.in-Ok-shared.ensures.done.0 (omega (arith, c.if-least-lt18446744073709551615.true))
 
 pub in_job_order-requires : goal.in_job_order-requires
 in_job_order-requires g c =
@@ -34,5 +34,5 @@ pub returns-clause-faultless : goal.returns-clause-faultless
 returns-clause-faultless g c =
     let opened = c.in-Ok.ensures in
     let last = last_of _ _ _ _ _ _ c.requires.named opened.workers c.close_table-least.ensures in
-    faultless_at_end _ _ _ _ _ last (opened_at _ _ _ _ c.requires.named opened.view) c.share-shared.ensures.same.1 c.in-Ok-shared.ensures.done.0
-    (omega (arith, c.if-least-lt18446744073709551615.false, c.close_table-least.type_inv))
+    faultless_at_end _ _ _ _ _ last (opened_at _ _ _ _ c.requires.named opened.view) c.share-shared.ensures.same.1
+    c.in-Ok-shared.ensures.done.0 (omega (arith, c.if-least-lt18446744073709551615.false, c.close_table-least.type_inv))

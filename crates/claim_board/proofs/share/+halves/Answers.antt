@@ -24,10 +24,11 @@ share-share_halves-front-requires g t c κs within =
     let jobs = g.W.Work.listed c.args.work.now in
     let n = c.args.workers in
     let s = c.split_seat-other in
+    let several = c.if-workers-eq1.false in
     let low : MayShare table jobs (n / 2) s.new.seat
-    = front_may_share table jobs n c.args.seat.now s.new.seat c.requires c.if-workers-eq1.false s.ensures.0 (ap (λ x. x.0) s.ensures.2) in
+    = front_may_share table jobs n c.args.seat.now s.new.seat c.requires several s.ensures.0 (ap (λ x. x.0) s.ensures.2) in
     let high : MayShare table jobs (n - n / 2) s.result
-    = back_may_share table jobs n c.args.seat.now s.result c.requires c.if-workers-eq1.false s.ensures.3 (ap (λ x. x.0) s.ensures.4) in
+    = back_may_share table jobs n c.args.seat.now s.result c.requires several s.ensures.3 (ap (λ x. x.0) s.ensures.4) in
     search rules
 
 pub share-join_seat-requires : goal.share-join_seat-requires
