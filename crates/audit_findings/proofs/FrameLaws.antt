@@ -52,16 +52,6 @@ shown_first frame frames (w ∷ wholes) show =
       record { stand = same.1; are_whole = All-tail IsWhole w wholes show.are_whole },
     )
 
--- views one behind the other show whole frames one behind the other
-pub shown_both : (frames more : List Frame) (wholes others : List (Placed WholeFrame)) → Show frames wholes → Show more others
-    → Show (frames ++ more) (wholes ++ others)
-shown_both frames more wholes others show show_more = record {
-  stand = map-append placed_frame frames more
-      ∙ ap₂ (λ (first second : List (Placed FrameText)). first ++ second) show.stand show_more.stand
-      ∙ sym (map-append placed_text wholes others);
-  are_whole = All-append IsWhole wholes others show.are_whole show_more.are_whole;
-}
-
 pub shown_parts : (frames more : List Frame) (wholes : List (Placed WholeFrame)) → Show (frames ++ more) wholes
     → (first second : List (Placed WholeFrame)) × (wholes ≡ first ++ second) × Show frames first × Show more second
 shown_parts [] more wholes show = ([], wholes, refl, none_shown, show)

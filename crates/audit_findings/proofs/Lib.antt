@@ -1,7 +1,6 @@
 pub mod ObjectWalk
 pub mod FewLaws
 pub mod OutcomeLaws
-pub mod FlagLaws
 pub mod SequenceLaws
 pub mod CodeLaws
 pub mod FrameLaws

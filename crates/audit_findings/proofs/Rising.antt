@@ -86,16 +86,6 @@ placed_made place place_of read keeps things placed =
 pub rising_kept : {E : Type 0} (place : E → ℕ) (test : E → Bool) (things : List E) → PlacesRise place things → PlacesRise place (filter test things)
 rising_kept place test things rise = AllPairs-filter (λ a b. place a < place b) test things rise
 
-pub placed_kept : {E : Type 0} (place : E → ℕ) (test : E → Bool) (things : List E) → IsPlaced place things → IsPlaced place (filter test things)
-placed_kept place test things placed =
-    let counted = length-filter test things in
-    let fewer = count_by-le-length test things in
-    let short = placed.0 in
-    (omega (arith, counted, fewer, short), rising_kept place test things placed.1)
-
 -- places that rise are a list that increases strictly
 pub increasing_places : {E : Type 0} (place : E → ℕ) (things : List E) → PlacesRise place things → IsStrictlyIncreasing (map place things)
 increasing_places place things rise k within = pairs_map (λ a b. a < b) place things rise k (k + 1) 0 (omega arith) within
-
-pub rising_places : {E : Type 0} (place : E → ℕ) (things : List E) → IsStrictlyIncreasing (map place things) → PlacesRise place things
-rising_places place things increase = pairs_unmap (λ a b. a < b) place things (AllPairs-from_increasing (map place things) increase)

@@ -49,16 +49,3 @@ one_more s new (w ∷ wholes) next sums frames none some last =
       some more ∙ sums.1,
       last ∙ sym (last_of-append w wholes next []),
     )
-
--- the missing ones
-pub missing_of : (s : Sequences) (wholes : List (Placed WholeFrame)) → SumsFrames s wholes → s.frames ≢ 0
-    → (s.last - s.first) - (s.frames - 1) ≡ missing_count wholes
-missing_of s [] sums some = absurd (some sums)
-missing_of s (w ∷ wholes) sums some =
-    let n = sums.0 in
-    let first = sums.1 in
-    let last = sums.2 in
-    omega (arith, n, first, last)
-
-pub none_missing : (s : Sequences) (wholes : List (Placed WholeFrame)) → SumsFrames s wholes → s.frames ≡ 0 → 0 ≡ missing_count wholes
-none_missing s wholes sums none = ap missing_count (sym (no_frames s wholes sums none))

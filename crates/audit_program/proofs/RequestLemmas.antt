@@ -68,9 +68,3 @@ module _ (rows : List Row) where
 
   pub no_piece : ((n : ℕ) → ReadsNumber (codes "piece") rows n → 2 ^ 64 ≤ n) → (request : Request) → ¬ AsksReport rows request
   no_piece large request asks = no_number request.question asks.0 (inr large)
-
-  pub no_report_file : first_of (codes "file") rows ≡ None → (request : Request) → ¬ AsksReport rows request
-  no_report_file none request asks = let bad : None ≡ Some request.file.now = sym none ∙ asks.1 in cc
-
-  pub no_fault_file : first_of (codes "file") rows ≡ None → (request : Request) → ¬ AsksFirstFault rows request
-  no_fault_file none request asks = let bad : None ≡ Some request.file.now = sym none ∙ asks.1 in cc

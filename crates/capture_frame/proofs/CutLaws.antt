@@ -30,14 +30,6 @@ pub record HasCut (capture : List ℕ) (reader : Reading) (frames : List Frame) 
   pub stands : StandsBehind frame_source frame_format (drop 16 capture) None reader (map frame_text frames)
   pub views : map placed_frame frames ≡ placed frame_bytes 16 (map frame_text frames)
 
-pub cut_start : (capture : List ℕ) (reader : Reading) → take 16 capture ≡ file_header → reader ≡ frames_start capture → HasCut capture reader []
-cut_start capture reader header is = record {
-  header = header;
-  stands = stands_at_start frame_source frame_format (drop 16 capture) None reader is;
-  views =
-      refl;
-}
-
 -- behind one frame more
 pub cut_next : (capture : List ℕ) (reader : Reading) (frames : List Frame) (found : Frame) (new : Reading) → HasCut capture reader frames
     → Steps reader (Ok (Some found)) new → HasCut capture new (frames ++ found ∷ [])
@@ -59,17 +51,6 @@ cut_next capture reader frames found new has steps =
 
 whole_capture : (capture : List ℕ) → take 16 capture ≡ file_header → capture ≡ file_header ++ drop 16 capture
 whole_capture capture header = sym (take-append-drop 16 capture) ∙ ap (λ (t : List ℕ). t ++ drop 16 capture) header
-
--- at the end the capture is these frames
-pub cut_end : (capture : List ℕ) (reader : Reading) (frames : List Frame) (new : Reading) → HasCut capture reader frames → Steps reader (Ok None) new
-    → AreFrames capture frames
-cut_end capture reader frames new has steps =
-    let done = map frame_text frames in
-    record {
-      texts = done;
-      whole = (drop 16 capture, whole_capture capture has.header, units_end frame_source frame_format (drop 16 capture) None reader done has.stands new steps);
-      views = record { said = refl; stand = has.views };
-    }
 
 -- at a fault they are those before it
 pub cut_fails : (capture : List ℕ) (reader : Reading) (frames : List Frame) (fault : Fault) (new : Reading) → HasCut capture reader frames

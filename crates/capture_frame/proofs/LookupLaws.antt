@@ -16,14 +16,6 @@ pub record IsSplitBetween (frames : List Frame) (place low high : ℕ) : Type 0 
   pub before : (i : ℕ) (d : Frame) → i < low → (slice_index_or frames i d).place ≤ place
   pub behind : (i : ℕ) (d : Frame) → high ≤ i → i < length frames → place < (slice_index_or frames i d).place
 
-pub split_at_start : (frames : List Frame) (place : ℕ) → IsSplitBetween frames place 0 (length frames)
-split_at_start frames place = record {
-  ordered = omega arith;
-  within = omega arith;
-  before = λ i d less. absurd (omega (arith, less));
-  behind = λ i d from within. absurd (omega (arith, from, within));
-}
-
 -- earlier frames begin before later ones
 no_later : (frames : List Frame) → AllPairs StandApart frames → (i j : ℕ) (d : Frame) → i ≤ j → j < length frames
     → (slice_index_or frames i d).place ≤ (slice_index_or frames j d).place
@@ -56,16 +48,6 @@ split_below frames place low high middle d apart split from to there = record {
       let alike = ap (λ (f : Frame). f.place) (get_or_default frames middle e d (omega (arith, from_there, within))) in
       omega (arith, late, alike, there);
 }
-
-pub split_done : (frames : List Frame) (place low high : ℕ) → IsSplitBetween frames place low high → high ≤ low → IsSplitAt frames place low
-split_done frames place low high split done =
-    let ordered = split.ordered in
-    let within = split.within in
-    record {
-      within = omega (arith, ordered, within);
-      before = split.before;
-      behind = λ i d from inside. split.behind i d (omega (arith, done, from)) inside;
-    }
 
 -- ---- the frame that holds a place
 

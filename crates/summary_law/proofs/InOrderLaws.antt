@@ -57,11 +57,6 @@ module _ {K : Type 0} (eq : K → K → Bool) where
   All-firsts P (key ∷ keys) all =
       All-cons P key _ (All-head P key keys all) (All-filter (λ other. not (eq other key)) P (firsts eq keys) (All-firsts P keys (All-tail P key keys all)))
 
-  -- each of the firsts is in the list
-  pub Contains-from_firsts : (keys : List K) (key : K) → Contains (firsts eq keys) key → Contains keys key
-  Contains-from_firsts keys key there =
-      All-contains (Contains keys) (firsts eq keys) key (All-firsts (Contains keys) keys (All-contains_itself keys)) there
-
 module _ {K : Type 0} {eq : K → K → Bool} (laws : IsEquivalence eq) where
   -- each key of the list equals one of the firsts
   pub each_among_firsts : (keys : List K) → All (λ key. list_any (eq key) (firsts eq keys) ≡ true) keys

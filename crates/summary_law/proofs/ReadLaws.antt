@@ -60,8 +60,3 @@ module _ {K I : Type 0} (eq : K → K → Bool) where
   each_all P items all key =
       all_read (under eq key) P items
       (All-weaker (λ (e : K × I). P e.1) (λ e. (i : I) → under eq key e ≡ Some i → P i) (λ e h i is. subst P (sym (under-some key e i is)) h) items all)
-
-  -- places that rise do so under each key
-  pub each_placed : (place : I → ℕ) (items : List (K × I)) → IsPlaced (λ (e : K × I). place e.1) items → EachFits eq (IsPlaced place) items
-  each_placed place items placed key =
-      (each_short items placed.0 key, rising_read (under eq key) place (λ e. place e.1) (λ e i is. ap place (under-some key e i is)) items placed.1)
