@@ -8,7 +8,6 @@ mod captures;
 mod found;
 mod plain;
 
-use crate::parts::{in_three_from_the_back, in_three_from_the_front, in_two, is_placed};
 use call_stacks::{ThreadCalls, Verdict};
 use captures::{Record, a_frame_each, events_of, two_frames};
 use event_core::Event;
@@ -18,6 +17,7 @@ use std::alloc::{AllocError, Global};
 use std::process::Abort;
 use std::test::Fail;
 use summary_law::summary_of;
+use test_kit::{in_three_from_the_back, in_three_from_the_front, in_two, is_placed};
 
 /// A part of a thread in each of two frames, the places of its events, and its calls.
 #[derive(Clone, Copy)]

@@ -6,8 +6,6 @@
 #[cfg(test)]
 mod calls;
 #[cfg(test)]
-mod parts;
-#[cfg(test)]
 mod pending;
 #[cfg(test)]
 mod references;

@@ -1,6 +1,5 @@
 //! Opens and closes, requests, and their joins, at lists written by hand and at large ones.
 
-use crate::parts::{in_three_from_the_front, is_placed};
 use binder_code::Kind;
 use event_core::{BufferItem, PendingChange, PendingItem, RequestChange, RequestItem, RequestKey};
 use pending_ledger::{Buffers, Deaths, Requests};
@@ -8,6 +7,7 @@ use std::alloc::{AllocError, Global};
 use std::process::Abort;
 use std::test::Fail;
 use summary_law::summary_of;
+use test_kit::{in_three_from_the_front, is_placed};
 
 /// Opens and closes of keys, whose places are 0, 1 and so on, and the places that they leave.
 #[derive(Clone, Copy)]

@@ -1,9 +1,9 @@
 //! The ledgers, and what each tells of its items.
 
 use crate::events::{events_of_process, events_of_thread};
+use crate::fits::{is_short, is_weighted};
 use crate::no_answer::NoAnswer;
-use crate::placed::{is_placed, is_short, is_weighted};
-use crate::sums::{Way, one_by_one, summed};
+use crate::sums::{Way, summed};
 use crate::told;
 use call_stacks::ThreadCalls;
 use event_core::{
@@ -14,8 +14,8 @@ use handle_ledger::{HandleLedger, NodeLedger};
 use pending_ledger::{Buffers, Pending, Requests};
 use std::alloc::{AllocError, Global};
 use std::io::Write;
-use std::thread::Threads;
 use summary_law::Tally;
+use test_kit::is_placed;
 
 /// The items that some events are.
 macro_rules! items {
@@ -76,22 +76,6 @@ pub(crate) fn tally<W: Write>(
         return Err(NoAnswer::Unfit);
     }
     let tally: Tally<u32> = summed(alloc, items.as_slice(), way)?;
-    let rows = tally.rows()?;
-    told::tally(rows.as_slice(), out)
-}
-
-pub(crate) fn tally_all<R: Threads + Sync, W: Write>(
-    rt: &R,
-    alloc: Global,
-    capture: &[u8],
-    workers: u64,
-    out: &mut W,
-) -> Result<(), NoAnswer> {
-    let items = code_items(alloc, capture)?;
-    if !is_weighted(items.as_slice()) {
-        return Err(NoAnswer::Unfit);
-    }
-    let tally: Tally<u32> = one_by_one(rt, alloc, items.as_slice(), workers)?;
     let rows = tally.rows()?;
     told::tally(rows.as_slice(), out)
 }

@@ -2,11 +2,11 @@
 #![tactic(auto)]
 
 mod events;
+mod fits;
 mod jobs;
 mod ledgers;
 mod no_answer;
 mod pieces;
-mod placed;
 mod runs;
 mod sums;
 mod table;

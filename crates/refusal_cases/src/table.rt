@@ -3,7 +3,6 @@
 use crate::no_answer::NoAnswer;
 use crate::sums::Way;
 use crate::{events, jobs, ledgers, pieces, runs};
-use audit_findings::MOST_KEPT;
 use audit_join::CAPTURE_LIMIT;
 use audit_streams::read_capture;
 use claim_board::Workers;
@@ -53,7 +52,7 @@ fn answer_to<T: Files + Threads + Sync, W: Write, E: Write>(
     let Ok(name) = str::from_utf8(name) else {
         return Err(NoAnswer::Unknown);
     };
-    match of_lists(rt, alloc, name, bytes, out) {
+    match of_lists(alloc, name, bytes, out) {
         Err(NoAnswer::Unknown) => {}
         answered => return answered,
     }
@@ -68,8 +67,7 @@ fn answer_to<T: Files + Threads + Sync, W: Write, E: Write>(
 }
 
 /// The calls that read, and those that sum a list.
-fn of_lists<T: Threads + Sync, W: Write>(
-    rt: &T,
+fn of_lists<W: Write>(
     alloc: Global,
     name: &str,
     bytes: &[u8],
@@ -80,8 +78,6 @@ fn of_lists<T: Threads + Sync, W: Write>(
         "cut" => events::cut_all(alloc, bytes, out),
         "Tally: add, rows" => ledgers::tally(alloc, bytes, Way::Add, out),
         "Tally: join, rows" => ledgers::tally(alloc, bytes, Way::Join, out),
-        "join_all by 1" => ledgers::tally_all(rt, alloc, bytes, 1, out),
-        "join_all by 4" => ledgers::tally_all(rt, alloc, bytes, 4, out),
         "HandleLedger: add, rows" => ledgers::handles(alloc, bytes, Way::Add, out),
         "HandleLedger: join, rows" => ledgers::handles(alloc, bytes, Way::Join, out),
         "NodeLedger: add, rows" => ledgers::nodes(alloc, bytes, Way::Add, out),
@@ -114,12 +110,8 @@ fn of_frames<T: Threads + Sync, W: Write>(
         "run_all by 1" => jobs::shared(rt, alloc, bytes, one, out),
         "run_all by 4" => jobs::shared(rt, alloc, bytes, four, out),
         "Plan::new" => pieces::plan(alloc, bytes, out),
-        "PieceSummary keeping 0: add, sections" => pieces::added(alloc, bytes, 0, out),
-        "PieceSummary keeping 1: add, sections" => pieces::added(alloc, bytes, 1, out),
-        "PieceSummary keeping all: add, sections" => pieces::added(alloc, bytes, MOST_KEPT, out),
-        "PieceSummary keeping 0: join, sections" => pieces::joined(alloc, bytes, 0, out),
-        "PieceSummary keeping 1: join, sections" => pieces::joined(alloc, bytes, 1, out),
-        "PieceSummary keeping all: join, sections" => pieces::joined(alloc, bytes, MOST_KEPT, out),
+        "PieceSummary: add, sections" => pieces::summed(alloc, bytes, Way::Add, out),
+        "PieceSummary: join, sections" => pieces::summed(alloc, bytes, Way::Join, out),
         "audit by 1" => runs::audited(rt, alloc, bytes, one, out),
         "audit by 4" => runs::audited(rt, alloc, bytes, four, out),
         "audit_one" => runs::audited_by_one(rt, alloc, bytes, out),

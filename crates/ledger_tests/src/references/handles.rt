@@ -1,12 +1,12 @@
 //! Handles.
 
-use crate::parts::in_three_from_the_front;
 use event_core::{HandleChange, HandleItem, Strength};
 use handle_ledger::{HandleLedger, HandleRow};
 use std::alloc::{AllocError, Global};
 use std::process::Abort;
 use std::test::Fail;
 use summary_law::{Count, summary_of};
+use test_kit::in_three_from_the_front;
 
 /// A handle, and what is done to its references of a strength.
 macro_rules! item {

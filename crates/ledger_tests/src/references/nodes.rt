@@ -1,12 +1,12 @@
 //! Nodes.
 
-use crate::parts::in_three_from_the_front;
 use event_core::{NodeChange, NodeItem, NodeKey, Strength};
 use handle_ledger::{NodeLedger, NodeRow};
 use std::alloc::{AllocError, Global};
 use std::process::Abort;
 use std::test::Fail;
 use summary_law::Count;
+use test_kit::in_three_from_the_front;
 
 /// A node by its ptr and its cookie, and what is done to its references of a strength.
 macro_rules! item {

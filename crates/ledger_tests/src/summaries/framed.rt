@@ -8,8 +8,8 @@ ghost use Rattle.summary_law.specs.Tally.{TallySums};
 use std::alloc::{AllocError, Global};
 use std::process::Abort;
 use std::test::Fail;
-use std::thread::Threads;
-use summary_law::{Summary, Tally, join_all};
+use summary_law::{Summary, Tally};
+use test_kit::in_two;
 
 /// A number and bytes of a capture.
 #[derive(Clone, Copy)]
@@ -89,26 +89,6 @@ impl<'c> Summary for NumberedFrames<'c> {
     ghost fits_parts = { short_parts };
 }
 
-/// The summary of the items, from those of each alone.
-fn one_by_one<S: Summary + Send, R: Threads + Sync>(
-    rt: &R,
-    alloc: Global,
-    items: &[S::Item],
-    workers: u64,
-) -> Result<S, AllocError>
-where
-    S::Item: Copy,
-    requires { S.fits items.now }
-{
-    let mut parts: Vec<S> = Vec::new(alloc);
-    for item in items {
-        let mut part = S::empty(alloc);
-        part.add(*item)?;
-        parts.push(part)?;
-    }
-    join_all(rt, alloc, parts, workers)
-}
-
 /// Frames in the order of their numbers.
 const FRAMES: &[Frame<'static>] = &[
     Frame {
@@ -141,15 +121,15 @@ const FRAMES: &[Frame<'static>] = &[
     },
 ];
 
-/// As many of the frames, joined, stand in order.
-fn expect_in_order<R: Threads + Sync + Abort>(
-    rt: &R,
+/// As many of the frames, joined from those before an end and the others, stand in order.
+fn expect_in_order(
+    rt: &impl Abort,
     alloc: Global,
     count: usize,
-    workers: u64,
+    end: usize,
 ) -> Result<(), AllocError> {
     let (frames, _) = FRAMES.split_at(count.min(FRAMES.len()));
-    let whole: NumberedFrames<'_> = one_by_one(rt, alloc, frames, workers)?;
+    let whole: NumberedFrames<'_> = in_two(alloc, frames, end)?;
     assert!(rt; whole.frames.frames.len() == frames.len());
     assert!(rt; whole.numbers.key_count() == frames.len());
     for (place, frame) in whole.frames.frames.iter().enumerate() {
@@ -161,8 +141,8 @@ fn expect_in_order<R: Threads + Sync + Abort>(
 #[test]
 fn joins_in_order(rt: HostRuntime) -> Result<(), Fail> {
     for count in [0, 1, 2, 7] {
-        for workers in [1, 2, 7] {
-            expect_in_order(&rt, rt.alloc(), count, workers)?;
+        for end in 0..8 {
+            expect_in_order(&rt, rt.alloc(), count, end)?;
         }
     }
     Ok(())

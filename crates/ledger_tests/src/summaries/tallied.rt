@@ -1,13 +1,10 @@
 //! Counts and tallies.
 
-ghost use Rattle.std.specs.Prelude.{◌++◌};
-ghost use Rattle.summary_law.specs.Tally.{AreWeighted};
-
-use std::alloc::{AllocError, Global};
+use std::alloc::AllocError;
 use std::process::Abort;
 use std::test::Fail;
-use std::thread::Threads;
-use summary_law::{Amount, Count, Summary, Tally, join_all, summary_of};
+use summary_law::{Amount, Count, Tally, summary_of};
+use test_kit::{in_three_from_the_front, in_two};
 
 /// Two sends of the greatest size to one handle.
 const GREATEST: &[(u32, u64)] = &[(2, 18446744073709551615), (2, 18446744073709551615)];
@@ -33,36 +30,6 @@ const ROWS: &[(u32, u64, u128)] = &[
     (7, 3, 10101),
     (9, 2, 0),
 ];
-
-/// The tally of two lists, joined.
-fn two_joined(
-    alloc: Global,
-    first: &[(u32, u64)],
-    second: &[(u32, u64)],
-) -> Result<Tally<u32>, AllocError>
-    requires { AreWeighted (first.now ++ second.now) }
-{
-    let earlier: Tally<u32> = summary_of(alloc, first)?;
-    let later: Tally<u32> = summary_of(alloc, second)?;
-    earlier.join(later)
-}
-
-/// The tally of three lists, joined.
-fn three_joined(
-    rt: &(impl Threads + Sync),
-    alloc: Global,
-    first: &[(u32, u64)],
-    second: &[(u32, u64)],
-    third: &[(u32, u64)],
-) -> Result<Tally<u32>, AllocError>
-    requires { AreWeighted (first.now ++ second.now ++ third.now) }
-{
-    let mut parts: Vec<Tally<u32>> = Vec::new(alloc);
-    parts.push(summary_of(alloc, first)?)?;
-    parts.push(summary_of(alloc, second)?)?;
-    parts.push(summary_of(alloc, third)?)?;
-    join_all(rt, alloc, parts, 2)
-}
 
 /// The tally has the rows of all ten items.
 fn expect_rows(rt: &impl Abort, tally: &Tally<u32>) -> Result<(), AllocError> {
@@ -94,12 +61,10 @@ fn sums_do_not_wrap(rt: HostRuntime) -> Result<(), Fail> {
 #[test]
 fn every_split_has_the_rows_of_the_whole(rt: HostRuntime) -> Result<(), Fail> {
     for end in 0..=TEN.len() {
-        let (front, third) = TEN.split_at(end);
-        let tally = two_joined(rt.alloc(), front, third)?;
+        let tally: Tally<u32> = in_two(rt.alloc(), TEN, end)?;
         expect_rows(&rt, &tally)?;
-        for middle in 0..=front.len() {
-            let (first, second) = front.split_at(middle);
-            let tally = three_joined(&rt, rt.alloc(), first, second, third)?;
+        for first_end in 0..=end {
+            let tally: Tally<u32> = in_three_from_the_front(rt.alloc(), TEN, first_end, end)?;
             expect_rows(&rt, &tally)?;
         }
     }

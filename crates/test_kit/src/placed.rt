@@ -1,27 +1,21 @@
-//! Whether a list can be summed: looked at as it comes.
+//! Items that stand at places.
 
-ghost use Rattle.std.specs.Bool.{OnTrue};
+ghost use Rattle.std.specs.Bool.{OnTrue, OnFalse};
 ghost use Rattle.std.specs.Prelude.{◌≡◌, ℕ};
 ghost use Rattle.call_stacks.specs.Calls.{event_place};
 ghost use Rattle.pending_ledger.specs.Ledgers.{buffer_place};
 ghost use Rattle.pending_ledger.specs.Pending.{place_of};
 ghost use Rattle.pending_ledger.specs.Requests.{request_place};
-ghost use Rattle.summary_law.specs.Fits.{IsPlaced, IsShort};
-ghost use Rattle.summary_law.specs.Tally.{AreWeighted};
+ghost use Rattle.summary_law.specs.Fits.{IsPlaced};
 
 use event_core::{BufferItem, Event, PendingItem, RequestItem};
 
-/// How many items a list may have that is summed.
-const MOST_ITEMS: usize = 4_294_967_296;
-
-/// A weight that no length of a payload passes.
-const MOST_WEIGHT: u64 = 65_535;
-
 /// An item that stands at a place.
-pub(crate) trait Placed: Copy {
+pub trait Placed: Copy {
     /// Where it stands.
     ghost place_in: { Self → ℕ };
 
+    /// The same as a number.
     fn place(self) -> u64
         ensures { result ≡ place_in self };
 }
@@ -59,42 +53,20 @@ impl<'c> Placed for Event<'c> {
 }
 
 /// Whether there are at most 2^32 items, and their places rise.
-pub(crate) fn is_placed<T: Placed>(items: &[T]) -> bool
-    ensures { OnTrue result (IsPlaced T.place_in items.now) }
+pub fn is_placed<T: Placed>(items: &[T]) -> bool
+    ensures order { OnTrue result (IsPlaced T.place_in items.now) }
+    ensures disorder { OnFalse result (¬ IsPlaced T.place_in items.now) }
 {
-    if items.len() > MOST_ITEMS {
+    if items.len() > 4_294_967_296 {
         return false;
     }
-    let mut least = 0;
+    let mut least: u128 = 0;
     for item in items {
         let place = item.place();
-        if place < least || place == u64::MAX {
+        if u128::from(place) < least {
             return false;
         }
-        least = place + 1;
-    }
-    true
-}
-
-/// Whether there are at most 2^32 items.
-pub(crate) fn is_short<T: Copy>(items: &[T]) -> bool
-    ensures { OnTrue result (IsShort items.now) }
-{
-    items.len() <= MOST_ITEMS
-}
-
-/// Whether there are at most 2^32 items, and no weight is above `MOST_WEIGHT`.
-pub(crate) fn is_weighted(items: &[(u32, u64)]) -> bool
-    ensures { OnTrue result (AreWeighted items.now) }
-{
-    if items.len() > MOST_ITEMS {
-        return false;
-    }
-    for item in items {
-        let weight = item.1;
-        if weight > MOST_WEIGHT {
-            return false;
-        }
+        least = u128::from(place) + 1;
     }
     true
 }

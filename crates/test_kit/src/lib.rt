@@ -1,0 +1,9 @@
+//! What several crates of tests need: whether the places of a list rise, and the summary of a list
+//! from those of its parts.
+#![tactic(auto)]
+
+mod parts;
+mod placed;
+
+pub use parts::{in_three_from_the_back, in_three_from_the_front, in_two};
+pub use placed::{Placed, is_placed};
