@@ -1,5 +1,6 @@
 //! The board of one thread, and all jobs by workers in threads.
 
 mod jobs;
+mod rounds;
 mod run;
 mod steps;

@@ -1,6 +1,7 @@
-//! A gate that shows that two threads are under way at one time.
+//! A gate that shows that so many threads are under way at one time.
 
 use claim_board::Gate;
+use std::array;
 use std::sync::atomic::{AtomicBool, Ordering};
 
 /// How often a flag is loaded before a test gives up.
@@ -16,40 +17,41 @@ pub(crate) fn is_set_in_time(flag: &AtomicBool) -> bool {
     false
 }
 
-/// Each of the first two jobs waits until the other one is entered.
+/// Each of the first `N` jobs waits until all of these are entered.
 #[derive(Drop)]
-pub(crate) struct Meeting {
-    flags: [AtomicBool; 2],
+pub(crate) struct Meeting<const N: usize> {
+    flags: [AtomicBool; N],
     late: AtomicBool,
 }
 
-impl Gate for Meeting {
+impl<const N: usize> Gate for Meeting<N> {
     fn enter(&self, i: u64) {
-        if i >= 2 {
+        let Some(own) = self.flags.get(i as usize) else {
             return;
-        }
-        let own = i as usize;
-        self.flags[own].store(true, Ordering::SeqCst);
-        if !is_set_in_time(&self.flags[1 - own]) {
-            self.late.store(true, Ordering::SeqCst);
+        };
+        own.store(true, Ordering::SeqCst);
+        for flag in self.flags.iter() {
+            if !is_set_in_time(flag) {
+                self.late.store(true, Ordering::SeqCst);
+                return;
+            }
         }
     }
 
     fn leave(&self, _i: u64) {}
 }
 
-impl Meeting {
-    pub(crate) fn new() -> Meeting {
+impl<const N: usize> Meeting<N> {
+    pub(crate) fn new() -> Meeting<N> {
         Meeting {
-            flags: [AtomicBool::new(false), AtomicBool::new(false)],
+            flags: array::from_fn(|_| AtomicBool::new(false)),
             late: AtomicBool::new(false),
         }
     }
 
-    /// Whether both were entered, and neither had to wait too long.
+    /// Whether all were entered, and none had to wait too long.
     pub(crate) fn was_held(&self) -> bool {
-        self.flags[0].load(Ordering::SeqCst)
-            && self.flags[1].load(Ordering::SeqCst)
+        self.flags.iter().all(|flag| flag.load(Ordering::SeqCst))
             && !self.late.load(Ordering::SeqCst)
     }
 }
@@ -60,3 +62,14 @@ pub(crate) const RELEASE_FIRST: &[u8] = b"BNDRCAP1\x08\0\0\0\0\0\0\0\
     \x06\x63\x04\x40\x03\0\0\0\
     \x02\0\0\0\0\0\0\0\x64\0\0\0\x65\0\0\0\x01\0\0\0\x08\0\0\0\0\0\0\0\0\0\0\0\
     \x05\x63\x04\x40\x03\0\0\0";
+
+/// The same, and then `BC_INCREFS` and `BC_DECREFS` of that handle.
+pub(crate) const FOUR_WRITES: &[u8] = b"BNDRCAP1\x08\0\0\0\0\0\0\0\
+    \x01\0\0\0\0\0\0\0\x64\0\0\0\x65\0\0\0\x01\0\0\0\x08\0\0\0\0\0\0\0\0\0\0\0\
+    \x06\x63\x04\x40\x03\0\0\0\
+    \x02\0\0\0\0\0\0\0\x64\0\0\0\x65\0\0\0\x01\0\0\0\x08\0\0\0\0\0\0\0\0\0\0\0\
+    \x05\x63\x04\x40\x03\0\0\0\
+    \x03\0\0\0\0\0\0\0\x64\0\0\0\x65\0\0\0\x01\0\0\0\x08\0\0\0\0\0\0\0\0\0\0\0\
+    \x04\x63\x04\x40\x03\0\0\0\
+    \x04\0\0\0\0\0\0\0\x64\0\0\0\x65\0\0\0\x01\0\0\0\x08\0\0\0\0\0\0\0\0\0\0\0\
+    \x07\x63\x04\x40\x03\0\0\0";

@@ -3,3 +3,4 @@
 mod devices;
 mod gate;
 mod memory;
+mod read_sizes;

@@ -4,9 +4,9 @@ ghost use Rattle.std.specs.Prelude.{◌≡◌, ◌+◌, ◌*◌, ◌<◌, ◌≤
 ghost use Rattle.claim_board.specs.Board.{AreJobs};
 ghost use Rattle.audit_tests.specs.SpacedJobs.{spaced_fault, AreSpacedFrom};
 
+use super::rounds::Rounds;
 use claim_board::{Job, JobStop, Work};
 use std::alloc::{AllocError, Global};
-use std::sync::atomic::{AtomicBool, Ordering};
 
 /// What a job gives: a list of its own, and the text that the work borrows.
 #[derive(Drop)]
@@ -16,7 +16,7 @@ pub struct Excerpt<'c> {
 }
 
 /// Jobs at every sixteenth place, of which those from `low` up to `high` have a fault, 5 above
-/// their start. The job `starved` finds no memory.
+/// their start. The job `starved` finds no memory. How far the jobs are is told to `rounds`.
 #[derive(Drop)]
 pub struct Excerpts<'c> {
     pub text: &'c [u8],
@@ -24,7 +24,7 @@ pub struct Excerpts<'c> {
     pub low: u64,
     pub high: u64,
     pub starved: Option<u64>,
-    pub second_ran: AtomicBool,
+    pub rounds: Rounds,
     ghost few: { jobs ≤ 4294967296 },
 }
 
@@ -75,9 +75,7 @@ impl<'c> Work for Excerpts<'c> {
     }
 
     fn run(&self, alloc: Global, i: u64) -> Result<Excerpt<'c>, JobStop> {
-        if i == 1 {
-            self.second_ran.store(true, Ordering::SeqCst);
-        }
+        self.rounds.run(i);
         match self.fault(i) {
             Some(place) => Err(JobStop::At(place)),
             None => match self.excerpt(alloc, i) {

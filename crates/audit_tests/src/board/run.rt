@@ -1,6 +1,7 @@
 //! All jobs, by workers in threads.
 
 use super::jobs::{Excerpt, Excerpts};
+use super::rounds::{Rounds, WATCHED};
 use crate::meeting::{Meeting, is_set_in_time};
 use claim_board::{Gate, NoGate, Stop, Workers, run_all};
 use std::alloc::Global;
@@ -44,7 +45,7 @@ fn excerpts_by((jobs, low, high, starved, _): Row) -> Excerpts<'static> {
         low,
         high,
         starved,
-        second_ran: AtomicBool::new(false),
+        rounds: Rounds::new(),
     }
 }
 
@@ -96,11 +97,22 @@ fn answers_at_1_2_7_and_64_workers(rt: HostRuntime) -> Result<(), Fail> {
 
 #[test]
 fn two_jobs_meet(rt: HostRuntime) -> Result<(), Fail> {
-    let gate = Meeting::new();
+    let gate = Meeting::<2>::new();
     let row = (2, 0, 0, None, Answer::All);
     let work = excerpts_by(row);
     let two = Workers::new(2).ok_or("workers")?;
     assert!(rt; has_answer(&rt, rt.alloc(), &work, two, &gate, row));
+    assert!(rt; gate.was_held());
+    Ok(())
+}
+
+#[test]
+fn four_jobs_meet(rt: HostRuntime) -> Result<(), Fail> {
+    let gate = Meeting::<4>::new();
+    let row = (4, 0, 0, None, Answer::All);
+    let work = excerpts_by(row);
+    let four = Workers::new(4).ok_or("workers")?;
+    assert!(rt; has_answer(&rt, rt.alloc(), &work, four, &gate, row));
     assert!(rt; gate.was_held());
     Ok(())
 }
@@ -157,32 +169,58 @@ fn rest_is_shared(rt: HostRuntime) -> Result<(), Fail> {
     Ok(())
 }
 
-/// Remembers whether the second job was entered.
-#[derive(Drop)]
-struct SecondEntered {
-    entered: AtomicBool,
+/// How many of the first jobs are run for sure by so many workers: up to the first fault, or the
+/// first job without memory where there is one worker.
+fn surely_run((jobs, low, high, starved, _): Row, workers: u64) -> usize {
+    if let (1, Some(i)) = (workers, starved) {
+        return (i as usize).saturating_add(1);
+    }
+    if low < high {
+        return (low as usize).saturating_add(1);
+    }
+    jobs as usize
 }
 
-impl Gate for SecondEntered {
-    fn enter(&self, i: u64) {
-        if i == 1 {
-            self.entered.store(true, Ordering::SeqCst);
+// Whether each job was run between its `enter` and its `leave`, and so many of them surely. The
+// rest was run so too or not at all, and by one worker not at all.
+fn are_between(rounds: &Rounds, surely: usize, workers: u64) -> bool {
+    for i in 0..WATCHED {
+        let left = rounds.is_left(i);
+        if !left && (i < surely || !rounds.is_untouched(i)) {
+            return false;
+        }
+        if left && i >= surely && workers == 1 {
+            return false;
         }
     }
+    rounds.are_in_order()
+}
 
-    fn leave(&self, _i: u64) {}
+#[test]
+fn each_run_is_between_enter_and_leave(rt: HostRuntime) -> Result<(), Fail> {
+    for &n in WORKERS {
+        let workers = Workers::new(n).ok_or("workers")?;
+        for &row in ROWS {
+            let work = excerpts_by(row);
+            let gate = &work.rounds;
+            assert!(rt;
+                has_answer(&rt, rt.alloc(), &work, workers, gate, row),
+                "{row:?} at {n}"
+            );
+            let surely = surely_run(row, n);
+            assert!(rt; are_between(gate, surely, n), "{row:?} at {n}");
+        }
+    }
+    Ok(())
 }
 
 #[test]
 fn skips_above(rt: HostRuntime) -> Result<(), Fail> {
-    let gate = SecondEntered {
-        entered: AtomicBool::new(false),
-    };
     let row = (2, 0, 1, None, Answer::Least(21));
     let work = excerpts_by(row);
     let one = Workers::new(1).ok_or("workers")?;
-    assert!(rt; has_answer(&rt, rt.alloc(), &work, one, &gate, row));
-    assert!(rt; !gate.entered.load(Ordering::SeqCst));
-    assert!(rt; !work.second_ran.load(Ordering::SeqCst));
+    assert!(rt; has_answer(&rt, rt.alloc(), &work, one, &work.rounds, row));
+    assert!(rt; work.rounds.is_left(0));
+    assert!(rt; work.rounds.is_untouched(1));
     Ok(())
 }

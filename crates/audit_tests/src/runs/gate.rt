@@ -1,22 +1,47 @@
 //! That a run hands on its workers, its piece and its gate.
 
-use crate::meeting::{Meeting, RELEASE_FIRST};
-use audit_run::{Piece, Workers, Written, run_gated};
+use crate::meeting::{FOUR_WRITES, Meeting, RELEASE_FIRST};
+use audit_run::{Gate, Piece, RunError, Workers, Written, run_gated};
+use std::alloc::Global;
 use std::test::Fail;
+use std::thread::Threads;
 
-const BEGINNING: &[u8] = b"BINDER AUDIT 1\nframes 2 records 2 opaque 0 missing 0\n";
+/// Whether the text begins so, by pieces of one frame.
+fn is_report<T: Threads + Sync, G: Gate + Sync>(
+    rt: &T,
+    alloc: Global,
+    capture: &[u8],
+    workers: Workers,
+    gate: &G,
+    beginning: &[u8],
+) -> Result<bool, RunError> {
+    let Some(piece) = Piece::new(1) else {
+        return Ok(false);
+    };
+    let mut reader = capture;
+    let mut out = Vec::new(alloc);
+    let written = run_gated(rt, alloc, &mut reader, &mut out, workers, piece, gate)?;
+    Ok(written == Written::Report && out.as_slice().starts_with(beginning))
+}
+
+const OF_TWO: &[u8] = b"BINDER AUDIT 1\nframes 2 records 2 opaque 0 missing 0\n";
 
 #[test]
 fn two_pieces_meet(rt: HostRuntime) -> Result<(), Fail> {
-    let gate = Meeting::new();
-    let workers = Workers::new(2).ok_or("workers")?;
-    let piece = Piece::new(1).ok_or("piece")?;
-    let mut reader = RELEASE_FIRST;
-    let mut out = Vec::new(rt.alloc());
-    let alloc = rt.alloc();
-    let written = run_gated(&rt, alloc, &mut reader, &mut out, workers, piece, &gate)?;
-    assert_eq!(rt; written, Written::Report);
-    assert!(rt; out.as_slice().starts_with(BEGINNING));
+    let gate = Meeting::<2>::new();
+    let two = Workers::new(2).ok_or("workers")?;
+    assert!(rt; is_report(&rt, rt.alloc(), RELEASE_FIRST, two, &gate, OF_TWO)?);
+    assert!(rt; gate.was_held());
+    Ok(())
+}
+
+const OF_FOUR: &[u8] = b"BINDER AUDIT 1\nframes 4 records 4 opaque 0 missing 0\n";
+
+#[test]
+fn four_pieces_meet(rt: HostRuntime) -> Result<(), Fail> {
+    let gate = Meeting::<4>::new();
+    let four = Workers::new(4).ok_or("workers")?;
+    assert!(rt; is_report(&rt, rt.alloc(), FOUR_WRITES, four, &gate, OF_FOUR)?);
     assert!(rt; gate.was_held());
     Ok(())
 }
