@@ -1,8 +1,8 @@
 -- Views of frames, and the whole frames that they show.
-use Rattle.std.proofs.Common.{◌≡◌, ℕ, ◌+◌, List, [], ◌∷◌, ◌++◌, length, map, take, drop, All, Some, None, refl, sym, ap, ap₂, subst, ◌∙◌, append_assoc, arith}
+use Rattle.std.proofs.Common.{◌≡◌, List, [], ◌∷◌, ◌++◌, length, map, All, Some, None, refl, sym, ap, ap₂, subst, ◌∙◌, append_assoc, arith}
 use Rattle.std.proofs.lemmas.Grind.{flat_map-append}
-use Rattle.std.proofs.lemmas.List.{append-nil, map-append, take-append-drop}
-use Rattle.std.proofs.lemmas.List.Elements.{All-append, All-cons, All-head, All-nil, All-tail}
+use Rattle.std.proofs.lemmas.List.{append-nil, map-append}
+use Rattle.std.proofs.lemmas.List.Elements.{All-cons, All-head, All-nil, All-tail}
 use Rattle.capture_frame.specs.declared.frame.Frame.{Frame}
 use Rattle.capture_frame.specs.Envelope.{FrameText, frame_text, placed_frame}
 use Rattle.capture_frame.specs.Units.{Placed, placed_at}
@@ -14,9 +14,7 @@ use Rattle.transaction_view.specs.Attachments.{EntryText, HasEntries}
 use Rattle.event_core.specs.declared.event.Event.{Event}
 use Rattle.event_core.specs.Reading.{Reading, Steps, event_text}
 use Rattle.event_core.proofs.EventsGiven.{Given, one_further, given_first, given_all}
-use Rattle.summary_law.specs.Fits.{short_parts}
-use Rattle.audit_findings.specs.declared.ledgers.Ledgers.{Ledgers}
-use Rattle.audit_findings.specs.Ledgers.{AreFewEvents, AreFewFrames, SumsLedgers, Takes, CanTake}
+use Rattle.audit_findings.specs.Ledgers.{AreFewEvents, AreFewFrames}
 use Rattle.audit_findings.proofs.FewLaws.{few_parts}
 use Rattle.audit_findings.specs.Frames.{Show, IsWhole}
 use Rattle.event_core.specs.Events.{placed_text}
@@ -164,40 +162,3 @@ shown_good frame others show =
     let one = shown_first frame [] others show in
     let events = whole_events frame one.0 one.3 one.4 in
     ((events.0, events.2), (events.1, events.3))
-
--- ---- ledgers that take frame after frame
-
--- few frames are few in parts
-pub few_frames_parts : (first second : List (Placed WholeFrame)) → AreFewFrames (first ++ second) → AreFewFrames first × AreFewFrames second
-few_frames_parts first second few =
-    let short = short_parts first second few.0 in
-    let events = few_parts (events_of_wholes first) (events_of_wholes second) (subst AreFewEvents (events-append first second) few.1) in
-    ((short.0, events.0), (short.1, events.1))
-
--- a list around one of its elements
-pub one_behind : (frames : List Frame) (i : ℕ) (f : Frame) → take (i + 1) frames ≡ take i frames ++ f ∷ []
-    → frames ≡ take i frames ++ f ∷ drop (i + 1) frames
-one_behind frames i f more = sym (take-append-drop (i + 1) frames) ∙ ap (λ (t : List Frame). t ++ drop (i + 1) frames) more
-    ∙ append_assoc (take i frames) (f ∷ []) (drop (i + 1) frames)
-
--- the frames so far and one more
-pub takes_next : (old mid new : Ledgers) (done : List Frame) (f : Frame) → Takes old done mid → Takes mid (f ∷ []) new → Takes old (done ++ f ∷ []) new
-takes_next old mid new done f so_far last wholes others sums show few =
-    let parts = shown_parts done (f ∷ []) others show in
-    let joined : wholes ++ others ≡ (wholes ++ parts.0) ++ parts.1 =
-    ap (λ (t : List (Placed WholeFrame)). wholes ++ t) parts.2 ∙ sym (append_assoc wholes parts.0 parts.1) in
-    let fits = subst AreFewFrames joined few in
-    subst (SumsLedgers new) (sym joined)
-    (last (wholes ++ parts.0) parts.1 (so_far wholes parts.0 sums parts.3 (few_frames_parts (wholes ++ parts.0) parts.1 fits).0) parts.4 fits)
-
--- one of some frames can be taken, behind those before it
-pub takes_first : (old mid : Ledgers) (done : List Frame) (f : Frame) (rest : List Frame) (wholes others : List (Placed WholeFrame))
-    → SumsLedgers old wholes → Show (done ++ f ∷ rest) others → AreFewFrames (wholes ++ others) → Takes old done mid → CanTake mid (f ∷ [])
-takes_first old mid done f rest wholes others sums show few so_far =
-    let parts = shown_parts done (f ∷ rest) others show in
-    let next = shown_parts (f ∷ []) rest parts.1 parts.4 in
-    let joined : wholes ++ others ≡ ((wholes ++ parts.0) ++ next.0) ++ next.1 =
-    ap (λ (t : List (Placed WholeFrame)). wholes ++ t) parts.2 ∙ sym (append_assoc wholes parts.0 parts.1)
-    ∙ ap (λ (t : List (Placed WholeFrame)). (wholes ++ parts.0) ++ t) next.2 ∙ sym (append_assoc (wholes ++ parts.0) next.0 next.1) in
-    let fits = (few_frames_parts ((wholes ++ parts.0) ++ next.0) next.1 (subst AreFewFrames joined few)).0 in
-    (wholes ++ parts.0, next.0, so_far wholes parts.0 sums parts.3 (few_frames_parts (wholes ++ parts.0) next.0 fits).0, next.3, fits)

@@ -1,5 +1,5 @@
 -- A process without an item has no row.
-use Rattle.std.proofs.Common.{◌≡◌, List, [], map, Some, sym, subst, arith}
+use Rattle.std.proofs.Common.{List, [], map, Some, sym, subst, arith}
 use Rattle.std.specs.List.Sorted.{IsStrictlySortedBy}
 use Rattle.std.proofs.lemmas.List.Elements.{All-nil}
 use Rattle.event_core.specs.declared.handle.HandleItem.{HandleItem}

@@ -1,9 +1,9 @@
 -- The sequences of frames, and of frames behind them.
-use Rattle.std.proofs.Common.{◌≡◌, ◌≢◌, ◌+◌, ◌-◌, List, [], ◌∷◌, ◌++◌, length, refl, sym, ap, ◌∙◌, length-append, arith}
+use Rattle.std.proofs.Common.{◌≡◌, ◌≢◌, ◌+◌, List, [], ◌∷◌, ◌++◌, length, refl, sym, ◌∙◌, length-append, arith}
 use Rattle.capture_frame.specs.Units.{Placed}
 use Rattle.transaction_view.specs.Grammar.{WholeFrame}
 use Rattle.audit_findings.specs.declared.sequences.Sequences.{Sequences}
-use Rattle.audit_findings.specs.Findings.{last_sequence, missing_count}
+use Rattle.audit_findings.specs.Findings.{last_sequence}
 use Rattle.audit_findings.specs.Ledgers.{SumsFrames}
 
 -- there are frames, or there are none

@@ -1,7 +1,7 @@
 -- The calls of each thread, as those of all threads.
-use Rattle.std.proofs.Common.{◌≡◌, ◌≢◌, ℕ, Bool, true, false, cond, eqb, ◌&&◌, List, [], ◌∷◌, map, filter, Some, None, refl, sym, ap, ap₂, subst, ◌∙◌, ⊎_elim, inl, inr}
+use Rattle.std.proofs.Common.{◌≡◌, ◌≢◌, ℕ, Bool, true, false, cond, List, [], ◌∷◌, map, filter, Some, None, refl, sym, ap, subst, ◌∙◌, ⊎_elim, inl, inr}
 use Rattle.std.specs.Prelude.{◌↔◌, All, Contains}
-use Rattle.std.proofs.lemmas.Bool.{cases_Bool, eqb-true}
+use Rattle.std.proofs.lemmas.Bool.{cases_Bool}
 use Rattle.std.proofs.lemmas.List.Elements.{All-head, All-tail}
 use Rattle.std.proofs.lemmas.Map.Views.{Contains-from_any}
 use Rattle.std.specs.List.{AllZip, IsDistinct, cons_option, list_any}
@@ -23,7 +23,6 @@ use Rattle.audit_findings.specs.declared.refused.SendRow.{SendRow}
 use Rattle.audit_findings.specs.declared.thread_rows.ThreadRows.{ThreadRows}
 use Rattle.audit_findings.specs.Calls.{text_reads, judged_in_thread, AreOpeners, AreStrays, AreSends}
 use Rattle.audit_findings.specs.Places.{RiseInPlace}
-use Rattle.capture_frame.specs.Process.{same_process}
 use Rattle.event_core.specs.Events.{thread_of}
 use Rattle.capture_frame.specs.Process.{same_thread}
 use Rattle.audit_findings.specs.ThreadLedger.{fed_view, SumsThreads}

@@ -39,19 +39,8 @@ impl<'c> Ledgers<'c> {
         }
     }
 
-    /// Adds frames without a fault. After an error they are only to be dropped.
-    pub fn add_all(&mut self, frames: &[Frame<'c>]) -> Result<(), AllocError>
-        requires { CanTake self.old frames.now }
-        ensures { OnOk result (Takes self.old frames.entry.now self.new) }
-    {
-        for frame in frames {
-            self.add(*frame)?;
-        }
-        Ok(())
-    }
-
-    /// Adds a frame without a fault.
-    fn add(&mut self, frame: Frame<'c>) -> Result<(), AllocError>
+    /// Adds a frame without a fault. After an error they are only to be dropped.
+    pub fn add(&mut self, frame: Frame<'c>) -> Result<(), AllocError>
         requires { CanTake self.old (frame ∷ []) }
         ensures { OnOk result (Takes self.old (frame.entry ∷ []) self.new) }
     {

@@ -46,7 +46,7 @@ pub use objects::BadRow;
 pub use oneway::OnewayRow;
 pub use oneway_counts::OnewayCounts;
 pub use open_and_stray::OpenAndStray;
-pub use piece_summary::{MOST_KEPT, PieceSummary};
+pub use piece_summary::PieceSummary;
 pub use process_sections::ProcessSections;
 pub use record_counts::RecordCounts;
 pub use references::References;

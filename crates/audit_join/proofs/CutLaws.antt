@@ -31,7 +31,7 @@ use Rattle.audit_join.specs.declared.audit_error.AuditError.{AuditError}
 use Rattle.audit_join.specs.declared.audit_error.AuditError.TheVariants.{Memory, Malformed}
 use Rattle.audit_join.specs.Audit.{IsMalformed}
 use Rattle.audit_join.specs.Jobs.{AreSound, IsFirstIn, IsOfBytes, AreCut}
-use Rattle.audit_join.specs.Summaries.{IsFirstError}
+use Rattle.audit_join.specs.Judged.{IsFirstError}
 
 abbrev IsGood : Frame → Type 0
 IsGood frame = HasGoodContent (frame_text frame)

@@ -1,6 +1,7 @@
 -- The first fault of frames is one.
-use Rattle.std.proofs.Common.{◌≡◌, ℕ, ◌+◌, ◌<◌, List, [], ◌∷◌, ◌++◌, length, get_or, Option, Some, None, refl, sym, ap, ◌∙◌, subst, length-append, arith}
+use Rattle.std.proofs.Common.{◌≡◌, ℕ, ◌+◌, ◌<◌, List, [], ◌∷◌, ◌++◌, length, take, drop, get_or, Option, Some, None, refl, sym, ap, ◌∙◌, subst, length-append, append_assoc, arith}
 use Rattle.std.specs.Prelude.{Contains, IsSome}
+use Rattle.std.proofs.lemmas.List.{take-append-drop}
 use Rattle.std.proofs.lemmas.List.Elements.{All-head, All-tail}
 use Rattle.capture_frame.specs.declared.fault.Fault.{Fault}
 use Rattle.capture_frame.specs.declared.frame.Frame.{Frame}
@@ -122,3 +123,10 @@ fails_there frames place found is (fault, first, at) =
     (one_held frames place found first.frame is (faulty_there frames fault first)
     (subst (λ (n : ℕ). Holds n first.frame) (sym at) (fault_held first.frame fault first.fails)))
     first.fails
+
+-- ---- a list around one of its elements
+
+pub one_behind : (frames : List Frame) (i : ℕ) (f : Frame) → take (i + 1) frames ≡ take i frames ++ f ∷ []
+    → frames ≡ take i frames ++ f ∷ drop (i + 1) frames
+one_behind frames i f more = sym (take-append-drop (i + 1) frames) ∙ ap (λ (t : List Frame). t ++ drop (i + 1) frames) more
+    ∙ append_assoc (take i frames) (f ∷ []) (drop (i + 1) frames)

@@ -6,12 +6,12 @@ use Rattle.std.proofs.lemmas.List.{append-nil, get_or_append_left, length-drop, 
 use Rattle.std.proofs.lemmas.List.Elements.{All-append, All-cons, All-nil}
 use Rattle.std.proofs.lemmas.Grind.{flat_map-append}
 use Rattle.capture_frame.specs.declared.frame.Frame.{Frame}
-use Rattle.summary_law.specs.Parts.{all_items}
+use Rattle.audit_join.specs.Runs.{all_frames}
 
 -- the runs are the first frames up to a place in the list, and as long as there are more, each has n of them
 pub record AreRunsUpTo (n : ℕ) (frames : List Frame) (runs : List (List Frame)) (start : ℕ) : Type 0 where
   pub within : start ≤ length frames
-  pub joined : all_items runs ≡ take start frames
+  pub joined : all_frames runs ≡ take start frames
   pub sizes : All (λ run. (1 ≤ length run) × (length run ≤ n)) runs
   pub whole : start < length frames → All (λ run. length run ≡ n) runs
   pub full : (i : ℕ) (d : List Frame) → i + 1 < length runs → length (slice_index_or runs i d) ≡ n
@@ -37,7 +37,7 @@ one_run_more n frames runs start end some so_far more ends =
     record {
       within = omega (arith, ends);
       joined = flat_map-append (λ (list : List Frame). list) runs (run ∷ [])
-          ∙ ap (λ (t : List Frame). all_items runs ++ t) (append-nil run)
+          ∙ ap (λ (t : List Frame). all_frames runs ++ t) (append-nil run)
           ∙ ap (λ (t : List Frame). t ++ run) so_far.joined
           ∙ sym (take-add start (end - start) frames)
           ∙ ap (λ (k : ℕ). take k frames) up_to;

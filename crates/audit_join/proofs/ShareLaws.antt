@@ -9,7 +9,6 @@ use Rattle.capture_frame.specs.declared.frame.Frame.{Frame}
 use Rattle.capture_frame.specs.Envelope.{frame_text}
 use Rattle.transaction_view.specs.FirstFault.{HasGoodContent}
 use Rattle.summary_law.specs.Fits.{all_parts, pairs_parts}
-use Rattle.summary_law.specs.Parts.{all_items}
 use Rattle.claim_board.specs.declared.job.Job.{Job}
 use Rattle.claim_board.specs.Board.{AreJobs, EndsBefore}
 use Rattle.claim_board.specs.Orders.{AreFaultless, IsLeastFault}
@@ -18,13 +17,11 @@ use Rattle.claim_board.specs.Running.{AreWorkJobs, no_place}
 use Rattle.claim_board.specs.Work.{IsStop}
 use Rattle.claim_board.specs.declared.run.Stop.{Stop}
 use Rattle.claim_board.specs.declared.run.Stop.TheVariants.{Least, Memory as NoMemory}
-use Rattle.audit_findings.specs.declared.piece_summary.PieceSummary.{PieceSummary}
 use Rattle.capture_frame.specs.Lookup.{span_of, StandApart}
-use Rattle.audit_findings.specs.Summary.{SumsPiece}
 use Rattle.audit_findings.proofs.FrameLaws.{first_same}
 use Rattle.audit_join.specs.Jobs.{AreSound, HasFirstAt, IsFaultOf, IsJobOf, IsOfBytes, AreCut, AreJobRuns, run_at}
-use Rattle.audit_join.specs.Runs.{AreRuns}
-use Rattle.audit_join.specs.Summaries.{AreSummaries, IsLeastOf}
+use Rattle.audit_join.specs.Runs.{all_frames, AreRuns}
+use Rattle.audit_join.specs.Judged.{IsLeastOf}
 use Rattle.audit_join.proofs.FaultLaws.{fault_held}
 
 -- ---- the runs of cut frames
@@ -39,21 +36,21 @@ cut_parts first second cut =
       record { few = omega (arith, parts, few); apart = apart.1; bytes = bytes.1 },
     )
 
-runs_cut : (runs : List (List Frame)) → AreCut (all_items runs) → All AreCut runs
+runs_cut : (runs : List (List Frame)) → AreCut (all_frames runs) → All AreCut runs
 runs_cut [] cut = All-nil AreCut
 runs_cut (run ∷ runs) cut =
-    let parts = cut_parts run (all_items runs) cut in
+    let parts = cut_parts run (all_frames runs) cut in
     All-cons AreCut run runs parts.0 (runs_cut runs parts.1)
 
 abbrev IsSome : List Frame → Type 0
 IsSome run = 1 ≤ length run
 
-fewer_runs : (runs : List (List Frame)) → All IsSome runs → length runs ≤ length (all_items runs)
+fewer_runs : (runs : List (List Frame)) → All IsSome runs → length runs ≤ length (all_frames runs)
 fewer_runs [] some = omega arith
 fewer_runs (run ∷ runs) some =
     let here = All-head IsSome run runs some in
     let others = fewer_runs runs (All-tail IsSome run runs some) in
-    let long = length-append run (all_items runs) in
+    let long = length-append run (all_frames runs) in
     omega (arith, here, others, long)
 
 spans_long : (frames : List Frame) → length frames ≤ sum_by span_of frames
@@ -121,27 +118,27 @@ begins_before run first rest next others are apart =
 
 -- a job ends before the next one begins
 ends : (run : List Frame) (job : Job) (runs : List (List Frame)) (jobs : List Job) → IsJobOf run job → AllZip IsJobOf runs jobs
-    → AllPairs StandApart (run ++ all_items runs) → EndsBefore job jobs
+    → AllPairs StandApart (run ++ all_frames runs) → EndsBefore job jobs
 ends run job [] [] is each apart = tt
 ends run job [] (j ∷ jobs) is each apart = absurd each
 ends run job (r ∷ runs) [] is each apart = absurd each
 ends run job (r ∷ runs) (j ∷ jobs) is each apart =
     let next = each.0 in
-    let whole = subst (λ (t : List Frame). AllPairs StandApart (run ++ (t ++ all_items runs))) next.are apart in
-    let begins = begins_before run is.first is.others next.first (next.others ++ all_items runs) is.are whole in
+    let whole = subst (λ (t : List Frame). AllPairs StandApart (run ++ (t ++ all_frames runs))) next.are apart in
+    let begins = begins_before run is.first is.others next.first (next.others ++ all_frames runs) is.are whole in
     let from = is.start in
     let to = next.start in (
       omega (arith, begins, from, to),
       subst (λ (n : ℕ). IfSome job.fault (λ x. x < n)) (sym next.start)
-          (before_next run job.fault next.first (next.others ++ all_items runs) is.fault whole),
+          (before_next run job.fault next.first (next.others ++ all_frames runs) is.fault whole),
     )
 
-in_order : (runs : List (List Frame)) (jobs : List Job) → AllZip IsJobOf runs jobs → AllPairs StandApart (all_items runs) → AreJobs jobs
+in_order : (runs : List (List Frame)) (jobs : List Job) → AllZip IsJobOf runs jobs → AllPairs StandApart (all_frames runs) → AreJobs jobs
 in_order [] [] each apart = tt
 in_order [] (j ∷ jobs) each apart = absurd each
 in_order (run ∷ runs) [] each apart = absurd each
 in_order (run ∷ runs) (job ∷ jobs) each apart =
-    let parts = pairs_parts StandApart run (all_items runs) apart in
+    let parts = pairs_parts StandApart run (all_frames runs) apart in
     let is = each.0 in (
       subst (λ (n : ℕ). IfSome job.fault (λ x. n ≤ x)) (sym is.start) (from_start run is.first is.others job.fault is.are is.fault parts.0),
       ends run job runs jobs is each.1 apart,
@@ -168,7 +165,7 @@ placeable (run ∷ runs) (job ∷ jobs) each =
     let fits = is.first.fits in
     All-cons IsPlaceable job jobs (omega (arith, from, fits), fault_placeable run job.fault is.fault) (placeable runs jobs each.1)
 
-work_jobs : (runs : List (List Frame)) (jobs : List Job) → AllZip IsJobOf runs jobs → AreJobRuns runs → AllPairs StandApart (all_items runs)
+work_jobs : (runs : List (List Frame)) (jobs : List Job) → AllZip IsJobOf runs jobs → AreJobRuns runs → AllPairs StandApart (all_frames runs)
     → AreWorkJobs jobs
 work_jobs runs jobs each can apart =
     let long = AllZip-long IsJobOf runs jobs each in
@@ -181,13 +178,13 @@ abbrev IsGood : Frame → Type 0
 IsGood frame = HasGoodContent (frame_text frame)
 
 -- where no job has a fault, no frame has one
-all_sound : (runs : List (List Frame)) (jobs : List Job) → AllZip IsJobOf runs jobs → AreFaultless jobs → AreSound (all_items runs)
+all_sound : (runs : List (List Frame)) (jobs : List Job) → AllZip IsJobOf runs jobs → AreFaultless jobs → AreSound (all_frames runs)
 all_sound [] [] each none = All-nil IsGood
 all_sound [] (j ∷ jobs) each none = absurd each
 all_sound (run ∷ runs) [] each none = absurd each
 all_sound (run ∷ runs) (job ∷ jobs) each none =
     let NoFault : Job → Type 0 = λ j. j.fault ≡ None in
-    All-append IsGood run (all_items runs) (subst (IsFaultOf run) (All-head NoFault job jobs none) each.0.fault)
+    All-append IsGood run (all_frames runs) (subst (IsFaultOf run) (All-head NoFault job jobs none) each.0.fault)
     (all_sound runs jobs each.1 (All-tail NoFault job jobs none))
 
 -- the least fault of the jobs is the first of the frames
@@ -273,54 +270,23 @@ by_fault run others job jobs x (Some y) at is are least later =
     in_front run others x (subst (HasFirstAt run) same is)
 
 least_first : (runs : List (List Frame)) (jobs : List Job) (x : ℕ) → AllZip IsJobOf runs jobs → AreJobs jobs → IsLeastFault jobs x
-    → HasFirstAt (all_items runs) x
+    → HasFirstAt (all_frames runs) x
 least_first [] [] x each are least = let wrong : None ≡ Some least.found.1 = least.found.2 in absurd (cc)
 least_first [] (j ∷ jobs) x each are least = absurd each
 least_first (run ∷ runs) [] x each are least = absurd each
 least_first (run ∷ runs) (job ∷ jobs) x each are least =
-    by_fault run (all_items runs) job jobs x job.fault refl each.0.fault are least (λ later. least_first runs jobs x each.1 are.2 later)
-
--- ---- the results are the summaries of the runs
-
-zip_from : {A B : Type 0} (R : A → B → Type 0) (xs : List A) (ys : List B) (d : B) → length xs ≡ length ys
-    → ((i : ℕ) (x : A) → slice_get xs i ≡ Some x → R x (get_or ys i d)) → AllZip R xs ys
-zip_from R [] [] d long each = tt
-zip_from R [] (y ∷ ys) d long each = absurd (omega (arith, long))
-zip_from R (x ∷ xs) [] d long each = absurd (omega (arith, long))
-zip_from R (x ∷ xs) (y ∷ ys) d long each = (each 0 x refl, zip_from R xs ys d (omega (arith, long)) (λ i. each (suc i)))
-
-results_sum : (runs : List (List Frame)) (jobs : List Job) (parts : List PieceSummary) → AllZip IsJobOf runs jobs
-    → AreInOrder (λ i part. SumsPiece part (run_at runs i)) (length jobs) parts → AllZip SumsPiece parts runs
-results_sum runs jobs parts each results =
-    zip_from SumsPiece parts runs [] (results.count ∙ AllZip-long IsJobOf runs jobs each) results.each
+    by_fault run (all_frames runs) job jobs x job.fault refl each.0.fault are least (λ later. least_first runs jobs x each.1 are.2 later)
 
 -- ---- of runs and their jobs
 
--- what follows of a result from a fact and what holds of it
-with_both : {X E : Type 0} (r : Result X E) (A : Type 0) (P Q : X → Type 0) → ((x : X) → A → P x → Q x)
-    → IfOk r (λ _. A) → IfOk r P → IfOk r Q
-with_both (Ok x) A P Q step a p = step x a p
-with_both (Err e) A P Q step a p = tt
-
-module _ (runs : List (List Frame)) (can : AreJobRuns runs) (cut : AreCut (all_items runs)) (jobs : List Job)
+module _ (runs : List (List Frame)) (can : AreJobRuns runs) (cut : AreCut (all_frames runs)) (jobs : List Job)
     (each : AllZip IsJobOf runs jobs) where
   pub shared_jobs : AreWorkJobs jobs
   shared_jobs = work_jobs runs jobs each can cut.apart
 
-  shared_summaries : (parts : List PieceSummary) → AreFaultless jobs
-      → AreInOrder (λ i part. SumsPiece part (run_at runs i)) (length jobs) parts → AreSummaries (all_items runs) parts
-  shared_summaries parts none results = record {
-    sound = all_sound runs jobs each none;
-    runs = runs;
-    joined = refl;
-    each = results_sum runs jobs parts each results;
-  }
+  pub shared_sound : AreFaultless jobs → AreSound (all_frames runs)
+  shared_sound = all_sound runs jobs each
 
-  pub all_summaries : {E Z : Type 0} (r : Result (Vec PieceSummary Z) E) → IfOk r (λ _. AreFaultless jobs)
-      → IfOk r (λ parts. AreInOrder (λ i part. SumsPiece part (run_at runs i)) (length jobs) parts.items)
-      → IfOk r (λ parts. AreSummaries (all_items runs) parts.items)
-  all_summaries r = with_both r _ _ _ (λ parts. shared_summaries parts.items)
-
-  pub shared_stop : (stop : Stop) → IsStop jobs stop → IsLeastOf (all_items runs) stop
+  pub shared_stop : (stop : Stop) → IsStop jobs stop → IsLeastOf (all_frames runs) stop
   shared_stop (Least x) least = least_first runs jobs x each shared_jobs.in_order least
   shared_stop NoMemory _ = tt

@@ -1,4 +1,4 @@
 pub mod Audit
 pub mod Runs
 pub mod Jobs
-pub mod Summaries
+pub mod Judged

@@ -7,19 +7,18 @@ ghost use Rattle.event_core.specs.Events.{wholes_of};
 ghost use Rattle.audit_findings.specs.Findings.{FindingsText};
 ghost use Rattle.audit_findings.specs.Kept.{AreOfFrames, Tell, kept_findings};
 ghost use Rattle.audit_join.specs.Audit.{IsAudited, IsMalformed};
-ghost use Rattle.audit_join.specs.Summaries.{AreSummaries};
 ghost use Rattle.audit_join.specs.declared.limits.TheConstants.{CAPTURE_LIMIT};
 
 use crate::audit_error::AuditError;
+use crate::judging::judge;
 use crate::limits::CAPTURE_LIMIT;
 use crate::piece::Piece;
-use crate::summaries::summaries_of;
+use crate::shares::sum_shares;
 use audit_findings::{Findings, PieceSummary, Sections};
 use capture_frame::{Cut, Frame, cut};
 use claim_board::{Gate, NoGate, Workers};
 use std::alloc::{AllocError, Global};
 use std::thread::Threads;
-use summary_law::join_all;
 
 /// The findings of a capture, or its first fault. The frames are shared among so many workers, a
 /// piece at a time.
@@ -37,15 +36,13 @@ pub fn audit<'c, T: Threads + Sync, G: Gate + Sync>(
 {
     match cut(alloc, capture) {
         Ok(frames) => {
-            let slice = frames.as_slice();
-            let parts = summaries_of(rt, alloc, slice, workers, piece, gate)?;
-            Ok(findings_of(rt, alloc, frames, parts, workers)?)
+            judge(rt, alloc, frames.as_slice(), workers, piece, gate)?;
+            Ok(findings_of(rt, alloc, frames, workers)?)
         }
         Err(Cut::Memory) => Err(AuditError::Memory),
         Err(Cut::Bad { fault, before }) => {
             // A fault of the frames before it comes first.
-            let slice = before.as_slice();
-            summaries_of(rt, alloc, slice, workers, piece, gate)?;
+            judge(rt, alloc, before.as_slice(), workers, piece, gate)?;
             Err(AuditError::Malformed(fault))
         }
     }
@@ -66,22 +63,20 @@ pub fn audit_one<'c, T: Threads + Sync>(
     audit(rt, alloc, capture, workers, piece, &NoGate)
 }
 
-/// The findings of frames, from the summaries of their runs.
+/// The findings of frames, whose shares are summed by workers.
 fn findings_of<'c, T: Threads + Sync>(
     rt: &T,
     alloc: Global,
     frames: Vec<Frame<'c>>,
-    parts: Vec<PieceSummary<'c>>,
     workers: Workers,
 ) -> Result<Findings<'c>, AllocError>
-    requires parts { AreSummaries frames.items parts.items }
     requires good { AreGoodFrames frames.items }
     requires shown { (wholes : List WholeFrame) × Show frames.items (wholes_of wholes) }
     ensures { IfOk result (λ found. (wholes : List WholeFrame) →
         Show frames.entry.items (wholes_of wholes) →
         (said : FindingsText) × Tell wholes said found.frames found.sections) }
 {
-    let whole = join_all(rt, alloc, parts, workers.get())?;
+    let whole: PieceSummary<'c> = sum_shares(rt, alloc, frames.as_slice(), workers.get())?;
     let sections = whole.sections()?;
     Ok(look_again(frames, sections))
 }

@@ -3,13 +3,14 @@
 
 mod audit_error;
 mod audits;
+mod judging;
 pub mod laws;
 mod limits;
 mod piece;
 mod piece_work;
 mod plan;
 mod run_checks;
-mod summaries;
+mod shares;
 
 pub use audit_error::AuditError;
 pub use audit_findings::{

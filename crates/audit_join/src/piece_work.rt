@@ -6,11 +6,10 @@ ghost use Rattle.capture_frame.specs.declared.frame.Frame.{Frame};
 ghost use Rattle.claim_board.specs.declared.job.Job.{Job};
 ghost use Rattle.audit_join.specs.Jobs.{AreJobRuns, IsJobOf};
 
-use crate::run_checks::{first_in, start_of, summary_of};
-use audit_findings::PieceSummary;
+use crate::run_checks::{first_in, start_of};
 use capture_frame::Frame;
 use claim_board::{JobStop, Work};
-use std::alloc::{AllocError, Global};
+use std::alloc::Global;
 use std::marker::{Brand, PhantomData};
 
 /// The jobs that runs of frames are. Clauses alone read them.
@@ -18,12 +17,12 @@ pub(crate) trait RunJobs {
     ghost jobs: { (runs : List (List Frame)) → AreJobRuns runs → List Job };
 }
 
-/// In place of these, `summaries_of` picks the jobs that the runs are.
+/// In place of these, `judge` picks the jobs that the runs are.
 impl RunJobs for Brand {
     ghost jobs = { λ _ _. [] };
 }
 
-/// A job for each run of frames: to find its first fault, or to summarise it.
+/// A job for each run of frames: to find its first fault. It gives nothing besides.
 #[derive(Drop)]
 pub(crate) struct PieceWork<'f, 'c, J: RunJobs> {
     pub runs: &'f [&'f [Frame<'c>]],
@@ -34,15 +33,13 @@ pub(crate) struct PieceWork<'f, 'c, J: RunJobs> {
 }
 
 impl<'f, 'c, J: RunJobs> Work for PieceWork<'f, 'c, J> {
-    ghost use Rattle.std.specs.Prelude.{map};
-    ghost use Rattle.audit_findings.specs.Summary.{SumsPiece};
-    ghost use Rattle.audit_join.specs.Jobs.{run_at};
+    ghost use Rattle.std.specs.Prelude.{map, ⊤};
 
-    type Out = PieceSummary<'c>;
+    type Out = ();
 
     ghost listed = { λ me. J.jobs (map (λ run. run.now) me.runs.now) me.can_judge };
 
-    ghost gives = { λ me i out. SumsPiece out (run_at (map (λ run. run.now) me.runs.now) i) };
+    ghost gives = { λ _ _ _. ⊤ };
 
     fn jobs(&self) -> u64 {
         self.runs.len() as u64
@@ -52,14 +49,10 @@ impl<'f, 'c, J: RunJobs> Work for PieceWork<'f, 'c, J> {
         start_of(self.runs[i as usize])
     }
 
-    fn run(&self, alloc: Global, i: u64) -> Result<PieceSummary<'c>, JobStop> {
-        let frames = self.runs[i as usize];
-        match first_in(frames) {
+    fn run(&self, _alloc: Global, i: u64) -> Result<(), JobStop> {
+        match first_in(self.runs[i as usize]) {
             Some(fault) => Err(JobStop::At(fault.place)),
-            None => match summary_of(alloc, frames) {
-                Ok(summary) => Ok(summary),
-                Err(AllocError) => Err(JobStop::Memory),
-            },
+            None => Ok(()),
         }
     }
 }

@@ -1,16 +1,11 @@
-//! Of some frames: where they begin, their first fault, and their summary.
+//! Of some frames: where they begin, and their first fault.
 
-ghost use Rattle.std.specs.Prelude.{◌≡◌, ◌≤◌, List, ◌∷◌, length, AllPairs, IfOk, MatchOption};
+ghost use Rattle.std.specs.Prelude.{◌≡◌, ◌≤◌, List, ◌∷◌, length, AllPairs, MatchOption};
 ghost use Rattle.capture_frame.specs.declared.frame.Frame.{Frame};
-ghost use Rattle.audit_findings.specs.Frames.{AreGoodFrames};
 ghost use Rattle.capture_frame.specs.Lookup.{StandApart};
-ghost use Rattle.audit_findings.specs.Summary.{SumsPiece};
 ghost use Rattle.audit_join.specs.Jobs.{AreSound, IsFirstIn, HasFirstAt};
 
-use audit_findings::{MOST_KEPT, PieceSummary};
 use capture_frame::{Fault, Frame, frame_at};
-use std::alloc::{AllocError, Global};
-use summary_law::Summary;
 use transaction_view::check_frame;
 
 /// Where the first of these frames begins.
@@ -43,19 +38,4 @@ pub(crate) fn fault_at(frames: &[Frame<'_>], place: u64) -> Fault
     // A frame holds it, and has it.
     let frame = frame_at(frames, place).unwrap();
     check_frame(frame).unwrap()
-}
-
-/// The summary of these frames.
-pub(crate) fn summary_of<'c>(
-    alloc: Global,
-    frames: &[Frame<'c>],
-) -> Result<PieceSummary<'c>, AllocError>
-    requires { AreGoodFrames frames.now }
-    ensures { IfOk result (λ summary. SumsPiece summary frames.now) }
-{
-    let mut summary = PieceSummary::with_room(alloc, frames.len(), MOST_KEPT)?;
-    for frame in frames {
-        summary.add(*frame)?;
-    }
-    Ok(summary)
 }

@@ -4,5 +4,4 @@ pub mod Fits
 pub mod ByKey
 pub mod Amount
 pub mod Tally
-pub mod Parts
 pub mod InOrder

@@ -5,7 +5,6 @@
 mod amount;
 mod by_key;
 mod count;
-mod halves;
 mod in_order;
 pub mod laws;
 mod list;
@@ -15,7 +14,6 @@ mod tally;
 pub use amount::Amount;
 pub use by_key::ByKey;
 pub use count::Count;
-pub use halves::join_all;
 pub use in_order::InOrder;
 pub use list::summary_of;
 pub use summary::Summary;

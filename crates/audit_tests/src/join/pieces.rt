@@ -1,4 +1,4 @@
-//! Frames in pieces, whose summaries keep few frames as they are, and the findings they come to.
+//! Frames in pieces, whose summaries are joined, and the findings they come to.
 
 ghost use Rattle.std.specs.Prelude.{◌≤◌, List, IfOk};
 ghost use Rattle.transaction_view.specs.Grammar.{WholeFrame};
@@ -9,43 +9,26 @@ ghost use Rattle.audit_findings.specs.Summary.{SumsPiece};
 use audit_join::{Findings, PieceSummary};
 use capture_frame::Frame;
 use std::alloc::{AllocError, Global};
-use summary_law::Summary;
+use summary_law::{Summary, summary_of};
 
-/// The summary of these frames, which keeps no more than so many as they are.
-pub(crate) fn summary_of<'c>(
-    alloc: Global,
-    frames: &[Frame<'c>],
-    most_kept: usize,
-) -> Result<PieceSummary<'c>, AllocError>
-    requires { AreGoodFrames frames.now }
-    ensures { IfOk result (λ summary. SumsPiece summary frames.now) }
-{
-    let mut summary = PieceSummary::with_room(alloc, frames.len(), most_kept)?;
-    for frame in frames {
-        summary.add(*frame)?;
-    }
-    Ok(summary)
-}
-
-/// The same, joined from those of so many pieces of so many frames: first those of each half of
+/// The summary of these frames, joined from those of so many pieces of so many frames: first those of each half of
 /// the pieces, and then the two that result. What is left of the frames is in the last piece.
 fn joined_in_pieces<'c>(
     alloc: Global,
     frames: &[Frame<'c>],
     pieces: usize,
     piece: usize,
-    most_kept: usize,
 ) -> Result<PieceSummary<'c>, AllocError>
     requires { AreGoodFrames frames.now }
     ensures { IfOk result (λ summary. SumsPiece summary frames.now) }
 {
     if pieces < 2 {
-        return summary_of(alloc, frames, most_kept);
+        return summary_of(alloc, frames);
     }
     let half = pieces / 2;
     let (first, others) = frames.split_at(half.saturating_mul(piece).min(frames.len()));
-    let before = joined_in_pieces(alloc, first, half, piece, most_kept)?;
-    let behind = joined_in_pieces(alloc, others, pieces - half, piece, most_kept)?;
+    let before = joined_in_pieces(alloc, first, half, piece)?;
+    let behind = joined_in_pieces(alloc, others, pieces - half, piece)?;
     before.join(behind)
 }
 
@@ -54,14 +37,13 @@ pub(crate) fn found_in_pieces<'c>(
     alloc: Global,
     frames: &[Frame<'c>],
     piece: usize,
-    most_kept: usize,
 ) -> Result<Findings<'c>, AllocError>
     requires good { AreGoodFrames frames.now }
     requires shown { (wholes : List WholeFrame) × Show frames.now (wholes_of wholes) }
     requires some { 1 ≤ piece }
 {
     let pieces = frames.len().div_ceil(piece);
-    let summary = joined_in_pieces(alloc, frames, pieces, piece, most_kept)?;
+    let summary = joined_in_pieces(alloc, frames, pieces, piece)?;
     let sections = summary.sections()?;
     let mut all = Vec::new(alloc);
     all.extend_from_slice(frames)?;

@@ -532,39 +532,18 @@ fn expect_shared<T: Threads + Sync + Abort>(
     Ok(())
 }
 
-// So do summaries of such pieces, where they keep so many frames.
-fn expect_kept<T: Threads + Sync + Abort>(
+// So do the summaries of such pieces, joined.
+fn expect_joined<T: Threads + Sync + Abort>(
     rt: &T,
     alloc: Global,
     frames: &[Frame<'_>],
-    most_kept: usize,
     due: &str,
 ) -> Result<(), AllocError>
     requires good { AreGoodFrames frames.now }
     requires shown { (wholes : List WholeFrame) × Show frames.now (wholes_of wholes) }
 {
     for piece in 1..MOST_FRAMES as usize + 1 {
-        expect_told(
-            rt,
-            alloc,
-            found_in_pieces(alloc, frames, piece, most_kept)?,
-            due,
-        );
-    }
-    Ok(())
-}
-
-fn expect_all_kept<T: Threads + Sync + Abort>(
-    rt: &T,
-    alloc: Global,
-    frames: &[Frame<'_>],
-    due: &str,
-) -> Result<(), AllocError>
-    requires good { AreGoodFrames frames.now }
-    requires shown { (wholes : List WholeFrame) × Show frames.now (wholes_of wholes) }
-{
-    for most_kept in [0usize, 1, 3] {
-        expect_kept(rt, alloc, frames, most_kept, due)?;
+        expect_told(rt, alloc, found_in_pieces(alloc, frames, piece)?, due);
     }
     Ok(())
 }
@@ -581,7 +560,7 @@ fn expect_same<'c, T: Threads + Sync + Abort>(
 {
     let due = text(rt, alloc, found)?;
     expect_shared(rt, alloc, capture, due.as_str())?;
-    expect_all_kept(rt, alloc, frames_of(capture, found), due.as_str()).map_err(Fail::from)
+    expect_joined(rt, alloc, frames_of(capture, found), due.as_str()).map_err(Fail::from)
 }
 
 /// In every piece up to its frames, a capture comes to what it comes to by one worker.

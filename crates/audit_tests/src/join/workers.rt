@@ -69,31 +69,28 @@ fn expect_pieces<T: Threads + Sync + Abort>(
     Ok(())
 }
 
-// They are, where summaries of pieces of so many frames keep so many as they are.
-fn expect_eight_kept(
+// They are, where the summaries of pieces of so many frames are joined.
+fn expect_eight_joined(
     rt: &impl Abort,
     alloc: Global,
     frames: &[Frame<'_>],
     piece: usize,
-    most_kept: usize,
 ) -> Result<(), AllocError>
     requires good { AreGoodFrames frames.now }
     requires shown { (wholes : List WholeFrame) × Show frames.now (wholes_of wholes) }
     requires some { 1 ≤ piece }
 {
-    expect_findings(rt, found_in_pieces(alloc, frames, piece, most_kept)?);
+    expect_findings(rt, found_in_pieces(alloc, frames, piece)?);
     Ok(())
 }
 
-/// Every piece up to their number, where summaries keep none, one and three frames.
-fn expect_kept(rt: &impl Abort, alloc: Global, frames: &[Frame<'_>]) -> Result<(), AllocError>
+/// Every piece up to their number.
+fn expect_joined(rt: &impl Abort, alloc: Global, frames: &[Frame<'_>]) -> Result<(), AllocError>
     requires good { AreGoodFrames frames.now }
     requires shown { (wholes : List WholeFrame) × Show frames.now (wholes_of wholes) }
 {
-    for most_kept in [0usize, 1, 3] {
-        for piece in 1..9usize {
-            expect_eight_kept(rt, alloc, frames, piece, most_kept)?;
-        }
+    for piece in 1..9usize {
+        expect_eight_joined(rt, alloc, frames, piece)?;
     }
     Ok(())
 }
@@ -104,10 +101,10 @@ fn pieces_change_nothing(rt: HostRuntime) -> Result<(), Fail> {
 }
 
 #[test]
-fn kept_frames_change_nothing(rt: HostRuntime) -> Result<(), Fail> {
+fn joined_pieces_change_nothing(rt: HostRuntime) -> Result<(), Fail> {
     let capture = eight_frames(&rt);
     let found = audit_one(&rt, rt.alloc(), capture)?;
-    expect_kept(&rt, rt.alloc(), frames_of(capture, &found)).map_err(Fail::from)
+    expect_joined(&rt, rt.alloc(), frames_of(capture, &found)).map_err(Fail::from)
 }
 
 fn expect_audit_one<T: Threads + Sync + Abort>(
@@ -291,7 +288,7 @@ const HANDLES: &[OfProcess<HandleRow>] = &[OfProcess {
 /// Two pieces are under way at one time.
 #[test]
 fn two_pieces_meet(rt: HostRuntime) -> Result<(), Fail> {
-    let gate = Meeting::new();
+    let gate = Meeting::<2>::new();
     let (workers, piece) = shares(2, 1)?;
     let capture = within_limit(&rt, RELEASE_FIRST);
     let found = audit(&rt, rt.alloc(), capture, workers, piece, &gate)?;

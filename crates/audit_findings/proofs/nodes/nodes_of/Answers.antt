@@ -1,4 +1,4 @@
-use Rattle.std.proofs.Common.{List, ap, sym, subst, ◌∙◌}
+use Rattle.std.proofs.Common.{ap, sym, subst, ◌∙◌}
 use Rattle.std.specs.Prelude.{count_by}
 use Rattle.handle_ledger.specs.declared.node_row.NodeRow.{NodeRow}
 use Rattle.event_core.specs.Events.{events_of_wholes}

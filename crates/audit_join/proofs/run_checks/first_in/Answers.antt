@@ -4,8 +4,8 @@ use Rattle.std.proofs.lemmas.List.Elements.{All-append, All-cons, All-nil}
 use Rattle.capture_frame.specs.declared.frame.Frame.{Frame}
 use Rattle.capture_frame.specs.Envelope.{frame_text}
 use Rattle.transaction_view.specs.FirstFault.{HasGoodContent}
-use Rattle.audit_findings.proofs.FrameLaws.{one_behind}
 use Rattle.audit_join.specs.Jobs.{AreSound}
+use Rattle.audit_join.proofs.FaultLaws.{one_behind}
 use Rattle.audit_join.proofs.run_checks.first_in.Goals as goal
 
 pub returns-in-Some : goal.returns-in-Some
