@@ -10,3 +10,4 @@ pub mod Sums
 pub mod Joins
 pub mod JoinedMatch
 pub mod Retold
+pub mod Kept

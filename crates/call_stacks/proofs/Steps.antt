@@ -4,7 +4,6 @@ use Rattle.std.proofs.Common.{List, [], ◌∷◌, ◌++◌, map, drop, length, 
 use Rattle.std.proofs.lemmas.List.{append-nil, map-append, length-map, length-set, set_at}
 use Rattle.std.proofs.lemmas.List.Elements.{All-pop}
 use Rattle.std.specs.Prelude.{slice_get, slice_set, All}
-use Rattle.event_core.specs.declared.event.Event.{Event}
 use Rattle.event_core.specs.declared.marks.Bracket.{Bracket}
 use Rattle.event_core.specs.declared.marks.Bracket.TheVariants.{Call, Served, Reply, Sent, Error, Refused, Neither}
 use Rattle.call_stacks.specs.declared.opener.Opener.{Opener}
@@ -15,6 +14,7 @@ use Rattle.call_stacks.proofs.Judging.{side}
 use Rattle.call_stacks.proofs.Lists.{found, event_of}
 use Rattle.call_stacks.proofs.Model as model
 use Rattle.call_stacks.proofs.Model.{strays, openers, strays-append, openers-append, AllClosed, AllClosers, first_is, nil_is_nil}
+use Rattle.call_stacks.specs.declared.call_event.CallEvent.{CallEvent}
 
 -- ---- the openers without a closer
 
@@ -109,62 +109,63 @@ last_open n ((x, None) ∷ later) (f ∷ front) index e =
       front_is = ap (λ t. n ∷ t) rest.front_is ∙ ap (λ t. t ∷ front) (first_is n f (unmatched_at (n + 1) later) (front ++ index ∷ []) e);
     }
 
--- ---- what a value holds of these sides
+module _ {K : Type 0} where
+  -- ---- what a value holds of these sides
 
-pub record Models (content : Content) (pairs : List (Event × Side)) : Type 0 where
-  pub openers_are : content.openers ≡ map found (openers side pairs)
-  pub unmatched_are : content.unmatched ≡ unmatched_at 0 (openers side pairs)
-  pub strays_are : content.strays ≡ map event_of (strays side pairs)
+  pub record Models (content : Content K) (pairs : List (CallEvent K × Side)) : Type 0 where
+    pub openers_are : content.openers ≡ map found (openers side pairs)
+    pub unmatched_are : content.unmatched ≡ unmatched_at 0 (openers side pairs)
+    pub strays_are : content.strays ≡ map event_of (strays side pairs)
 
--- the same lists
-pub models_same : (old new : Content) (pairs : List (Event × Side)) → new.openers ≡ old.openers → new.unmatched ≡ old.unmatched → new.strays ≡ old.strays
-    → Models old pairs → Models new pairs
-models_same old new pairs a b c models = record {
-  openers_are = a ∙ models.openers_are;
-  unmatched_are = b ∙ models.unmatched_are;
-  strays_are = c ∙ models.strays_are;
-}
+  -- the same lists
+  pub models_same : (old new : Content K) (pairs : List (CallEvent K × Side)) → new.openers ≡ old.openers → new.unmatched ≡ old.unmatched → new.strays ≡ old.strays
+      → Models old pairs → Models new pairs
+  models_same old new pairs a b c models = record {
+    openers_are = a ∙ models.openers_are;
+    unmatched_are = b ∙ models.unmatched_are;
+    strays_are = c ∙ models.strays_are;
+  }
 
--- one more record that is no bracket
-push_strays : (pairs : List (Event × Side)) (p : Event × Side) → strays side (p ∷ []) ≡ [] → strays side (pairs ++ p ∷ []) ≡ strays side pairs
-push_strays pairs p none =
-    strays-append side pairs (p ∷ []) ∙ ap (λ t. strays side (pairs ++ t)) none ∙ ap (strays side) (append-nil pairs)
+  -- one more record that is no bracket
+  push_strays : (pairs : List (CallEvent K × Side)) (p : CallEvent K × Side) → strays side (p ∷ []) ≡ [] → strays side (pairs ++ p ∷ []) ≡ strays side pairs
+  push_strays pairs p none =
+      strays-append side pairs (p ∷ []) ∙ ap (λ t. strays side (pairs ++ t)) none ∙ ap (strays side) (append-nil pairs)
 
-push_openers : (pairs : List (Event × Side)) (p : Event × Side) → strays side (p ∷ []) ≡ []
-    → openers side (pairs ++ p ∷ []) ≡ openers side pairs ++ openers side (p ∷ [])
-push_openers pairs p none =
-    openers-append side pairs (p ∷ [])
-    ∙ ap (λ t. openers side (pairs ++ t) ++ openers side (p ∷ [])) none
-    ∙ ap (λ t. openers side t ++ openers side (p ∷ [])) (append-nil pairs)
+  push_openers : (pairs : List (CallEvent K × Side)) (p : CallEvent K × Side) → strays side (p ∷ []) ≡ []
+      → openers side (pairs ++ p ∷ []) ≡ openers side pairs ++ openers side (p ∷ [])
+  push_openers pairs p none =
+      openers-append side pairs (p ∷ [])
+      ∙ ap (λ t. openers side (pairs ++ t) ++ openers side (p ∷ [])) none
+      ∙ ap (λ t. openers side t ++ openers side (p ∷ [])) (append-nil pairs)
 
-pub passes_models : (content : Content) (pairs : List (Event × Side)) (event : Event) → Models content pairs → Models content (pairs ++ (event, neither) ∷ [])
-passes_models content pairs event models =
-    let same : openers side (pairs ++ (event, neither) ∷ []) ≡ openers side pairs
-    = push_openers pairs (event, neither) refl ∙ append-nil (openers side pairs) in
-    record {
-      openers_are = models.openers_are ∙ ap (map found) (sym same);
-      unmatched_are = models.unmatched_are ∙ ap (unmatched_at 0) (sym same);
-      strays_are = models.strays_are ∙ ap (map event_of) (sym (push_strays pairs (event, neither) refl));
-    }
+  pub passes_models : (content : Content K) (pairs : List (CallEvent K × Side)) (event : CallEvent K) → Models content pairs → Models content (pairs ++ (event, neither) ∷ [])
+  passes_models content pairs event models =
+      let same : openers side (pairs ++ (event, neither) ∷ []) ≡ openers side pairs
+      = push_openers pairs (event, neither) refl ∙ append-nil (openers side pairs) in
+      record {
+        openers_are = models.openers_are ∙ ap (map found) (sym same);
+        unmatched_are = models.unmatched_are ∙ ap (unmatched_at 0) (sym same);
+        strays_are = models.strays_are ∙ ap (map event_of) (sym (push_strays pairs (event, neither) refl));
+      }
 
--- one more opener
-pub begun_models : (old : Content) (pairs : List (Event × Side)) (event : Event) → Models old pairs → Models (begun event old) (pairs ++ (event, opener) ∷ [])
-begun_models old pairs event models =
-    let more : openers side (pairs ++ (event, opener) ∷ []) ≡ openers side pairs ++ ((event, opener), None) ∷ []
-    = push_openers pairs (event, opener) refl in
-    let count : length old.openers ≡ 0 + length (openers side pairs)
-    = ap length models.openers_are ∙ length-map (openers side pairs) found
-    ∙ (let n : length (openers side pairs) ≡ 0 + length (openers side pairs) = omega arith in n) in
-    record {
-      openers_are = ap (λ t. t ++ left_open event ∷ []) models.openers_are
-          ∙ sym (map-append found (openers side pairs) (((event, opener), None) ∷ []))
-          ∙ ap (map found) (sym more);
-      unmatched_are = ap (λ t. t ++ length old.openers ∷ []) models.unmatched_are
-          ∙ ap (λ n. unmatched_at 0 (openers side pairs) ++ n ∷ []) count
-          ∙ sym (unmatched-append 0 (openers side pairs) (((event, opener), None) ∷ []))
-          ∙ ap (unmatched_at 0) (sym more);
-      strays_are = models.strays_are ∙ ap (map event_of) (sym (push_strays pairs (event, opener) refl));
-    }
+  -- one more opener
+  pub begun_models : (old : Content K) (pairs : List (CallEvent K × Side)) (event : CallEvent K) → Models old pairs → Models (begun event old) (pairs ++ (event, opener) ∷ [])
+  begun_models old pairs event models =
+      let more : openers side (pairs ++ (event, opener) ∷ []) ≡ openers side pairs ++ ((event, opener), None) ∷ []
+      = push_openers pairs (event, opener) refl in
+      let count : length old.openers ≡ 0 + length (openers side pairs)
+      = ap length models.openers_are ∙ length-map (openers side pairs) found
+      ∙ (let n : length (openers side pairs) ≡ 0 + length (openers side pairs) = omega arith in n) in
+      record {
+        openers_are = ap (λ t. t ++ left_open event ∷ []) models.openers_are
+            ∙ sym (map-append found (openers side pairs) (((event, opener), None) ∷ []))
+            ∙ ap (map found) (sym more);
+        unmatched_are = ap (λ t. t ++ length old.openers ∷ []) models.unmatched_are
+            ∙ ap (λ n. unmatched_at 0 (openers side pairs) ++ n ∷ []) count
+            ∙ sym (unmatched-append 0 (openers side pairs) (((event, opener), None) ∷ []))
+            ∙ ap (unmatched_at 0) (sym more);
+        strays_are = models.strays_are ∙ ap (map event_of) (sym (push_strays pairs (event, opener) refl));
+      }
 
 -- one more closer
 at_split : {X : Type 0} (before behind : List X) (x y : X) (n : ℕ) → length before ≡ n → slice_get (before ++ x ∷ behind) n ≡ Some y → y ≡ x
@@ -173,89 +174,90 @@ at_split [] behind x y (suc n) e there = absurd (omega arith)
 at_split (b ∷ before) behind x y zero e there = absurd (omega arith)
 at_split (b ∷ before) behind x y (suc n) e there = at_split before behind x y n (omega arith) there
 
-pub closes_models : (old new : Content) (pairs : List (Event × Side)) (event : Event) → Models old pairs → Closes old event new
-    → Models new (pairs ++ (event, closer) ∷ [])
-closes_models old new pairs event models (closes_none none is) =
-    let all = all_closed 0 (openers side pairs) (sym models.unmatched_are ∙ none) in
-    let step = model.closes_none side pairs (event, closer) refl all in
-    record {
-      openers_are = ap (λ (c : Content). c.openers) is ∙ models.openers_are ∙ ap (map found) (sym step.0);
-      unmatched_are = ap (λ (c : Content). c.unmatched) is ∙ models.unmatched_are ∙ ap (unmatched_at 0) (sym step.0);
-      strays_are = ap (λ (c : Content). c.strays) is
-          ∙ ap (λ t. t ++ event ∷ []) models.strays_are
-          ∙ sym (map-append event_of (strays side pairs) ((event, closer) ∷ []))
-          ∙ ap (map event_of) (sym step.1);
-    }
-closes_models old new pairs event models (closes_last front index call last there is) =
-    let open_last = last_open 0 (openers side pairs) front index (sym models.unmatched_are ∙ last) in
-    let before = open_last.before in
-    let x = open_last.call in
-    let behind = open_last.behind in
-    let step = model.closes_last side pairs (event, closer) before x behind refl open_last.split open_last.closed_behind in
-    let lists : old.openers ≡ map found before ++ found (x, None) ∷ map found behind
-    = models.openers_are ∙ ap (map found) open_last.split ∙ map-append found before ((x, None) ∷ behind) in
-    let number = open_last.number in
-    let long : length (map found before) ≡ index = length-map before found ∙ (let n : length before ≡ index = omega arith in n) in
-    let call_is : call ≡ found (x, None)
-    = at_split (map found before) (map found behind) (found (x, None)) call index long (ap (λ l. slice_get l index) (sym lists) ∙ there) in
-    let closed_openers : slice_set old.openers index (closed_with event call) ≡ map found (before ++ (x, Some (event, closer)) ∷ behind)
-    = ap (λ l. slice_set l index (closed_with event call)) lists
-    ∙ ap (λ (c : Opener). slice_set (map found before ++ found (x, None) ∷ map found behind) index (closed_with event c)) call_is
-    ∙ set_at (map found before) (found (x, None)) (map found behind) (closed_with event (found (x, None))) index long
-    ∙ sym (map-append found before ((x, Some (event, closer)) ∷ behind)) in
-    record {
-      openers_are = ap (λ (c : Content). c.openers) is ∙ closed_openers ∙ ap (map found) (sym step.0);
-      unmatched_are = ap (λ (c : Content). c.unmatched) is
-          ∙ sym open_last.front_is
-          ∙ sym (append-nil (unmatched_at 0 before))
-          ∙ ap (λ t. unmatched_at 0 before ++ t) (sym (closed_unmatched (0 + length before) ((x, Some (event, closer)) ∷ behind) open_last.closed_behind))
-          ∙ sym (unmatched-append 0 before ((x, Some (event, closer)) ∷ behind))
-          ∙ ap (unmatched_at 0) (sym step.0);
-      strays_are = ap (λ (c : Content). c.strays) is ∙ models.strays_are ∙ ap (map event_of) (sym step.1);
-    }
+module _ {K : Type 0} where
+  pub closes_models : (old new : Content K) (pairs : List (CallEvent K × Side)) (event : CallEvent K) → Models old pairs → Closes old event new
+      → Models new (pairs ++ (event, closer) ∷ [])
+  closes_models old new pairs event models (closes_none none is) =
+      let all = all_closed 0 (openers side pairs) (sym models.unmatched_are ∙ none) in
+      let step = model.closes_none side pairs (event, closer) refl all in
+      record {
+        openers_are = ap (λ (c : Content K). c.openers) is ∙ models.openers_are ∙ ap (map found) (sym step.0);
+        unmatched_are = ap (λ (c : Content K). c.unmatched) is ∙ models.unmatched_are ∙ ap (unmatched_at 0) (sym step.0);
+        strays_are = ap (λ (c : Content K). c.strays) is
+            ∙ ap (λ t. t ++ event ∷ []) models.strays_are
+            ∙ sym (map-append event_of (strays side pairs) ((event, closer) ∷ []))
+            ∙ ap (map event_of) (sym step.1);
+      }
+  closes_models old new pairs event models (closes_last front index call last there is) =
+      let open_last = last_open 0 (openers side pairs) front index (sym models.unmatched_are ∙ last) in
+      let before = open_last.before in
+      let x = open_last.call in
+      let behind = open_last.behind in
+      let step = model.closes_last side pairs (event, closer) before x behind refl open_last.split open_last.closed_behind in
+      let lists : old.openers ≡ map found before ++ found (x, None) ∷ map found behind
+      = models.openers_are ∙ ap (map found) open_last.split ∙ map-append found before ((x, None) ∷ behind) in
+      let number = open_last.number in
+      let long : length (map found before) ≡ index = length-map before found ∙ (let n : length before ≡ index = omega arith in n) in
+      let call_is : call ≡ found (x, None)
+      = at_split (map found before) (map found behind) (found (x, None)) call index long (ap (λ l. slice_get l index) (sym lists) ∙ there) in
+      let closed_openers : slice_set old.openers index (closed_with event call) ≡ map found (before ++ (x, Some (event, closer)) ∷ behind)
+      = ap (λ l. slice_set l index (closed_with event call)) lists
+      ∙ ap (λ (c : Opener (CallEvent K)). slice_set (map found before ++ found (x, None) ∷ map found behind) index (closed_with event c)) call_is
+      ∙ set_at (map found before) (found (x, None)) (map found behind) (closed_with event (found (x, None))) index long
+      ∙ sym (map-append found before ((x, Some (event, closer)) ∷ behind)) in
+      record {
+        openers_are = ap (λ (c : Content K). c.openers) is ∙ closed_openers ∙ ap (map found) (sym step.0);
+        unmatched_are = ap (λ (c : Content K). c.unmatched) is
+            ∙ sym open_last.front_is
+            ∙ sym (append-nil (unmatched_at 0 before))
+            ∙ ap (λ t. unmatched_at 0 before ++ t) (sym (closed_unmatched (0 + length before) ((x, Some (event, closer)) ∷ behind) open_last.closed_behind))
+            ∙ sym (unmatched-append 0 before ((x, Some (event, closer)) ∷ behind))
+            ∙ ap (unmatched_at 0) (sym step.0);
+        strays_are = ap (λ (c : Content K). c.strays) is ∙ models.strays_are ∙ ap (map event_of) (sym step.1);
+      }
 
--- many more closers
-abbrev pub as_closers : List Event → List (Event × Side)
-as_closers events = map (λ event. (event, closer)) events
+  -- many more closers
+  abbrev pub as_closers : List (CallEvent K) → List (CallEvent K × Side)
+  as_closers events = map (λ event. (event, closer)) events
 
-pub closes_all_models : (old new : Content) (pairs : List (Event × Side)) (events : List Event) → Models old pairs → ClosesAll old events new
-    → Models new (pairs ++ as_closers events)
-closes_all_models old new pairs [] models is =
-    subst (λ (l : List (Event × Side)). Models new l) (sym (append-nil pairs)) (subst (λ (c : Content). Models c pairs) (sym is) models)
-closes_all_models old new pairs (e ∷ events) models step =
-    subst (λ (l : List (Event × Side)). Models new l) (append_assoc pairs ((e, closer) ∷ []) (as_closers events))
-    (closes_all_models step.0 new (pairs ++ (e, closer) ∷ []) events (closes_models old step.0 pairs e models step.1) step.2)
+  pub closes_all_models : (old new : Content K) (pairs : List (CallEvent K × Side)) (events : List (CallEvent K)) → Models old pairs → ClosesAll old events new
+      → Models new (pairs ++ as_closers events)
+  closes_all_models old new pairs [] models is =
+      subst (λ (l : List (CallEvent K × Side)). Models new l) (sym (append-nil pairs)) (subst (λ (c : Content K). Models c pairs) (sym is) models)
+  closes_all_models old new pairs (e ∷ events) models step =
+      subst (λ (l : List (CallEvent K × Side)). Models new l) (append_assoc pairs ((e, closer) ∷ []) (as_closers events))
+      (closes_all_models step.0 new (pairs ++ (e, closer) ∷ []) events (closes_models old step.0 pairs e models step.1) step.2)
 
--- an event that is this bracket
-pub enters_models : (bracket : Bracket) (event : Event) (old new : Content) (pairs : List (Event × Side)) → Models old pairs → Enters bracket event old new
-    → Models new (pairs ++ (event, side_of bracket) ∷ [])
-enters_models Call event old new pairs models is =
-    subst (λ (c : Content). Models c (pairs ++ (event, opener) ∷ [])) (sym is) (begun_models old pairs event models)
-enters_models Served event old new pairs models is =
-    subst (λ (c : Content). Models c (pairs ++ (event, opener) ∷ [])) (sym is) (begun_models old pairs event models)
-enters_models Reply event old new pairs models step = closes_models old new pairs event models step
-enters_models Sent event old new pairs models step = closes_models old new pairs event models step
-enters_models Error event old new pairs models step = closes_models old new pairs event models step
-enters_models Refused event old new pairs models is =
-    subst (λ (c : Content). Models c (pairs ++ (event, neither) ∷ [])) (sym is)
-    (passes_models (refused_too event old) pairs event (models_same old (refused_too event old) pairs refl refl refl models))
-enters_models Neither event old new pairs models is =
-    subst (λ (c : Content). Models c (pairs ++ (event, neither) ∷ [])) (sym is) (passes_models old pairs event models)
+  -- an event that is this bracket
+  pub enters_models : (bracket : Bracket) (event : CallEvent K) (old new : Content K) (pairs : List (CallEvent K × Side)) → Models old pairs → Enters bracket event old new
+      → Models new (pairs ++ (event, side_of bracket) ∷ [])
+  enters_models Call event old new pairs models is =
+      subst (λ (c : Content K). Models c (pairs ++ (event, opener) ∷ [])) (sym is) (begun_models old pairs event models)
+  enters_models Served event old new pairs models is =
+      subst (λ (c : Content K). Models c (pairs ++ (event, opener) ∷ [])) (sym is) (begun_models old pairs event models)
+  enters_models Reply event old new pairs models step = closes_models old new pairs event models step
+  enters_models Sent event old new pairs models step = closes_models old new pairs event models step
+  enters_models Error event old new pairs models step = closes_models old new pairs event models step
+  enters_models Refused event old new pairs models is =
+      subst (λ (c : Content K). Models c (pairs ++ (event, neither) ∷ [])) (sym is)
+      (passes_models (refused_too event old) pairs event (models_same old (refused_too event old) pairs refl refl refl models))
+  enters_models Neither event old new pairs models is =
+      subst (λ (c : Content K). Models c (pairs ++ (event, neither) ∷ [])) (sym is) (passes_models old pairs event models)
 
--- ---- closers in turn
+  -- ---- closers in turn
 
-pub closes_all_push : (old between new : Content) (events : List Event) (e : Event) → ClosesAll old events between → Closes between e new
-    → ClosesAll old (events ++ e ∷ []) new
-closes_all_push old between new [] e is step = (new, subst (λ (c : Content). Closes c e new) is step, refl)
-closes_all_push old between new (x ∷ events) e steps step = (steps.0, steps.1, closes_all_push steps.0 between new events e steps.2 step)
+  pub closes_all_push : (old between new : Content K) (events : List (CallEvent K)) (e : CallEvent K) → ClosesAll old events between → Closes between e new
+      → ClosesAll old (events ++ e ∷ []) new
+  closes_all_push old between new [] e is step = (new, subst (λ (c : Content K). Closes c e new) is step, refl)
+  closes_all_push old between new (x ∷ events) e steps step = (steps.0, steps.1, closes_all_push steps.0 between new events e steps.2 step)
 
--- each index is within the openers, still
-pub closes_within : (old new : Content) (e : Event) → Closes old e new → All (λ index. index < length old.openers) old.unmatched
-    → All (λ index. index < length new.openers) new.unmatched
-closes_within old new e (closes_none none is) all =
-    subst (λ (c : Content). All (λ index. index < length c.openers) c.unmatched) (sym is) all
-closes_within old new e (closes_last front index call last there is) all =
-    let few : All (λ i. i < length old.openers) front = (All-pop (λ i. i < length old.openers) old.unmatched front (Some index) last all).0 in
-    let same : length (slice_set old.openers index (closed_with e call)) ≡ length old.openers = length-set old.openers index (closed_with e call) in
-    subst (λ (c : Content). All (λ i. i < length c.openers) c.unmatched) (sym is)
-    (subst (λ (n : ℕ). All (λ i. i < n) front) (sym same) few)
+  -- each index is within the openers, still
+  pub closes_within : (old new : Content K) (e : CallEvent K) → Closes old e new → All (λ index. index < length old.openers) old.unmatched
+      → All (λ index. index < length new.openers) new.unmatched
+  closes_within old new e (closes_none none is) all =
+      subst (λ (c : Content K). All (λ index. index < length c.openers) c.unmatched) (sym is) all
+  closes_within old new e (closes_last front index call last there is) all =
+      let few : All (λ i. i < length old.openers) front = (All-pop (λ i. i < length old.openers) old.unmatched front (Some index) last all).0 in
+      let same : length (slice_set old.openers index (closed_with e call)) ≡ length old.openers = length-set old.openers index (closed_with e call) in
+      subst (λ (c : Content K). All (λ i. i < length c.openers) c.unmatched) (sym is)
+      (subst (λ (n : ℕ). All (λ i. i < n) front) (sym same) few)

@@ -1,24 +1,23 @@
 //! What the calls of a thread come to.
 
 use crate::opener::Opener;
-use event_core::Event;
 
 /// An error reply that refuses what its thread sent last.
 #[derive(Clone, Copy)]
-pub struct RefusedSend<'c> {
+pub struct RefusedSend<E> {
     /// The error reply.
-    pub event: Event<'c>,
+    pub event: E,
     /// Whether it refuses a oneway transaction; else it refuses a reply.
     pub oneway: bool,
 }
 
-/// The calls of a thread, each list in rising place.
+/// The calls of a thread by its events, each list in rising place.
 #[derive(Drop)]
-pub struct CallFindings<'c> {
+pub struct CallFindings<E> {
     /// The calls that the thread made or got to serve, with their verdicts.
-    pub openers: Vec<Opener<'c>>,
+    pub openers: Vec<Opener<E>>,
     /// The replies and error replies that close no call.
-    pub strays: Vec<Event<'c>>,
+    pub strays: Vec<E>,
     /// The error replies that refuse a send.
-    pub refused: Vec<RefusedSend<'c>>,
+    pub refused: Vec<RefusedSend<E>>,
 }

@@ -3,24 +3,24 @@
 ghost use Rattle.std.specs.Prelude.{◌≡◌};
 ghost use Rattle.call_stacks.specs.Content.{left_open, closed_with};
 
+use crate::call_event::CallEvent;
 use crate::verdict::{Verdict, verdict_between};
-use event_core::{Event, bracket};
 
 /// A call that a thread made or got to serve, and what became of it.
 #[derive(Clone, Copy)]
-pub struct Opener<'c> {
-    /// The record that opens it.
-    pub event: Event<'c>,
+pub struct Opener<E> {
+    /// The event that opens it.
+    pub event: E,
     /// What became of it.
     pub verdict: Verdict,
     /// The place of the record that closes it; None where nothing does.
     pub closer: Option<u64>,
 }
 
-impl<'c> Opener<'c> {
+impl<K: Copy> Opener<CallEvent<K>> {
     /// A call that nothing closes so far.
-    pub(crate) fn new(event: Event<'c>) -> Opener<'c>
-        ensures { result ≡ left_open event.entry }
+    pub(crate) fn new(event: CallEvent<K>) -> Self
+        ensures { result ≡ left_open event }
     {
         Opener {
             event,
@@ -30,12 +30,12 @@ impl<'c> Opener<'c> {
     }
 
     /// The call with what closes it.
-    pub(crate) fn closed_with(self, closer: Event<'c>) -> Opener<'c>
-        ensures { result ≡ closed_with closer.entry self.entry }
+    pub(crate) fn closed_with(self, closer: CallEvent<K>) -> Self
+        ensures { result ≡ closed_with closer self }
     {
         Opener {
             event: self.event,
-            verdict: verdict_between(bracket(None, self.event), bracket(None, closer)),
+            verdict: verdict_between(self.event.bracket(None), closer.bracket(None)),
             closer: Some(closer.place),
         }
     }

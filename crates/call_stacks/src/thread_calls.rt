@@ -1,194 +1,111 @@
 //! The calls of one thread, as a summary of its events.
 
-ghost use Rattle.std.specs.Prelude.{◌≡◌, ◌+◌, ◌<◌, ◌^◌, length, All, IfOk, OnOk};
+ghost use Rattle.std.specs.Prelude.{◌≡◌, ◌++◌, map, IfOk, OnOk};
 ghost use Rattle.summary_law.specs.Fits.{IsPlaced, placed_parts};
-ghost use Rattle.call_stacks.specs.Calls.{event_place, ThreadCallsSum, GivesFindings};
-ghost use Rattle.call_stacks.specs.Content.{content_of, begun, refused_too, appended};
-ghost use Rattle.call_stacks.specs.Content.{Enters, Closes, ClosesAll};
+ghost use Rattle.call_stacks.specs.Events.{view_place, ThreadCallsSum, GivesEventFindings, kept_event, kept_opener, kept_send};
 
+use crate::call_event::CallEvent;
+use crate::calls::Calls;
 use crate::findings::{CallFindings, RefusedSend};
 use crate::opener::Opener;
-use event_core::{Bracket, Event, Mark, bracket, mark};
+use event_core::Event;
 use std::alloc::{AllocError, Global};
 use summary_law::Summary;
 
-/// The calls of one thread, over its events in rising place. A part of a thread's events can begin
-/// with an error reply that belongs to what stands before the part: it stays undecided until that
-/// is joined in front.
+/// The calls of one thread, over its events in rising place, which are kept where they are a part
+/// of what is found.
 #[derive(Drop)]
 pub struct ThreadCalls<'c> {
-    /// The mark of the latest event that left one.
-    last: Option<Mark>,
-    /// The first event that left a mark, where that is an error reply.
-    undecided: Option<Event<'c>>,
-    /// The calls so far, in rising place.
-    openers: Vec<Opener<'c>>,
-    /// The indices in `openers` of those without a closer, in rising order.
-    unmatched: Vec<usize>,
-    /// The closers that match no opener, in rising place.
-    strays: Vec<Event<'c>>,
-    /// The refused sends, in rising place.
-    refused: Vec<RefusedSend<'c>>,
+    calls: Calls<Event<'c>>,
+    alloc: Global,
 }
 
 impl<'c> ThreadCalls<'c> {
     /// The calls of the whole thread. An error reply that is still undecided closes nothing.
-    pub fn finish(self) -> Result<CallFindings<'c>, AllocError>
-        ensures { IfOk result (GivesFindings self.entry) }
+    pub fn finish(self) -> Result<CallFindings<Event<'c>>, AllocError>
+        ensures { IfOk result (GivesEventFindings self.entry) }
     {
-        let ThreadCalls {
-            last: _,
-            undecided,
-            openers,
-            unmatched: _,
-            strays,
-            refused,
-        } = self;
-        let mut strays = strays;
-        if let Some(event) = undecided {
-            strays.insert(0, event)?;
-        }
+        let alloc = self.alloc;
+        let found = self.calls.finish()?;
         Ok(CallFindings {
-            openers,
-            strays,
-            refused,
+            openers: openers_of(alloc, found.openers.as_slice())?,
+            strays: events_of(alloc, found.strays.as_slice())?,
+            refused: sends_of(alloc, found.refused.as_slice())?,
         })
-    }
-
-    /// Takes in an event that is this bracket.
-    fn enter(&mut self, event: Event<'c>, bracket: Bracket) -> Result<(), AllocError>
-        requires { All (λ index. index < length self.old.openers.items) self.old.unmatched.items }
-        ensures { OnOk result
-            (Enters bracket event.entry (content_of self.old) (content_of self.new)) }
-    {
-        match bracket {
-            Bracket::Call | Bracket::Served => self.begin(event),
-            Bracket::Reply | Bracket::Sent | Bracket::Error => self.close(event),
-            Bracket::Refused => self.refuse(event),
-            Bracket::Neither => Ok(()),
-        }
-    }
-
-    /// A call begins.
-    fn begin(&mut self, event: Event<'c>) -> Result<(), AllocError>
-        ensures { OnOk result (content_of self.new ≡ begun event.entry (content_of self.old)) }
-    {
-        self.unmatched.push(self.openers.len())?;
-        self.openers.push(Opener::new(event))?;
-        Ok(())
-    }
-
-    /// A send is refused: the latest one.
-    fn refuse(&mut self, event: Event<'c>) -> Result<(), AllocError>
-        ensures { OnOk result
-            (content_of self.new ≡ refused_too event.entry (content_of self.old)) }
-    {
-        let oneway = matches!(self.last, Some(Mark::Oneway));
-        self.refused.push(RefusedSend { event, oneway })?;
-        Ok(())
-    }
-
-    /// Closes the innermost call that is open, if there is one.
-    fn close(&mut self, closer: Event<'c>) -> Result<(), AllocError>
-        requires { All (λ index. index < length self.old.openers.items) self.old.unmatched.items }
-        ensures { OnOk result
-            (Closes (content_of self.old) closer.entry (content_of self.new)) }
-    {
-        match self.unmatched.pop() {
-            Some(index) => {
-                let opener = self.openers[index];
-                self.openers[index] = opener.closed_with(closer);
-            }
-            None => self.strays.push(closer)?,
-        }
-        Ok(())
-    }
-
-    /// Each of the closers closes the innermost call that is then open.
-    fn close_all(&mut self, closers: &[Event<'c>]) -> Result<(), AllocError>
-        requires { All (λ index. index < length self.old.openers.items) self.old.unmatched.items }
-        ensures { OnOk result
-            (ClosesAll (content_of self.old) closers.now (content_of self.new)) }
-    {
-        for closer in closers {
-            self.close(*closer)?;
-        }
-        Ok(())
-    }
-
-    /// Takes over the calls of a later part, and its refused sends.
-    fn append(
-        &mut self,
-        openers: Vec<Opener<'c>>,
-        unmatched: &[usize],
-        refused: Vec<RefusedSend<'c>>,
-    ) -> Result<(), AllocError>
-        requires { All (λ index. length self.old.openers.items + index < 2 ^ 64) unmatched.now }
-        ensures { OnOk result (content_of self.new ≡
-            appended openers.entry.items unmatched.now refused.entry.items (content_of self.old)) }
-    {
-        let before = self.openers.len();
-        for index in unmatched {
-            self.unmatched.push(before + *index)?;
-        }
-        let mut openers = openers;
-        self.openers.append(&mut openers)?;
-        let mut refused = refused;
-        self.refused.append(&mut refused)?;
-        Ok(())
     }
 }
 
-/// An `add` takes constant time, amortized. A `join` takes a step for each entry of the later
-/// value's lists, and walks through nothing of the earlier one beyond the calls that it closes. A
-/// thread without calls takes no heap.
 impl<'c> Summary for ThreadCalls<'c> {
     type Item = Event<'c>;
 
-    ghost fits = { IsPlaced event_place };
+    ghost fits = { IsPlaced view_place };
 
     ghost sums = { ThreadCallsSum };
 
     fn empty(alloc: Global) -> ThreadCalls<'c> {
         ThreadCalls {
-            last: None,
-            undecided: None,
-            openers: Vec::new(alloc),
-            unmatched: Vec::new(alloc),
-            strays: Vec::new(alloc),
-            refused: Vec::new(alloc),
+            calls: Calls::empty(alloc),
+            alloc,
         }
     }
 
     fn add(&mut self, item: Event<'c>) -> Result<(), AllocError> {
-        let bracket = bracket(self.last, item);
-        if self.last.is_none() && bracket == Bracket::Error {
-            self.undecided = Some(item);
-        } else {
-            self.enter(item, bracket)?;
-        }
-        self.last = mark(item).or(self.last);
-        Ok(())
+        self.calls.add(CallEvent::of(item, item))
     }
 
     fn join(self, later: ThreadCalls<'c>) -> Result<ThreadCalls<'c>, AllocError> {
-        let mut joined = self;
-        let ThreadCalls {
-            last,
-            undecided,
-            openers,
-            unmatched,
-            strays,
-            refused,
-        } = later;
-        if let Some(event) = undecided {
-            joined.add(event)?;
-        }
-        joined.close_all(&strays)?;
-        joined.append(openers, &unmatched, refused)?;
-        joined.last = last.or(joined.last);
-        Ok(joined)
+        let calls = self.calls.join(later.calls)?;
+        Ok(ThreadCalls {
+            calls,
+            alloc: self.alloc,
+        })
     }
 
-    ghost fits_parts = { placed_parts event_place };
+    ghost fits_parts = { placed_parts view_place };
+}
+
+fn openers_of<'c>(
+    alloc: Global,
+    found: &[Opener<CallEvent<Event<'c>>>],
+) -> Result<Vec<Opener<Event<'c>>>, AllocError>
+    ensures { IfOk result (λ openers. openers.items ≡ map kept_opener found.entry.now) }
+{
+    let mut openers = Vec::new(alloc);
+    for opener in found {
+        openers.push(Opener {
+            event: opener.event.kept,
+            verdict: opener.verdict,
+            closer: opener.closer,
+        })?;
+    }
+    Ok(openers)
+}
+
+fn events_of<'c>(
+    alloc: Global,
+    found: &[CallEvent<Event<'c>>],
+) -> Result<Vec<Event<'c>>, AllocError>
+    ensures { IfOk result (λ events. events.items ≡ map kept_event found.entry.now) }
+{
+    let mut events = Vec::new(alloc);
+    for event in found {
+        events.push(event.kept)?;
+    }
+    Ok(events)
+}
+
+fn sends_of<'c>(
+    alloc: Global,
+    found: &[RefusedSend<CallEvent<Event<'c>>>],
+) -> Result<Vec<RefusedSend<Event<'c>>>, AllocError>
+    ensures { IfOk result (λ sends. sends.items ≡ map kept_send found.entry.now) }
+{
+    let mut sends = Vec::new(alloc);
+    for sent in found {
+        sends.push(RefusedSend {
+            event: sent.event.kept,
+            oneway: sent.oneway,
+        })?;
+    }
+    Ok(sends)
 }

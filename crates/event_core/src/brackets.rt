@@ -1,21 +1,41 @@
 //! The marks and the brackets of a thread.
 
 ghost use Rattle.std.specs.Prelude.{◌≡◌};
-ghost use Rattle.event_core.specs.Brackets.{mark_of, bracket_of, sent_mark, received_mark, opener, error_reply};
+ghost use Rattle.event_core.specs.Brackets.{is_oneway, mark_of, bracket_of, sent_mark, received_mark, opener, error_reply};
 
 use crate::event::Event;
 use crate::marks::{Bracket, Mark};
 use crate::oneway::has_one_way;
 use binder_code::Kind;
-use transaction_view::Transaction;
+
+/// Whether an event is a transaction, sent or received, with TF_ONE_WAY. On a reply the flag says
+/// nothing.
+pub fn is_oneway(event: Event<'_>) -> bool
+    ensures { result ≡ is_oneway event.entry.kind event.entry.payload.now }
+{
+    match event.kind {
+        Kind::BcTransaction
+        | Kind::BcTransactionSg
+        | Kind::BrTransaction
+        | Kind::BrTransactionSecCtx => has_one_way(event.fields()),
+        _ => false,
+    }
+}
 
 /// The mark that an event leaves in its thread; None for an event that is no mark.
 pub fn mark(event: Event<'_>) -> Option<Mark>
-    ensures { result ≡ mark_of event.entry.kind event.entry.payload.now }
+    ensures { result ≡ mark_of event.entry.kind (is_oneway event.entry.kind event.entry.payload.now) }
 {
-    match event.kind {
-        Kind::BcTransaction | Kind::BcTransactionSg => sent_mark(event.fields()),
-        Kind::BrTransaction | Kind::BrTransactionSecCtx => received_mark(event.fields()),
+    mark_of(event.kind, is_oneway(event))
+}
+
+/// The mark that a record of this kind leaves, a oneway transaction or not.
+pub fn mark_of(kind: Kind, oneway: bool) -> Option<Mark>
+    ensures { result ≡ mark_of kind oneway }
+{
+    match kind {
+        Kind::BcTransaction | Kind::BcTransactionSg => sent_mark(oneway),
+        Kind::BrTransaction | Kind::BrTransactionSecCtx => received_mark(oneway),
         Kind::BcReply | Kind::BcReplySg => Some(Mark::SentReply),
         Kind::BrReply
         | Kind::BrTransactionComplete
@@ -29,10 +49,10 @@ pub fn mark(event: Event<'_>) -> Option<Mark>
 }
 
 /// The mark of a transaction that its thread sends.
-fn sent_mark(transaction: Transaction<'_>) -> Option<Mark>
-    ensures { result ≡ sent_mark transaction.entry.carrier.payload.now }
+fn sent_mark(oneway: bool) -> Option<Mark>
+    ensures { result ≡ sent_mark oneway }
 {
-    if has_one_way(transaction) {
+    if oneway {
         Some(Mark::Oneway)
     } else {
         Some(Mark::Other)
@@ -40,23 +60,27 @@ fn sent_mark(transaction: Transaction<'_>) -> Option<Mark>
 }
 
 /// The mark of a transaction that its thread gets.
-fn received_mark(transaction: Transaction<'_>) -> Option<Mark>
-    ensures { result ≡ received_mark transaction.entry.carrier.payload.now }
+fn received_mark(oneway: bool) -> Option<Mark>
+    ensures { result ≡ received_mark oneway }
 {
-    if has_one_way(transaction) {
-        None
-    } else {
-        Some(Mark::Other)
-    }
+    if oneway { None } else { Some(Mark::Other) }
 }
 
 /// What an event is, where `last` is the mark of its thread's latest earlier event that left one.
 pub fn bracket(last: Option<Mark>, event: Event<'_>) -> Bracket
-    ensures { result ≡ bracket_of last event.entry.kind event.entry.payload.now }
+    ensures { result ≡
+        bracket_of last event.entry.kind (is_oneway event.entry.kind event.entry.payload.now) }
 {
-    match event.kind {
-        Kind::BcTransaction | Kind::BcTransactionSg => opener(event.fields(), Bracket::Call),
-        Kind::BrTransaction | Kind::BrTransactionSecCtx => opener(event.fields(), Bracket::Served),
+    bracket_of(last, event.kind, is_oneway(event))
+}
+
+/// What a record of this kind is behind the mark `last`, a oneway transaction or not.
+pub fn bracket_of(last: Option<Mark>, kind: Kind, oneway: bool) -> Bracket
+    ensures { result ≡ bracket_of last kind oneway }
+{
+    match kind {
+        Kind::BcTransaction | Kind::BcTransactionSg => opener(oneway, Bracket::Call),
+        Kind::BrTransaction | Kind::BrTransactionSecCtx => opener(oneway, Bracket::Served),
         Kind::BrReply => Bracket::Reply,
         Kind::BcReply | Kind::BcReplySg => Bracket::Sent,
         Kind::BrDeadReply | Kind::BrFailedReply | Kind::BrFrozenReply => error_reply(last),
@@ -65,14 +89,10 @@ pub fn bracket(last: Option<Mark>, event: Event<'_>) -> Bracket
 }
 
 /// The opener that a transaction is, unless it is a oneway one.
-fn opener(transaction: Transaction<'_>, bracket: Bracket) -> Bracket
-    ensures { result ≡ opener bracket transaction.entry.carrier.payload.now }
+fn opener(oneway: bool, bracket: Bracket) -> Bracket
+    ensures { result ≡ opener bracket oneway }
 {
-    if has_one_way(transaction) {
-        Bracket::Neither
-    } else {
-        bracket
-    }
+    if oneway { Bracket::Neither } else { bracket }
 }
 
 /// What an error reply is: it answers the thread's last send, or closes a call.

@@ -19,7 +19,7 @@ mod record_event;
 mod request;
 mod strength;
 
-pub use brackets::{bracket, mark};
+pub use brackets::{bracket, bracket_of, is_oneway, mark, mark_of};
 pub use buffer::{BufferItem, buffer_step};
 pub use clear::clear_step;
 pub use death::death_step;

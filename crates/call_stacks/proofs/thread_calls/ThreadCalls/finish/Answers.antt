@@ -1,18 +1,11 @@
-use Rattle.std.proofs.Common.{◌≡◌, ◌++◌, refl, ap, sym, ◌∙◌}
-use Rattle.std.specs.Option.{option_to_list}
-use Rattle.call_stacks.proofs.Joins.{finished}
-use Rattle.call_stacks.proofs.Sums.{holds}
+use Rattle.std.proofs.Common.{map, ap, ◌∙◌}
+use Rattle.call_stacks.specs.Events.{with_itself, kept_event, kept_opener, kept_send}
+use Rattle.call_stacks.proofs.Kept.{fed_placed, kept_findings}
 use Rattle.call_stacks.proofs.thread_calls.ThreadCalls.finish.Goals as goal
-use Rattle.call_stacks.proofs.thread_calls.ThreadCalls.finish.Goals.{in-Some+in_ok-insert, in_default}
 
 pub returns : goal.returns
 returns c = λ events sums.
-    let calls = c.args.self in
-    let strays_are : c.match-undecided.strays.items ≡ option_to_list calls.undecided ++ calls.strays.items
-    = elim c.match-undecided.branch [
-      | in-Some+in_ok-insert w ↦
-          ap (λ v. v.items) w.strays-is ∙ w.in_ok-insert.ensures.items ∙ ap (λ o. option_to_list o ++ calls.strays.items) (sym w.in-Some.is)
-      | in_default w ↦ ap (λ v. v.items) w.strays-is ∙ ap (λ o. option_to_list o ++ calls.strays.items) (sym w.in_default.is)
-    ]
-    in
-    finished calls _ events (holds calls events sums) refl strays_are refl
+    kept_findings events c.in_ok-found.found _ (fed_placed events sums.placed) (c.in_ok-found.ensures (map with_itself events) sums)
+    (c.in_ok-openers_of.ensures ∙ ap (map kept_opener) c.as_slice.ensures.value)
+    (c.in_ok-events_of.ensures ∙ ap (map kept_event) c.as_slice-2.ensures.value)
+    (c.in_ok-sends_of.ensures ∙ ap (map kept_send) c.as_slice-3.ensures.value)

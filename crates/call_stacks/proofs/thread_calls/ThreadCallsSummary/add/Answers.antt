@@ -1,75 +1,21 @@
-use Rattle.std.proofs.Common.{◌≡◌, ◌++◌, ◌∷◌, [], true, false, Option, Some, None, refl, ap, sym, ◌∙◌}
-use Rattle.std.specs.Option.{is_some, option_or}
-use Rattle.event_core.specs.contracts.marks.Bracket.{the_type}
-use Rattle.event_core.specs.declared.marks.Bracket.{Bracket}
-use Rattle.event_core.specs.declared.marks.Bracket.TheVariants.{Call, Served, Reply, Sent, Error, Refused, Neither}
-use Rattle.event_core.specs.declared.marks.Mark.{Mark}
-use Rattle.call_stacks.specs.declared.thread_calls.ThreadCalls.{ThreadCalls}
-use Rattle.call_stacks.specs.Calls.{bracket_in_part, bracket_by, is_error, event_mark}
-use Rattle.call_stacks.specs.Content.{Content, content_of}
-use Rattle.call_stacks.proofs.Joins.{within}
-use Rattle.call_stacks.proofs.Judging.{paired}
-use Rattle.call_stacks.proofs.Sums.{holds, sums, add_undecided, add_entered, enters_last}
+use Rattle.std.proofs.Common.{sym, subst}
+use Rattle.std.proofs.lemmas.Result.{on_ok_weaker}
+use Rattle.event_core.specs.declared.event.Event.{Event}
+use Rattle.summary_law.specs.Fits.{IsPlaced}
+use Rattle.summary_law.specs.Summary.{CanAdd, Adds}
+use Rattle.call_stacks.specs.declared.call_event.CallEvent.{CallEvent}
+use Rattle.call_stacks.specs.Calls.{CallsSum, event_place}
+use Rattle.call_stacks.proofs.Kept.{can_add_fed, fed_added}
 use Rattle.call_stacks.proofs.thread_calls.ThreadCallsSummary.add.Goals as goal
-use Rattle.call_stacks.proofs.thread_calls.ThreadCallsSummary.add.Goals.{then-is_none+then-eq, else-is_none+in_ok-enter, else-is_none-via-then-is_none+else-eq, else-is_none-via-else-is_none}
-use denote.Enum.Bare.{sameb}
 
-pub enter-requires : goal.enter-requires
-enter-requires c =
-    let old = c.args.self.now in
-    let events = c.requires.0 in
-    within (content_of old) (paired bracket_in_part None events) (holds old events c.requires.1).models
-
-same_error : (bracket : Bracket) → sameb the_type bracket Error ≡ is_error bracket
-same_error Call = refl
-same_error Served = refl
-same_error Reply = refl
-same_error Sent = refl
-same_error Error = refl
-same_error Refused = refl
-same_error Neither = refl
-
-none_is : (o : Option Mark) → is_some o ≡ false → o ≡ None
-none_is None e = refl
-none_is (Some mark) e = absurd cc
-
-not_none : (o : Option Mark) → is_some o ≡ true → o ≡ None → ⊥
-not_none None e none = cc
-not_none (Some mark) e none = cc
-
--- what a value holds, with this mark as the last one
-abbrev with_last : Option Mark → ThreadCalls → Content
-with_last mark calls = record (content_of calls) { last = mark }
+pub add-requires : goal.add-requires
+add-requires c =
+    subst (λ (e : CallEvent Event). CanAdd CallsSum (IsPlaced event_place) c.args.self.now.calls e) (sym c.of.ensures)
+    (can_add_fed c.args.self.now c.args.item c.requires)
 
 pub returns : goal.returns
-returns c = λ events summed placed.
-    let old = content_of c.args.self.now in
-    let event = c.args.item in
-    let held = holds c.args.self.now events summed in
-    let last = λ (o : Option Mark). option_or (event_mark event) o in
-    let mark_is : c.or-self.result ≡ last c.if-is_none.self.last
-    = c.or-self.ensures ∙ ap (λ o. option_or o c.if-is_none.self.last) c.mark.ensures in
-    sums _ (events ++ event ∷ [])
-    (elim c.if-is_none.branch [
-      | then-is_none+then-eq w ↦
-          let none : old.last ≡ None = none_is old.last w.if-is_none.ensures in
-          let same : is_error c.bracket-bracket.result ≡ true = sym (same_error c.bracket-bracket.result) ∙ sym w.eq.ensures ∙ w.if-eq.true in
-          let error : is_error (bracket_by None event) ≡ true
-          = ap (λ o. is_error (bracket_by o event)) (sym none) ∙ ap is_error (sym c.bracket-bracket.ensures) ∙ same in
-          let mark_then : c.or-self.result ≡ last old.last = mark_is ∙ ap (λ (v : ThreadCalls). last v.last) w.self-is in
-          add_undecided old _ events event held placed none error
-          (ap (with_last c.or-self.result) w.self-is ∙ ap (λ o. record old { last = o; undecided = Some event }) mark_then)
-      | else-is_none+in_ok-enter w ↦
-          add_entered old (content_of w.enter.new.self) _ events event c.bracket-bracket.result held placed c.bracket-bracket.ensures
-          (λ none. elim w.else-is_none.branch [
-            | else-is_none-via-then-is_none+else-eq v ↦
-                ap (λ o. is_error (bracket_by o event)) (sym none) ∙ ap is_error (sym c.bracket-bracket.ensures)
-                ∙ sym (same_error c.bracket-bracket.result) ∙ sym v.eq.ensures ∙ v.if-eq.false
-            | else-is_none-via-else-is_none v ↦ absurd (not_none old.last v.if-is_none.ensures none)
-          ])
-          w.in_ok-enter.ensures
-          (ap (with_last c.or-self.result) w.self-is
-          ∙ ap (λ o. record (content_of w.enter.new.self) { last = o })
-          (mark_is ∙ ap (λ (v : ThreadCalls). last v.last) w.self-is
-          ∙ ap last (enters_last c.bracket-bracket.result event old (content_of w.enter.new.self) w.in_ok-enter.ensures)))
-    ])
+returns c =
+    on_ok_weaker c.add.result
+    (λ adds. fed_added c.args.self.now (record c.args.self.now { calls = c.add.new.self }) c.args.item
+    (subst (λ (e : CallEvent Event). Adds CallsSum (IsPlaced event_place) c.args.self.now.calls e c.add.new.self) c.of.ensures adds))
+    c.add.ensures

@@ -1,5 +1,5 @@
 use Rattle.std.proofs.Common.{rules}
-use Rattle.event_core.proofs.brackets.bracket.Goals as goal
+use Rattle.event_core.proofs.brackets.bracket_of.Goals as goal
 
 pub returns-in-BrReply : goal.returns-in-BrReply
 returns-in-BrReply c = search rules

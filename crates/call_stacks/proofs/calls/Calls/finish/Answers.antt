@@ -1,0 +1,18 @@
+use Rattle.std.proofs.Common.{◌≡◌, ◌++◌, refl, ap, sym, ◌∙◌}
+use Rattle.std.specs.Option.{option_to_list}
+use Rattle.call_stacks.proofs.Joins.{finished}
+use Rattle.call_stacks.proofs.Sums.{holds}
+use Rattle.call_stacks.proofs.calls.Calls.finish.Goals as goal
+use Rattle.call_stacks.proofs.calls.Calls.finish.Goals.{in-Some+in_ok-insert, in_default}
+
+pub returns : goal.returns
+returns g c = λ events sums.
+    let calls = c.args.self in
+    let strays_are : c.match-undecided.strays.items ≡ option_to_list calls.undecided ++ calls.strays.items
+    = elim c.match-undecided.branch [
+      | in-Some+in_ok-insert w ↦
+          ap (λ v. v.items) w.strays-is ∙ w.in_ok-insert.ensures.items ∙ ap (λ o. option_to_list o ++ calls.strays.items) (sym w.in-Some.is)
+      | in_default w ↦ ap (λ v. v.items) w.strays-is ∙ ap (λ o. option_to_list o ++ calls.strays.items) (sym w.in_default.is)
+    ]
+    in
+    finished calls _ events (holds calls events sums) refl strays_are refl

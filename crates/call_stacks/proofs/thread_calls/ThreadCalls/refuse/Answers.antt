@@ -1,5 +1,0 @@
-use Rattle.std.proofs.Common.{rules}
-use Rattle.call_stacks.proofs.thread_calls.ThreadCalls.refuse.Goals as goal
-
-pub returns : goal.returns
-returns c = search rules
