@@ -11,3 +11,4 @@ pub mod Joins
 pub mod JoinedMatch
 pub mod Retold
 pub mod Kept
+pub mod Unmarked

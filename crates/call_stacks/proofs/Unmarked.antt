@@ -1,0 +1,160 @@
+-- Events that leave no mark are no part of the calls of their thread.
+use Rattle.std.proofs.Common.{◌≡◌, ℕ, Bool, true, false, cond, Option, Some, None, refl, sym, ap, ap₂, ◌∙◌, inl, inr, List, [], ◌∷◌, map}
+use Rattle.std.proofs.lemmas.Bool.{true≢false}
+use Rattle.std.specs.List.{filter, find, fold, cons_option}
+use Rattle.std.proofs.lemmas.Option.{slice_get-map}
+use Rattle.std.specs.Option.{is_some, option_or, option_and_then, option_map}
+use Rattle.std.specs.Prelude.{slice_get}
+use Rattle.event_core.specs.declared.marks.Bracket.{Bracket}
+use Rattle.event_core.specs.declared.marks.Bracket.TheVariants.{Neither}
+use Rattle.event_core.specs.declared.marks.Mark.{Mark}
+use Rattle.summary_law.specs.Fits.{IsPlaced}
+use Rattle.call_stacks.specs.declared.call_event.CallEvent.{CallEvent}
+use Rattle.call_stacks.specs.declared.calls.Calls.{Calls}
+use Rattle.call_stacks.specs.declared.findings.RefusedSend.{RefusedSend}
+use Rattle.call_stacks.specs.declared.opener.Opener.{Opener}
+use Rattle.call_stacks.specs.Calls.{Reads, JudgedOf, IsOpener, IsStrayEvent, IsRefusedSend, bracket_read, judged_of, judged_with, mark_read, mark_behind_by}
+use Rattle.call_stacks.specs.Calls.{CallsSum, event_mark, event_place, bracket_in_part, mark_behind, judged_by, if_error_reply, is_error, is_refused, refused_of, refused_send}
+use Rattle.call_stacks.specs.Matching.{Side, opener, closer, neither}
+use Rattle.call_stacks.specs.Verdicts.{side_of}
+use Rattle.call_stacks.proofs.Judging.{side, paired}
+use Rattle.call_stacks.proofs.Lists.{found, event_of}
+use Rattle.call_stacks.proofs.MarkLaws.{no_mark}
+use Rattle.call_stacks.proofs.Model.{strays, openers, put, entry}
+use Rattle.call_stacks.proofs.Steps.{unmatched_at}
+use Rattle.call_stacks.proofs.Members.{In, get_in}
+use Rattle.call_stacks.proofs.Sums.{holds, sums, marked}
+
+module _ {K : Type 0} where
+  -- what is found of the events, and of those that leave a mark, behind the same mark
+  record SameWithout (before : Option Mark) (events : List (CallEvent K)) : Type 0 where
+    strays_are : strays side (paired bracket_in_part before (filter marked events)) ≡ strays side (paired bracket_in_part before events)
+    openers_are : openers side (paired bracket_in_part before (filter marked events)) ≡ openers side (paired bracket_in_part before events)
+    refused_are : refused_of (judged_by bracket_in_part before (filter marked events)) ≡ refused_of (judged_by bracket_in_part before events)
+    last_is : fold mark_behind before (filter marked events) ≡ fold mark_behind before events
+
+  plain_bracket : (before : Option Mark) (e : CallEvent K) → event_mark e ≡ None → bracket_in_part before e ≡ Neither
+  plain_bracket None e none = ap (λ (b : Bracket). cond (is_error b) Neither b) (no_mark None e.kind e.oneway none)
+  plain_bracket (Some mark) e none = no_mark (Some mark) e.kind e.oneway none
+
+  -- an event without a mark
+  plain_step : (before : Option Mark) (e : CallEvent K) (events : List (CallEvent K)) → event_mark e ≡ None → SameWithout before events
+      → SameWithout before (e ∷ events)
+  plain_step before e events none rest =
+      let kept : filter marked (e ∷ events) ≡ filter marked events
+      = ap (λ (o : Option Mark). cond (is_some o) (e ∷ filter marked events) (filter marked events)) none in
+      let behind : mark_behind before e ≡ before = ap (λ (o : Option Mark). option_or o before) none in
+      let bracket = plain_bracket before e none in
+      let later = λ (m : Option Mark). paired bracket_in_part m events in
+      let sent = λ (b : Bracket) (m : Option Mark).
+      cons_option (refused_send (record { event = e; before = before; bracket = b })) (refused_of (judged_by bracket_in_part m events)) in
+      record {
+        strays_are = ap (λ l. strays side (paired bracket_in_part before l)) kept ∙ rest.strays_are
+            ∙ ap (λ (m : Option Mark). strays side (later m)) (sym behind)
+            ∙ ap (λ (b : Bracket). put (side_of b) (e, side_of b) (strays side (later (mark_behind before e)))) (sym bracket);
+        openers_are = ap (λ l. openers side (paired bracket_in_part before l)) kept ∙ rest.openers_are
+            ∙ ap (λ (m : Option Mark). openers side (later m)) (sym behind)
+            ∙ ap (λ (b : Bracket). entry (side_of b) (e, side_of b) (strays side (later (mark_behind before e)))
+            (openers side (later (mark_behind before e)))) (sym bracket);
+        refused_are = ap (λ l. refused_of (judged_by bracket_in_part before l)) kept ∙ rest.refused_are
+            ∙ ap (λ (m : Option Mark). refused_of (judged_by bracket_in_part m events)) (sym behind)
+            ∙ ap (λ (b : Bracket). sent b (mark_behind before e)) (sym bracket);
+        last_is = ap (fold mark_behind before) kept ∙ rest.last_is ∙ ap (λ (m : Option Mark). fold mark_behind m events) (sym behind);
+      }
+
+  -- an event with a mark
+  marked_step : (before : Option Mark) (e : CallEvent K) (events : List (CallEvent K)) (mark : Mark) → event_mark e ≡ Some mark
+      → SameWithout (mark_behind before e) events → SameWithout before (e ∷ events)
+  marked_step before e events mark is rest =
+      let kept : filter marked (e ∷ events) ≡ e ∷ filter marked events
+      = ap (λ (o : Option Mark). cond (is_some o) (e ∷ filter marked events) (filter marked events)) is in
+      let b = bracket_in_part before e in
+      record {
+        strays_are = ap (λ l. strays side (paired bracket_in_part before l)) kept ∙ ap (put (side_of b) (e, side_of b)) rest.strays_are;
+        openers_are = ap (λ l. openers side (paired bracket_in_part before l)) kept
+            ∙ ap₂ (entry (side_of b) (e, side_of b)) rest.strays_are rest.openers_are;
+        refused_are = ap (λ l. refused_of (judged_by bracket_in_part before l)) kept
+            ∙ ap (cons_option (refused_send (record { event = e; before = before; bracket = b }))) rest.refused_are;
+        last_is = ap (fold mark_behind before) kept ∙ rest.last_is;
+      }
+
+  same_without : (before : Option Mark) (events : List (CallEvent K)) → SameWithout before events
+  same_without before [] = record { strays_are = refl; openers_are = refl; refused_are = refl; last_is = refl }
+  same_without before (e ∷ events) =
+      elim (event_mark e) as (λ o. (event_mark e ≡ o) → SameWithout before (e ∷ events)) [
+        | None ↦ λ none. plain_step before e events none (same_without before events)
+        | Some mark ↦ λ is. marked_step before e events mark is (same_without (mark_behind before e) events)
+      ] refl
+
+  first_marked : (events : List (CallEvent K)) → find marked (filter marked events) ≡ find marked events
+  first_marked [] = refl
+  first_marked (e ∷ events) =
+      elim (marked e) as (λ b. (marked e ≡ b) → find marked (cond b (e ∷ filter marked events) (filter marked events))
+      ≡ cond b (Some e) (find marked events)) [
+        | true ↦ λ is. ap (λ b. cond b (Some e) (find marked (filter marked events))) is
+        | false ↦ λ is. first_marked events
+      ] refl
+
+  -- a value that sums the events of a thread that leave a mark sums all of them
+  pub with_unmarked : (calls : Calls K) (events : List (CallEvent K)) → IsPlaced event_place events → CallsSum calls (filter marked events)
+      → CallsSum calls events
+  with_unmarked calls events placed summed =
+      let held = holds calls (filter marked events) summed in
+      let same = same_without None events in
+      sums calls events (record {
+        placed = placed;
+        last = held.last ∙ same.last_is;
+        undecided = held.undecided ∙ ap (option_and_then if_error_reply) (first_marked events);
+        models = record {
+          openers_are = held.models.openers_are ∙ ap (map found) same.openers_are;
+          unmatched_are = held.models.unmatched_are ∙ ap (unmatched_at 0) same.openers_are;
+          strays_are = held.models.strays_are ∙ ap (map event_of) same.strays_are;
+        };
+        refused = held.refused ∙ same.refused_are;
+      })
+
+-- ---- what is found is of events that leave a mark
+
+module _ {E : Type 0} (reads : Reads E) where
+  judged_is : (before : Option Mark) (events : List E) (there : JudgedOf E) → In there (judged_with reads (bracket_read reads) before events)
+      → there.bracket ≡ bracket_read reads there.before there.event
+  judged_is before [] there here = absurd here
+  judged_is before (e ∷ events) there (inl same) =
+      ap (λ (j : JudgedOf E). j.bracket) same ∙ sym (ap (λ (j : JudgedOf E). bracket_read reads j.before j.event) same)
+  judged_is before (e ∷ events) there (inr later) = judged_is (mark_behind_by reads before e) events there later
+
+  -- what stands there as a bracket leaves a mark
+  pub bracket_marks : (events : List E) (position : ℕ) (there : JudgedOf E) → slice_get (judged_of reads events) position ≡ Some there
+      → (there.bracket ≡ Neither → ⊥) → is_some (mark_read reads there.event) ≡ true
+  bracket_marks events position there stands bracket =
+      let is = judged_is None events there (get_in (judged_of reads events) position there stands) in
+      elim (mark_read reads there.event) as (λ o. (mark_read reads there.event ≡ o) → is_some o ≡ true) [
+        | None ↦ λ none. absurd (bracket (is ∙ no_mark there.before (reads.kind there.event) (reads.oneway there.event) none))
+        | Some mark ↦ λ some. refl
+      ] refl
+
+  pub opener_marks : (events : List E) (call : Opener E) → IsOpener reads (judged_of reads events) call → is_some (mark_read reads call.event) ≡ true
+  opener_marks events call is =
+      ap (λ (e : E). is_some (mark_read reads e)) is.event
+      ∙ bracket_marks events is.position is.there is.stands (λ neither. no_opener (ap side_of (sym neither) ∙ is.opens))
+    where
+      no_opener : neither ≡ opener → ⊥
+      no_opener same = cc
+
+  pub stray_marks : (events : List E) (e : E) → IsStrayEvent (judged_of reads events) e → is_some (mark_read reads e) ≡ true
+  stray_marks events e is =
+      let side : Some (side_of is.there.bracket) ≡ Some closer
+      = sym (slice_get-map (λ (j : JudgedOf E). side_of j.bracket) (judged_of reads events) is.position
+      ∙ ap (option_map (λ (j : JudgedOf E). side_of j.bracket)) is.stands) ∙ is.stray.0 in
+      ap (λ (x : E). is_some (mark_read reads x)) is.event
+      ∙ bracket_marks events is.position is.there is.stands
+      (λ neither. no_closer (ap (λ (b : Bracket). Some (side_of b)) (sym neither) ∙ side))
+    where
+      no_closer : Some neither ≡ Some closer → ⊥
+      no_closer same = cc
+
+  pub send_marks : (events : List E) (sent : RefusedSend E) → IsRefusedSend (judged_of reads events) sent
+      → is_some (mark_read reads sent.event) ≡ true
+  send_marks events sent is =
+      ap (λ (e : E). is_some (mark_read reads e)) is.event
+      ∙ bracket_marks events is.position is.there is.stands (λ neither. true≢false (sym is.refused ∙ ap is_refused neither))
