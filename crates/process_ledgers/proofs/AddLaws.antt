@@ -79,7 +79,7 @@ can_each ledgers given item is summed =
       oneway = can_read oneway_in can.0 item OnewayLedgerSums IsShort ledgers.oneway can.1.oneway can.2.oneway;
     }
 
--- each ledger, in their order, is given what is in the item
+-- each ledger, in the order of the fields, is given what is in the item
 abbrev pub AddsEach : ProcessLedgers → ProcessItem → ProcessLedgers → Type 0
 AddsEach old item new =
     AddsMaybe HandleLedgerSums IsShort old.handles (handle_in item) new.handles
@@ -101,5 +101,6 @@ added_to old new item each items sums fits = record {
   oneway = read_added oneway_in items item OnewayLedgerSums IsShort old.oneway new.oneway each.6 sums.oneway fits.oneway;
 }
 
+-- then they are those of the items with this one behind them
 pub each_added : (old new : ProcessLedgers) (given item : ProcessItem) → given ≡ item → AddsEach old item new → Adds SumsProcess FitProcess old given new
 each_added old new given item is each = subst (λ (i : ProcessItem). Adds SumsProcess FitProcess old i new) (sym is) (added_to old new item each)

@@ -16,7 +16,7 @@ use Rattle.process_ledgers.specs.declared.process_item.ProcessItem.TheVariants.{
 use Rattle.process_ledgers.specs.Items.{buffer_item_of, clear_item_of, death_item_of, handle_item_of, node_item_of, oneway_item_of, request_item_of}
 use Rattle.process_ledgers.specs.Processes.{process_of_whole}
 
--- the item of each ledger that is in it
+-- the item of each ledger in it, if there is one
 abbrev pub handle_in : ProcessItem → Option HandleItem
 handle_in (Handle handle) = Some handle
 handle_in _ = None
@@ -51,7 +51,7 @@ oneway_in (Sent oneway) = Some oneway
 oneway_in (Received buffer oneway) = Some oneway
 oneway_in _ = None
 
--- the items of these ledgers together, of which a record has at most two
+-- these items together: a record is one of one ledger, or one of each of two that go together, or none
 abbrev pub item_with : Option HandleItem → Option NodeItem → Option BufferItem → Option RequestItem
     → Option (PendingItem ℕ) → Option (PendingItem ℕ) → Option OnewayItem → ProcessItem
 item_with (Some handle) _ _ _ _ _ _ = Handle handle
@@ -79,7 +79,9 @@ is_no_item _ = false
 
 -- a frame is fed as its process with no item, and then each of its events as the process with the item that it is
 abbrev pub fed_by : Placed WholeFrame → List (Process × ProcessItem)
-fed_by there = (process_of_whole there, Nothing) ∷ map (λ e. (process_of_whole there, item_of_event e)) (events_of_whole there)
+fed_by there =
+    (process_of_whole there, Nothing)
+    ∷ map (λ e. (process_of_whole there, item_of_event e)) (events_of_whole there)
 
 -- what these frames feed to the ledgers of all processes, one frame behind another
 abbrev pub fed_by_all : List (Placed WholeFrame) → List (Process × ProcessItem)

@@ -35,6 +35,9 @@ pub enum ProcessItem {
     Acknowledged(PendingItem<u64>),
 }
 
+// One is made of every record and handed on by value.
+const _: () = prove!(size_of::<ProcessItem>() <= 64);
+
 impl ProcessItem {
     /// The item that an event is.
     pub fn of(event: Event<'_>) -> Self
