@@ -1,9 +1,8 @@
 -- The ledgers of what frames fed are those of the frames' processes.
-use Rattle.std.proofs.Common.{◌≢◌, List, [], map, Option, Some, None, refl, sym, ap, subst, ◌∙◌}
+use Rattle.std.proofs.Common.{◌≢◌, List, [], Option, Some, None, refl, sym, subst, ◌∙◌}
 use Rattle.std.proofs.Common.{Box, Global}
 use Rattle.std.specs.Ordering.{nat_cmp}
 use Rattle.std.proofs.lemmas.List.Elements.{All-weaker}
-use Rattle.std.proofs.lemmas.Simd.{map-map}
 use Rattle.capture_frame.specs.Units.{Placed}
 use Rattle.handle_ledger.specs.Handles.{HandleLedgerSums}
 use Rattle.handle_ledger.specs.Nodes.{NodeLedgerSums}
@@ -13,23 +12,16 @@ use Rattle.transaction_view.specs.Grammar.{WholeFrame}
 use Rattle.capture_frame.specs.declared.process.Process.{Process}
 use Rattle.process_ledgers.specs.declared.process_ledgers.ProcessLedgers.{ProcessLedgers}
 use Rattle.process_ledgers.specs.declared.process_summary.ProcessSummary.{ProcessSummary}
-use Rattle.process_ledgers.specs.Items.{buffer_item_of}
-use Rattle.process_ledgers.specs.Items.{clear_item_of}
-use Rattle.process_ledgers.specs.Items.{death_item_of}
 use Rattle.event_core.specs.Events.{events_of_wholes}
-use Rattle.process_ledgers.specs.Items.{handle_item_of}
-use Rattle.process_ledgers.specs.Items.{node_item_of}
-use Rattle.process_ledgers.specs.Items.{oneway_item_of}
 use Rattle.process_ledgers.specs.OnewayLedger.{OnewayLedgerSums}
-use Rattle.process_ledgers.specs.ProcessItems.{fed_by_all}
+use Rattle.process_ledgers.specs.ProcessItem.{handle_in, node_in, buffer_in, request_in, death_in, clear_in, oneway_in, fed_by_all}
 use Rattle.process_ledgers.specs.ProcessLedgers.{SumsIfAny, SumsProcessItems, SumsProcesses}
 use Rattle.process_ledgers.specs.OfProcess.{IsOfProcess, AreOfProcesses}
 use Rattle.capture_frame.specs.Process.{same_process}
-use Rattle.process_ledgers.specs.Items.{request_item_of}
-use Rattle.process_ledgers.proofs.FedLaws.{fed_items, processes_fed}
+use Rattle.process_ledgers.proofs.FedLaws.{fed_handles, fed_nodes, fed_buffers, fed_requests, fed_deaths, fed_clears, fed_oneways, processes_fed}
 use Rattle.summary_law.proofs.InOrderLaws.{each_sums}
 use Rattle.capture_frame.proofs.ProcessLaws.{same_process_equiv}
-use Rattle.process_ledgers.proofs.ItemLaws.{nothing, none_read}
+use Rattle.process_ledgers.proofs.ItemLaws.{none_read}
 
 -- what sums what was fed under a key is of the process
 is_of : (ledgers : Option (Box ProcessLedgers Global)) (wholes : List (Placed WholeFrame)) (q : Process)
@@ -37,23 +29,23 @@ is_of : (ledgers : Option (Box ProcessLedgers Global)) (wholes : List (Placed Wh
 is_of None wholes q all =
     let items = items_of same_process q (fed_by_all wholes) in
     record {
-      handles = sym (fed_items (λ i. i.handle) handle_item_of refl (λ e. refl) q wholes) ∙ none_read (λ i. i.handle) (λ i is. (nothing i is).handle) items all;
-      nodes = sym (fed_items (λ i. i.node) node_item_of refl (λ e. refl) q wholes) ∙ none_read (λ i. i.node) (λ i is. (nothing i is).node) items all;
-      buffers = sym (fed_items (λ i. i.buffer) buffer_item_of refl (λ e. refl) q wholes) ∙ none_read (λ i. i.buffer) (λ i is. (nothing i is).buffer) items all;
-      requests = sym (fed_items (λ i. i.request) request_item_of refl (λ e. refl) q wholes) ∙ none_read (λ i. i.request) (λ i is. (nothing i is).request) items all;
-      deaths = sym (fed_items (λ i. i.death) death_item_of refl (λ e. refl) q wholes) ∙ none_read (λ i. i.death) (λ i is. (nothing i is).death) items all;
-      clears = sym (fed_items (λ i. i.clear) clear_item_of refl (λ e. refl) q wholes) ∙ none_read (λ i. i.clear) (λ i is. (nothing i is).clear) items all;
-      oneway = sym (fed_items (λ i. i.oneway) oneway_item_of refl (λ e. refl) q wholes) ∙ none_read (λ i. i.oneway) (λ i is. (nothing i is).oneway) items all;
+      handles = sym (fed_handles q wholes) ∙ none_read handle_in refl items all;
+      nodes = sym (fed_nodes q wholes) ∙ none_read node_in refl items all;
+      buffers = sym (fed_buffers q wholes) ∙ none_read buffer_in refl items all;
+      requests = sym (fed_requests q wholes) ∙ none_read request_in refl items all;
+      deaths = sym (fed_deaths q wholes) ∙ none_read death_in refl items all;
+      clears = sym (fed_clears q wholes) ∙ none_read clear_in refl items all;
+      oneway = sym (fed_oneways q wholes) ∙ none_read oneway_in refl items all;
     }
 is_of (Some ledgers) wholes q sums =
     record {
-      handles = subst (HandleLedgerSums ledgers.value.handles) (fed_items (λ i. i.handle) handle_item_of refl (λ e. refl) q wholes) sums.handles;
-      nodes = subst (NodeLedgerSums ledgers.value.nodes) (fed_items (λ i. i.node) node_item_of refl (λ e. refl) q wholes) sums.nodes;
-      buffers = subst (BuffersSums ledgers.value.buffers) (fed_items (λ i. i.buffer) buffer_item_of refl (λ e. refl) q wholes) sums.buffers;
-      requests = subst (RequestsSums ledgers.value.requests) (fed_items (λ i. i.request) request_item_of refl (λ e. refl) q wholes) sums.requests;
-      deaths = subst (PendingSums nat_cmp ledgers.value.deaths) (fed_items (λ i. i.death) death_item_of refl (λ e. refl) q wholes) sums.deaths;
-      clears = subst (PendingSums nat_cmp ledgers.value.clears) (fed_items (λ i. i.clear) clear_item_of refl (λ e. refl) q wholes) sums.clears;
-      oneway = subst (OnewayLedgerSums ledgers.value.oneway) (fed_items (λ i. i.oneway) oneway_item_of refl (λ e. refl) q wholes) sums.oneway;
+      handles = subst (HandleLedgerSums ledgers.value.handles) (fed_handles q wholes) sums.handles;
+      nodes = subst (NodeLedgerSums ledgers.value.nodes) (fed_nodes q wholes) sums.nodes;
+      buffers = subst (BuffersSums ledgers.value.buffers) (fed_buffers q wholes) sums.buffers;
+      requests = subst (RequestsSums ledgers.value.requests) (fed_requests q wholes) sums.requests;
+      deaths = subst (PendingSums nat_cmp ledgers.value.deaths) (fed_deaths q wholes) sums.deaths;
+      clears = subst (PendingSums nat_cmp ledgers.value.clears) (fed_clears q wholes) sums.clears;
+      oneway = subst (OnewayLedgerSums ledgers.value.oneway) (fed_oneways q wholes) sums.oneway;
     }
 
 pub are_of_processes : (entries : List (Process × ProcessSummary)) (wholes : List (Placed WholeFrame)) → SumsProcesses entries wholes

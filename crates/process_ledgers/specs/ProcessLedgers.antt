@@ -1,5 +1,5 @@
 -- What the ledgers of each process come to while they are made.
-use Rattle.std.specs.Prelude.{◌≡◌, ℕ, true, List, ◌++◌, All, Option, Some, None, ⊤}
+use Rattle.std.specs.Prelude.{◌≡◌, ℕ, true, List, ◌++◌, All, Option, Some, None}
 use Rattle.std.specs.List.{filter_map}
 use Rattle.std.specs.Ordering.{nat_cmp}
 use Rattle.std.proofs.Common.{Box, Global, subst}
@@ -19,40 +19,41 @@ use Rattle.pending_ledger.specs.Pending.{place_of}
 use Rattle.pending_ledger.specs.Requests.{request_place}
 use Rattle.pending_ledger.specs.Sums.{BuffersSums, PendingSums, RequestsSums}
 use Rattle.summary_law.specs.Fits.{IsShort, IsPlaced, short_parts, placed_parts}
-use Rattle.summary_law.specs.Summary.{CanAdd, Adds, FitsInParts}
+use Rattle.summary_law.specs.Summary.{FitsInParts}
 use Rattle.capture_frame.specs.declared.process.Process.{Process}
-use Rattle.process_ledgers.specs.declared.process_items.ProcessItems.{ProcessItems}
+use Rattle.process_ledgers.specs.declared.process_item.ProcessItem.{ProcessItem}
 use Rattle.process_ledgers.specs.declared.process_ledgers.ProcessLedgers.{ProcessLedgers}
 use Rattle.process_ledgers.specs.declared.process_summary.ProcessSummary.{ProcessSummary}
 use Rattle.summary_law.specs.InOrder.{SumsInOrder}
 use Rattle.process_ledgers.specs.OnewayLedger.{OnewayLedgerSums}
-use Rattle.process_ledgers.specs.ProcessItems.{is_no_items, fed_by_all}
+use Rattle.process_ledgers.specs.ProcessItem.{handle_in, node_in, buffer_in, request_in, death_in, clear_in, oneway_in}
+use Rattle.process_ledgers.specs.ProcessItem.{is_no_item, fed_by_all}
 use Rattle.capture_frame.specs.Process.{same_process}
 
 -- the items of each ledger among these
-abbrev pub handles_in : List ProcessItems → List HandleItem
-handles_in items = filter_map (λ i. i.handle) items
+abbrev pub handles_in : List ProcessItem → List HandleItem
+handles_in items = filter_map handle_in items
 
-abbrev pub nodes_in : List ProcessItems → List NodeItem
-nodes_in items = filter_map (λ i. i.node) items
+abbrev pub nodes_in : List ProcessItem → List NodeItem
+nodes_in items = filter_map node_in items
 
-abbrev pub buffers_in : List ProcessItems → List BufferItem
-buffers_in items = filter_map (λ i. i.buffer) items
+abbrev pub buffers_in : List ProcessItem → List BufferItem
+buffers_in items = filter_map buffer_in items
 
-abbrev pub requests_in : List ProcessItems → List RequestItem
-requests_in items = filter_map (λ i. i.request) items
+abbrev pub requests_in : List ProcessItem → List RequestItem
+requests_in items = filter_map request_in items
 
-abbrev pub deaths_in : List ProcessItems → List (PendingItem ℕ)
-deaths_in items = filter_map (λ i. i.death) items
+abbrev pub deaths_in : List ProcessItem → List (PendingItem ℕ)
+deaths_in items = filter_map death_in items
 
-abbrev pub clears_in : List ProcessItems → List (PendingItem ℕ)
-clears_in items = filter_map (λ i. i.clear) items
+abbrev pub clears_in : List ProcessItem → List (PendingItem ℕ)
+clears_in items = filter_map clear_in items
 
-abbrev pub oneways_in : List ProcessItems → List OnewayItem
-oneways_in items = filter_map (λ i. i.oneway) items
+abbrev pub oneways_in : List ProcessItem → List OnewayItem
+oneways_in items = filter_map oneway_in items
 
 -- the ledgers are those of these items
-pub record SumsProcess (ledgers : ProcessLedgers) (items : List ProcessItems) : Type 0 where
+pub record SumsProcess (ledgers : ProcessLedgers) (items : List ProcessItem) : Type 0 where
   pub handles : HandleLedgerSums ledgers.handles (handles_in items)
   pub nodes : NodeLedgerSums ledgers.nodes (nodes_in items)
   pub buffers : BuffersSums ledgers.buffers (buffers_in items)
@@ -62,7 +63,7 @@ pub record SumsProcess (ledgers : ProcessLedgers) (items : List ProcessItems) : 
   pub oneway : OnewayLedgerSums ledgers.oneway (oneways_in items)
 
 -- few items for each ledger, and places that rise where items have places
-pub record FitProcess (items : List ProcessItems) : Type 0 where
+pub record FitProcess (items : List ProcessItem) : Type 0 where
   pub handles : IsShort (handles_in items)
   pub nodes : IsShort (nodes_in items)
   pub buffers : IsPlaced buffer_place (buffers_in items)
@@ -79,21 +80,14 @@ read_parts read Fits parts first second fits =
 
 pub process_parts : FitsInParts FitProcess
 process_parts first second fit =
-    let handles = read_parts (λ (i : ProcessItems). i.handle) IsShort short_parts first second fit.handles in
-    let nodes = read_parts (λ (i : ProcessItems). i.node) IsShort short_parts first second fit.nodes in
-    let buffers =
-    read_parts (λ (i : ProcessItems). i.buffer) (IsPlaced buffer_place) (placed_parts buffer_place)
-    first second fit.buffers in
+    let handles = read_parts handle_in IsShort short_parts first second fit.handles in
+    let nodes = read_parts node_in IsShort short_parts first second fit.nodes in
+    let buffers = read_parts buffer_in (IsPlaced buffer_place) (placed_parts buffer_place) first second fit.buffers in
     let requests =
-    read_parts (λ (i : ProcessItems). i.request) (IsPlaced request_place) (placed_parts request_place)
-    first second fit.requests in
-    let deaths =
-    read_parts (λ (i : ProcessItems). i.death) (IsPlaced place_of) (placed_parts place_of)
-    first second fit.deaths in
-    let clears =
-    read_parts (λ (i : ProcessItems). i.clear) (IsPlaced place_of) (placed_parts place_of)
-    first second fit.clears in
-    let oneway = read_parts (λ (i : ProcessItems). i.oneway) IsShort short_parts first second fit.oneway in (
+    read_parts request_in (IsPlaced request_place) (placed_parts request_place) first second fit.requests in
+    let deaths = read_parts death_in (IsPlaced place_of) (placed_parts place_of) first second fit.deaths in
+    let clears = read_parts clear_in (IsPlaced place_of) (placed_parts place_of) first second fit.clears in
+    let oneway = read_parts oneway_in IsShort short_parts first second fit.oneway in (
       record {
         handles = handles.0;
         nodes = nodes.0;
@@ -114,23 +108,13 @@ process_parts first second fit =
       },
     )
 
--- the value sums some list that can be summarised with the item behind it, if there is one
-abbrev pub CanAddMaybe : {S I : Type 0} → (S → List I → Type 0) → (List I → Type 0) → S → Option I → Type 0
-CanAddMaybe Sums Fits value None = ⊤
-CanAddMaybe Sums Fits value (Some item) = CanAdd Sums Fits value item
-
--- the new value is the old one with the item behind it, if there is one
-abbrev pub AddsMaybe : {S I : Type 0} → (S → List I → Type 0) → (List I → Type 0) → S → Option I → S → Type 0
-AddsMaybe Sums Fits old None new = new ≡ old
-AddsMaybe Sums Fits old (Some item) new = Adds Sums Fits old item new
-
 -- the ledgers, if there are any, are those of these items; there are none only where no item is one of a ledger
-abbrev pub SumsIfAny : Option (Box ProcessLedgers Global) → List ProcessItems → Type 0
-SumsIfAny None items = All (λ i. is_no_items i ≡ true) items
+abbrev pub SumsIfAny : Option (Box ProcessLedgers Global) → List ProcessItem → Type 0
+SumsIfAny None items = All (λ i. is_no_item i ≡ true) items
 SumsIfAny (Some ledgers) items = SumsProcess ledgers.value items
 
 -- the same of a process that has them or has none
-abbrev pub SumsProcessItems : ProcessSummary → List ProcessItems → Type 0
+abbrev pub SumsProcessItems : ProcessSummary → List ProcessItem → Type 0
 SumsProcessItems summary items = SumsIfAny summary.ledgers items
 
 -- the ledgers of all processes are those of what these frames feed to them

@@ -3,11 +3,11 @@
 #![tactic(auto)]
 
 mod oneway_ledger;
-mod process_items;
+mod process_item;
 mod process_ledgers;
 mod process_summary;
 
 pub use oneway_ledger::OnewayLedger;
-pub use process_items::ProcessItems;
+pub use process_item::ProcessItem;
 pub use process_ledgers::ProcessLedgers;
 pub use process_summary::ProcessSummary;

@@ -1,10 +1,9 @@
 //! What the events of one process come to.
 
-ghost use Rattle.std.specs.Prelude.{OnOk};
-ghost use Rattle.process_ledgers.specs.ProcessLedgers.{SumsProcess, FitProcess, CanAddMaybe, AddsMaybe, process_parts};
+ghost use Rattle.process_ledgers.specs.ProcessLedgers.{SumsProcess, FitProcess, process_parts};
 
 use crate::oneway_ledger::OnewayLedger;
-use crate::process_items::ProcessItems;
+use crate::process_item::ProcessItem;
 use handle_ledger::{HandleLedger, NodeLedger};
 use pending_ledger::{Buffers, Clears, Deaths, Requests};
 use std::alloc::{AllocError, Global};
@@ -23,7 +22,7 @@ pub struct ProcessLedgers {
 }
 
 impl Summary for ProcessLedgers {
-    type Item = ProcessItems;
+    type Item = ProcessItem;
 
     ghost fits = { FitProcess };
 
@@ -41,14 +40,29 @@ impl Summary for ProcessLedgers {
         }
     }
 
-    fn add(&mut self, item: ProcessItems) -> Result<(), AllocError> {
-        add_item(&mut self.handles, item.handle)?;
-        add_item(&mut self.nodes, item.node)?;
-        add_item(&mut self.buffers, item.buffer)?;
-        add_item(&mut self.requests, item.request)?;
-        add_item(&mut self.deaths, item.death)?;
-        add_item(&mut self.clears, item.clear)?;
-        add_item(&mut self.oneway, item.oneway)
+    fn add(&mut self, item: ProcessItem) -> Result<(), AllocError> {
+        match item {
+            ProcessItem::Nothing => Ok(()),
+            ProcessItem::Handle(handle) => self.handles.add(handle),
+            ProcessItem::Node(node) => self.nodes.add(node),
+            ProcessItem::Buffer(buffer) => self.buffers.add(buffer),
+            ProcessItem::Sent(oneway) => self.oneway.add(oneway),
+            ProcessItem::Received(buffer, oneway) => {
+                self.buffers.add(buffer)?;
+                self.oneway.add(oneway)
+            }
+            ProcessItem::Request(request) => self.requests.add(request),
+            ProcessItem::TakenBack(request, clear) => {
+                self.requests.add(request)?;
+                self.clears.add(clear)
+            }
+            ProcessItem::Confirmed(clear) => self.clears.add(clear),
+            ProcessItem::Died(request, death) => {
+                self.requests.add(request)?;
+                self.deaths.add(death)
+            }
+            ProcessItem::Acknowledged(death) => self.deaths.add(death),
+        }
     }
 
     fn join(self, later: ProcessLedgers) -> Result<ProcessLedgers, AllocError> {
@@ -72,15 +86,4 @@ impl Summary for ProcessLedgers {
     }
 
     ghost fits_parts = { process_parts };
-}
-
-/// Adds an item, where there is one.
-fn add_item<S: Summary>(summary: &mut S, item: Option<S::Item>) -> Result<(), AllocError>
-    requires { CanAddMaybe S.sums S.fits summary.old item }
-    ensures { OnOk result (AddsMaybe S.sums S.fits summary.old item summary.new) }
-{
-    match item {
-        Some(item) => summary.add(item),
-        None => Ok(()),
-    }
 }

@@ -3,7 +3,7 @@
 ghost use Rattle.std.specs.Prelude.{◌≡◌, None, IfSome, IfNone, IsSomeAnd};
 ghost use Rattle.process_ledgers.specs.ProcessLedgers.{FitProcess, SumsProcessItems, process_parts};
 
-use crate::process_items::ProcessItems;
+use crate::process_item::ProcessItem;
 use crate::process_ledgers::ProcessLedgers;
 use std::alloc::{AllocError, Global};
 use summary_law::Summary;
@@ -27,7 +27,7 @@ impl ProcessSummary {
 }
 
 impl Summary for ProcessSummary {
-    type Item = ProcessItems;
+    type Item = ProcessItem;
 
     ghost fits = { FitProcess };
 
@@ -40,7 +40,7 @@ impl Summary for ProcessSummary {
         }
     }
 
-    fn add(&mut self, item: ProcessItems) -> Result<(), AllocError> {
+    fn add(&mut self, item: ProcessItem) -> Result<(), AllocError> {
         if item.is_none() {
             return Ok(());
         }

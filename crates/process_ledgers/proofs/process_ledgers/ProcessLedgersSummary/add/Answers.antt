@@ -1,57 +1,86 @@
+use Rattle.std.proofs.Common.{refl}
 use Rattle.std.proofs.lemmas.Result.{on_ok_weaker}
-use Rattle.std.specs.Ordering.{nat_cmp}
-use Rattle.handle_ledger.specs.Handles.{HandleLedgerSums}
-use Rattle.handle_ledger.specs.Nodes.{NodeLedgerSums}
-use Rattle.pending_ledger.specs.Ledgers.{buffer_place}
-use Rattle.pending_ledger.specs.Pending.{place_of}
-use Rattle.pending_ledger.specs.Requests.{request_place}
-use Rattle.pending_ledger.specs.Sums.{BuffersSums, PendingSums, RequestsSums}
-use Rattle.summary_law.specs.Fits.{IsShort, IsPlaced}
-use Rattle.process_ledgers.specs.declared.process_items.ProcessItems.{ProcessItems}
-use Rattle.process_ledgers.specs.OnewayLedger.{OnewayLedgerSums}
-use Rattle.process_ledgers.proofs.ItemLaws.{can_read, read_added}
+use Rattle.process_ledgers.proofs.AddLaws.{can_each, each_added}
 use Rattle.process_ledgers.proofs.process_ledgers.ProcessLedgersSummary.add.Goals as goal
 
-pub add_item-requires : goal.add_item-requires
-add_item-requires c =
-    can_read (λ (i : ProcessItems). i.handle) c.requires.0 c.args.item HandleLedgerSums IsShort c.args.self.now.handles c.requires.1.handles c.requires.2.handles
+pub add-requires : goal.add-requires
+add-requires c = (can_each _ _ _ c.in-Handle.is c.requires).handles
 
-pub add_item-requires-2 : goal.add_item-requires-2
-add_item-requires-2 c =
-    can_read (λ (i : ProcessItems). i.node) c.requires.0 c.args.item NodeLedgerSums IsShort c.args.self.now.nodes c.requires.1.nodes c.requires.2.nodes
+pub add-requires-in-Node : goal.add-requires-in-Node
+add-requires-in-Node c = (can_each _ _ _ c.in-Node.is c.requires).nodes
 
-pub add_item-requires-3 : goal.add_item-requires-3
-add_item-requires-3 c =
-    can_read (λ (i : ProcessItems). i.buffer) c.requires.0 c.args.item BuffersSums (IsPlaced buffer_place) c.args.self.now.buffers c.requires.1.buffers c.requires.2.buffers
+pub add-requires-in-Buffer : goal.add-requires-in-Buffer
+add-requires-in-Buffer c = (can_each _ _ _ c.in-Buffer.is c.requires).buffers
 
-pub add_item-requires-4 : goal.add_item-requires-4
-add_item-requires-4 c =
-    can_read (λ (i : ProcessItems). i.request) c.requires.0 c.args.item RequestsSums (IsPlaced request_place) c.args.self.now.requests c.requires.1.requests c.requires.2.requests
+pub add-requires-in-Sent : goal.add-requires-in-Sent
+add-requires-in-Sent c = (can_each _ _ _ c.in-Sent.is c.requires).oneway
 
-pub add_item-requires-5 : goal.add_item-requires-5
-add_item-requires-5 c =
-    can_read (λ (i : ProcessItems). i.death) c.requires.0 c.args.item (PendingSums nat_cmp) (IsPlaced place_of) c.args.self.now.deaths c.requires.1.deaths c.requires.2.deaths
+pub add-requires-in-Received : goal.add-requires-in-Received
+add-requires-in-Received c = (can_each _ _ _ c.in-Received.is c.requires).buffers
 
-pub add_item-requires-6 : goal.add_item-requires-6
-add_item-requires-6 c =
-    can_read (λ (i : ProcessItems). i.clear) c.requires.0 c.args.item (PendingSums nat_cmp) (IsPlaced place_of) c.args.self.now.clears c.requires.1.clears c.requires.2.clears
+pub add-requires-in-Received-2 : goal.add-requires-in-Received-2
+add-requires-in-Received-2 c = (can_each _ _ _ c.in-Received.is c.requires).oneway
 
-pub add_item-requires-7 : goal.add_item-requires-7
-add_item-requires-7 c =
-    can_read (λ (i : ProcessItems). i.oneway) c.requires.0 c.args.item OnewayLedgerSums IsShort c.args.self.now.oneway c.requires.1.oneway c.requires.2.oneway
+pub add-requires-in-Request : goal.add-requires-in-Request
+add-requires-in-Request c = (can_each _ _ _ c.in-Request.is c.requires).requests
 
-pub returns : goal.returns
-returns c =
-    on_ok_weaker c.add_item-7.result
-    (λ last items sums fits. record {
-      handles = read_added (λ (i : ProcessItems). i.handle) items c.args.item HandleLedgerSums IsShort c.args.self.now.handles c.add_item.new.summary c.in_ok-add_item.ensures sums.handles fits.handles;
-      nodes = read_added (λ (i : ProcessItems). i.node) items c.args.item NodeLedgerSums IsShort c.args.self.now.nodes c.add_item-2.new.summary c.in_ok-add_item-2.ensures sums.nodes fits.nodes;
-      buffers = read_added (λ (i : ProcessItems). i.buffer) items c.args.item BuffersSums (IsPlaced buffer_place) c.args.self.now.buffers c.add_item-3.new.summary c.in_ok-add_item-3.ensures sums.buffers fits.buffers;
-      requests = read_added (λ (i : ProcessItems). i.request) items c.args.item RequestsSums (IsPlaced request_place) c.args.self.now.requests c.add_item-4.new.summary c.in_ok-add_item-4.ensures sums.requests fits.requests;
-      deaths = read_added (λ (i : ProcessItems). i.death) items c.args.item (PendingSums nat_cmp) (IsPlaced place_of) c.args.self.now.deaths c.add_item-5.new.summary c.in_ok-add_item-5.ensures sums.deaths fits.deaths;
-      clears = read_added (λ (i : ProcessItems). i.clear) items c.args.item (PendingSums nat_cmp) (IsPlaced place_of) c.args.self.now.clears c.add_item-6.new.summary c.in_ok-add_item-6.ensures sums.clears fits.clears;
-      oneway =
-          read_added (λ (i : ProcessItems). i.oneway) items c.args.item OnewayLedgerSums IsShort c.args.self.now.oneway c.add_item-7.new.summary
-          last sums.oneway fits.oneway;
-    })
-    c.add_item-7.ensures
+pub add-requires-in-TakenBack : goal.add-requires-in-TakenBack
+add-requires-in-TakenBack c = (can_each _ _ _ c.in-TakenBack.is c.requires).requests
+
+pub add-requires-in-TakenBack-2 : goal.add-requires-in-TakenBack-2
+add-requires-in-TakenBack-2 c = (can_each _ _ _ c.in-TakenBack.is c.requires).clears
+
+pub add-requires-in-Confirmed : goal.add-requires-in-Confirmed
+add-requires-in-Confirmed c = (can_each _ _ _ c.in-Confirmed.is c.requires).clears
+
+pub add-requires-in-Died : goal.add-requires-in-Died
+add-requires-in-Died c = (can_each _ _ _ c.in-Died.is c.requires).requests
+
+pub add-requires-in-Died-2 : goal.add-requires-in-Died-2
+add-requires-in-Died-2 c = (can_each _ _ _ c.in-Died.is c.requires).deaths
+
+pub add-requires-in-Acknowledged : goal.add-requires-in-Acknowledged
+add-requires-in-Acknowledged c = (can_each _ _ _ c.in-Acknowledged.is c.requires).deaths
+
+pub returns-in-Nothing : goal.returns-in-Nothing
+returns-in-Nothing c = each_added _ _ _ _ c.in-Nothing.is (refl, refl, refl, refl, refl, refl, refl)
+
+pub returns-in-Handle : goal.returns-in-Handle
+returns-in-Handle c =
+    on_ok_weaker c.add.result (λ adds. each_added _ _ _ _ c.in-Handle.is (adds, refl, refl, refl, refl, refl, refl)) c.add.ensures
+
+pub returns-in-Node : goal.returns-in-Node
+returns-in-Node c =
+    on_ok_weaker c.add-in-Node.result (λ adds. each_added _ _ _ _ c.in-Node.is (refl, adds, refl, refl, refl, refl, refl)) c.add-in-Node.ensures
+
+pub returns-in-Buffer : goal.returns-in-Buffer
+returns-in-Buffer c =
+    on_ok_weaker c.add-in-Buffer.result (λ adds. each_added _ _ _ _ c.in-Buffer.is (refl, refl, adds, refl, refl, refl, refl)) c.add-in-Buffer.ensures
+
+pub returns-in-Sent : goal.returns-in-Sent
+returns-in-Sent c =
+    on_ok_weaker c.add-in-Sent.result (λ adds. each_added _ _ _ _ c.in-Sent.is (refl, refl, refl, refl, refl, refl, adds)) c.add-in-Sent.ensures
+
+pub returns-in_ok-add-in-Received : goal.returns-in_ok-add-in-Received
+returns-in_ok-add-in-Received c =
+    on_ok_weaker c.add-in-Received-2.result (λ adds. each_added _ _ _ _ c.in-Received.is (refl, refl, c.in_ok-add-in-Received.ensures, refl, refl, refl, adds)) c.add-in-Received-2.ensures
+
+pub returns-in-Request : goal.returns-in-Request
+returns-in-Request c =
+    on_ok_weaker c.add-in-Request.result (λ adds. each_added _ _ _ _ c.in-Request.is (refl, refl, refl, adds, refl, refl, refl)) c.add-in-Request.ensures
+
+pub returns-in_ok-add-in-TakenBack : goal.returns-in_ok-add-in-TakenBack
+returns-in_ok-add-in-TakenBack c =
+    on_ok_weaker c.add-in-TakenBack-2.result (λ adds. each_added _ _ _ _ c.in-TakenBack.is (refl, refl, refl, c.in_ok-add-in-TakenBack.ensures, refl, adds, refl)) c.add-in-TakenBack-2.ensures
+
+pub returns-in-Confirmed : goal.returns-in-Confirmed
+returns-in-Confirmed c =
+    on_ok_weaker c.add-in-Confirmed.result (λ adds. each_added _ _ _ _ c.in-Confirmed.is (refl, refl, refl, refl, refl, adds, refl)) c.add-in-Confirmed.ensures
+
+pub returns-in_ok-add-in-Died : goal.returns-in_ok-add-in-Died
+returns-in_ok-add-in-Died c =
+    on_ok_weaker c.add-in-Died-2.result (λ adds. each_added _ _ _ _ c.in-Died.is (refl, refl, refl, c.in_ok-add-in-Died.ensures, adds, refl, refl)) c.add-in-Died-2.ensures
+
+pub returns-in-Acknowledged : goal.returns-in-Acknowledged
+returns-in-Acknowledged c =
+    on_ok_weaker c.add-in-Acknowledged.result (λ adds. each_added _ _ _ _ c.in-Acknowledged.is (refl, refl, refl, refl, adds, refl, refl)) c.add-in-Acknowledged.ensures

@@ -1,14 +1,14 @@
 use Rattle.std.proofs.Common.{◌≡◌, [], ◌∷◌, ◌++◌, true, None, Option, sym, subst, ◌∙◌, rules}
 use Rattle.process_ledgers.specs.declared.process_ledgers.ProcessLedgers.{ProcessLedgers}
-use Rattle.process_ledgers.specs.ProcessItems.{is_no_items}
+use Rattle.process_ledgers.specs.ProcessItem.{is_no_item}
 use Rattle.process_ledgers.specs.ProcessLedgers.{SumsProcess, SumsIfAny}
-use Rattle.process_ledgers.proofs.ItemLaws.{none_more, none_summed, one_none}
+use Rattle.process_ledgers.proofs.ItemLaws.{none_left_out, none_summed}
 use Rattle.process_ledgers.proofs.process_summary.ProcessSummarySummary.add.Goals as goal
 
 pub returns-then-is_none : goal.returns-then-is_none
 returns-then-is_none c =
-    let none : is_no_items c.args.item ≡ true = sym c.is_none.ensures ∙ c.if-is_none.true in
-    λ items sums fits. none_more c.args.self.now.ledgers items (c.args.item ∷ []) (one_none c.args.item none) sums
+    let none : is_no_item c.args.item ≡ true = sym c.is_none.ensures ∙ c.if-is_none.true in
+    λ items sums fits. none_left_out c.args.self.now items c.args.item none sums
 
 pub returns-in_ok-new-in-None : goal.returns-in_ok-new-in-None
 returns-in_ok-new-in-None c =
