@@ -172,7 +172,7 @@ module _ {K : Type 0} (eq : K → K → Bool) (laws : IsEquivalence eq) where
 
 -- the lists of one key's ledger
 abbrev pub opens_of : KeyLedger → List ℕ
-opens_of ledger = ledger.opens.places.items
+opens_of ledger = ledger.opens.places
 
 abbrev pub strays_of : KeyLedger → List ℕ
 strays_of ledger = ledger.strays.places.items

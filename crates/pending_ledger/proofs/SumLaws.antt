@@ -25,7 +25,7 @@ use Rattle.summary_law.specs.Fits.{IsShort}
 
 -- a key's opens, with one more
 pub opened_sums : (old new : Opens) (events : List KeyEvent) (event : KeyEvent) → event.change ≡ Open
-    → new.places.items ≡ old.places.items ++ event.place ∷ [] → new.has_close ≡ old.has_close → OpensSums old events → OpensSums new (events ++ event ∷ [])
+    → new.places ≡ old.places ++ event.place ∷ [] → new.has_close ≡ old.has_close → OpensSums old events → OpensSums new (events ++ event ∷ [])
 opened_sums old new events event opens pushed kept sums =
     let none : list_any is_closing (event ∷ []) ≡ false = ap (λ c. is_close c || false) opens in
     let alone : open_places (event ∷ []) ≡ event.place ∷ [] = ap (map event_place) (behind_last-none is_closing (event ∷ []) none) in
@@ -37,7 +37,7 @@ opened_sums old new events event opens pushed kept sums =
     }
 
 -- with a close behind them
-pub closed_sums : (new : Opens) (events : List KeyEvent) (event : KeyEvent) → event.change ≡ Close → new.places.items ≡ [] → new.has_close ≡ true
+pub closed_sums : (new : Opens) (events : List KeyEvent) (event : KeyEvent) → event.change ≡ Close → new.places ≡ [] → new.has_close ≡ true
     → OpensSums new (events ++ event ∷ [])
 closed_sums new events event closing emptied closed =
     let some : list_any is_closing (event ∷ []) ≡ true = ap (λ c. is_close c || false) closing in
@@ -50,12 +50,12 @@ closed_sums new events event closing emptied closed =
 
 -- those of two lists, the later without a close
 pub open_joined : (earlier later joined : Opens) (first second : List KeyEvent) → later.has_close ≡ false
-    → joined.places.items ≡ earlier.places.items ++ later.places.items → joined.has_close ≡ earlier.has_close
+    → joined.places ≡ earlier.places ++ later.places → joined.has_close ≡ earlier.has_close
     → OpensSums earlier first → OpensSums later second → OpensSums joined (first ++ second)
 open_joined earlier later joined first second still both kept mine theirs =
     let none : list_any is_closing second ≡ false = sym theirs.has_close ∙ still in
     record {
-      places = both ∙ ap (λ t. t ++ later.places.items) mine.places ∙ ap (λ t. open_places first ++ t) theirs.places
+      places = both ∙ ap (λ t. t ++ later.places) mine.places ∙ ap (λ t. open_places first ++ t) theirs.places
           ∙ sym (open_places-append first second none);
       has_close = kept ∙ mine.has_close ∙ sym (or_false (list_any is_closing first)) ∙ ap (λ b. list_any is_closing first || b) (sym none)
           ∙ sym (list_any-append is_closing first second);

@@ -27,7 +27,7 @@ use Rattle.summary_law.specs.Fits.{IsPlaced}
 
 -- the opens of a key that no close follows, and whether there is a close
 pub record OpensSums (opens : Opens) (events : List KeyEvent) : Type 0 where
-  pub places : opens.places.items ≡ open_places events
+  pub places : opens.places ≡ open_places events
   pub has_close : opens.has_close ≡ list_any is_closing events
 
 -- the closes of a key that come right behind no open, and what its first and its last event do
@@ -110,7 +110,7 @@ gather places entries = flat_map (λ entry. places entry.1) entries
 
 -- the places of the opens
 abbrev pub opens_list : Opens → List ℕ
-opens_list opens = opens.places.items
+opens_list opens = opens.places
 
 -- those of all handles
 abbrev pub standing_places : CookieRequests → List ℕ

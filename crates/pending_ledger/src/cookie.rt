@@ -42,7 +42,7 @@ impl CookieRequests {
         ensures ordered { IsOrdered nat_cmp self.now.handles.entries }
     {
         for (_handle, opens) in &self.handles.entries {
-            places.extend_from_slice(opens.places.as_slice())?;
+            opens.places.push_to(places)?;
         }
         Ok(())
     }

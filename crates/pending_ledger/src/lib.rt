@@ -8,6 +8,7 @@ mod key;
 mod key_event;
 mod opens;
 mod pending;
+mod places;
 mod requests;
 mod strays;
 

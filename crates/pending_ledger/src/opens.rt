@@ -4,6 +4,7 @@ ghost use Rattle.pending_ledger.specs.Sums.{OpensSums};
 ghost use Rattle.summary_law.specs.Fits.{IsShort, short_parts};
 
 use crate::key_event::KeyEvent;
+use crate::places::Places;
 use event_core::PendingChange;
 use std::alloc::{AllocError, Global};
 use summary_law::Summary;
@@ -12,7 +13,7 @@ use summary_law::Summary;
 #[derive(Drop)]
 pub struct Opens {
     /// Their places, in order.
-    pub places: Vec<u64>,
+    pub places: Places,
     /// Whether there is a close among the events.
     pub has_close: bool,
 }
@@ -27,7 +28,7 @@ impl Summary for Opens {
 
     fn empty(alloc: Global) -> Opens {
         Opens {
-            places: Vec::new(alloc),
+            places: Places::new(alloc),
             has_close: false,
         }
     }
@@ -38,8 +39,7 @@ impl Summary for Opens {
                 self.places.push(item.place)?;
             }
             PendingChange::Close => {
-                let alloc = *self.places.allocator();
-                self.places = Vec::new(alloc);
+                self.places = Places::new(self.places.allocator());
                 self.has_close = true;
             }
         }
@@ -50,9 +50,11 @@ impl Summary for Opens {
         if later.has_close {
             return Ok(later);
         }
-        let mut joined = self;
-        joined.places.extend_from_slice(later.places.as_slice())?;
-        Ok(joined)
+        let places = self.places.join(later.places)?;
+        Ok(Opens {
+            places,
+            has_close: self.has_close,
+        })
     }
 
     ghost fits_parts = { short_parts };

@@ -31,7 +31,7 @@ impl<K: Ord + Copy> Pending<K> {
     {
         let mut places = Vec::new(self.keys.allocator());
         for (_key, ledger) in &self.keys.entries {
-            places.extend_from_slice(ledger.opens.places.as_slice())?;
+            ledger.opens.places.push_to(&mut places)?;
         }
         places.sort_unstable();
         Ok(places)

@@ -1,11 +1,11 @@
 -- The items that are read from the things of a list: no more than there are things, and in their order.
-use Rattle.std.proofs.Common.{◌≡◌, ℕ, suc, ◌<◌, ◌≤◌, Bool, true, false, cond, List, [], ◌∷◌, length, Option, Some, None, refl, sym, ap, subst, arith}
+use Rattle.std.proofs.Common.{◌≡◌, ℕ, suc, ◌<◌, ◌≤◌, Bool, true, false, cond, List, [], ◌∷◌, length, Option, Some, None, refl, sym, subst, arith}
 use Rattle.std.proofs.lemmas.List.Elements.{All-cons, All-head, All-nil, All-tail, All-weaker}
 use Rattle.std.proofs.lemmas.List.Kept.{AllPairs-cons}
 use Rattle.std.specs.List.{cons_option, filter_map}
 use Rattle.std.specs.Prelude.{All}
 use Rattle.summary_law.specs.ByKey.{EachFits, under}
-use Rattle.summary_law.specs.Fits.{IsShort, IsPlaced, PlacesRise}
+use Rattle.summary_law.specs.Fits.{IsShort, PlacesRise}
 
 module _ {E I : Type 0} (read : E → Option I) where
   -- few things have few items

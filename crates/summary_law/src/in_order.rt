@@ -1,5 +1,7 @@
 //! A summary for each key of a list of pairs, in the order in which the keys first come.
 
+ghost use Rattle.std.specs.Prelude.{◌≡◌};
+ghost use Rattle.indexmap.specs.IndexMap.{index_of, IsUnique};
 ghost use Rattle.summary_law.specs.ByKey.{EachFits, each_fits_parts};
 ghost use Rattle.summary_law.specs.InOrder.{SumsInOrder};
 
@@ -15,10 +17,26 @@ use std::mem;
 pub struct InOrder<K: Eq + Hash + Copy, S: Summary> {
     /// The summaries by key, for each key with an item.
     pub entries: IndexMap<K, S>,
+    // A guess at the entry of the next item: the index of the one that took the latest `add`.
+    latest: usize,
     alloc: Global,
 }
 
-/// An `add` takes at most two look-ups, and a `join` at most two for each key of the later value.
+impl<K: Eq + Hash + Copy, S: Summary> InOrder<K, S> {
+    // The index of the key's entry. Where that is the latest one, nothing is looked up.
+    fn index_of(&self, key: K) -> Option<usize>
+        ensures index { result ≡ index_of K.eq self.now.entries key }
+        ensures unique { IsUnique K.eq self.now.entries }
+    {
+        match self.entries.as_slice().get_index(self.latest) {
+            Some((latest, _part)) if *latest == key => Some(self.latest),
+            _ => self.entries.get_index_of(&key),
+        }
+    }
+}
+
+/// An `add` takes no look-up where the one before it had the same key, and at most two otherwise. A
+/// `join` takes at most two for each key of the later value.
 impl<K: Eq + Hash + Copy, S: Summary> Summary for InOrder<K, S> {
     type Item = (K, S::Item);
 
@@ -29,18 +47,23 @@ impl<K: Eq + Hash + Copy, S: Summary> Summary for InOrder<K, S> {
     fn empty(alloc: Global) -> InOrder<K, S> {
         InOrder {
             entries: IndexMap::new(alloc),
+            latest: 0,
             alloc,
         }
     }
 
     fn add(&mut self, item: (K, S::Item)) -> Result<(), AllocError> {
         let (key, inner) = item;
-        match self.entries.get_mut(&key) {
-            Some(part) => part.add(inner),
+        match self.index_of(key) {
+            Some(index) => {
+                self.latest = index;
+                self.entries[index].add(inner)
+            }
             None => {
                 let mut part = S::empty(self.alloc);
                 part.add(inner)?;
-                self.entries.insert(key, part)?;
+                let (index, _) = self.entries.insert_full(key, part)?;
+                self.latest = index;
                 Ok(())
             }
         }
@@ -49,7 +72,7 @@ impl<K: Eq + Hash + Copy, S: Summary> Summary for InOrder<K, S> {
     fn join(self, later: InOrder<K, S>) -> Result<InOrder<K, S>, AllocError> {
         let mut joined = self;
         let alloc = joined.alloc;
-        let InOrder { entries, alloc: _ } = later;
+        let InOrder { entries, .. } = later;
         for (key, part) in entries {
             match joined.entries.get_mut(&key) {
                 Some(slot) => {

@@ -1,4 +1,4 @@
-use Rattle.std.proofs.Common.{◌≡◌, ◌++◌, refl, rules}
+use Rattle.std.proofs.Common.{refl, rules}
 use Rattle.pending_ledger.proofs.SumLaws.{open_joined, closed_joined}
 use Rattle.pending_ledger.proofs.opens.OpensSummary.join.Goals as goal
 
@@ -7,6 +7,5 @@ returns-then-later c = λ first second mine theirs fits. closed_joined c.args.la
 
 pub returns : goal.returns
 returns c = λ first second mine theirs fits.
-    let both : c.extend_from_slice.new.self.items ≡ c.args.self.places.items ++ c.args.later.places.items = search rules in
-    open_joined c.args.self c.args.later (record { places = c.extend_from_slice.new.self; has_close = c.args.self.has_close }) first second
-    (search rules) both refl mine theirs
+    open_joined c.args.self c.args.later (record { places = c.in_ok-places.places; has_close = c.args.self.has_close }) first second
+    (search rules) c.in_ok-places.ensures refl mine theirs

@@ -1,11 +1,13 @@
-use Rattle.std.proofs.Common.{List, ◌∷◌, ◌++◌, ◌≡◌, [], Some, None, Option, subst, ap, ◌∙◌, rules}
+use Rattle.std.proofs.Common.{List, ◌∷◌, ◌++◌, ◌≡◌, [], Some, None, Option, subst, ◌∙◌, rules}
 use Rattle.std.proofs.lemmas.Result.{on_ok_weaker}
 use Rattle.std.specs.HashMap.Eq.{lookup_congr}
-use Rattle.std.specs.Map.{lookup}
-use Rattle.indexmap.specs.IndexMap.{get, keys}
+use Rattle.indexmap.specs.IndexMap.{get, index_of, keys, with_value_at}
+use Rattle.indexmap.proofs.CallerLemmas.{insert_entry-new, keys-with_value_at}
+use Rattle.indexmap.proofs.MapLemmas.{Found-position, Missing-position}
 use Rattle.summary_law.specs.ByKey.{items_of, IsPart}
-use Rattle.summary_law.proofs.ByKeyLaws.{fits_at, added_part, rewritten}
-use Rattle.summary_law.proofs.FirstLaws.{key_there, key_missing, inserted, firsts_stay, entries_grow}
+use Rattle.summary_law.proofs.ByKeyLaws.{fits_at, added_part}
+use Rattle.summary_law.proofs.FirstLaws.{key_there, key_missing, firsts_stay, entries_grow}
+use Rattle.summary_law.proofs.IndexLaws.{written_at}
 use Rattle.summary_law.proofs.in_order.InOrderSummary.add.Goals as goal
 
 pub add-requires : goal.add-requires
@@ -15,8 +17,10 @@ add-requires g c =
     let sums = g.S.Summary.sums in
     let key = c.args.item.0 in
     let items = c.requires.0 in
-    let found : get eq c.args.self.now.entries key ≡ Some c.in-Some.part.now = search rules in
-    let part : IsPart sums (Some c.in-Some.part.now) (items_of eq key items)
+    let old = c.args.self.now.entries in
+    let index : index_of eq old key ≡ Some c.in-Some.index = search rules in
+    let found : get eq old key ≡ Some c.index_mut.result.now = (Found-position (eq key) old.entries c.in-Some.index index).value ∙ c.index_mut.ensures.value in
+    let part : IsPart sums (Some c.index_mut.result.now) (items_of eq key items)
     = subst (λ (o : Option _). IsPart sums o (items_of eq key items)) found (c.requires.1.parts key) in
     (items_of eq key items, part.1, fits_at eq laws sums g.S.Summary.fits items key key c.args.item.1 (laws.refl key) c.requires.2)
 
@@ -27,7 +31,9 @@ add-requires-in-None g c =
     let sums = g.S.Summary.sums in
     let key = c.args.item.0 in
     let items = c.requires.0 in
-    let found : get eq c.args.self.now.entries key ≡ None = search rules in
+    let old = c.args.self.now.entries in
+    let index : index_of eq old key ≡ None = search rules in
+    let found : get eq old key ≡ None = (Missing-position (eq key) old.entries index).value in
     let nil : items_of eq key items ≡ [] = subst (λ (o : Option _). IsPart sums o (items_of eq key items)) found (c.requires.1.parts key) in (
       [],
       c.empty-part.ensures,
@@ -42,42 +48,46 @@ returns-in-Some g c =
     let sums = g.S.Summary.sums in
     let key = c.args.item.0 in
     let old = c.args.self.now.entries in
-    let found : get eq old key ≡ Some c.in-Some.part.now = search rules in
-    let written = c.get_mut.follows.holds c.add.new.self in
+    let i = c.in-Some.index in
+    let part = c.index_mut.result.now in
+    let index : index_of eq old key ≡ Some i = search rules in
+    let found : get eq old key ≡ Some part = (Found-position (eq key) old.entries i index).value ∙ c.index_mut.ensures.value in
     on_ok_weaker c.add.result
     (λ step items before fits. record {
-      order = written.1 ∙ firsts_stay eq laws (keys old) items key c.args.item.1 before.order (key_there eq key c.in-Some.part.now old.entries found);
+      order =
+          keys-with_value_at old i c.add.new.self
+          ∙ firsts_stay eq laws (keys old) items key c.args.item.1 before.order (key_there eq key part old.entries found);
       parts =
-          added_part eq laws sums g.S.Summary.fits (get eq old) (get eq (c.get_mut.follows.lender c.add.new.self))
+          added_part eq laws sums g.S.Summary.fits (get eq old) (get eq (with_value_at old i c.add.new.self))
           (λ x y e. lookup_congr eq laws.congr old.entries x y e)
           key c.args.item.1 c.add.new.self
-          (λ q. (written.3 (search rules)).0 q)
-          (λ front part. step front (subst (λ (o : Option _). IsPart sums o front) found part).1)
+          (written_at laws old c.index_of.ensures.unique key i part c.add.new.self index)
+          (λ front mine. step front (subst (λ (o : Option _). IsPart sums o front) found mine).1)
           items before.parts fits;
     })
     c.add.ensures
 
-pub returns-in_ok-insert-in-None : goal.returns-in_ok-insert-in-None
-returns-in_ok-insert-in-None g c = λ items before fits.
+pub returns-in_ok-index-in-None : goal.returns-in_ok-index-in-None
+returns-in_ok-index-in-None g c = λ items before fits.
     let laws = g.met.K.Eq.laws in
     let eq = g.K.PartialEq.eq in
     let sums = g.S.Summary.sums in
     let key = c.args.item.0 in
     let part = c.add-in-None.new.self in
     let old = c.args.self.now.entries in
-    let found : get eq old key ≡ None = search rules in
-    let same : c.get_mut.follows.lender-at-none.entries ≡ old.entries = search rules in
-    let entries : c.insert.new.self.entries ≡ old.entries ++ (key, part) ∷ []
-    = inserted eq c.get_mut.follows.lender-at-none old.entries c.insert.new.self.entries key part same found c.in_ok-insert-in-None.ensures.entries in
+    let index : index_of eq old key ≡ None = search rules in
+    let found : get eq old key ≡ None = (Missing-position (eq key) old.entries index).value in
+    let grown = c.in_ok-index-in-None.ensures in
+    let entries : c.insert_full.new.self.entries ≡ old.entries ++ (key, part) ∷ []
+    = grown.entries ∙ insert_entry-new eq old key part found in
     record {
       order =
-          entries_grow eq laws old.entries c.insert.new.self.entries items key part c.args.item.1 entries before.order
+          entries_grow eq laws old.entries c.insert_full.new.self.entries items key part c.args.item.1 entries before.order
           (key_missing eq key old.entries found);
       parts =
-          added_part eq laws sums g.S.Summary.fits (get eq old) (get eq c.insert.new.self)
+          added_part eq laws sums g.S.Summary.fits (get eq old) (get eq c.insert_full.new.self)
           (λ x y e. lookup_congr eq laws.congr old.entries x y e)
-          key c.args.item.1 part
-          (λ q. rewritten (eq key q) {x = get eq c.insert.new.self q} _ (c.in_ok-insert-in-None.ensures.updates.0 q) (ap (λ (es : List _). lookup (eq q) es) same))
+          key c.args.item.1 part grown.updates.0
           (λ front mine step.
           let nil : front ≡ [] = subst (λ (o : Option _). IsPart sums o front) found mine in
           rw nil (c.in_ok-add-in-None.ensures [] c.empty-part.ensures (rw nil at step)))
