@@ -7,8 +7,10 @@ use Rattle.capture_frame.proofs.ProcessLaws.{same_thread_eq}
 use Rattle.capture_frame.specs.declared.process.Thread.{Thread}
 use Rattle.capture_frame.specs.Process.{same_thread}
 use Rattle.event_core.specs.Events.{EventText, thread_of}
-use Rattle.call_stacks.specs.Calls.{Reads, JudgedOf, OpenerOf, RefusedOf, bracket_read, judged_of, sides_of, verdict_read}
-use Rattle.call_stacks.specs.Calls.{HasVerdict, closed_by, left_open, IsOpenerOf, IsStrayEvent, IsRefusedSend, is_refused, is_oneway}
+use Rattle.call_stacks.specs.Calls.{Reads, JudgedOf, bracket_read, judged_of, sides_of, verdict_read}
+use Rattle.call_stacks.specs.declared.opener.Opener.{Opener}
+use Rattle.call_stacks.specs.declared.findings.RefusedSend.{RefusedSend}
+use Rattle.call_stacks.specs.Calls.{HasVerdict, closed_by, left_open, IsOpener, IsStrayEvent, IsRefusedSend, is_refused, is_oneway_mark}
 use Rattle.call_stacks.specs.Matching.{Side, opener, ListsInOrder}
 use Rattle.call_stacks.specs.Verdicts.{side_of}
 use Rattle.call_stacks.specs.declared.verdict.Verdict.{Verdict}
@@ -60,7 +62,7 @@ module _ {E : Type 0} (reads : Reads E) where
   closer_told (Some answer) = Some (judged_place answer.1)
 
   -- an opener with its closer, as it is found
-  abbrev told : Numbered × Option Numbered → OpenerOf E
+  abbrev told : Numbered × Option Numbered → Opener E
   told p = record { event = p.0.1.event; verdict = verdict_told p.0.1.event p.1; closer = closer_told p.1 }
 
   side_is : (items : List (JudgedOf E)) (i : ℕ) (x : JudgedOf E) → slice_get items i ≡ Some x → slice_get (sides_of items) i ≡ Some opener
@@ -70,7 +72,7 @@ module _ {E : Type 0} (reads : Reads E) where
       let is : side_of x.bracket ≡ opener = cc in
       is
 
-  told_sound : (items : List (JudgedOf E)) (x : Numbered) (h : Option Numbered) → In (x, h) (entries items) → IsOpenerOf reads items (told (x, h))
+  told_sound : (items : List (JudgedOf E)) (x : Numbered) (h : Option Numbered) → In (x, h) (entries items) → IsOpener reads items (told (x, h))
   told_sound items x None there =
       let found = unmatched_of item_side 0 items x there in
       record {
@@ -92,15 +94,15 @@ module _ {E : Type 0} (reads : Reads E) where
         verdict = closed_by found.to y.1 found.found found.to_stands refl refl;
       }
 
-  abbrev opener_of : E → Verdict → Option ℕ → OpenerOf E
+  abbrev opener_of : E → Verdict → Option ℕ → Opener E
   opener_of event verdict place = record { event = event; verdict = verdict; closer = place }
 
-  opener_is : (call : OpenerOf E) (event : E) (verdict : Verdict) (place : Option ℕ) → call.event ≡ event → call.verdict ≡ verdict → call.closer ≡ place
+  opener_is : (call : Opener E) (event : E) (verdict : Verdict) (place : Option ℕ) → call.event ≡ event → call.verdict ≡ verdict → call.closer ≡ place
       → call ≡ opener_of event verdict place
   opener_is call event verdict place a b c =
       ap (λ e. opener_of e call.verdict call.closer) a ∙ ap (λ v. opener_of event v call.closer) b ∙ ap (opener_of event verdict) c
 
-  told_whole : (items : List (JudgedOf E)) (call : OpenerOf E) (position : ℕ) (there : JudgedOf E) → slice_get items position ≡ Some there
+  told_whole : (items : List (JudgedOf E)) (call : Opener E) (position : ℕ) (there : JudgedOf E) → slice_get items position ≡ Some there
       → side_of there.bracket ≡ opener → call.event ≡ there.event → HasVerdict reads items position call → In call (map told (entries items))
   told_whole items call position there stands opens event (closed_by j answer matched answer_stands verdict place) =
       let here = has_match item_side 0 items position j matched in
@@ -110,21 +112,21 @@ module _ {E : Type 0} (reads : Reads E) where
       let is = opener_is call here.opener.event (verdict_read reads here.opener.event here.closer.event) (Some (judged_place here.closer)) event_same
       (verdict ∙ ap₂ (verdict_read reads) event_same (ap (λ (x : JudgedOf E). x.event) answer_same))
       (place ∙ ap (λ (x : JudgedOf E). Some (judged_place x)) answer_same) in
-      subst (λ (o : OpenerOf E). In o (map told (entries items))) (sym is)
+      subst (λ (o : Opener E). In o (map told (entries items))) (sym is)
       (map-in told (entries items) ((0 + position, here.opener), Some (0 + j, here.closer)) here.there)
   told_whole items call position there stands opens event (left_open none verdict place) =
       let here = has_unmatched item_side 0 items position (side_there item_side items position there stands ∙ ap (λ (s : Side). Some s) opens, none) in
       let call_same : there ≡ here.item = same_item items position there here.item stands here.stands in
       let is = opener_is call here.item.event Open None (event ∙ ap (λ (x : JudgedOf E). x.event) call_same) verdict place in
-      subst (λ (o : OpenerOf E). In o (map told (entries items))) (sym is)
+      subst (λ (o : Opener E). In o (map told (entries items))) (sym is)
       (map-in told (entries items) ((0 + position, here.item), None) here.there)
 
-  openers_listing : (items : List (JudgedOf E)) → Listing (IsOpenerOf reads items)
+  openers_listing : (items : List (JudgedOf E)) → Listing (IsOpener reads items)
   openers_listing items = record {
     list = map told (entries items);
     sound = λ call here.
         let found = in-map told (entries items) call here in
-        subst (λ (o : OpenerOf E). IsOpenerOf reads items o) (sym found.2) (told_sound items found.0.0 found.0.1 found.1);
+        subst (λ (o : Opener E). IsOpener reads items o) (sym found.2) (told_sound items found.0.0 found.0.1 found.1);
     whole = λ call is. told_whole items call is.position is.there is.stands is.opens is.event is.verdict;
   }
 
@@ -142,16 +144,16 @@ module _ {E : Type 0} (reads : Reads E) where
       map-rises (λ (j : JudgedOf E). j.event) reads.place (judged_of reads events)
       (subst (Rises reads.place) (sym (judged_events reads (bracket_read reads) None events)) (rises_from_pairs reads.place events rise))
 
-  one_opener : (events : List E) → PlacesRise reads.place events → (a b : OpenerOf E) → IsOpenerOf reads (judged_of reads events) a
-      → IsOpenerOf reads (judged_of reads events) b → reads.place a.event ≡ reads.place b.event → a ≡ b
+  one_opener : (events : List E) → PlacesRise reads.place events → (a b : Opener E) → IsOpener reads (judged_of reads events) a
+      → IsOpener reads (judged_of reads events) b → reads.place a.event ≡ reads.place b.event → a ≡ b
   unfolding openers_listing
   one_opener events rise a b is is_too same =
       let items = judged_of reads events in
       let listing = openers_listing items in
       let rises = openers_rise (numbered item_side) (λ (x : Numbered). judged_place x.1) (enumerate_from 0 items)
       (numbers_rise 0 items (judged_rise events rise)) in
-      one_of_rank (λ (o : OpenerOf E). reads.place o.event) (map told (entries items))
-      (rises-map told (λ (o : OpenerOf E). reads.place o.event) (entries items) rises) a b (listing.whole a is) (listing.whole b is_too) same
+      one_of_rank (λ (o : Opener E). reads.place o.event) (map told (entries items))
+      (rises-map told (λ (o : Opener E). reads.place o.event) (entries items) rises) a b (listing.whole a is) (listing.whole b is_too) same
 
   -- ---- strays
 
@@ -180,11 +182,11 @@ module _ {E : Type 0} (reads : Reads E) where
   abbrev is_sent_back : JudgedOf E → Bool
   is_sent_back item = is_refused item.bracket
 
-  abbrev send_told : JudgedOf E → RefusedOf E
-  send_told item = record { event = item.event; oneway = is_oneway item.before }
+  abbrev send_told : JudgedOf E → RefusedSend E
+  send_told item = record { event = item.event; oneway = is_oneway_mark item.before }
 
-  send_is : (sent : RefusedOf E) (item : JudgedOf E) → sent.event ≡ item.event → sent.oneway ≡ is_oneway item.before → sent ≡ send_told item
-  send_is sent item event oneway = ap₂ (λ (e : E) (b : Bool). let made : RefusedOf E = record { event = e; oneway = b } in made) event oneway
+  send_is : (sent : RefusedSend E) (item : JudgedOf E) → sent.event ≡ item.event → sent.oneway ≡ is_oneway_mark item.before → sent ≡ send_told item
+  send_is sent item event oneway = ap₂ (λ (e : E) (b : Bool). let made : RefusedSend E = record { event = e; oneway = b } in made) event oneway
 
   sends_listing : (items : List (JudgedOf E)) → Listing (IsRefusedSend items)
   sends_listing items = record {
@@ -198,16 +200,16 @@ module _ {E : Type 0} (reads : Reads E) where
           there = x.0;
           stands = at_x.1;
           refused = kept.1;
-          event = ap (λ (s : RefusedOf E). s.event) x.2;
-          oneway = ap (λ (s : RefusedOf E). s.oneway) x.2;
+          event = ap (λ (s : RefusedSend E). s.event) x.2;
+          oneway = ap (λ (s : RefusedSend E). s.oneway) x.2;
         };
     whole = λ sent is.
-        subst (λ (s : RefusedOf E). In s (map send_told (filter is_sent_back items))) (sym (send_is sent is.there is.event is.oneway))
+        subst (λ (s : RefusedSend E). In s (map send_told (filter is_sent_back items))) (sym (send_is sent is.there is.event is.oneway))
         (map-in send_told (filter is_sent_back items) is.there
         (kept_in is_sent_back items is.there (get_in items is.position is.there is.stands) is.refused));
   }
 
-  one_send : (events : List E) → PlacesRise reads.place events → (a b : RefusedOf E) → IsRefusedSend (judged_of reads events) a
+  one_send : (events : List E) → PlacesRise reads.place events → (a b : RefusedSend E) → IsRefusedSend (judged_of reads events) a
       → IsRefusedSend (judged_of reads events) b → reads.place a.event ≡ reads.place b.event → a ≡ b
   one_send events rise a b is is_too same =
       let items = judged_of reads events in
@@ -262,9 +264,9 @@ in_thread : (events : List EventText) (position : ℕ) (there : JudgedOf EventTe
     → slice_get (judged_of text_reads events) position ≡ Some there → e ≡ there.event → In e events
 in_thread events position there e stands same = in_list events e (stands_judged text_reads events position there e stands same)
 
-pub some_openers : (events : List EventText) → RiseInPlace events → (things : List (OpenerOf EventText)) × AreOpeners events things
+pub some_openers : (events : List EventText) → RiseInPlace events → (things : List (Opener EventText)) × AreOpeners events things
 some_openers events rise =
-    all_threads (λ (o : OpenerOf EventText). o.event) (IsOpenerOf text_reads)
+    all_threads (λ (o : Opener EventText). o.event) (IsOpener text_reads)
     (λ thread o is. in_thread thread is.position is.there o.event is.stands is.event) (openers_listing text_reads) (one_opener text_reads) events rise
 
 pub some_strays : (events : List EventText) → RiseInPlace events → (things : List EventText) × AreStrays events things
@@ -275,7 +277,7 @@ some_strays events rise =
     (λ thread up a b is is_too same. one_place (λ (e : EventText). e.place) thread up a b (contained thread a (stands thread a is))
     (contained thread b (stands thread b is_too)) same) events rise
 
-pub some_sends : (events : List EventText) → RiseInPlace events → (things : List (RefusedOf EventText)) × AreSends events things
+pub some_sends : (events : List EventText) → RiseInPlace events → (things : List (RefusedSend EventText)) × AreSends events things
 some_sends events rise =
-    all_threads (λ (s : RefusedOf EventText). s.event) IsRefusedSend
+    all_threads (λ (s : RefusedSend EventText). s.event) IsRefusedSend
     (λ thread s is. in_thread thread is.position is.there s.event is.stands is.event) (sends_listing text_reads) (one_send text_reads) events rise

@@ -9,7 +9,8 @@ use Rattle.capture_frame.specs.declared.process.Process.{Process}
 use Rattle.capture_frame.specs.Units.{Placed}
 use Rattle.transaction_view.specs.Grammar.{WholeFrame, IsInGrammar}
 use Rattle.call_stacks.proofs.Members.{only_list}
-use Rattle.call_stacks.specs.Calls.{OpenerOf, RefusedOf}
+use Rattle.call_stacks.specs.declared.opener.Opener.{Opener}
+use Rattle.call_stacks.specs.declared.findings.RefusedSend.{RefusedSend}
 use Rattle.event_core.specs.Events.{EventText, events_of_wholes, wholes_of}
 use Rattle.event_core.specs.declared.oneway.OnewayKey.{OnewayKey}
 use Rattle.event_core.specs.declared.pending.PendingItem.{PendingItem}
@@ -130,24 +131,24 @@ one_open_and_stray read events said other rise a b =
 
 -- ---- calls
 
-one_calls : (openers : List (OpenerOf EventText)) (calls others : CallsText) → AreCalls openers calls → AreCalls openers others → calls ≡ others
+one_calls : (openers : List (Opener EventText)) (calls others : CallsText) → AreCalls openers calls → AreCalls openers others → calls ≡ others
 one_calls openers calls others a b =
-    let make : ℕ → ℕ → ℕ → List (OpenerOf EventText) → CallsText = λ n f u r. record { answered = n; failed = f; unanswered = u; rows = r } in
+    let make : ℕ → ℕ → ℕ → List (Opener EventText) → CallsText = λ n f u r. record { answered = n; failed = f; unanswered = u; rows = r } in
     ap₂ (λ (n f : ℕ). make n f calls.unanswered calls.rows) (a.answered ∙ sym b.answered) (a.failed ∙ sym b.failed)
     ∙ ap₂ (make others.answered others.failed) (a.unanswered ∙ sym b.unanswered) (a.rows ∙ sym b.rows)
 
-one_served : (openers : List (OpenerOf EventText)) (served others : ServedText) → AreServed openers served → AreServed openers others → served ≡ others
+one_served : (openers : List (Opener EventText)) (served others : ServedText) → AreServed openers served → AreServed openers others → served ≡ others
 one_served openers served others a b =
-    let make : ℕ → ℕ → ℕ → List (OpenerOf EventText) → ServedText = λ n c o r. record { replied = n; crossed = c; left_open = o; rows = r } in
+    let make : ℕ → ℕ → ℕ → List (Opener EventText) → ServedText = λ n c o r. record { replied = n; crossed = c; left_open = o; rows = r } in
     ap₂ (λ (n c : ℕ). make n c served.left_open served.rows) (a.replied ∙ sym b.replied) (a.crossed ∙ sym b.crossed)
     ∙ ap₂ (make others.replied others.crossed) (a.left_open ∙ sym b.left_open) (a.rows ∙ sym b.rows)
 
 one_call_findings : (events : List EventText) (calls other_calls : CallsText) (served other_served : ServedText) → AreCallFindings events calls served
     → AreCallFindings events other_calls other_served → (calls ≡ other_calls) × (served ≡ other_served)
 one_call_findings events calls other_calls served other_served a b =
-    let same = only_list (λ (o : OpenerOf EventText). o.event.place) _ b.0 a.0 b.1 a.1 in (
-      one_calls a.0 calls other_calls a.2 (subst (λ (os : List (OpenerOf EventText)). AreCalls os other_calls) same b.2),
-      one_served a.0 served other_served a.3 (subst (λ (os : List (OpenerOf EventText)). AreServed os other_served) same b.3),
+    let same = only_list (λ (o : Opener EventText). o.event.place) _ b.0 a.0 b.1 a.1 in (
+      one_calls a.0 calls other_calls a.2 (subst (λ (os : List (Opener EventText)). AreCalls os other_calls) same b.2),
+      one_served a.0 served other_served a.3 (subst (λ (os : List (Opener EventText)). AreServed os other_served) same b.3),
     )
 
 one_list_of_strays : (events said others : List EventText) → AreStrays events said → AreStrays events others → said ≡ others
@@ -155,10 +156,10 @@ one_list_of_strays events said others a b = only_list (λ (e : EventText). e.pla
 
 one_refused : (events : List EventText) (said other : RefusedText) → AreRefused events said → AreRefused events other → said ≡ other
 one_refused events said other a b =
-    let same = only_list (λ (s : RefusedOf EventText). s.event.place) _ a.0 b.0 a.1 b.1 in
+    let same = only_list (λ (s : RefusedSend EventText). s.event.place) _ a.0 b.0 a.1 b.1 in
     ap₂ (λ (n : ℕ) (r : List EventText). let made : RefusedText = record { oneway = n; rows = r } in made)
-    (a.2 ∙ ap (count_by (λ (s : RefusedOf EventText). s.oneway)) same ∙ sym b.2)
-    (a.3 ∙ ap (map (λ (s : RefusedOf EventText). s.event)) same ∙ sym b.3)
+    (a.2 ∙ ap (count_by (λ (s : RefusedSend EventText). s.oneway)) same ∙ sym b.2)
+    (a.3 ∙ ap (map (λ (s : RefusedSend EventText). s.event)) same ∙ sym b.3)
 
 -- ---- counts
 

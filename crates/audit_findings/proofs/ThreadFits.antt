@@ -1,11 +1,12 @@
--- Views of few events can be summarised under their threads.
-use Rattle.std.proofs.Common.{◌≡◌, ◌<◌, List, ◌++◌, map, sym, ap, subst, ◌∙◌, arith}
+-- What is fed of few events can be summarised under their threads.
+use Rattle.std.proofs.Common.{◌≡◌, ◌<◌, ◌≤◌, Bool, true, false, cond, List, [], ◌∷◌, ◌++◌, length, map, filter, sym, ap, subst, ◌∙◌, arith}
+use Rattle.std.specs.Prelude.{⊤}
 use Rattle.std.proofs.lemmas.List.{length-map, map-append}
-use Rattle.call_stacks.specs.Calls.{event_place, ThreadCallsSum}
-use Rattle.call_stacks.specs.declared.thread_calls.ThreadCalls.{ThreadCalls}
+use Rattle.std.proofs.lemmas.List.Elements.{filter-append}
+use Rattle.call_stacks.specs.Calls.{event_place, CallsSum}
+use Rattle.call_stacks.specs.declared.call_event.CallEvent.{CallEvent}
+use Rattle.call_stacks.specs.declared.calls.Calls.{Calls}
 use Rattle.event_core.specs.Events.{EventText}
-use Rattle.event_core.specs.Reading.{event_text}
-use Rattle.event_core.specs.declared.event.Event.{Event}
 use Rattle.pending_ledger.proofs.GatherLaws.{items_rise}
 use Rattle.summary_law.proofs.ReadLaws.{length-read}
 use Rattle.summary_law.specs.ByKey.{EachFits, under}
@@ -14,43 +15,47 @@ use Rattle.capture_frame.specs.declared.process.Thread.{Thread}
 use Rattle.summary_law.specs.InOrder.{SumsInOrder}
 use Rattle.audit_findings.specs.Ledgers.{AreFewEvents}
 use Rattle.capture_frame.specs.Process.{same_thread}
-use Rattle.audit_findings.specs.ThreadLedger.{fed_view}
-use Rattle.audit_findings.proofs.Rising.{pairs_map, pairs_unmap}
+use Rattle.audit_findings.specs.ThreadLedger.{fed_call, fed_calls, leaves_mark}
+use Rattle.audit_findings.proofs.Rising.{pairs_map, rising_kept}
 
--- the events of each thread can be summarised
-abbrev pub FitThreads : List (Thread × Event) → Type 0
+-- what is fed of each thread can be summarised
+abbrev pub FitThreads : List (Thread × CallEvent ⊤) → Type 0
 FitThreads fed = EachFits same_thread (IsPlaced event_place) fed
 
--- and these entries sum them
-abbrev pub SumsFedViews : List (Thread × ThreadCalls) → List (Thread × Event) → Type 0
-SumsFedViews entries fed = SumsInOrder same_thread ThreadCallsSum entries fed
+-- and these entries sum it
+abbrev pub SumsFedCalls : List (Thread × Calls ⊤) → List (Thread × CallEvent ⊤) → Type 0
+SumsFedCalls entries fed = SumsInOrder same_thread CallsSum entries fed
 
--- views of few events are placed as these are
-pub views_placed : (views : List Event) → IsPlaced (λ (e : EventText). e.place) (map event_text views) → IsPlaced event_place views
-views_placed views placed =
-    let long = length-map views event_text in
+pub filter_short : {X : Type 0} (test : X → Bool) (xs : List X) → length (filter test xs) ≤ length xs
+filter_short test [] = omega arith
+filter_short test (x ∷ xs) =
+    let rest = filter_short test xs in
+    elim (test x) as (λ b. length (cond b (x ∷ filter test xs) (filter test xs)) ≤ length (x ∷ xs)) [ true ↦ omega arith | false ↦ omega arith ]
+
+pub fit_calls : (events : List EventText) → IsPlaced (λ (e : EventText). e.place) events → FitThreads (fed_calls events)
+fit_calls events placed key =
+    let marked = filter leaves_mark events in
+    let fed = fed_calls events in
+    let fewer = filter_short leaves_mark events in
+    let long = length-map marked fed_call in
+    let read = length-read (under same_thread key) fed in
     let short = placed.0 in
-    (omega (arith, long, short), pairs_unmap (λ (a b : EventText). a.place < b.place) event_text views placed.1)
+    let rise : PlacesRise (λ (e : Thread × CallEvent ⊤). e.1.place) fed
+    = pairs_map (λ (a b : Thread × CallEvent ⊤). a.1.place < b.1.place) fed_call marked
+    (rising_kept (λ (e : EventText). e.place) leaves_mark events placed.1) in
+    (omega (arith, fewer, long, read, short), items_rise same_thread key event_place fed rise)
 
-pub fit_views : (views : List Event) → AreFewEvents (map event_text views) → FitThreads (map fed_view views)
-fit_views views few key =
-    let placed = views_placed views few.0 in
-    let fed = map fed_view views in
-    let long = length-map views fed_view in
-    let fewer = length-read (under same_thread key) fed in
-    let short = placed.0 in
-    let rise : PlacesRise (λ (e : Thread × Event). e.1.place) fed
-    = pairs_map (λ (a b : Thread × Event). a.1.place < b.1.place) fed_view views placed.1 in
-    (omega (arith, long, fewer, short), items_rise same_thread key event_place fed rise)
+-- what is fed of a list followed by another
+pub fed_behind : (first second : List EventText) → fed_calls (first ++ second) ≡ fed_calls first ++ fed_calls second
+fed_behind first second =
+    ap (map fed_call) (filter-append leaves_mark first second) ∙ map-append fed_call (filter leaves_mark first) (filter leaves_mark second)
 
--- views of events with others behind them
-pub views_behind : (first second : List Event) (events others : List EventText) → events ≡ map event_text first → others ≡ map event_text second
-    → events ++ others ≡ map event_text (first ++ second)
-views_behind first second events others is other =
-    ap (λ (t : List EventText). t ++ others) is ∙ ap (λ (t : List EventText). map event_text first ++ t) other ∙ sym (map-append event_text first second)
+pub fit_behind : (first second : List EventText) → AreFewEvents (first ++ second) → FitThreads (fed_calls first ++ fed_calls second)
+fit_behind first second few = subst FitThreads (fed_behind first second) (fit_calls (first ++ second) few.0)
 
-pub fit_behind : (first second : List Event) (events others : List EventText) → events ≡ map event_text first → others ≡ map event_text second
-    → AreFewEvents (events ++ others) → FitThreads (map fed_view first ++ map fed_view second)
-fit_behind first second events others is other few =
-    subst FitThreads (map-append fed_view first second)
-    (fit_views (first ++ second) (subst AreFewEvents (views_behind first second events others is other) few))
+-- an event that leaves a mark is fed, and another is not
+pub fed_marked : (e : EventText) → leaves_mark e ≡ true → fed_calls (e ∷ []) ≡ fed_call e ∷ []
+fed_marked e is = ap (λ (b : Bool). map fed_call (cond b (e ∷ []) [])) is
+
+pub fed_plain : (e : EventText) → leaves_mark e ≡ false → fed_calls (e ∷ []) ≡ []
+fed_plain e is = ap (λ (b : Bool). map fed_call (cond b (e ∷ []) [])) is

@@ -1,21 +1,28 @@
 -- The calls of each thread, as those of all threads.
-use Rattle.std.proofs.Common.{◌≡◌, ◌≢◌, ℕ, Bool, true, false, cond, List, [], ◌∷◌, map, filter, Some, None, refl, sym, ap, subst, ◌∙◌, ⊎_elim, inl, inr}
-use Rattle.std.specs.Prelude.{◌↔◌, All, Contains}
+use Rattle.std.proofs.Common.{◌≡◌, ◌≢◌, ℕ, ◌<◌, Bool, true, false, cond, List, [], ◌∷◌, ◌++◌, map, filter, Some, None, refl, sym, ap, ap₂, subst, ◌∙◌, ⊎_elim, inl, inr, arith}
+use Rattle.std.specs.Prelude.{◌↔◌, All, Contains, ⊤}
 use Rattle.std.proofs.lemmas.Bool.{cases_Bool}
+use Rattle.std.proofs.lemmas.List.{length-map}
+use Rattle.std.proofs.lemmas.List.Concat.{flat_map-cons}
 use Rattle.std.proofs.lemmas.List.Elements.{All-head, All-tail}
+use Rattle.std.proofs.lemmas.Simd.{map-map}
 use Rattle.std.proofs.lemmas.Map.Views.{Contains-from_any}
-use Rattle.std.specs.List.{AllZip, IsDistinct, cons_option, list_any}
+use Rattle.std.specs.List.{AllZip, IsDistinct, cons_option, flat_map, list_any}
 use Rattle.std.specs.Map.{keys_of}
 use Rattle.event_core.specs.Events.{EventText}
-use Rattle.event_core.specs.Reading.{event_text}
-use Rattle.event_core.specs.declared.event.Event.{Event}
-use Rattle.call_stacks.proofs.Members.{In, in_list, contained, in-map}
-use Rattle.call_stacks.proofs.Retold.{ReadAlike, stands_judged, openers_told, strays_told, refused_told}
-use Rattle.call_stacks.specs.Calls.{JudgedOf, OpenerOf, RefusedOf, IsOpenerOf, IsStrayEvent, IsRefusedSend, GivesFindings, ThreadCallsSum, event_reads, judged_of}
+use Rattle.call_stacks.proofs.Members.{In, in_list, contained, in-map, map-in}
+use Rattle.call_stacks.proofs.Retold.{ReadAlike, stands_judged, openers_of, strays_of, sends_of, sends_listed, told_opener, told_send}
+use Rattle.call_stacks.proofs.Sums.{marked}
+use Rattle.call_stacks.proofs.Unmarked.{with_unmarked, opener_marks, stray_marks, send_marks}
+use Rattle.call_stacks.specs.Calls.{JudgedOf, IsOpener, IsStrayEvent, IsRefusedSend, AreFindings, GivesFindings, CallsSum, event_place, event_reads, judged_of, refused_of}
+use Rattle.call_stacks.specs.declared.opener.Opener.{Opener}
+use Rattle.call_stacks.specs.declared.findings.RefusedSend.{RefusedSend}
 use Rattle.call_stacks.specs.Matching.{ListsInOrder}
 use Rattle.call_stacks.specs.declared.findings.CallFindings.{CallFindings}
-use Rattle.call_stacks.specs.declared.thread_calls.ThreadCalls.{ThreadCalls}
-use Rattle.pending_ledger.proofs.ListLaws.{one_place, contains_none}
+use Rattle.call_stacks.specs.declared.call_event.CallEvent.{CallEvent}
+use Rattle.call_stacks.specs.declared.calls.Calls.{Calls}
+use Rattle.pending_ledger.proofs.ListLaws.{one_place}
+use Rattle.summary_law.specs.Fits.{IsPlaced}
 use Rattle.summary_law.specs.ByKey.{items_of}
 use Rattle.capture_frame.specs.declared.process.Thread.{Thread}
 use Rattle.audit_findings.specs.declared.opener_row.OpenerRow.{OpenerRow}
@@ -25,11 +32,14 @@ use Rattle.audit_findings.specs.Calls.{text_reads, judged_in_thread, AreOpeners,
 use Rattle.audit_findings.specs.Places.{RiseInPlace}
 use Rattle.event_core.specs.Events.{thread_of}
 use Rattle.capture_frame.specs.Process.{same_thread}
-use Rattle.audit_findings.specs.ThreadLedger.{fed_view, SumsThreads}
-use Rattle.audit_findings.specs.ThreadRows.{opener_text, opener_row, send_text, send_row, AreGatheredRows, AreSortedRows, KeepRows}
+use Rattle.audit_findings.specs.ThreadLedger.{text_call, leaves_mark, fed_call, fed_calls, SumsThreads}
+use Rattle.audit_findings.specs.ThreadRows.{opener_row, send_row, found_opener, found_send, openers_in, strays_in, sends_in, AreGatheredRows, AreSortedRows, KeepRows}
 use Rattle.summary_law.proofs.InOrderLaws.{entries_distinct, each_sums, none_else}
 use Rattle.capture_frame.proofs.ProcessLaws.{same_thread_eq, same_thread_equiv}
+use Rattle.audit_findings.proofs.Listings.{kept_in}
+use Rattle.audit_findings.proofs.Rising.{pairs_map, rising_kept}
 use Rattle.audit_findings.proofs.SortedRows.{gathered_rows}
+use Rattle.audit_findings.proofs.ThreadFits.{filter_short}
 
 -- the events of this thread, in their order
 abbrev pub texts_of : Thread → List EventText → List EventText
@@ -53,19 +63,44 @@ of_thread key events e c =
     let found = kept_from (λ (x : EventText). same_thread key (thread_of x)) events e (in_list (texts_of key events) e c) in
     (contained events e found.0, same_thread_eq key (thread_of e) found.1)
 
--- the views that are fed under a key are those of its thread's events
-pub texts_fed : (key : Thread) (views : List Event) → map event_text (items_of same_thread key (map fed_view views)) ≡ texts_of key (map event_text views)
-texts_fed key [] = refl
-texts_fed key (v ∷ views) =
-    let rest = texts_fed key views in
-    elim (same_thread key (thread_of (event_text v))) as (λ b. map event_text (cons_option (cond b (Some v) None) (items_of same_thread key (map fed_view views)))
-    ≡ cond b (event_text v ∷ texts_of key (map event_text views)) (texts_of key (map event_text views))) [
-      | true ↦ ap (λ (t : List EventText). event_text v ∷ t) rest
-      | false ↦ rest
-    ]
+-- what the calls of an event go by, with the event in one of the two forms
+pub texts_alike : ReadAlike text_reads event_reads text_call
+texts_alike = record { place = λ e. refl; kind = λ e. refl; oneway = λ e. refl }
 
-pub texts_alike : ReadAlike event_reads text_reads event_text
-texts_alike = record { place = λ v. refl; kind = λ v. refl; payload = λ v. refl }
+-- what is fed under a key is of its thread's events, where they leave a mark
+pub calls_fed : (key : Thread) (events : List EventText) → items_of same_thread key (fed_calls events) ≡ filter marked (map text_call (texts_of key events))
+calls_fed key [] = refl
+calls_fed key (e ∷ events) =
+    let rest = calls_fed key events in
+    let fed = items_of same_thread key (fed_calls events) in
+    let own = filter marked (map text_call (texts_of key events)) in
+    elim (leaves_mark e) as (λ m. (leaves_mark e ≡ m) → items_of same_thread key (map fed_call (cond m (e ∷ filter leaves_mark events) (filter leaves_mark events)))
+    ≡ filter marked (map text_call (cond (same_thread key (thread_of e)) (e ∷ texts_of key events) (texts_of key events)))) [
+      | true ↦ λ is.
+          elim (same_thread key (thread_of e)) as (λ b. cons_option (cond b (Some (text_call e)) None) fed
+          ≡ filter marked (map text_call (cond b (e ∷ texts_of key events) (texts_of key events)))) [
+            | true ↦ ap (λ (l : List (CallEvent ⊤)). text_call e ∷ l) rest ∙ sym (ap (λ (b : Bool). cond b (text_call e ∷ own) own) is)
+            | false ↦ rest
+          ]
+      | false ↦ λ is.
+          elim (same_thread key (thread_of e)) as (λ b. fed ≡ filter marked (map text_call (cond b (e ∷ texts_of key events) (texts_of key events)))) [
+            | true ↦ rest ∙ sym (ap (λ (b : Bool). cond b (text_call e ∷ own) own) is)
+            | false ↦ rest
+          ]
+    ] refl
+
+-- the events of a thread are placed where all are, and so is what their calls go by
+placed_texts : (key : Thread) (events : List EventText) → IsPlaced (λ (e : EventText). e.place) events → IsPlaced (λ (e : EventText). e.place) (texts_of key events)
+placed_texts key events placed =
+    let fewer = filter_short (λ (e : EventText). same_thread key (thread_of e)) events in
+    let short = placed.0 in
+    (omega (arith, fewer, short), rising_kept (λ (e : EventText). e.place) (λ e. same_thread key (thread_of e)) events placed.1)
+
+placed_calls : (events : List EventText) → IsPlaced (λ (e : EventText). e.place) events → IsPlaced event_place (map text_call events)
+placed_calls events placed =
+    let long = length-map events text_call in
+    let short = placed.0 in
+    (omega (arith, long, short), pairs_map (λ (a b : CallEvent ⊤). a.place < b.place) text_call events placed.1)
 
 -- ---- something of the events of each thread
 
@@ -89,27 +124,29 @@ module _ {X : Type 0} (event : X → EventText) (IsIn : List (JudgedOf EventText
       let keys : key ≡ other = first.1 ∙ ap thread_of one ∙ sym second.1 in
       subst (λ (k : Thread). same_thread key k ≡ true) keys (same_thread_equiv.refl key)
 
-  module _ (entries : List (Thread × ThreadCalls)) (events : List EventText) (sums : SumsThreads entries events) where
-    -- a thread with an event has an entry
-    key_there : (e : EventText) → Contains (texts_of (thread_of e) events) e → Contains (keys_of entries) (thread_of e)
-    key_there e c =
+  module _ (entries : List (Thread × Calls ⊤)) (events : List EventText) (sums : SumsThreads entries events)
+      (marks : (events : List EventText) (x : X) → IsIn (judged_of text_reads events) x → leaves_mark (event x) ≡ true) where
+    -- a thread with an event that leaves a mark has an entry
+    key_there : (e : EventText) → Contains (texts_of (thread_of e) events) e → leaves_mark e ≡ true → Contains (keys_of entries) (thread_of e)
+    key_there e c is =
         let key = thread_of e in
-        let views = sums.0 in
         ⊎_elim
         (λ (found : list_any (same_thread key) (keys_of entries) ≡ true). Contains-from_any same_thread_eq key (keys_of entries) found)
         (λ (missing : list_any (same_thread key) (keys_of entries) ≡ false).
-        let none = none_else same_thread_equiv ThreadCallsSum entries (map fed_view views) sums.2 key missing in
-        let texts : texts_of key events ≡ [] = ap (texts_of key) sums.1 ∙ sym (texts_fed key views) ∙ ap (map event_text) none in
-        absurd (contains_none e (subst (λ (t : List EventText). Contains t e) texts c)))
+        let none = none_else same_thread_equiv CallsSum entries (fed_calls events) sums.sums key missing in
+        let texts = texts_of key events in
+        let kept : In (text_call e) (filter marked (map text_call texts))
+        = kept_in marked (map text_call texts) (text_call e) (map-in text_call texts e (in_list texts e c)) is in
+        absurd (subst (In (text_call e)) (sym (calls_fed key events) ∙ none) kept))
         (cases_Bool (list_any (same_thread key) (keys_of entries)))
 
     -- what is so of the thread of its own event is so of an entry's thread
-    pub of_entries : (x : X) → IsOfOwn event IsIn events x ↔ ((e : Thread × ThreadCalls) × In e entries × IsOfKey IsIn events e.0 x)
+    pub of_entries : (x : X) → IsOfOwn event IsIn events x ↔ ((e : Thread × Calls ⊤) × In e entries × IsOfKey IsIn events e.0 x)
     of_entries x = (
       λ is.
           let key = thread_of (event x) in
-          let there = key_there (event x) (stands (texts_of key events) x is) in
-          let found = in-map (λ (e : Thread × ThreadCalls). e.0) entries key (in_list (keys_of entries) key there) in
+          let there = key_there (event x) (stands (texts_of key events) x is) (marks (texts_of key events) x is) in
+          let found = in-map (λ (e : Thread × Calls ⊤). e.0) entries key (in_list (keys_of entries) key there) in
           (found.0, found.1, subst (λ (k : Thread). IsOfKey IsIn events k x) found.2 is),
       λ some.
           let key = some.0.0 in
@@ -119,98 +156,122 @@ module _ {X : Type 0} (event : X → EventText) (IsIn : List (JudgedOf EventText
 
 -- ---- the rows of all threads
 
-zip_stronger : {E F : Type 0} (P : E → Type 0) (R S : E → F → Type 0) → ((e : E) (f : F) → P e → R e f → S e f) → (es : List E) (fs : List F) → All P es
-    → AllZip R es fs → AllZip S es fs
-zip_stronger P R S make [] [] all zip = zip
-zip_stronger P R S make [] (f ∷ fs) all zip = absurd zip
-zip_stronger P R S make (e ∷ es) [] all zip = absurd zip
-zip_stronger P R S make (e ∷ es) (f ∷ fs) all zip =
-    (make e f (All-head P e es all) zip.0, zip_stronger P R S make es fs (All-tail P e es all) zip.1)
+-- where each entry's findings are told as a list of things, the rows of all findings are those of these lists
+all_told : {E F X R : Type 0} (P : E → Type 0) (Gives : E → F → Type 0) (Is : E → X → Type 0) (rank : X → ℕ) (row : X → R) (rows_in : F → List R)
+    → ((e : E) (f : F) → P e → Gives e f → (said : List X) × ListsInOrder rank (Is e) said × (rows_in f ≡ map row said))
+    → (es : List E) (fs : List F) → All P es → AllZip Gives es fs
+    → (lists : List (List X)) × AllZip (λ e said. ListsInOrder rank (Is e) said) es lists × (flat_map rows_in fs ≡ flat_map (λ said. map row said) lists)
+all_told P Gives Is rank row rows_in tell [] [] all zip = ([], tt, refl)
+all_told P Gives Is rank row rows_in tell [] (f ∷ fs) all zip = absurd zip
+all_told P Gives Is rank row rows_in tell (e ∷ es) [] all zip = absurd zip
+all_told {E} {F} {X} {R} P Gives Is rank row rows_in tell (e ∷ es) (f ∷ fs) all zip =
+    let one = tell e f (All-head P e es all) zip.0 in
+    let rest = all_told P Gives Is rank row rows_in tell es fs (All-tail P e es all) zip.1 in (
+      one.0 ∷ rest.0,
+      (one.1, rest.1),
+      flat_map-cons rows_in f fs ∙ ap₂ (λ (a b : List R). a ++ b) one.2 rest.2 ∙ sym (flat_map-cons (λ (said : List X). map row said) one.0 rest.0),
+    )
 
-opener_stands : (events : List EventText) (o : OpenerOf EventText) → IsOpenerOf text_reads (judged_of text_reads events) o → Contains events o.event
+opener_stands : (events : List EventText) (o : Opener EventText) → IsOpener text_reads (judged_of text_reads events) o → Contains events o.event
 opener_stands events o is = stands_judged text_reads events is.position is.there o.event is.stands is.event
 
 stray_stands : (events : List EventText) (e : EventText) → IsStrayEvent (judged_of text_reads events) e → Contains events e
 stray_stands events e is = stands_judged text_reads events is.position is.there e is.stands is.event
 
-send_stands : (events : List EventText) (s : RefusedOf EventText) → IsRefusedSend (judged_of text_reads events) s → Contains events s.event
+send_stands : (events : List EventText) (s : RefusedSend EventText) → IsRefusedSend (judged_of text_reads events) s → Contains events s.event
 send_stands events s is = stands_judged text_reads events is.position is.there s.event is.stands is.event
 
-module _ (entries : List (Thread × ThreadCalls)) (events : List EventText) (sums : SumsThreads entries events) (rise : RiseInPlace events) where
+module _ (entries : List (Thread × Calls ⊤)) (events : List EventText) (sums : SumsThreads entries events) (rise : RiseInPlace events) where
   -- the events of an entry's thread
-  abbrev own_views : Thread × ThreadCalls → List Event
-  own_views e = items_of same_thread e.0 (map fed_view sums.0)
+  abbrev own_texts : Thread × Calls ⊤ → List EventText
+  own_texts e = texts_of e.0 events
 
-  abbrev SumsOwn : Thread × ThreadCalls → Type 0
-  SumsOwn e = (own_views e ≢ []) × ThreadCallsSum e.1 (own_views e)
+  abbrev own_fed : Thread × Calls ⊤ → List (CallEvent ⊤)
+  own_fed e = items_of same_thread e.0 (fed_calls events)
 
-  own_texts : (e : Thread × ThreadCalls) → map event_text (own_views e) ≡ texts_of e.0 events
-  own_texts e = texts_fed e.0 sums.0 ∙ ap (texts_of e.0) (sym sums.1)
+  abbrev SumsOwn : Thread × Calls ⊤ → Type 0
+  SumsOwn e = (own_fed e ≢ []) × CallsSum e.1 (own_fed e)
 
-  abbrev Gives : Thread × ThreadCalls → CallFindings → Type 0
+  abbrev Gives : Thread × Calls ⊤ → CallFindings (CallEvent ⊤) → Type 0
   Gives e found = GivesFindings e.1 found
 
+  own_rise : (e : Thread × Calls ⊤) → RiseInPlace (own_texts e)
+  own_rise e = rising_kept (λ (t : EventText). t.place) (λ t. same_thread e.0 (thread_of t)) events rise
+
+  -- what is found of each entry's thread is found of all of its events
+  own_found : (e : Thread × Calls ⊤) (found : CallFindings (CallEvent ⊤)) → SumsOwn e → Gives e found
+      → AreFindings event_reads (map text_call (own_texts e)) found
+  own_found e found own gives =
+      gives (map text_call (own_texts e))
+      (with_unmarked e.1 (map text_call (own_texts e)) (placed_calls (own_texts e) (placed_texts e.0 events sums.placed))
+      (subst (CallsSum e.1) (calls_fed e.0 events) own.1))
+
   -- the lists of each entry's thread, told in the words of the events
-  openers_of : (e : Thread × ThreadCalls) (found : CallFindings) → SumsOwn e → Gives e found
-      → ListsInOrder (λ o. o.event.place) (IsOfKey (IsOpenerOf text_reads) events e.0) (map opener_text found.openers.items)
-  openers_of e found own gives =
-      subst (λ (texts : List EventText). ListsInOrder (λ o. o.event.place) (IsOpenerOf text_reads (judged_of text_reads texts))
-      (map opener_text found.openers.items)) (own_texts e)
-      (openers_told text_reads event_text texts_alike (own_views e) found (gives (own_views e) own.1))
+  openers_told : (e : Thread × Calls ⊤) (found : CallFindings (CallEvent ⊤)) → SumsOwn e → Gives e found
+      → (said : List (Opener EventText)) × ListsInOrder (λ o. o.event.place) (IsOfKey (IsOpener text_reads) events e.0) said
+      × (map found_opener found.openers.items ≡ map opener_row said)
+  openers_told e found own gives =
+      let told = openers_of text_reads event_reads text_call texts_alike (own_texts e) (own_rise e) found (own_found e found own gives) in
+      (told.0, told.1, ap (map found_opener) told.2 ∙ map-map found_opener (told_opener text_call) told.0)
 
-  strays_of : (e : Thread × ThreadCalls) (found : CallFindings) → SumsOwn e → Gives e found
-      → ListsInOrder (λ t. t.place) (IsOfKey IsStrayEvent events e.0) (map event_text found.strays.items)
-  strays_of e found own gives =
-      subst (λ (texts : List EventText). ListsInOrder (λ t. t.place) (IsStrayEvent (judged_of text_reads texts))
-      (map event_text found.strays.items)) (own_texts e)
-      (strays_told text_reads event_text texts_alike (own_views e) found (gives (own_views e) own.1))
+  strays_told : (e : Thread × Calls ⊤) (found : CallFindings (CallEvent ⊤)) → SumsOwn e → Gives e found
+      → (said : List EventText) × ListsInOrder (λ t. t.place) (IsOfKey IsStrayEvent events e.0) said
+      × (map event_place found.strays.items ≡ map (λ t. t.place) said)
+  strays_told e found own gives =
+      let told = strays_of text_reads event_reads text_call texts_alike (own_texts e) (own_rise e) found (own_found e found own gives) in
+      (told.0, told.1, ap (map event_place) told.2 ∙ map-map event_place text_call told.0)
 
-  sends_of : (e : Thread × ThreadCalls) (found : CallFindings) → SumsOwn e → Gives e found
-      → ListsInOrder (λ s. s.event.place) (IsOfKey IsRefusedSend events e.0) (map send_text found.refused.items)
-  sends_of e found own gives =
-      subst (λ (texts : List EventText). ListsInOrder (λ s. s.event.place) (IsRefusedSend (judged_of text_reads texts))
-      (map send_text found.refused.items)) (own_texts e)
-      (refused_told text_reads event_text texts_alike (own_views e) found (gives (own_views e) own.1) own.1.placed.1)
+  sends_told : (e : Thread × Calls ⊤) (found : CallFindings (CallEvent ⊤)) → SumsOwn e → Gives e found
+      → (said : List (RefusedSend EventText)) × ListsInOrder (λ s. s.event.place) (IsOfKey IsRefusedSend events e.0) said
+      × (map found_send found.refused.items ≡ map send_row said)
+  sends_told e found own gives =
+      let said = refused_of (judged_of text_reads (own_texts e)) in
+      let told = sends_of text_reads event_reads text_call texts_alike (own_texts e) (own_rise e) found (own_found e found own gives) in
+      (said, sends_listed text_reads (own_texts e) (own_rise e), ap (map found_send) told ∙ map-map found_send (told_send text_call) said)
 
   each_own : All SumsOwn entries
-  each_own = each_sums same_thread_equiv ThreadCallsSum entries (map fed_view sums.0) sums.2
+  each_own = each_sums same_thread_equiv CallsSum entries (fed_calls events) sums.sums
 
   keys_differ : IsDistinct same_thread (keys_of entries)
-  keys_differ = entries_distinct same_thread_equiv ThreadCallsSum entries (map fed_view sums.0) sums.2
+  keys_differ = entries_distinct same_thread_equiv CallsSum entries (fed_calls events) sums.sums
 
   module _ (gathered rows : ThreadRows) (in_turn : AreGatheredRows entries gathered) (sorted : AreSortedRows gathered rows) where
-    kept_openers : (said : List (OpenerOf EventText)) × AreOpeners events said × (rows.openers.items ≡ map opener_row said)
+    kept_openers : (said : List (Opener EventText)) × AreOpeners events said × (rows.openers.items ≡ map opener_row said)
     kept_openers =
-        let event : OpenerOf EventText → EventText = λ o. o.event in
-        let Is = IsOpenerOf text_reads in
-        gathered_rows same_thread (λ (e : Thread × ThreadCalls). e.0) (λ e o. IsOfKey Is events e.0 o) (λ (f : CallFindings). map opener_text f.openers.items)
+        let event : Opener EventText → EventText = λ o. o.event in
+        let Is = IsOpener text_reads in
+        let told = all_told SumsOwn Gives (λ e o. IsOfKey Is events e.0 o) (λ o. o.event.place) opener_row openers_in openers_told
+        entries in_turn.founds each_own in_turn.are in
+        gathered_rows same_thread (λ (e : Thread × Calls ⊤). e.0) (λ e o. IsOfKey Is events e.0 o) (λ (said : List (Opener EventText)). said)
         opener_row (λ (r : OpenerRow). r.row.place)
         (λ e other x y is_first is_other same. one_thread event Is opener_stands events rise e.0 other.0 x y is_first is_other same)
-        entries in_turn.founds (zip_stronger SumsOwn Gives _ openers_of entries in_turn.founds each_own in_turn.are) keys_differ
-        (IsOfOwn event Is events) (of_entries event Is opener_stands entries events sums) gathered.openers.items rows.openers.items in_turn.openers_are
-        sorted.openers sorted.openers_rise
+        entries told.0 told.1 keys_differ
+        (IsOfOwn event Is events) (of_entries event Is opener_stands entries events sums (opener_marks text_reads)) gathered.openers.items rows.openers.items
+        (in_turn.openers_are ∙ told.2) sorted.openers sorted.openers_rise
 
     kept_strays : (said : List EventText) × AreStrays events said × (rows.strays.items ≡ map (λ e. e.place) said)
     kept_strays =
         let event : EventText → EventText = λ e. e in
-        gathered_rows same_thread (λ (e : Thread × ThreadCalls). e.0) (λ e t. IsOfKey IsStrayEvent events e.0 t)
-        (λ (f : CallFindings). map event_text f.strays.items)
+        let told = all_told SumsOwn Gives (λ e t. IsOfKey IsStrayEvent events e.0 t) (λ t. t.place) (λ t. t.place) strays_in strays_told
+        entries in_turn.founds each_own in_turn.are in
+        gathered_rows same_thread (λ (e : Thread × Calls ⊤). e.0) (λ e t. IsOfKey IsStrayEvent events e.0 t) (λ (said : List EventText). said)
         (λ (e : EventText). e.place) (λ (n : ℕ). n)
         (λ e other x y is_first is_other same. one_thread event IsStrayEvent stray_stands events rise e.0 other.0 x y is_first is_other same)
-        entries in_turn.founds (zip_stronger SumsOwn Gives _ strays_of entries in_turn.founds each_own in_turn.are) keys_differ
-        (IsOfOwn event IsStrayEvent events) (of_entries event IsStrayEvent stray_stands entries events sums) gathered.strays.items rows.strays.items
-        in_turn.strays_are sorted.strays sorted.strays_rise
+        entries told.0 told.1 keys_differ
+        (IsOfOwn event IsStrayEvent events) (of_entries event IsStrayEvent stray_stands entries events sums (stray_marks text_reads)) gathered.strays.items
+        rows.strays.items (in_turn.strays_are ∙ told.2) sorted.strays sorted.strays_rise
 
-    kept_sends : (said : List (RefusedOf EventText)) × AreSends events said × (rows.sends.items ≡ map send_row said)
+    kept_sends : (said : List (RefusedSend EventText)) × AreSends events said × (rows.sends.items ≡ map send_row said)
     kept_sends =
-        let event : RefusedOf EventText → EventText = λ s. s.event in
-        gathered_rows same_thread (λ (e : Thread × ThreadCalls). e.0) (λ e s. IsOfKey IsRefusedSend events e.0 s)
-        (λ (f : CallFindings). map send_text f.refused.items)
+        let event : RefusedSend EventText → EventText = λ s. s.event in
+        let told = all_told SumsOwn Gives (λ e s. IsOfKey IsRefusedSend events e.0 s) (λ s. s.event.place) send_row sends_in sends_told
+        entries in_turn.founds each_own in_turn.are in
+        gathered_rows same_thread (λ (e : Thread × Calls ⊤). e.0) (λ e s. IsOfKey IsRefusedSend events e.0 s) (λ (said : List (RefusedSend EventText)). said)
         send_row (λ (r : SendRow). r.place)
         (λ e other x y is_first is_other same. one_thread event IsRefusedSend send_stands events rise e.0 other.0 x y is_first is_other same)
-        entries in_turn.founds (zip_stronger SumsOwn Gives _ sends_of entries in_turn.founds each_own in_turn.are) keys_differ
-        (IsOfOwn event IsRefusedSend events) (of_entries event IsRefusedSend send_stands entries events sums) gathered.sends.items rows.sends.items
-        in_turn.sends_are sorted.sends sorted.sends_rise
+        entries told.0 told.1 keys_differ
+        (IsOfOwn event IsRefusedSend events) (of_entries event IsRefusedSend send_stands entries events sums (send_marks text_reads)) gathered.sends.items
+        rows.sends.items (in_turn.sends_are ∙ told.2) sorted.sends sorted.sends_rise
 
     pub rows_kept : KeepRows rows events
     rows_kept = record {

@@ -1,10 +1,12 @@
 -- The rows of threads, one thread behind another.
 use Rattle.std.proofs.Common.{ℕ, List, [], ◌∷◌, ◌++◌, refl, sym, ap, ◌∙◌, append_assoc}
 use Rattle.std.proofs.lemmas.List.{append-nil}
+use Rattle.std.specs.Prelude.{⊤}
 use Rattle.std.proofs.lemmas.List.Concat.{flat_map-cons}
 use Rattle.call_stacks.specs.Calls.{GivesFindings}
 use Rattle.call_stacks.specs.declared.findings.CallFindings.{CallFindings}
-use Rattle.call_stacks.specs.declared.thread_calls.ThreadCalls.{ThreadCalls}
+use Rattle.call_stacks.specs.declared.call_event.CallEvent.{CallEvent}
+use Rattle.call_stacks.specs.declared.calls.Calls.{Calls}
 use Rattle.capture_frame.specs.declared.process.Thread.{Thread}
 use Rattle.audit_findings.specs.declared.opener_row.OpenerRow.{OpenerRow}
 use Rattle.audit_findings.specs.declared.refused.SendRow.{SendRow}
@@ -15,7 +17,7 @@ pub no_threads : AreRowsInTurn [] [] [] []
 no_threads = record { founds = []; are = tt; openers_are = refl; strays_are = refl; sends_are = refl }
 
 -- one thread more, in front
-pub thread_in_front : (e : Thread × ThreadCalls) (entries : List (Thread × ThreadCalls)) (found : CallFindings) (openers : List OpenerRow) (strays : List ℕ)
+pub thread_in_front : (e : Thread × Calls ⊤) (entries : List (Thread × Calls ⊤)) (found : CallFindings (CallEvent ⊤)) (openers : List OpenerRow) (strays : List ℕ)
     (sends : List SendRow) → GivesFindings e.1 found → AreRowsInTurn entries openers strays sends
     → AreRowsInTurn (e ∷ entries) (openers_in found ++ openers) (strays_in found ++ strays) (sends_in found ++ sends)
 thread_in_front e entries found openers strays sends gives rows = record {
@@ -27,7 +29,7 @@ thread_in_front e entries found openers strays sends gives rows = record {
 }
 
 -- rows that a thread's were taken over into, with those to come
-pub taken_over : (entries : List (Thread × ThreadCalls)) (old new : ThreadRows) (found : CallFindings) (openers : List OpenerRow) (strays : List ℕ)
+pub taken_over : (entries : List (Thread × Calls ⊤)) (old new : ThreadRows) (found : CallFindings (CallEvent ⊤)) (openers : List OpenerRow) (strays : List ℕ)
     (sends : List SendRow) → TakesOver old found new
     → AreRowsInTurn entries (old.openers.items ++ (openers_in found ++ openers)) (old.strays.items ++ (strays_in found ++ strays))
     (old.sends.items ++ (sends_in found ++ sends))
@@ -41,7 +43,7 @@ taken_over entries old new found openers strays sends takes rows = record {
 }
 
 -- rows with none to come
-pub all_turned : (entries : List (Thread × ThreadCalls)) (rows : ThreadRows)
+pub all_turned : (entries : List (Thread × Calls ⊤)) (rows : ThreadRows)
     → AreRowsInTurn entries (rows.openers.items ++ []) (rows.strays.items ++ []) (rows.sends.items ++ []) → AreGatheredRows entries rows
 all_turned entries rows are = record {
   founds = are.founds;

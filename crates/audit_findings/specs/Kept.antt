@@ -3,7 +3,7 @@ use Rattle.std.specs.Prelude.{◌≡◌, ℕ, List, map}
 use Rattle.capture_frame.specs.declared.frame.Frame.{Frame}
 use Rattle.transaction_view.specs.Grammar.{WholeFrame}
 use Rattle.event_core.specs.Events.{EventText, wholes_of}
-use Rattle.call_stacks.specs.Calls.{OpenerOf}
+use Rattle.call_stacks.specs.declared.opener.Opener.{Opener}
 use Rattle.audit_findings.specs.declared.call_sections.CallSections.{CallSections}
 use Rattle.audit_findings.specs.declared.calls.CallRow.{CallRow}
 use Rattle.audit_findings.specs.declared.calls.Calls.{Calls}
@@ -35,7 +35,7 @@ pub record KeepsOpenAndStray (kept : OpenAndStray) (said : OpenAndStrayText) : T
   pub rows : kept.rows ≡ places_of said.rows
 
 -- what is kept of a call: its place, what became of it, and the place of its closer
-abbrev pub kept_call : OpenerOf EventText → CallRow
+abbrev pub kept_call : Opener EventText → CallRow
 kept_call o = record { place = o.event.place; verdict = o.verdict; closer = o.closer }
 
 pub record KeepsCalls (kept : Calls) (said : CallsText) : Type 0 where

@@ -31,9 +31,9 @@ impl CallSections {
     ghost use Rattle.audit_findings.specs.Kept.{KeepCalls};
 
     /// Those of the calls of all threads.
-    pub(crate) fn of(alloc: Global, ledger: ThreadLedger<'_>) -> Result<Self, AllocError>
+    pub(crate) fn of(alloc: Global, ledger: ThreadLedger) -> Result<Self, AllocError>
         ensures { IfOk result (λ kept. (events : List EventText) →
-            SumsThreadCalls ledger.entry events → RiseInPlace events →
+            SumsThreadCalls ledger events → RiseInPlace events →
             (said : CallSectionsText) × AreCallSections events said × KeepCalls kept said) }
     {
         let ThreadRows {

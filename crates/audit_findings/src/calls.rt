@@ -2,14 +2,13 @@
 
 ghost use Rattle.std.specs.Prelude.{◌≡◌, List, map, IfOk};
 ghost use Rattle.event_core.specs.Events.{EventText};
-ghost use Rattle.call_stacks.specs.Calls.{OpenerOf};
 ghost use Rattle.audit_findings.specs.Calls.{AreCalls, CallsText};
-ghost use Rattle.audit_findings.specs.Kept.{kept_call, KeepsCalls};
-ghost use Rattle.audit_findings.specs.ThreadRows.{opener_text, opener_row};
+ghost use Rattle.audit_findings.specs.Kept.{KeepsCalls};
+ghost use Rattle.audit_findings.specs.ThreadRows.{found_call, opener_row};
 
 use crate::opener_row::{End, OpenerRow, count_of, rows_but};
 use crate::rows::Rows;
-use call_stacks::{Opener, Verdict};
+use call_stacks::{CallEvent, Opener, Verdict};
 use std::alloc::{AllocError, Global};
 
 /// A call that its thread makes, or one that it gets to serve, with what became of it.
@@ -23,8 +22,8 @@ pub struct CallRow {
 }
 
 impl CallRow {
-    pub(crate) fn of(opener: &Opener<'_>) -> Self
-        ensures { result ≡ kept_call (opener_text opener.now) }
+    pub(crate) fn of(opener: &Opener<CallEvent<()>>) -> Self
+        ensures { result ≡ found_call opener.now }
     {
         CallRow {
             place: opener.event.place,
@@ -50,7 +49,7 @@ pub struct Calls {
 impl Calls {
     /// What is kept of the calls among these.
     pub(crate) fn of(alloc: Global, openers: &[OpenerRow]) -> Result<Self, AllocError>
-        ensures { IfOk result (λ calls. (told : List (OpenerOf EventText)) →
+        ensures { IfOk result (λ calls. (told : List (Opener EventText)) →
             openers.entry.now ≡ map opener_row told →
             (said : CallsText) × AreCalls told said × KeepsCalls calls said) }
     {

@@ -13,21 +13,21 @@ use crate::sequences::Sequences;
 use crate::thread_ledger::ThreadLedger;
 use capture_frame::{Frame, Process};
 use event_core::Events;
-use process_ledgers::{ProcessItems, ProcessSummary};
+use process_ledgers::{ProcessItem, ProcessSummary};
 use std::alloc::{AllocError, Global};
 use summary_law::{InOrder, Summary};
 
 /// The sequences of frames, what their events come to, and what those of each thread and of each
 /// process do.
 #[derive(Drop)]
-pub(crate) struct Ledgers<'c> {
+pub(crate) struct Ledgers {
     pub sequences: Sequences,
     pub events: EventLedgers,
-    pub threads: ThreadLedger<'c>,
+    pub threads: ThreadLedger,
     pub processes: InOrder<Process, ProcessSummary>,
 }
 
-impl<'c> Ledgers<'c> {
+impl Ledgers {
     pub fn empty(alloc: Global) -> Self
         ensures { SumsLedgers result [] }
     {
@@ -40,26 +40,26 @@ impl<'c> Ledgers<'c> {
     }
 
     /// Adds a frame without a fault. After an error they are only to be dropped.
-    pub fn add(&mut self, frame: Frame<'c>) -> Result<(), AllocError>
+    pub fn add(&mut self, frame: Frame<'_>) -> Result<(), AllocError>
         requires { CanTake self.old (frame ∷ []) }
         ensures { OnOk result (Takes self.old (frame.entry ∷ []) self.new) }
     {
         self.sequences = self.sequences.with(frame.sequence);
         let process = frame.of_process();
-        self.processes.add((process, ProcessItems::NONE))?;
+        self.processes.add((process, ProcessItem::Nothing))?;
         let mut events = Events::of(frame);
         while let Some(event) = events.next_event() {
             self.events.add(event)?;
             self.threads.add(event)?;
-            self.processes.add((process, ProcessItems::of(event)))?;
+            self.processes.add((process, ProcessItem::of(event)))?;
         }
         Ok(())
     }
 
     /// Those of these frames and of the later ones.
-    pub fn join(self, later: Ledgers<'c>) -> Result<Ledgers<'c>, AllocError>
+    pub fn join(self, later: Ledgers) -> Result<Ledgers, AllocError>
         requires { CanJoin SumsLedgers AreFewFrames self later }
-        ensures { IfOk result (Joins SumsLedgers AreFewFrames self.entry later.entry) }
+        ensures { IfOk result (Joins SumsLedgers AreFewFrames self later) }
     {
         Ok(Ledgers {
             sequences: self.sequences.then(later.sequences),
@@ -72,7 +72,7 @@ impl<'c> Ledgers<'c> {
     /// What the findings keep of the frames.
     pub fn sections(self, alloc: Global) -> Result<Sections, AllocError>
         requires { AreOfFew self }
-        ensures { IfOk result (GiveSections self.entry) }
+        ensures { IfOk result (GiveSections self) }
     {
         let processes = ProcessSections::of(alloc, &self.processes)?;
         let calls = CallSections::of(alloc, self.threads)?;

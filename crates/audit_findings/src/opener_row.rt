@@ -1,11 +1,11 @@
 //! Calls as rows.
 
 ghost use Rattle.std.specs.Prelude.{◌≡◌, map, filter, count_by, IfOk};
-ghost use Rattle.audit_findings.specs.ThreadRows.{opener_text, opener_row, is_of, is_but};
+ghost use Rattle.audit_findings.specs.ThreadRows.{found_opener, is_of, is_but};
 
 use crate::calls::CallRow;
-use call_stacks::{Opener, Verdict};
-use event_core::{Bracket, bracket};
+use call_stacks::{CallEvent, Opener, Verdict};
+use event_core::Bracket;
 use std::alloc::{AllocError, Global};
 
 /// Which end of a call its thread is.
@@ -25,10 +25,10 @@ pub(crate) struct OpenerRow {
 }
 
 impl OpenerRow {
-    pub fn of(opener: &Opener<'_>) -> Self
-        ensures { result ≡ opener_row (opener_text opener.now) }
+    pub fn of(opener: &Opener<CallEvent<()>>) -> Self
+        ensures { result ≡ found_opener opener.now }
     {
-        let end = match bracket(None, opener.event) {
+        let end = match opener.event.bracket(None) {
             Bracket::Call => End::Caller,
             _ => End::Server,
         };

@@ -9,13 +9,15 @@ use crate::findings::Sections;
 use crate::ledgers::Ledgers;
 use capture_frame::Frame;
 use std::alloc::{AllocError, Global};
+use std::marker::PhantomData;
 use summary_law::Summary;
 
 /// What the report needs of some frames, one behind another.
 #[derive(Drop)]
 pub struct PieceSummary<'c> {
-    ledgers: Ledgers<'c>,
+    ledgers: Ledgers,
     alloc: Global,
+    frames: PhantomData<Frame<'c>>,
 }
 
 impl<'c> PieceSummary<'c> {
@@ -39,6 +41,7 @@ impl<'c> Summary for PieceSummary<'c> {
         PieceSummary {
             ledgers: Ledgers::empty(alloc),
             alloc,
+            frames: PhantomData,
         }
     }
 
@@ -51,6 +54,7 @@ impl<'c> Summary for PieceSummary<'c> {
         Ok(PieceSummary {
             ledgers,
             alloc: self.alloc,
+            frames: PhantomData,
         })
     }
 

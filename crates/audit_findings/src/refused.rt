@@ -2,13 +2,12 @@
 
 ghost use Rattle.std.specs.Prelude.{◌≡◌, List, map, count_by, IfOk};
 ghost use Rattle.event_core.specs.Events.{EventText};
-ghost use Rattle.call_stacks.specs.Calls.{RefusedOf};
 ghost use Rattle.audit_findings.specs.Calls.{AreSends, AreRefused, RefusedText};
 ghost use Rattle.audit_findings.specs.Kept.{KeepsRefused};
-ghost use Rattle.audit_findings.specs.ThreadRows.{send_text, send_row};
+ghost use Rattle.audit_findings.specs.ThreadRows.{found_send, send_row};
 
 use crate::rows::Rows;
-use call_stacks::RefusedSend;
+use call_stacks::{CallEvent, RefusedSend};
 use std::alloc::{AllocError, Global};
 
 /// The error replies that tell of refused sends.
@@ -24,7 +23,7 @@ impl Refused {
     /// What is kept of these refused sends.
     pub(crate) fn of(alloc: Global, sends: &[SendRow]) -> Result<Self, AllocError>
         ensures { IfOk result (λ kept. (events : List EventText) →
-            (told : List (RefusedOf EventText)) → AreSends events told →
+            (told : List (RefusedSend EventText)) → AreSends events told →
             sends.entry.now ≡ map send_row told →
             (said : RefusedText) × AreRefused events said × KeepsRefused kept said) }
     {
@@ -45,8 +44,8 @@ pub(crate) struct SendRow {
 }
 
 impl SendRow {
-    pub fn of(sent: &RefusedSend<'_>) -> Self
-        ensures { result ≡ send_row (send_text sent.now) }
+    pub fn of(sent: &RefusedSend<CallEvent<()>>) -> Self
+        ensures { result ≡ found_send sent.now }
     {
         SendRow {
             place: sent.event.place,

@@ -2,7 +2,7 @@
 
 ghost use Rattle.std.specs.Prelude.{◌≡◌, List, map, IfOk};
 ghost use Rattle.event_core.specs.Events.{EventText};
-ghost use Rattle.call_stacks.specs.Calls.{OpenerOf};
+ghost use Rattle.call_stacks.specs.declared.opener.Opener.{Opener};
 ghost use Rattle.audit_findings.specs.Calls.{AreServed, ServedText};
 ghost use Rattle.audit_findings.specs.Kept.{KeepsServed};
 ghost use Rattle.audit_findings.specs.ThreadRows.{opener_row};
@@ -29,7 +29,7 @@ pub struct Served {
 impl Served {
     /// What is kept of the served calls among these.
     pub(crate) fn of(alloc: Global, openers: &[OpenerRow]) -> Result<Self, AllocError>
-        ensures { IfOk result (λ served. (told : List (OpenerOf EventText)) →
+        ensures { IfOk result (λ served. (told : List (Opener EventText)) →
             openers.entry.now ≡ map opener_row told →
             (said : ServedText) × AreServed told said × KeepsServed served said) }
     {

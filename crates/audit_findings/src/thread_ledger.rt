@@ -6,19 +6,20 @@ ghost use Rattle.summary_law.specs.Summary.{CanAdd, Adds, CanJoin, Joins};
 ghost use Rattle.audit_findings.specs.Ledgers.{AreFewEvents};
 ghost use Rattle.audit_findings.specs.ThreadLedger.{SumsThreadCalls};
 
-use call_stacks::ThreadCalls;
+use call_stacks::{CallEvent, Calls};
 use capture_frame::Thread;
 use event_core::Event;
 use std::alloc::{AllocError, Global};
 use summary_law::{InOrder, Summary};
 
-/// The calls of each thread.
+/// The calls of each thread with an event that leaves a mark; nothing is kept of an event but what
+/// calls go by.
 #[derive(Drop)]
-pub(crate) struct ThreadLedger<'c> {
-    pub threads: InOrder<Thread, ThreadCalls<'c>>,
+pub(crate) struct ThreadLedger {
+    pub threads: InOrder<Thread, Calls<()>>,
 }
 
-impl<'c> ThreadLedger<'c> {
+impl ThreadLedger {
     pub fn empty(alloc: Global) -> Self
         ensures { SumsThreadCalls result [] }
     {
@@ -28,18 +29,22 @@ impl<'c> ThreadLedger<'c> {
     }
 
     /// Adds an event. After an error the ledger is only to be dropped.
-    pub fn add(&mut self, event: Event<'c>) -> Result<(), AllocError>
+    pub fn add(&mut self, event: Event<'_>) -> Result<(), AllocError>
         requires { CanAdd SumsThreadCalls AreFewEvents self.old (event_text event) }
         ensures { OnOk result
             (Adds SumsThreadCalls AreFewEvents self.old (event_text event.entry) self.new) }
     {
-        self.threads.add((event.of_thread(), event))
+        let call = CallEvent::of(event, ());
+        match call.mark() {
+            Some(_) => self.threads.add((event.of_thread(), call)),
+            None => Ok(()),
+        }
     }
 
     /// Those of these events and of the later ones.
-    pub fn join(self, later: ThreadLedger<'c>) -> Result<ThreadLedger<'c>, AllocError>
+    pub fn join(self, later: ThreadLedger) -> Result<ThreadLedger, AllocError>
         requires { CanJoin SumsThreadCalls AreFewEvents self later }
-        ensures { IfOk result (Joins SumsThreadCalls AreFewEvents self.entry later.entry) }
+        ensures { IfOk result (Joins SumsThreadCalls AreFewEvents self later) }
     {
         Ok(ThreadLedger {
             threads: self.threads.join(later.threads)?,

@@ -2,16 +2,15 @@
 
 ghost use Rattle.std.specs.Prelude.{◌≡◌, ◌++◌, List, map, IfOk, OnOk};
 ghost use Rattle.event_core.specs.Events.{EventText};
-ghost use Rattle.event_core.specs.Reading.{event_text};
+ghost use Rattle.call_stacks.specs.Calls.{event_place};
 ghost use Rattle.audit_findings.specs.Places.{RiseInPlace};
 ghost use Rattle.audit_findings.specs.ThreadLedger.{SumsThreadCalls};
-ghost use Rattle.audit_findings.specs.ThreadRows.{opener_text, opener_row, send_text, send_row, TakesOver, AreGatheredRows, AreSortedRows, KeepRows};
+ghost use Rattle.audit_findings.specs.ThreadRows.{found_opener, found_send, TakesOver, AreGatheredRows, AreSortedRows, KeepRows};
 
 use crate::opener_row::OpenerRow;
 use crate::refused::SendRow;
 use crate::thread_ledger::ThreadLedger;
-use call_stacks::{CallFindings, Opener, RefusedSend};
-use event_core::Event;
+use call_stacks::{CallEvent, CallFindings, Opener, RefusedSend};
 use std::alloc::{AllocError, Global};
 use summary_law::InOrder;
 
@@ -28,9 +27,9 @@ pub(crate) struct ThreadRows {
 
 impl ThreadRows {
     /// The rows of all threads, each list in rising place.
-    pub fn of(alloc: Global, ledger: ThreadLedger<'_>) -> Result<Self, AllocError>
+    pub fn of(alloc: Global, ledger: ThreadLedger) -> Result<Self, AllocError>
         ensures { IfOk result (λ rows. (events : List EventText) →
-            SumsThreadCalls ledger.entry events → RiseInPlace events → KeepRows rows events) }
+            SumsThreadCalls ledger events → RiseInPlace events → KeepRows rows events) }
     {
         let mut rows = ThreadRows::in_turn(alloc, ledger)?;
         rows.sort();
@@ -38,9 +37,9 @@ impl ThreadRows {
     }
 
     /// The rows of each thread in turn. What a thread has is dropped once its rows are taken.
-    fn in_turn(alloc: Global, ledger: ThreadLedger<'_>) -> Result<Self, AllocError>
+    fn in_turn(alloc: Global, ledger: ThreadLedger) -> Result<Self, AllocError>
         ensures { IfOk result (λ rows.
-            AreGatheredRows ledger.entry.threads.entries.entries rows) }
+            AreGatheredRows ledger.threads.entries.entries rows) }
     {
         let mut rows = ThreadRows {
             openers: Vec::new(alloc),
@@ -56,8 +55,8 @@ impl ThreadRows {
     }
 
     /// Takes over the calls of a thread.
-    fn take_over(&mut self, found: &CallFindings<'_>) -> Result<(), AllocError>
-        ensures { OnOk result (TakesOver self.old found.entry.now self.new) }
+    fn take_over(&mut self, found: &CallFindings<CallEvent<()>>) -> Result<(), AllocError>
+        ensures { OnOk result (TakesOver self.old found.now self.new) }
     {
         push_openers(&mut self.openers, found.openers.as_slice())?;
         push_places(&mut self.strays, found.strays.as_slice())?;
@@ -74,9 +73,9 @@ impl ThreadRows {
     }
 }
 
-fn push_openers(rows: &mut Vec<OpenerRow>, openers: &[Opener<'_>]) -> Result<(), AllocError>
+fn push_openers(rows: &mut Vec<OpenerRow>, openers: &[Opener<CallEvent<()>>]) -> Result<(), AllocError>
     ensures { OnOk result (rows.new.items ≡
-        rows.old.items ++ map opener_row (map opener_text openers.entry.now)) }
+        rows.old.items ++ map found_opener openers.now) }
 {
     for opener in openers {
         rows.push(OpenerRow::of(opener))?;
@@ -84,9 +83,9 @@ fn push_openers(rows: &mut Vec<OpenerRow>, openers: &[Opener<'_>]) -> Result<(),
     Ok(())
 }
 
-fn push_places(places: &mut Vec<u64>, events: &[Event<'_>]) -> Result<(), AllocError>
+fn push_places(places: &mut Vec<u64>, events: &[CallEvent<()>]) -> Result<(), AllocError>
     ensures { OnOk result (places.new.items ≡
-        places.old.items ++ map (λ (e : EventText). e.place) (map event_text events.entry.now)) }
+        places.old.items ++ map event_place events.now) }
 {
     for event in events {
         places.push(event.place)?;
@@ -94,9 +93,9 @@ fn push_places(places: &mut Vec<u64>, events: &[Event<'_>]) -> Result<(), AllocE
     Ok(())
 }
 
-fn push_sends(rows: &mut Vec<SendRow>, sends: &[RefusedSend<'_>]) -> Result<(), AllocError>
+fn push_sends(rows: &mut Vec<SendRow>, sends: &[RefusedSend<CallEvent<()>>]) -> Result<(), AllocError>
     ensures { OnOk result (rows.new.items ≡
-        rows.old.items ++ map send_row (map send_text sends.entry.now)) }
+        rows.old.items ++ map found_send sends.now) }
 {
     for sent in sends {
         rows.push(SendRow::of(sent))?;

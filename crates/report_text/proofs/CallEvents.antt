@@ -5,7 +5,9 @@ use Rattle.std.proofs.lemmas.List.Elements.{All-contains, All-contains_itself, A
 use Rattle.event_core.specs.Events.{EventText}
 use Rattle.event_core.specs.declared.marks.Bracket.{Bracket}
 use Rattle.event_core.specs.declared.marks.Mark.{Mark}
-use Rattle.call_stacks.specs.Calls.{Reads, JudgedOf, OpenerOf, RefusedOf, bracket_read, judged_with, mark_behind_by}
+use Rattle.call_stacks.specs.Calls.{Reads, JudgedOf, bracket_read, judged_with, mark_behind_by}
+use Rattle.call_stacks.specs.declared.opener.Opener.{Opener}
+use Rattle.call_stacks.specs.declared.findings.RefusedSend.{RefusedSend}
 use Rattle.call_stacks.specs.Matching.{ListsInOrder}
 use Rattle.call_stacks.proofs.Members.{contained, get_in, map-in}
 use Rattle.audit_findings.specs.Calls.{AreOpeners, AreRefused, AreStrays, RefusedText, judged_in_thread, text_reads}
@@ -35,12 +37,12 @@ listed_there rank Is event events stands things are =
     All-weaker (Contains things) (λ x. Contains events (event x)) (λ x has. stands x ((are.exact x).0 has)) things (All-contains_itself things)
 
 -- those of some of the openers
-pub openers_there : (events : List EventText) (openers : List (OpenerOf EventText)) (some : OpenerOf EventText → Bool) (rows : List (OpenerOf EventText))
+pub openers_there : (events : List EventText) (openers : List (Opener EventText)) (some : Opener EventText → Bool) (rows : List (Opener EventText))
     → AreOpeners events openers → rows ≡ filter some openers → All (λ o. Contains events o.event) rows
 openers_there events openers some rows are kept =
-    let there = listed_there _ _ (λ (o : OpenerOf EventText). o.event) events
+    let there = listed_there _ _ (λ (o : Opener EventText). o.event) events
     (λ o is. subst (Contains events) (sym is.event) (judged_there events o.event is.position is.there is.stands)) openers are in
-    subst (All (λ (o : OpenerOf EventText). Contains events o.event)) (sym kept) (All-filter some (λ o. Contains events o.event) openers there)
+    subst (All (λ (o : Opener EventText). Contains events o.event)) (sym kept) (All-filter some (λ o. Contains events o.event) openers there)
 
 -- stray closers
 pub strays_there : (events said : List EventText) → AreStrays events said → All (Contains events) said
@@ -51,7 +53,7 @@ strays_there events said are =
 -- the error replies that tell of refused sends
 pub refused_there : (events : List EventText) (said : RefusedText) → AreRefused events said → All (Contains events) said.rows
 refused_there events said are =
-    let event : RefusedOf EventText → EventText = λ s. s.event in
+    let event : RefusedSend EventText → EventText = λ s. s.event in
     let there = listed_there _ _ event events
     (λ s is. subst (Contains events) (sym is.event) (judged_there events s.event is.position is.there is.stands)) are.0 are.1 in
     subst (All (Contains events)) (sym are.3) (All-map (Contains events) event are.0 there)

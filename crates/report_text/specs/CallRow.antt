@@ -5,7 +5,7 @@ use Rattle.std.specs.Fmt.{decimal}
 use Rattle.transaction_view.specs.Transaction.{has_transaction_data, code}
 use Rattle.event_core.specs.Events.{EventText}
 use Rattle.audit_findings.specs.declared.calls.CallRow.{CallRow}
-use Rattle.call_stacks.specs.Calls.{OpenerOf}
+use Rattle.call_stacks.specs.declared.opener.Opener.{Opener}
 use Rattle.call_stacks.specs.declared.verdict.Verdict.{Verdict}
 use Rattle.call_stacks.specs.declared.verdict.Verdict.TheVariants.{Answered, Failed, Replied, Crossed, Open}
 use Rattle.report_text.specs.EventRow.{thread_start}
@@ -31,7 +31,7 @@ record_fields other_side e =
     else []
 
 -- a row: place, process, thread, these fields, what became of the call, its closer
-abbrev pub call_row : (List ℕ → List ℕ) → OpenerOf EventText → List ℕ
+abbrev pub call_row : (List ℕ → List ℕ) → Opener EventText → List ℕ
 call_row other_side call =
     thread_start call.event ++ record_fields other_side call.event
     ++ codes " " ++ verdict_name call.verdict ++ codes " " ++ closer_field call.closer

@@ -1,7 +1,7 @@
 use Rattle.std.proofs.Common.{ℕ, ◌+◌, ◌&&◌, not, List, map, filter, refl, ap, ap₂, ◌∙◌}
 use Rattle.std.specs.Prelude.{count_by}
 use Rattle.event_core.specs.Events.{EventText}
-use Rattle.call_stacks.specs.Calls.{OpenerOf}
+use Rattle.call_stacks.specs.declared.opener.Opener.{Opener}
 use Rattle.call_stacks.specs.declared.verdict.Verdict.TheVariants.{Answered, Failed, Crossed, Open}
 use Rattle.audit_findings.specs.declared.opener_row.End.TheVariants.{Caller}
 use Rattle.audit_findings.specs.declared.opener_row.OpenerRow.{OpenerRow}
@@ -13,10 +13,10 @@ use Rattle.audit_findings.proofs.calls.Calls.of.Goals as goal
 pub returns : goal.returns
 returns c told is =
     let said : CallsText = record {
-      answered = count_by (λ (o : OpenerOf EventText). is_call o && is_answered o.verdict) told;
-      failed = count_by (λ (o : OpenerOf EventText). is_call o && is_failed o.verdict) told;
-      unanswered = count_by (λ (o : OpenerOf EventText). is_call o && is_unanswered o.verdict) told;
-      rows = filter (λ (o : OpenerOf EventText). is_call o && not (is_answered o.verdict)) told;
+      answered = count_by (λ (o : Opener EventText). is_call o && is_answered o.verdict) told;
+      failed = count_by (λ (o : Opener EventText). is_call o && is_failed o.verdict) told;
+      unanswered = count_by (λ (o : Opener EventText). is_call o && is_unanswered o.verdict) told;
+      rows = filter (λ (o : Opener EventText). is_call o && not (is_answered o.verdict)) told;
     } in
     let crossed = c.count_of-crossed.ensures ∙ ap (count_by (is_of Caller Crossed)) is ∙ made_count Crossed told in
     let left_open = c.count_of-open.ensures ∙ ap (count_by (is_of Caller Open)) is ∙ made_count Open told in (

@@ -7,8 +7,9 @@ use Rattle.event_core.specs.Events.{events_of_wholes}
 use Rattle.audit_findings.specs.Ledgers.{AreFewEvents, SumsEvents, SumsFrames}
 use Rattle.audit_findings.specs.ThreadLedger.{SumsThreadCalls}
 use Rattle.audit_findings.proofs.FrameLaws.{shown_good, shown_alone, few_with, few_next, all_given, given_next, texts_next}
-use Rattle.process_ledgers.specs.declared.process_items.ProcessItems.{ProcessItems}
-use Rattle.process_ledgers.specs.ProcessItems.{no_items, fed_by_all}
+use Rattle.process_ledgers.specs.declared.process_item.ProcessItem.{ProcessItem}
+use Rattle.process_ledgers.specs.declared.process_item.ProcessItem.TheVariants.{Nothing}
+use Rattle.process_ledgers.specs.ProcessItem.{fed_by_all}
 use Rattle.audit_findings.proofs.FitLaws.{SumsFed, FitFed, fed_given, fit_with, fit_mark, fit_next, all_fed, fed_next}
 use Rattle.audit_findings.proofs.SequenceLaws.{frame_count}
 use Rattle.audit_findings.proofs.ledgers.Ledgers.add.Goals as goal
@@ -74,7 +75,7 @@ add-requires-in-Some-3 c =
     let frame = c.args.frame in
     let wholes = c.requires.0 in
     let process = c.of_process-process.result in
-    let before = fed_by_all wholes ++ (process, no_items) ∷ [] in
+    let before = fed_by_all wholes ++ (process, Nothing) ∷ [] in
     let fit = fit_with frame process c.of_process-process.ensures wholes c.requires.1 c.requires.3 c.requires.4 in
     let i = c.loop-event.invariant in
     let steps = rw c.in-Some.is at c.next_event.ensures in
@@ -82,7 +83,7 @@ add-requires-in-Some-3 c =
     let marked = c.in_ok-add.ensures (fed_by_all wholes) c.requires.2.processes (fit_mark frame before process fit) in (
       before ++ map (fed_given process) i.1,
       i.5 before marked fit,
-      subst (λ (items : ProcessItems). FitFed ((before ++ map (fed_given process) i.1) ++ (process, items) ∷ [])) (sym c.of.ensures)
+      subst (λ (item : ProcessItem). FitFed ((before ++ map (fed_given process) i.1) ++ (process, item) ∷ [])) (sym c.of.ensures)
           (subst FitFed (sym (fed_next before process i.1 c.in-Some.event)) (fit_next before process frame fit c.next_event.new.self _ more)),
     )
 
@@ -113,9 +114,9 @@ loop-event-preserved c =
           let given = fed ++ map (fed_given process) i.1 in
           let fits_one = subst FitFed (sym (fed_next fed process i.1 found)) fits in
           subst (SumsFed _) (fed_next fed process i.1 found)
-          (subst (λ (items : ProcessItems). SumsFed c.add-in-Some-3.new.self.entries.entries (given ++ (process, items) ∷ [])) c.of.ensures
+          (subst (λ (item : ProcessItem). SumsFed c.add-in-Some-3.new.self.entries.entries (given ++ (process, item) ∷ [])) c.of.ensures
           (c.in_ok-add-4.ensures given (i.5 fed sums fit)
-          (subst (λ (items : ProcessItems). FitFed (given ++ (process, items) ∷ [])) (sym c.of.ensures) fits_one))),
+          (subst (λ (item : ProcessItem). FitFed (given ++ (process, item) ∷ [])) (sym c.of.ensures) fits_one))),
     )
 
 pub returns : goal.returns
@@ -130,7 +131,7 @@ returns c wholes others sums show few =
       sequences = subst (λ s. SumsFrames s (wholes ++ others)) (sym i.0)
           (subst (λ t. SumsFrames c.with-self.result (wholes ++ t)) (sym alone.1) (c.with-self.ensures wholes alone.0 sums.sequences alone.2));
       processes =
-          let fed = fed_by_all wholes ++ (process, no_items) ∷ [] in
+          let fed = fed_by_all wholes ++ (process, Nothing) ∷ [] in
           let fit = fit_with frame process c.of_process-process.ensures wholes others show few in
           subst (SumsFed _) (all_fed frame process c.of_process-process.ensures wholes others show c.loop-event.events c.next_event.new.self i.1 i.2 steps)
           (i.5 fed (c.in_ok-add.ensures (fed_by_all wholes) sums.processes (fit_mark frame fed process fit)) fit);

@@ -3,7 +3,7 @@ use Rattle.event_core.specs.Events.{events_of_wholes}
 use Rattle.summary_law.specs.InOrder.{SumsInOrder}
 use Rattle.audit_findings.specs.Ledgers.{SumsEvents, AreFewEvents}
 use Rattle.audit_findings.specs.ThreadLedger.{SumsThreadCalls}
-use Rattle.process_ledgers.specs.ProcessItems.{fed_by_all}
+use Rattle.process_ledgers.specs.ProcessItem.{fed_by_all}
 use Rattle.process_ledgers.specs.ProcessLedgers.{SumsProcessItems}
 use Rattle.capture_frame.specs.Process.{same_process}
 use Rattle.process_ledgers.proofs.FedLaws.{fed-append}

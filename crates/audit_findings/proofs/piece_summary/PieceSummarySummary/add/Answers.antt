@@ -14,7 +14,7 @@ add-requires c = can_take_views c.args.self.now.ledgers c.requires.0 (c.args.ite
 pub returns : goal.returns
 returns c =
     let old = c.args.self.now in
-    let new : PieceSummary = record { ledgers = c.add.new.self; alloc = old.alloc } in
+    let new : PieceSummary = record old { ledgers = c.add.new.self } in
     IfOk-weaker c.add.result (λ _. Takes old.ledgers (c.args.item ∷ []) new.ledgers)
     (λ _. Adds SumsPiece AreGoodFrames old c.args.item new)
     (λ _ takes frames sums good. views_taken old.ledgers new.ledgers frames (c.args.item ∷ []) sums takes good)

@@ -1,7 +1,7 @@
 use Rattle.std.proofs.Common.{◌&&◌, not, List, map, filter, refl, ap, ◌∙◌}
 use Rattle.std.specs.Prelude.{count_by}
 use Rattle.event_core.specs.Events.{EventText}
-use Rattle.call_stacks.specs.Calls.{OpenerOf}
+use Rattle.call_stacks.specs.declared.opener.Opener.{Opener}
 use Rattle.call_stacks.specs.declared.verdict.Verdict.TheVariants.{Replied, Crossed, Open}
 use Rattle.audit_findings.specs.declared.opener_row.End.TheVariants.{Server}
 use Rattle.audit_findings.specs.declared.opener_row.OpenerRow.{OpenerRow}
@@ -13,10 +13,10 @@ use Rattle.audit_findings.proofs.served.Served.of.Goals as goal
 pub returns : goal.returns
 returns c told is =
     let said : ServedText = record {
-      replied = count_by (λ (o : OpenerOf EventText). not (is_call o) && is_replied o.verdict) told;
-      crossed = count_by (λ (o : OpenerOf EventText). not (is_call o) && is_crossed o.verdict) told;
-      left_open = count_by (λ (o : OpenerOf EventText). not (is_call o) && is_open o.verdict) told;
-      rows = filter (λ (o : OpenerOf EventText). not (is_call o) && not (is_replied o.verdict)) told;
+      replied = count_by (λ (o : Opener EventText). not (is_call o) && is_replied o.verdict) told;
+      crossed = count_by (λ (o : Opener EventText). not (is_call o) && is_crossed o.verdict) told;
+      left_open = count_by (λ (o : Opener EventText). not (is_call o) && is_open o.verdict) told;
+      rows = filter (λ (o : Opener EventText). not (is_call o) && not (is_replied o.verdict)) told;
     } in (
       said,
       record { replied = refl; crossed = refl; left_open = refl; rows = refl },

@@ -1,24 +1,17 @@
-use Rattle.std.proofs.Common.{◌++◌, map, sym, subst}
-use Rattle.std.proofs.lemmas.List.{map-append}
-use Rattle.audit_findings.specs.ThreadLedger.{fed_view}
-use Rattle.audit_findings.proofs.ThreadFits.{SumsFedViews, fit_behind, views_behind}
+use Rattle.std.proofs.Common.{sym, subst}
+use Rattle.audit_findings.specs.ThreadLedger.{fed_calls}
+use Rattle.audit_findings.proofs.ThreadFits.{SumsFedCalls, fit_behind, fed_behind}
 use Rattle.audit_findings.proofs.thread_ledger.ThreadLedger.join.Goals as goal
 
 pub join-requires : goal.join-requires
 join-requires c =
-    let first = c.requires.2 in
-    let second = c.requires.3 in (
-      map fed_view first.0,
-      map fed_view second.0,
-      first.2,
-      second.2,
-      fit_behind first.0 second.0 c.requires.0 c.requires.1 first.1 second.1 c.requires.4,
-    )
+    let first = c.requires.0 in
+    let second = c.requires.1 in
+    (fed_calls first, fed_calls second, c.requires.2.sums, c.requires.3.sums, fit_behind first second c.requires.4)
 
 pub returns : goal.returns
-returns c events others sums more few = (
-  sums.0 ++ more.0,
-  views_behind sums.0 more.0 events others sums.1 more.1,
-  subst (SumsFedViews _) (sym (map-append fed_view sums.0 more.0))
-      (c.in_ok-join.ensures (map fed_view sums.0) (map fed_view more.0) sums.2 more.2 (fit_behind sums.0 more.0 events others sums.1 more.1 few)),
-)
+returns c first second sums more few = record {
+  placed = few.0;
+  sums = subst (SumsFedCalls _) (sym (fed_behind first second))
+      (c.in_ok-join.ensures (fed_calls first) (fed_calls second) sums.sums more.sums (fit_behind first second few));
+}
