@@ -2,7 +2,7 @@
 //! against answers from outside, and against matching pair by pair.
 
 ghost use Rattle.summary_law.specs.Fits.{IsPlaced};
-ghost use Rattle.call_stacks.specs.Calls.{event_place};
+ghost use Rattle.call_stacks.specs.Events.{view_place};
 
 mod captures;
 mod found;
@@ -308,7 +308,7 @@ fn expect_in_three(
     index: usize,
     next: usize,
 ) -> Result<(), Fail>
-    requires placed { IsPlaced event_place events.now }
+    requires placed { IsPlaced view_place events.now }
 {
     let front: ThreadCalls<'_> = in_three_from_the_front(alloc, events, index, next)?;
     expect_found(rt, events, found, &front.finish()?);
@@ -325,7 +325,7 @@ fn expect_cut(
     found: Found<'_>,
     index: usize,
 ) -> Result<(), Fail>
-    requires placed { IsPlaced event_place events.now }
+    requires placed { IsPlaced view_place events.now }
 {
     let calls: ThreadCalls<'_> = in_two(alloc, events, index)?;
     expect_found(rt, events, found, &calls.finish()?);

@@ -55,13 +55,13 @@ pub(crate) fn tally<W: Write>(rows: &[(u32, u64, u128)], out: &mut W) -> Result<
 }
 
 /// Prints the places of what the calls of a thread came to.
-pub(crate) fn calls<W: Write>(found: &CallFindings<'_>, out: &mut W) -> Result<(), NoAnswer> {
+pub(crate) fn calls<W: Write>(found: &CallFindings<Event<'_>>, out: &mut W) -> Result<(), NoAnswer> {
     openers(found.openers.as_slice(), out)?;
     strays(found.strays.as_slice(), out)?;
     refused(found.refused.as_slice(), out)
 }
 
-fn openers<W: Write>(openers: &[Opener<'_>], out: &mut W) -> Result<(), NoAnswer> {
+fn openers<W: Write>(openers: &[Opener<Event<'_>>], out: &mut W) -> Result<(), NoAnswer> {
     for opener in openers {
         // No record stands at 0, where the file header does.
         line(
@@ -80,7 +80,7 @@ fn strays<W: Write>(strays: &[Event<'_>], out: &mut W) -> Result<(), NoAnswer> {
     Ok(())
 }
 
-fn refused<W: Write>(refused: &[RefusedSend<'_>], out: &mut W) -> Result<(), NoAnswer> {
+fn refused<W: Write>(refused: &[RefusedSend<Event<'_>>], out: &mut W) -> Result<(), NoAnswer> {
     for send in refused {
         line(out, "refused", &[send.event.place, send.oneway as u64])?;
     }

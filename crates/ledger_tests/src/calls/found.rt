@@ -23,7 +23,7 @@ fn expect_openers(
     rt: &impl Abort,
     events: &[Event<'_>],
     wanted: &[(usize, Verdict, Option<usize>)],
-    openers: &[Opener<'_>],
+    openers: &[Opener<Event<'_>>],
 ) {
     assert_eq!(rt; openers.len(), wanted.len());
     for (opener, row) in openers.iter().zip(wanted) {
@@ -47,7 +47,7 @@ fn expect_refused(
     rt: &impl Abort,
     events: &[Event<'_>],
     wanted: &[(usize, bool)],
-    refused: &[RefusedSend<'_>],
+    refused: &[RefusedSend<Event<'_>>],
 ) {
     assert_eq!(rt; refused.len(), wanted.len());
     for (send, row) in refused.iter().zip(wanted) {
@@ -62,7 +62,7 @@ pub(crate) fn expect_found(
     rt: &impl Abort,
     events: &[Event<'_>],
     wanted: Found<'_>,
-    findings: &CallFindings<'_>,
+    findings: &CallFindings<Event<'_>>,
 ) {
     expect_openers(rt, events, wanted.openers, &findings.openers);
     expect_strays(rt, events, wanted.strays, &findings.strays);
