@@ -73,7 +73,10 @@ impl ThreadRows {
     }
 }
 
-fn push_openers(rows: &mut Vec<OpenerRow>, openers: &[Opener<CallEvent<()>>]) -> Result<(), AllocError>
+fn push_openers(
+    rows: &mut Vec<OpenerRow>,
+    openers: &[Opener<CallEvent<()>>],
+) -> Result<(), AllocError>
     ensures { OnOk result (rows.new.items ≡
         rows.old.items ++ map found_opener openers.now) }
 {
@@ -93,7 +96,10 @@ fn push_places(places: &mut Vec<u64>, events: &[CallEvent<()>]) -> Result<(), Al
     Ok(())
 }
 
-fn push_sends(rows: &mut Vec<SendRow>, sends: &[RefusedSend<CallEvent<()>>]) -> Result<(), AllocError>
+fn push_sends(
+    rows: &mut Vec<SendRow>,
+    sends: &[RefusedSend<CallEvent<()>>],
+) -> Result<(), AllocError>
     ensures { OnOk result (rows.new.items ≡
         rows.old.items ++ map found_send sends.now) }
 {

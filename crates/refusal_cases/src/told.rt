@@ -55,7 +55,10 @@ pub(crate) fn tally<W: Write>(rows: &[(u32, u64, u128)], out: &mut W) -> Result<
 }
 
 /// Prints the places of what the calls of a thread came to.
-pub(crate) fn calls<W: Write>(found: &CallFindings<Event<'_>>, out: &mut W) -> Result<(), NoAnswer> {
+pub(crate) fn calls<W: Write>(
+    found: &CallFindings<Event<'_>>,
+    out: &mut W,
+) -> Result<(), NoAnswer> {
     openers(found.openers.as_slice(), out)?;
     strays(found.strays.as_slice(), out)?;
     refused(found.refused.as_slice(), out)
