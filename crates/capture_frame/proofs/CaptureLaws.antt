@@ -1,62 +1,87 @@
 -- What holds of captures under every format of frames that are judged in one way: a capture is read in one way, or
 -- has one first fault, and never both.
 use Rattle.std.proofs.Common.{◌≡◌, ℕ, ◌+◌, ◌⊎◌, inl, inr, List, ◌++◌, drop, Option, None, refl, sym, ap, subst, ◌∙◌}
-use Rattle.std.proofs.lemmas.List.{append_cancel_left}
 use Rattle.capture_frame.specs.declared.fault.Fault.{Fault}
 use Rattle.capture_frame.specs.declared.fault.FaultKind.{FaultKind}
 use Rattle.capture_frame.specs.Units.{Format, Reads, FirstFailure}
-use Rattle.capture_frame.specs.Envelope.{file_header}
-use Rattle.capture_frame.specs.FirstFault.{HeaderFails, IsCapture, IsFirstFault, in_header, in_frames}
+use Rattle.capture_frame.specs.declared.version.Version.{Version}
+use Rattle.capture_frame.specs.Envelope.{Before, in_version, file_header}
+use Rattle.capture_frame.specs.FirstFault.{HeaderFails, IsPart, IsFirstFaultBehind, IsCapture, IsFirstFault, in_header, in_frames}
 use Rattle.capture_frame.specs.Units.{IsBytes}
 use Rattle.capture_frame.proofs.NumberLaws.{IsBytes-drop}
 use Rattle.capture_frame.proofs.FaultLaws.{same_fault}
 use Rattle.capture_frame.proofs.UnitLaws.{IsDecided, Outcome, read, failed, outcome}
 use Rattle.capture_frame.proofs.UnitLaws as units
-use Rattle.capture_frame.proofs.HeaderLaws.{header_judged, header_one_failure, header_never_both}
+use Rattle.capture_frame.proofs.HeaderLaws.{header_judged, header_one_failure, header_never_both, header_one}
 
-behind_header : {U : Type 0} (format : Format (Option ℕ) U FaultKind) (capture bytes : List ℕ) → capture ≡ file_header ++ bytes → Outcome format None bytes
-    → ((frames : List U) × IsCapture format capture frames) ⊎ ((fault : Fault) × IsFirstFault format capture fault)
-behind_header format capture bytes parts (read frames reads) = inl (frames, (bytes, parts, reads))
-behind_header format capture bytes parts (failed kind place failure) =
+behind_header : {U : Type 0} (format : Format Before U FaultKind) (last : Option ℕ) (version : Version) (part bytes : List ℕ)
+    → part ≡ file_header version ++ bytes → Outcome format (in_version version last) bytes
+    → ((frames : List U) × IsPart format last part frames) ⊎ ((fault : Fault) × IsFirstFaultBehind format last part fault)
+behind_header format last version part bytes parts (read frames reads) = inl (frames, (version, bytes, parts, reads))
+behind_header format last version part bytes parts (failed kind place failure) =
     let fault : Fault = record { kind = kind; place = 16 + place } in
-    inr (fault, in_frames bytes place parts failure refl)
+    inr (fault, in_frames version bytes place parts failure refl)
 
--- a capture is read, or has a first fault
-pub capture_outcome : {U : Type 0} (format : Format (Option ℕ) U FaultKind) (decided : IsDecided format) (capture : List ℕ) → IsBytes capture
-    → ((frames : List U) × IsCapture format capture frames) ⊎ ((fault : Fault) × IsFirstFault format capture fault)
-capture_outcome format decided capture h = elim (header_judged capture h) [
-  | inl good ↦ behind_header format capture (drop 16 capture) good (outcome format decided None (drop 16 capture) (IsBytes-drop 16 capture h))
+-- a part is read, or has a first fault
+pub part_outcome : {U : Type 0} (format : Format Before U FaultKind) (decided : IsDecided format) (last : Option ℕ) (part : List ℕ) → IsBytes part
+    → ((frames : List U) × IsPart format last part frames) ⊎ ((fault : Fault) × IsFirstFaultBehind format last part fault)
+part_outcome format decided last part h = elim (header_judged part h) [
+  | inl good ↦ behind_header format last good.0 part (drop 16 part) good.1
+      (outcome format decided (in_version good.0 last) (drop 16 part) (IsBytes-drop 16 part h))
   | inr bad ↦ (let fault : Fault = record { kind = bad.0; place = bad.1 } in inr (fault, in_header bad.2))
 ]
 
+-- what is said of the bytes behind a part's file header is said of those behind it in any reading of the part
+behind_any : (P : Before → List ℕ → Type 0) (last : Option ℕ) (part : List ℕ) (version other : Version) (bytes others : List ℕ)
+    → part ≡ file_header version ++ bytes → part ≡ file_header other ++ others → P (in_version other last) others → P (in_version version last) bytes
+behind_any P last part version other bytes others parts parts_too said =
+    let same = header_one other version others bytes (sym parts_too ∙ parts) in
+    subst (λ (v : Version). P (in_version v last) bytes) same.0 (subst (λ (t : List ℕ). P (in_version other last) t) same.1 said)
+
 -- one first fault
-pub capture_one_fault : {U : Type 0} (format : Format (Option ℕ) U FaultKind) (decided : IsDecided format) (capture : List ℕ) (a b : Fault)
-    → IsFirstFault format capture a → IsFirstFault format capture b → a ≡ b
-capture_one_fault format decided capture a b (in_header x) (in_header y) =
-    let same = header_one_failure capture a.kind b.kind a.place b.place x y in same_fault a b same.0 same.1
-capture_one_fault format decided capture a b (in_header x) (in_frames bytes place parts failure at) =
-    absurd (header_never_both bytes a.kind a.place (subst (λ (t : List ℕ). HeaderFails t a.kind a.place) parts x))
-capture_one_fault format decided capture a b (in_frames bytes place parts failure at) (in_header y) =
-    absurd (header_never_both bytes b.kind b.place (subst (λ (t : List ℕ). HeaderFails t b.kind b.place) parts y))
-capture_one_fault format decided capture a b (in_frames bytes place parts failure at) (in_frames others there parts_too failure_too at_too) =
-    let rest : others ≡ bytes = append_cancel_left file_header others bytes (sym parts_too ∙ parts) in
-    let same = units.one_failure format decided None bytes a.kind b.kind place there failure
-    (subst (λ (t : List ℕ). FirstFailure format None t b.kind there) rest failure_too) in
+pub part_one_fault : {U : Type 0} (format : Format Before U FaultKind) (decided : IsDecided format) (last : Option ℕ) (part : List ℕ) (a b : Fault)
+    → IsFirstFaultBehind format last part a → IsFirstFaultBehind format last part b → a ≡ b
+part_one_fault format decided last part a b (in_header x) (in_header y) =
+    let same = header_one_failure part a.kind b.kind a.place b.place x y in same_fault a b same.0 same.1
+part_one_fault format decided last part a b (in_header x) (in_frames version bytes place parts failure at) =
+    absurd (header_never_both version bytes a.kind a.place (subst (λ (t : List ℕ). HeaderFails t a.kind a.place) parts x))
+part_one_fault format decided last part a b (in_frames version bytes place parts failure at) (in_header y) =
+    absurd (header_never_both version bytes b.kind b.place (subst (λ (t : List ℕ). HeaderFails t b.kind b.place) parts y))
+part_one_fault format decided last part a b (in_frames version bytes place parts failure at) (in_frames other others there parts_too failure_too at_too) =
+    let same = units.one_failure format decided (in_version version last) bytes a.kind b.kind place there failure
+    (behind_any (λ (s : Before) (t : List ℕ). FirstFailure format s t b.kind there) last part version other bytes others parts parts_too failure_too) in
     same_fault a b same.0 (at ∙ ap (λ (n : ℕ). 16 + n) same.1 ∙ sym at_too)
 
 -- never both
-pub capture_never_both : {U : Type 0} (format : Format (Option ℕ) U FaultKind) (decided : IsDecided format) (capture : List ℕ) (frames : List U)
-    (fault : Fault) → IsCapture format capture frames → IsFirstFault format capture fault → ⊥
-capture_never_both format decided capture frames fault reads (in_header x) =
-    header_never_both reads.0 fault.kind fault.place (subst (λ (t : List ℕ). HeaderFails t fault.kind fault.place) reads.1 x)
-capture_never_both format decided capture frames fault reads (in_frames bytes place parts failure at) =
-    let rest : bytes ≡ reads.0 = append_cancel_left file_header bytes reads.0 (sym parts ∙ reads.1) in
-    let there = subst (λ (t : List ℕ). FirstFailure format None t fault.kind place) rest failure in
-    units.never_both format decided None reads.0 frames there.before there.rest fault.kind there.within reads.2 there.splits there.fails
+pub part_never_both : {U : Type 0} (format : Format Before U FaultKind) (decided : IsDecided format) (last : Option ℕ) (part : List ℕ) (frames : List U)
+    (fault : Fault) → IsPart format last part frames → IsFirstFaultBehind format last part fault → ⊥
+part_never_both format decided last part frames fault (version, bytes, parts, reads) (in_header x) =
+    header_never_both version bytes fault.kind fault.place (subst (λ (t : List ℕ). HeaderFails t fault.kind fault.place) parts x)
+part_never_both format decided last part frames fault (version, bytes, parts, reads) (in_frames other others place parts_too failure at) =
+    let there = behind_any (λ (s : Before) (t : List ℕ). FirstFailure format s t fault.kind place) last part version other bytes others parts parts_too failure in
+    units.never_both format decided (in_version version last) bytes frames there.before there.rest fault.kind there.within reads there.splits there.fails
 
 -- one reading
-pub capture_one_reading : {U : Type 0} (format : Format (Option ℕ) U FaultKind) (decided : IsDecided format) (capture : List ℕ) (us vs : List U)
+pub part_one_reading : {U : Type 0} (format : Format Before U FaultKind) (decided : IsDecided format) (last : Option ℕ) (part : List ℕ) (us vs : List U)
+    → IsPart format last part us → IsPart format last part vs → us ≡ vs
+part_one_reading format decided last part us vs (version, bytes, parts, reads) (other, others, parts_too, reads_too) =
+    units.one_reading format decided (in_version version last) bytes us vs reads
+    (behind_any (λ (s : Before) (t : List ℕ). Reads format s t vs) last part version other bytes others parts parts_too reads_too)
+
+-- ---- a capture is a part behind no frame
+
+pub capture_outcome : {U : Type 0} (format : Format Before U FaultKind) (decided : IsDecided format) (capture : List ℕ) → IsBytes capture
+    → ((frames : List U) × IsCapture format capture frames) ⊎ ((fault : Fault) × IsFirstFault format capture fault)
+capture_outcome format decided capture h = part_outcome format decided None capture h
+
+pub capture_one_fault : {U : Type 0} (format : Format Before U FaultKind) (decided : IsDecided format) (capture : List ℕ) (a b : Fault)
+    → IsFirstFault format capture a → IsFirstFault format capture b → a ≡ b
+capture_one_fault format decided capture a b first other = part_one_fault format decided None capture a b first other
+
+pub capture_never_both : {U : Type 0} (format : Format Before U FaultKind) (decided : IsDecided format) (capture : List ℕ) (frames : List U)
+    (fault : Fault) → IsCapture format capture frames → IsFirstFault format capture fault → ⊥
+capture_never_both format decided capture frames fault reads first = part_never_both format decided None capture frames fault reads first
+
+pub capture_one_reading : {U : Type 0} (format : Format Before U FaultKind) (decided : IsDecided format) (capture : List ℕ) (us vs : List U)
     → IsCapture format capture us → IsCapture format capture vs → us ≡ vs
-capture_one_reading format decided capture us vs a b =
-    let rest : b.0 ≡ a.0 = append_cancel_left file_header b.0 a.0 (sym b.1 ∙ a.1) in
-    units.one_reading format decided None a.0 us vs a.2 (subst (λ (t : List ℕ). Reads format None t vs) rest b.2)
+capture_one_reading format decided capture us vs a b = part_one_reading format decided None capture us vs a b

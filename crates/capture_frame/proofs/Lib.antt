@@ -11,3 +11,5 @@ pub mod Vectors
 pub mod CutLaws
 pub mod ProcessLaws
 pub mod LookupLaws
+pub mod PartLaws
+pub mod PartCuts

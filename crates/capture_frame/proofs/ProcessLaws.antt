@@ -8,7 +8,7 @@ use Rattle.capture_frame.specs.declared.process.Thread.{Thread}
 use Rattle.capture_frame.specs.Process.{same_process, same_thread}
 
 pub same_process_equiv : IsEquivalence same_process
-same_process_equiv = on_equiv (λ (p : Process). p.number) nat_eq_equiv
+same_process_equiv = and_equiv (on_equiv (λ (p : Process). p.device) nat_eq_equiv) (on_equiv (λ (p : Process). p.number) nat_eq_equiv)
 
 pub same_thread_equiv : IsEquivalence same_thread
 same_thread_equiv = and_equiv (on_equiv (λ (t : Thread). t.process) same_process_equiv) (on_equiv (λ (t : Thread). t.number) nat_eq_equiv)
@@ -20,7 +20,11 @@ both_true false b is = let no : ⊥ = cc in absurd no
 
 -- the processes that are told to be one are one
 pub same_process_eq : (process other : Process) → same_process process other ≡ true → process ≡ other
-same_process_eq process other same = let number = eqb-true process.number other.number same in λ i. record { number = number i }
+same_process_eq process other same =
+    let both = both_true (eqb process.device other.device) (eqb process.number other.number) same in
+    let device = eqb-true process.device other.device both.0 in
+    let number = eqb-true process.number other.number both.1 in
+    λ i. record { device = device i; number = number i }
 
 -- and a process is told to be itself
 pub same_process_self : (process : Process) → same_process process process ≡ true

@@ -5,6 +5,7 @@ pub mod Calls
 pub mod Readers
 pub mod Reading
 pub mod State
+pub mod Parts
 pub mod Cut
 pub mod Process
 pub mod Lookup

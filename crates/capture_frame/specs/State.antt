@@ -2,15 +2,18 @@
 use Rattle.std.specs.Prelude.{ℕ, ◌+◌, ◌<◌, ◌≤◌, ◌^◌, List, length}
 use Rattle.capture_frame.specs.declared.frames.State.{State}
 use Rattle.capture_frame.specs.declared.frames.State.TheVariants.{At, Failed}
-use Rattle.capture_frame.specs.Envelope.{file_header_length}
+use Rattle.capture_frame.specs.declared.version.Version.{Version}
+use Rattle.capture_frame.specs.Units.{placed_at}
+use Rattle.capture_frame.specs.Envelope.{in_version}
 use Rattle.capture_frame.specs.Readers.{at, failed}
 use Rattle.capture_frame.specs.Reading.{Reading}
 
-abbrev pub reading_of : List ℕ → State → Reading
-reading_of bytes (At offset before) = at bytes offset before
-reading_of bytes (Failed fault) = failed fault
+-- the state, as a reading of the bytes, which begin at that place, behind a file header of this version
+abbrev pub reading_of : Version → List ℕ → ℕ → State → Reading
+reading_of version bytes start (At offset last) = at (placed_at start bytes) offset (in_version version last)
+reading_of version bytes start (Failed fault) = failed fault
 
 -- the offset is within the bytes, and each place in them fits 64 bits
-abbrev pub IsWithin : List ℕ → State → Type 0
-IsWithin bytes (At offset before) = (offset ≤ length bytes) × (file_header_length + length bytes < 2 ^ 64)
-IsWithin bytes (Failed fault) = Unit {0}
+abbrev pub IsWithin : List ℕ → ℕ → State → Type 0
+IsWithin bytes start (At offset last) = (offset ≤ length bytes) × (start + length bytes < 2 ^ 64)
+IsWithin bytes start (Failed fault) = Unit {0}

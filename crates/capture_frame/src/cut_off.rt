@@ -1,4 +1,4 @@
-use crate::fault::Fault;
+use crate::fault::{Fault, PartFault};
 use crate::frame::Frame;
 
 /// Why not all frames of a capture are given.
@@ -13,4 +13,25 @@ pub enum Cut<'c> {
         /// The frames before the fault.
         before: Vec<Frame<'c>>,
     },
+}
+
+/// Why not all frames of parts are given.
+#[derive(Drop)]
+pub enum PartCut<'c> {
+    /// A growth of memory was refused.
+    Memory,
+    /// A part has a fault.
+    Bad {
+        /// The first fault, as far as file headers and frame headers tell.
+        found: PartFault,
+        /// The frames before the fault, also those of the parts before it.
+        before: Vec<Frame<'c>>,
+    },
+}
+
+/// Why not all frames of one part are given.
+#[derive(Clone, Copy)]
+pub(crate) enum Stopped {
+    Memory,
+    Bad(Fault),
 }

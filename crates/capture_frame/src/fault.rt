@@ -6,7 +6,7 @@
 pub enum FaultKind {
     /// The file has fewer than 16 bytes.
     HeaderShort,
-    /// The file does not begin with `BNDRCAP1`.
+    /// The file begins neither with `BNDRCAP1` nor with `BNDRCAP2`.
     HeaderMagic,
     /// The protocol is not 8.
     HeaderProtocol,
@@ -18,7 +18,7 @@ pub enum FaultKind {
     FrameSequence,
     /// The direction is neither 1, a write, nor 2, a read.
     FrameDirection,
-    /// One of the two zero fields of a frame header is not zero.
+    /// The zero bytes of a frame header are not zero; in version 1 the device is one of them.
     FrameReserved,
     /// The command and attachment bytes are more than what follows the frame header.
     FrameLength,
@@ -43,4 +43,13 @@ pub struct Fault {
     pub kind: FaultKind,
     /// Where the unit begins, in bytes from the capture's first.
     pub place: u64,
+}
+
+/// A malformed unit of one of several parts of a capture.
+#[derive(Clone, Copy, Debug, PartialEq, Eq)]
+pub struct PartFault {
+    /// Which part it stands in; the first one is 1.
+    pub part: u32,
+    /// What is wrong, and where: in bytes from the part's first.
+    pub fault: Fault,
 }

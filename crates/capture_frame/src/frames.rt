@@ -1,7 +1,8 @@
 //! The reader of a capture's frames.
 
-ghost use Rattle.std.specs.Prelude.{◌≡◌, ◌<◌, ◌+◌, ◌^◌, ◌↔◌, length, take, IsTrue, MatchResult, IfOk, IfErr};
-ghost use Rattle.capture_frame.specs.Envelope.{file_header, IsAbove};
+ghost use Rattle.std.specs.Prelude.{◌≡◌, ◌<◌, ◌≤◌, ◌+◌, ◌^◌, ◌↔◌, length, take, IsTrue, MatchResult, IfOk, IfErr};
+ghost use Rattle.capture_frame.specs.declared.version.Version.{Version};
+ghost use Rattle.capture_frame.specs.Envelope.{file_header, in_version, IsAbove, AreZero};
 ghost use Rattle.capture_frame.specs.FirstFault.{HeaderFails, FrameFails};
 ghost use Rattle.capture_frame.specs.Reading.{BeginsWithFrame};
 
@@ -10,16 +11,17 @@ use crate::fault::{Fault, FaultKind};
 use crate::frame::Frame;
 use crate::header::{self, FILE_HEADER};
 use crate::number::{u24_at, u32_at, u64_at};
+use crate::version::Version;
 use std::marker::Model;
 
 /// The length of a frame header, in bytes.
 pub(crate) const FRAME_HEADER: usize = 32;
 
 /// Where a reader stands: before a frame, so far behind the file header and after the frame with
-/// the sequence `before`; or at the fault that ended it.
+/// the sequence `last`; or at the fault that ended it.
 #[derive(Clone, Copy)]
 enum State {
-    At { offset: usize, before: Option<u64> },
+    At { offset: usize, last: Option<u64> },
     Failed(Fault),
 }
 
@@ -27,8 +29,12 @@ enum State {
 /// later call, and one that has ended gives `None`.
 #[derive(Drop)]
 pub struct Frames<'c> {
-    /// The capture behind its file header.
+    /// What stands behind the file header.
     bytes: &'c [u8],
+    /// Where its first byte stands.
+    start: u64,
+    /// The version that the file header names.
+    version: Version,
     state: State,
 }
 
@@ -39,27 +45,42 @@ impl<'c> Model for Frames<'c> {
 
     ghost use Rattle.capture_frame.specs.State.{reading_of, IsWithin};
 
-    ghost view = { λ r. reading_of r.bytes.now r.state };
+    ghost view = { λ r. reading_of r.version r.bytes.now r.start r.state };
 
-    ghost invariant = { λ r. IsWithin r.bytes.now r.state };
+    ghost invariant = { λ r. IsWithin r.bytes.now r.start r.state };
 }
 
 impl<'c> Frames<'c> {
-    ghost use Rattle.capture_frame.specs.Reading.{Steps, frames_start};
+    ghost use Rattle.capture_frame.specs.Reading.{Steps, frames_start, frames_after};
 
     /// A reader of the capture's frames, where its file header is good.
     pub fn new(capture: &'c [u8]) -> Result<Frames<'c>, Fault>
         ensures { MatchResult result
-            (λ reader.
-            (take 16 capture.now ≡ file_header) × (reader ≡ frames_start capture.now))
+            (λ reader. (version : Version) × (take 16 capture.now ≡ file_header version)
+            × (reader ≡ frames_start version capture.now))
             (λ fault. HeaderFails capture.now fault.kind fault.place) }
     {
-        header::check_header(capture)?;
+        Frames::after(capture, 0, None)
+    }
+
+    /// A reader of the frames of a part, where its file header is good. They stand behind other
+    /// frames, the last of which has the sequence `before`, and `base` is added to their places and
+    /// to those of their faults.
+    pub fn after(part: &'c [u8], base: u64, before: Option<u64>) -> Result<Frames<'c>, Fault>
+        requires fits { base + length part.now < 2 ^ 64 }
+        ensures { MatchResult result
+            (λ reader. (version : Version) × (take 16 part.now ≡ file_header version)
+            × (reader ≡ frames_after version part.now base before))
+            (λ fault. HeaderFails part.now fault.kind fault.place) }
+    {
+        let version = header::check_header(part)?;
         Ok(Frames {
-            bytes: &capture[FILE_HEADER..],
+            bytes: &part[FILE_HEADER..],
+            start: base + FILE_HEADER as u64,
+            version,
             state: State::At {
                 offset: 0,
-                before: None,
+                last: before,
             },
         })
     }
@@ -68,21 +89,21 @@ impl<'c> Frames<'c> {
     pub fn next_frame(&mut self) -> Result<Option<Frame<'c>>, Fault>
         ensures { Steps self.old result self.new }
     {
-        let (offset, before) = match self.state {
-            State::At { offset, before } => (offset, before),
+        let (offset, last) = match self.state {
+            State::At { offset, last } => (offset, last),
             State::Failed(fault) => return Err(fault),
         };
         let rest = &self.bytes[offset..];
         if rest.is_empty() {
             return Ok(None);
         }
-        let place = (FILE_HEADER + offset) as u64;
-        match frame_at(rest, place, before) {
+        let place = self.start + offset as u64;
+        match frame_at(rest, place, self.version, last) {
             Ok(frame) => {
                 let length = FRAME_HEADER + frame.commands.len() + frame.attachments.len();
                 self.state = State::At {
                     offset: offset + length,
-                    before: Some(frame.sequence),
+                    last: Some(frame.sequence),
                 };
                 Ok(Some(frame))
             }
@@ -105,24 +126,43 @@ fn is_above(sequence: u64, before: Option<u64>) -> bool
     }
 }
 
-/// The frame at the front of the bytes, which stand at `place` in the capture.
-fn frame_at(bytes: &[u8], place: u64, before: Option<u64>) -> Result<Frame<'_>, FaultKind>
+/// Whether the bytes of a frame header that have to be zero are.
+fn are_zero(bytes: &[u8], version: Version) -> bool
+    requires { 32 ≤ length bytes.now }
+    ensures { IsTrue result ↔ AreZero version bytes.now }
+{
+    let zeros = u24_at(bytes, 17) == 0;
+    match version {
+        Version::One => zeros && u32_at(bytes, 28) == 0,
+        Version::Two => zeros,
+    }
+}
+
+/// The frame at the front of the bytes, which stand at `place`, behind a file header of that
+/// version and behind the frame with the sequence `last`, if there is one.
+fn frame_at(
+    bytes: &[u8],
+    place: u64,
+    version: Version,
+    last: Option<u64>,
+) -> Result<Frame<'_>, FaultKind>
     requires fits { place + length bytes.now < 2 ^ 64 }
     requires some { 0 < length bytes.now }
-    ensures found { IfOk result (λ frame. BeginsWithFrame bytes.now place before frame) }
-    ensures fails { IfErr result (λ kind. FrameFails before bytes.now kind) }
+    ensures found { IfOk result (λ frame.
+        BeginsWithFrame bytes.now place (in_version version last) frame) }
+    ensures fails { IfErr result (λ kind. FrameFails (in_version version last) bytes.now kind) }
 {
     if bytes.len() < FRAME_HEADER {
         return Err(FaultKind::FrameShort);
     }
     let sequence = u64_at(bytes, 0);
-    if !is_above(sequence, before) {
+    if !is_above(sequence, last) {
         return Err(FaultKind::FrameSequence);
     }
     let Some(direction) = Direction::of(bytes[16]) else {
         return Err(FaultKind::FrameDirection);
     };
-    if u24_at(bytes, 17) != 0 || u32_at(bytes, 28) != 0 {
+    if !are_zero(bytes, version) {
         return Err(FaultKind::FrameReserved);
     }
     let command_length = u32_at(bytes, 20);
@@ -136,6 +176,7 @@ fn frame_at(bytes: &[u8], place: u64, before: Option<u64>) -> Result<Frame<'_>, 
     Ok(Frame {
         place,
         sequence,
+        device: u32_at(bytes, 28),
         process: u32_at(bytes, 8),
         thread: u32_at(bytes, 12),
         direction,

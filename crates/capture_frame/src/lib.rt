@@ -13,13 +13,15 @@ pub mod laws;
 mod lookup;
 mod number;
 mod process;
+mod version;
 
-pub use all_frames::cut;
-pub use cut_off::Cut;
+pub use all_frames::{cut, cut_parts};
+pub use cut_off::{Cut, PartCut};
 pub use direction::Direction;
-pub use fault::{Fault, FaultKind};
+pub use fault::{Fault, FaultKind, PartFault};
 pub use frame::Frame;
 pub use frames::Frames;
 pub use lookup::frame_at;
 pub use number::{u32_at, u64_at};
 pub use process::{Process, Thread};
+pub use version::Version;

@@ -1,8 +1,10 @@
 //! Which process, and which thread of it.
 
-/// A process of a capture, by the number that its frames give.
+/// A process of a capture: the Binder device that it talks to, and its number. One that talks to
+/// several devices is a process of each, since handles and addresses mean another thing on each.
 #[derive(Clone, Copy, Debug, PartialEq, Eq, Hash)]
 pub struct Process {
+    pub device: u32,
     pub number: u32,
 }
 

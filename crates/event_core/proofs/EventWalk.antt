@@ -329,7 +329,16 @@ pub event_is : (frame : Frame) (found : Record) (entry : Option Entry) (place : 
     ≡ record (bare_event (frame_text frame) (placed_at place (record_text found))) { entry = attachment }
 event_is frame found entry place attachment is kind attached_is =
     let make : ℕ → Kind → Option AttachmentText → EventText =
-    λ p k a. record { place = p; process = frame.process; thread = frame.thread; kind = k; code = found.code.0; payload = found.payload.now; entry = a } in
+    λ p k a. record {
+      place = p;
+      device = frame.device;
+      process = frame.process;
+      thread = frame.thread;
+      kind = k;
+      code = found.code.0;
+      payload = found.payload.now;
+      entry = a;
+    } in
     let same_kind : found.kind ≡ result_unwrap_or (kind_of (protocol_of frame.direction) found.code.0) Opaque =
     sym (ap (λ (r : _). result_unwrap_or r Opaque) kind) in
     ap (λ (p : ℕ). make p found.kind (option_map entry_attachment entry)) is ∙ ap (λ (k : Kind). make place k (option_map entry_attachment entry)) same_kind

@@ -20,10 +20,11 @@ pub record AttachmentText : Type 0 where
   pub body : List ℕ
   pub offset_bytes : List ℕ
 
--- a record with its place in the capture, the process and the thread of its frame, what its code stands for, and its
--- attachment if it has one
+-- a record with its place in the capture, the device, the process and the thread of its frame, what its code stands
+-- for, and its attachment if it has one
 pub record EventText : Type 0 where
   pub place : ℕ
+  pub device : ℕ
   pub process : ℕ
   pub thread : ℕ
   pub kind : Kind
@@ -33,7 +34,7 @@ pub record EventText : Type 0 where
 
 -- the process of an event
 abbrev pub process_of : EventText → Process
-process_of e = record { number = e.process }
+process_of e = record { device = e.device; number = e.process }
 
 -- the thread of an event
 abbrev pub thread_of : EventText → Thread
@@ -47,6 +48,7 @@ kind_in frame code = result_unwrap_or (kind_of (protocol_of frame.direction) cod
 abbrev pub bare_event : FrameText → Placed RecordText → EventText
 bare_event frame there = record {
   place = there.place;
+  device = frame.device;
   process = frame.process;
   thread = frame.thread;
   kind = kind_in frame there.unit.code;

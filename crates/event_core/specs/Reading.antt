@@ -20,6 +20,7 @@ entry_attachment found = record { place = found.place; body = found.body.now; of
 abbrev pub event_text : Event → EventText
 event_text found = record {
   place = found.place;
+  device = found.device;
   process = found.process;
   thread = found.thread;
   kind = found.kind;
@@ -32,6 +33,7 @@ event_text found = record {
 abbrev pub text_of_event : Frame → Record → Option Entry → EventText
 text_of_event frame found entry = record {
   place = found.place;
+  device = frame.device;
   process = frame.process;
   thread = frame.thread;
   kind = found.kind;

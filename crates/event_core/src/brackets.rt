@@ -24,7 +24,8 @@ pub fn is_oneway(event: Event<'_>) -> bool
 
 /// The mark that an event leaves in its thread; None for an event that is no mark.
 pub fn mark(event: Event<'_>) -> Option<Mark>
-    ensures { result ≡ mark_of event.entry.kind (is_oneway event.entry.kind event.entry.payload.now) }
+    ensures { result ≡
+        mark_of event.entry.kind (is_oneway event.entry.kind event.entry.payload.now) }
 {
     mark_of(event.kind, is_oneway(event))
 }

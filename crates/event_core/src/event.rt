@@ -13,6 +13,8 @@ use transaction_view::{Entry, Transaction};
 pub struct Event<'c> {
     /// Where the record's code begins in the capture, in bytes.
     pub place: u64,
+    /// The Binder device of its frame.
+    pub device: u32,
     /// The process of its frame.
     pub process: u32,
     /// The thread of its frame.
@@ -51,6 +53,7 @@ impl<'c> Event<'c> {
         ensures { result ≡ process_of (event_text self.entry) }
     {
         Process {
+            device: self.device,
             number: self.process,
         }
     }

@@ -55,6 +55,7 @@ fn from_place<'c>(frame: Frame<'c>, place: u64) -> Frame<'c>
     Frame {
         place: frame.place + offset,
         sequence: frame.sequence,
+        device: frame.device,
         process: frame.process,
         thread: frame.thread,
         direction: frame.direction,

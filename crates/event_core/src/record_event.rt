@@ -20,6 +20,7 @@ pub(crate) fn event_of<'c>(
 {
     Event {
         place: carrier.place,
+        device: frame.device,
         process: frame.process,
         thread: frame.thread,
         kind: carrier.kind,

@@ -38,6 +38,15 @@ const ROWS: &[Row] = &[
         fault: None,
     },
     Row {
+        capture: b"BNDRCAP2\x08\0\0\0\0\0\0\0\
+            \x01\0\0\0\0\0\0\0\x64\0\0\0\x65\0\0\0\x01\0\0\0\
+            \x04\0\0\0\0\0\0\0\x01\0\0\0\x0c\x63\0\0\
+            \x02\0\0\0\0\0\0\0\x64\0\0\0\x65\0\0\0\x01\0\0\0\
+            \x04\0\0\0\0\0\0\0\xff\xff\xff\xff\x0c\x63\0\0",
+        frames: 2,
+        fault: None,
+    },
+    Row {
         capture: b"BNDRCAP1\x08\0\0\0\0\0\0",
         frames: 0,
         fault: Some(Fault {
@@ -54,7 +63,7 @@ const ROWS: &[Row] = &[
         }),
     },
     Row {
-        capture: b"BNDRCAP2\x08\0\0\0\0\0\0\0\
+        capture: b"BNDRCAP3\x08\0\0\0\0\0\0\0\
             \x01\0\0\0\0\0\0\0\x64\0\0\0\x65\0\0\0\x01\0\0\0\x04\0\0\0\0\0\0\0\0\0\0\0\x0c\x63\0\0",
         frames: 0,
         fault: Some(Fault {

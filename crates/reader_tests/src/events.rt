@@ -6,8 +6,8 @@ mod rows;
 
 use crate::expect::{holds, same, same_at};
 use binder_code::Kind;
-use capture_frame::{Frame, Frames};
-use captures::{COMMANDS, RETURNS, WITH_ATTACHMENTS};
+use capture_frame::{Frame, Frames, Process, Thread};
+use captures::{COMMANDS, DEVICE, RETURNS, WITH_ATTACHMENTS};
 use event_core::{
     BufferItem, Event, Events, Mark, OnewayItem, PendingChange, PendingItem, bare_event_at,
     bracket, buffer_step, clear_step, death_step, event_at, handle_step, mark, node_step,
@@ -64,6 +64,17 @@ const STARTS: &[Start] = &[
     },
 ];
 
+/// The process and the thread of them all.
+const PROCESS: Process = Process {
+    device: DEVICE,
+    number: 2,
+};
+
+const THREAD: Thread = Thread {
+    process: PROCESS,
+    number: 3,
+};
+
 /// The first frame of a capture.
 fn first_frame(capture: &[u8]) -> Result<Frame<'_>, Fail> {
     let mut frames = Frames::new(capture)?;
@@ -91,6 +102,7 @@ fn expect_at(rt: &impl Abort, frame: Frame<'_>, place: u64) {
         expect_start(rt, event, start);
         let bare = bare_event_at(frame, place);
         same(rt, bare.place, place);
+        same(rt, bare.device, DEVICE);
         same_at(rt, place, bare.kind, start.kind);
         same_at(rt, place, bare.payload, event.payload);
         holds(rt, bare.entry.is_none());
@@ -100,8 +112,11 @@ fn expect_at(rt: &impl Abort, frame: Frame<'_>, place: u64) {
 /// The event is that of a record of `WITH_ATTACHMENTS`.
 fn expect_start(rt: &impl Abort, event: Event<'_>, start: Start) {
     same(rt, event.place, start.place);
+    same(rt, event.device, DEVICE);
     same(rt, event.process, 2);
     same(rt, event.thread, 3);
+    same(rt, event.of_process(), PROCESS);
+    same(rt, event.of_thread(), THREAD);
     same(rt, event.kind, start.kind);
     same(rt, event.entry.map(|entry| entry.place), start.entry);
 }
@@ -188,6 +203,7 @@ fn expect_rows(rt: &impl Abort, capture: &[u8], rows: &[Row]) -> Result<(), Fail
     for row in rows {
         let event = events.next_event().ok_or("an event is missing")?;
         same(rt, event.place, row.place);
+        same(rt, event.device, 0);
         same(rt, event.kind, row.kind);
         expect_counts(rt, event, row);
         expect_buffer(rt, event, row);

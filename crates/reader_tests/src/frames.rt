@@ -6,18 +6,30 @@ use std::alloc::{AllocError, Global};
 use std::process::Abort;
 use std::test::Fail;
 
-/// Each but the last has a fault of every later kind too.
+/// Each but the last of either version has a fault of every later kind too.
 const HEADERS: &[(&[u8], FaultKind, u64)] = &[
     (b"", FaultKind::HeaderShort, 0),
-    (b"BNDRCAP2\x09\0\0\0\x01\0\0", FaultKind::HeaderShort, 0),
-    (b"BNDRCAP2\x09\0\0\0\x01\0\0\0", FaultKind::HeaderMagic, 0),
+    (b"BNDRCAP3\x09\0\0\0\x01\0\0", FaultKind::HeaderShort, 0),
+    (b"BNDRCAP3\x09\0\0\0\x01\0\0\0", FaultKind::HeaderMagic, 0),
+    (b"BNDRCAP0\x09\0\0\0\x01\0\0\0", FaultKind::HeaderMagic, 0),
+    (b"bndrcap2\x09\0\0\0\x01\0\0\0", FaultKind::HeaderMagic, 0),
     (
         b"BNDRCAP1\x09\0\0\0\x01\0\0\0",
         FaultKind::HeaderProtocol,
         8,
     ),
     (
+        b"BNDRCAP2\x09\0\0\0\x01\0\0\0",
+        FaultKind::HeaderProtocol,
+        8,
+    ),
+    (
         b"BNDRCAP1\x08\0\0\0\0\0\0\x01",
+        FaultKind::HeaderReserved,
+        12,
+    ),
+    (
+        b"BNDRCAP2\x08\0\0\0\x01\0\0\0",
         FaultKind::HeaderReserved,
         12,
     ),
@@ -72,26 +84,43 @@ fn capture_with(alloc: Global, rest: &[u8]) -> Result<Vec<u8>, AllocError> {
     Ok(capture)
 }
 
+/// What is added to places where a capture is read as a part.
+const BASE: u64 = 0xffff_ffff_0000_0000;
+
+/// The place of a fault of the file header stays that in the part.
 fn expect_header_fault(rt: &impl Abort, (capture, kind, place): (&[u8], FaultKind, u64)) {
-    same(rt, Frames::new(capture).err(), Some(Fault { kind, place }));
+    holds(rt, capture.len() < 4096);
+    let fault = Some(Fault { kind, place });
+    same(rt, Frames::new(capture).err(), fault);
+    same(rt, Frames::after(capture, BASE, Some(6)).err(), fault);
 }
 
 /// The reader gives the first frame, and then the fault at each call.
+fn expect_fault_behind(
+    rt: &impl Abort,
+    reader: &mut Frames<'_>,
+    fault: Fault,
+) -> Result<(), Fault> {
+    holds(rt, reader.next_frame()?.is_some());
+    for _ in 0..2 {
+        same(rt, reader.next_frame().err(), Some(fault));
+    }
+    Ok(())
+}
+
+/// The fault stands behind the first frame, also where the capture is read as a part.
 fn expect_fault(
     rt: &impl Abort,
     alloc: Global,
     (rest, kind): (&[u8], FaultKind),
 ) -> Result<(), Fail> {
     let capture = capture_with(alloc, rest)?;
+    holds(rt, capture.len() < 4096);
     let mut reader = Frames::new(capture.as_slice())?;
-    holds(rt, reader.next_frame()?.is_some());
-    for _ in 0..2 {
-        same(
-            rt,
-            reader.next_frame().err(),
-            Some(Fault { kind, place: 52 }),
-        );
-    }
+    expect_fault_behind(rt, &mut reader, Fault { kind, place: 52 })?;
+    let mut reader = Frames::after(capture.as_slice(), BASE, Some(6))?;
+    let place = BASE + 52;
+    expect_fault_behind(rt, &mut reader, Fault { kind, place })?;
     Ok(())
 }
 
@@ -122,6 +151,7 @@ pub(crate) fn expect_bytes(rt: &impl Abort, found: &[u8], expected: &[u8]) {
 fn expect_first(rt: &impl Abort, frame: Frame<'_>) {
     expect_number(rt, frame.place, 16);
     expect_number(rt, frame.sequence, 7);
+    expect_number(rt, u64::from(frame.device), 0);
     holds(rt, frame.direction == Direction::Write);
     expect_bytes(rt, frame.commands, b"\x0c\x63\0\0");
 }

@@ -3,6 +3,8 @@
 #![tactic(auto)]
 
 #[cfg(test)]
+mod build;
+#[cfg(test)]
 mod codes;
 #[cfg(test)]
 mod cut;
@@ -15,6 +17,10 @@ mod frames;
 #[cfg(test)]
 mod objects;
 #[cfg(test)]
+mod parts;
+#[cfg(test)]
 mod records;
 #[cfg(test)]
 mod transactions;
+#[cfg(test)]
+mod versions;

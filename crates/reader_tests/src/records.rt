@@ -60,6 +60,7 @@ fn frame_of(direction: Direction, commands: &[u8]) -> Frame<'_> {
     Frame {
         place: 100,
         sequence: 1,
+        device: 4,
         process: 2,
         thread: 3,
         direction,

@@ -45,6 +45,7 @@ fn frame_of<'c>(rt: &impl Abort, commands: &'c [u8], attachments: &'c [u8]) -> F
     Frame {
         place: 16,
         sequence: 1,
+        device: 4,
         process: 2,
         thread: 3,
         direction: Direction::Write,
@@ -188,6 +189,7 @@ fn reader_of(frame: Frame<'_>) -> Option<Attachments<'_>> {
     let records_alone = Frame {
         place: frame.place,
         sequence: frame.sequence,
+        device: frame.device,
         process: frame.process,
         thread: frame.thread,
         direction: frame.direction,
@@ -269,7 +271,7 @@ fn leaves_an_entry_that_outlives_its_reader(rt: HostRuntime) -> Result<(), Fail>
 
 /// Two frames of one transaction and its entry each: a frame begins at 16 and one at 140, their
 /// records at 48 and 172, their entries at 116 and 240.
-const CAPTURE: &[u8] = b"BNDRCAP1\x08\0\0\0\0\0\0\0\
+pub(crate) const CAPTURE: &[u8] = b"BNDRCAP1\x08\0\0\0\0\0\0\0\
     \x01\0\0\0\0\0\0\0\x02\0\0\0\x03\0\0\0\x01\0\0\0\x44\0\0\0\x18\0\0\0\0\0\0\0\
     \0\x63\x40\x40\0\0\0\0\0\0\0\0\0\0\0\0\0\0\0\0\0\0\0\0\0\0\0\0\0\0\0\0\0\0\0\0\
     \x04\0\0\0\0\0\0\0\x08\0\0\0\0\0\0\0\0\0\0\0\0\0\0\0\0\0\0\0\0\0\0\0\
@@ -280,10 +282,10 @@ const CAPTURE: &[u8] = b"BNDRCAP1\x08\0\0\0\0\0\0\0\
     \0\0\0\0\x04\0\0\0\x08\0\0\0body\0\0\0\0\0\0\0\0";
 
 /// A byte or two that are changed, and the first fault that the capture has then.
-type Change = (&'static [(usize, u8)], FaultKind, u64);
+pub(crate) type Change = (&'static [(usize, u8)], FaultKind, u64);
 
-const CHANGES: &[Change] = &[
-    (&[(7, 0x32)], FaultKind::HeaderMagic, 0),
+pub(crate) const CHANGES: &[Change] = &[
+    (&[(7, 0x33)], FaultKind::HeaderMagic, 0),
     (&[(8, 7)], FaultKind::HeaderProtocol, 8),
     (&[(12, 1)], FaultKind::HeaderReserved, 12),
     (&[(32, 3)], FaultKind::FrameDirection, 16),
@@ -304,7 +306,7 @@ const CHANGES: &[Change] = &[
 ];
 
 /// So many bytes of the capture, and its first fault then.
-const CUTS: &[(usize, FaultKind, u64)] = &[
+pub(crate) const CUTS: &[(usize, FaultKind, u64)] = &[
     (0, FaultKind::HeaderShort, 0),
     (15, FaultKind::HeaderShort, 0),
     (17, FaultKind::FrameShort, 16),
@@ -313,16 +315,26 @@ const CUTS: &[(usize, FaultKind, u64)] = &[
     (263, FaultKind::FrameLength, 140),
 ];
 
-fn expect_first(
+/// The capture with these bytes changed.
+pub(crate) fn changed(
     rt: &impl Abort,
     alloc: Global,
-    (bytes, kind, place): Change,
-) -> Result<(), AllocError> {
+    bytes: &[(usize, u8)],
+) -> Result<Vec<u8>, AllocError> {
     let mut capture = Vec::from_slice(alloc, CAPTURE)?;
     for (at, byte) in bytes {
         holds(rt, *at < capture.len());
         capture[*at] = *byte;
     }
+    Ok(capture)
+}
+
+fn expect_first(
+    rt: &impl Abort,
+    alloc: Global,
+    (bytes, kind, place): Change,
+) -> Result<(), AllocError> {
+    let capture = changed(rt, alloc, bytes)?;
     same(rt, first_fault(&capture), Some(Fault { kind, place }));
     Ok(())
 }

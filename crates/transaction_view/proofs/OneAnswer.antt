@@ -7,30 +7,31 @@ use Rattle.capture_frame.specs.declared.frame.Frame.{Frame}
 use Rattle.capture_frame.specs.Envelope.{frame_text}
 use Rattle.capture_frame.proofs.FaultLaws.{same_fault}
 use Rattle.capture_frame.proofs.CaptureLaws.{capture_one_fault, capture_never_both}
+use Rattle.capture_frame.proofs.PartLaws.{parts_one_fault, parts_never_both}
 use Rattle.transaction_view.specs.FirstFault.{HasGoodContent, HasContentFault}
-use Rattle.transaction_view.specs.Grammar.{whole_format, IsReadable, HasFirstFault}
-use Rattle.transaction_view.proofs.GrammarLaws.{content_one_failure, content_never_both, whole_decided}
+use Rattle.transaction_view.specs.Grammar.{whole_format, IsReadable, HasFirstFault, AreReadable, HasFirstPartFault}
+use Rattle.transaction_view.proofs.GrammarLaws.{content_one_failure, content_never_both, whole_decided, whole_wide}
 
 -- of what is good, and what fails by a fault, one holds at most, and one fault
-pub record IsOneOf (Good : Type 0) (Fails : Fault → Type 0) : Type 0 where
-  pub one_fault : (a b : Fault) → Fails a → Fails b → a ≡ b
-  pub never_both : (a : Fault) → Good → Fails a → ⊥
+pub record IsOneOf {F : Type 0} (Good : Type 0) (Fails : F → Type 0) : Type 0 where
+  pub one_fault : (a b : F) → Fails a → Fails b → a ≡ b
+  pub never_both : (a : F) → Good → Fails a → ⊥
 
-pub good_is_none : (Good : Type 0) (Fails : Fault → Type 0) → IsOneOf Good Fails → (result : Option Fault) → MatchOption result Good Fails → Good
+pub good_is_none : {F : Type 0} (Good : Type 0) (Fails : F → Type 0) → IsOneOf Good Fails → (result : Option F) → MatchOption result Good Fails → Good
     → IsNone result
 good_is_none Good Fails one None first good = refl
 good_is_none Good Fails one (Some fault) first good = absurd (one.never_both fault good first)
 
-pub fault_is_some : (Good : Type 0) (Fails : Fault → Type 0) → IsOneOf Good Fails → (result : Option Fault) → MatchOption result Good Fails → (fault : Fault)
+pub fault_is_some : {F : Type 0} (Good : Type 0) (Fails : F → Type 0) → IsOneOf Good Fails → (result : Option F) → MatchOption result Good Fails → (fault : F)
     → Fails fault → result ≡ Some fault
 fault_is_some Good Fails one None first fault fails = absurd (one.never_both fault first fails)
 fault_is_some Good Fails one (Some found) first fault fails = ap Some (one.one_fault found fault first fails)
 
 -- an error taken as the answer
-pub answer_first : (Good : Type 0) (Fails : Fault → Type 0) (result : Result (Unit {0}) Fault) (answer : Option Fault) → answer ≡ result_err result
-    → MatchResult result (λ _. Good) Fails → MatchOption answer Good Fails
-answer_first Good Fails (Ok done) answer is good = rw is good
-answer_first Good Fails (Err fault) answer is fails = rw is fails
+pub answer_first : {A F : Type 0} (Good : Type 0) (Fails : F → Type 0) (IsGood : A → Type 0) → ((a : A) → IsGood a → Good) → (result : Result A F) (answer : Option F) → answer ≡ result_err result
+    → MatchResult result IsGood Fails → MatchOption answer Good Fails
+answer_first Good Fails IsGood gives (Ok done) answer is good = rw is (gives done good)
+answer_first Good Fails IsGood gives (Err fault) answer is fails = rw is fails
 
 -- ---- a frame's content, and a capture
 
@@ -49,4 +50,10 @@ pub capture_one_of : (capture : List ℕ) → IsOneOf (IsReadable capture) (HasF
 capture_one_of capture = record {
   one_fault = λ a b x y. capture_one_fault whole_format whole_decided capture a b x y;
   never_both = λ a good fails. capture_never_both whole_format whole_decided capture good.0 a good.1 fails;
+}
+
+pub parts_one_of : (parts : List (List ℕ)) → IsOneOf (AreReadable parts) (HasFirstPartFault parts)
+parts_one_of parts = record {
+  one_fault = λ a b x y. parts_one_fault whole_format whole_wide whole_decided None parts a b x y;
+  never_both = λ a good fails. parts_never_both whole_format whole_wide whole_decided None parts good.0 a good.1 fails;
 }

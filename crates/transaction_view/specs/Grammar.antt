@@ -1,11 +1,13 @@
 -- The grammar of a whole capture, and its first fault: its frames, judged with all that stands in them
 -- (docs/ENVELOPE.md).
-use Rattle.std.specs.Prelude.{ℕ, List, Option, Some}
+use Rattle.std.specs.Prelude.{ℕ, List, Option, Some, None}
 use Rattle.capture_frame.specs.declared.fault.Fault.{Fault}
+use Rattle.capture_frame.specs.declared.fault.PartFault.{PartFault}
 use Rattle.capture_frame.specs.declared.fault.FaultKind.{FaultKind}
 use Rattle.capture_frame.specs.Units.{Format}
-use Rattle.capture_frame.specs.Envelope.{FrameText, frame_bytes, MayStand}
+use Rattle.capture_frame.specs.Envelope.{FrameText, Before, in_version, frame_bytes, MayStand}
 use Rattle.capture_frame.specs.FirstFault.{IsCapture, IsFirstFault}
+use Rattle.capture_frame.specs.Parts.{AreParts, IsFirstPartFault}
 use Rattle.record_view.specs.Records.{RecordText, HasRecords}
 use Rattle.transaction_view.specs.Attachments.{EntryText, HasEntries}
 use Rattle.transaction_view.specs.FirstFault.{WholeFrameFails}
@@ -17,17 +19,17 @@ pub record WholeFrame : Type 0 where
   pub entries : List EntryText
 
 -- a whole frame may stand where its header may, its command bytes are its records, and its attachment bytes its entries
-pub record MayStandWhole (before : Option ℕ) (whole : WholeFrame) : Type 0 where
+pub record MayStandWhole (before : Before) (whole : WholeFrame) : Type 0 where
   pub header : MayStand before whole.frame
   pub has_records : HasRecords whole.frame whole.records
   pub has_entries : HasEntries whole.frame whole.entries
 
 -- frames, judged with all that stands in them
-abbrev pub whole_format : Format (Option ℕ) WholeFrame FaultKind
+abbrev pub whole_format : Format Before WholeFrame FaultKind
 whole_format = record {
   spelling = λ whole. frame_bytes whole.frame;
   MayStand = MayStandWhole;
-  after = λ before whole. Some whole.frame.sequence;
+  after = λ before whole. in_version before.version (Some whole.frame.sequence);
   Fails = WholeFrameFails;
 }
 
@@ -42,3 +44,15 @@ IsReadable capture = (frames : List WholeFrame) × IsInGrammar capture frames
 -- the first fault of the capture
 abbrev pub HasFirstFault : List ℕ → Fault → Type 0
 HasFirstFault capture fault = IsFirstFault whole_format capture fault
+
+-- the same of a capture that is read in parts: they are in the grammar, as these frames
+abbrev pub AreInGrammar : List (List ℕ) → List WholeFrame → Type 0
+AreInGrammar parts frames = AreParts whole_format None parts frames
+
+-- the parts are in the grammar
+abbrev pub AreReadable : List (List ℕ) → Type 0
+AreReadable parts = (frames : List WholeFrame) × AreInGrammar parts frames
+
+-- the first fault of the parts
+abbrev pub HasFirstPartFault : List (List ℕ) → PartFault → Type 0
+HasFirstPartFault parts found = IsFirstPartFault whole_format None parts found

@@ -1,15 +1,18 @@
 //! The first fault of a frame's content, and of a whole capture. No call here takes memory.
 
-ghost use Rattle.std.specs.Prelude.{◌≡◌, Some, IsNone, MatchOption, MatchResult};
+ghost use Rattle.std.specs.Prelude.{◌≡◌, ◌<◌, ◌^◌, List, length, map, Some, IsNone, MatchOption, MatchResult};
 ghost use Rattle.capture_frame.specs.declared.fault.Fault.{Fault};
+ghost use Rattle.capture_frame.specs.declared.fault.PartFault.{PartFault};
+ghost use Rattle.capture_frame.specs.Parts.{last_after};
 ghost use Rattle.capture_frame.specs.Envelope.{frame_text};
+ghost use Rattle.capture_frame.specs.FirstFault.{IsPart, IsFirstFaultBehind};
 ghost use Rattle.record_view.specs.Records.{HasReadableRecords};
 ghost use Rattle.transaction_view.specs.Attachments.{HasReadableEntries};
 ghost use Rattle.transaction_view.specs.FirstFault.{HasGoodContent, HasContentFault};
-ghost use Rattle.transaction_view.specs.Grammar.{IsReadable, HasFirstFault};
+ghost use Rattle.transaction_view.specs.Grammar.{WholeFrame, whole_format, IsReadable, HasFirstFault, AreReadable, HasFirstPartFault};
 
 use crate::attachments::Attachments;
-use capture_frame::{Fault, Frame, Frames};
+use capture_frame::{Fault, Frame, Frames, PartFault};
 use record_view::Records;
 
 /// The first malformed unit of a capture, or none where the capture is in the grammar.
@@ -20,7 +23,23 @@ pub fn first_fault(capture: &[u8]) -> Option<Fault>
     ensures good { IsReadable capture.now → IsNone result }
     ensures fault { (fault : Fault) → HasFirstFault capture.now fault → result ≡ Some fault }
 {
-    check(capture).err()
+    check_part(capture, None).err()
+}
+
+/// The first malformed unit of a capture that is read in parts, or none where they are in the
+/// grammar.
+pub fn first_fault_parts(parts: &[&[u8]]) -> Option<PartFault>
+    requires { length parts.now < 2 ^ 32 }
+    ensures first { MatchOption result
+        (AreReadable (map (λ part. part.now) parts.now))
+        (HasFirstPartFault (map (λ part. part.now) parts.now)) }
+
+    // There is no other answer.
+    ensures good { AreReadable (map (λ part. part.now) parts.now) → IsNone result }
+    ensures fault { (found : PartFault) →
+        HasFirstPartFault (map (λ part. part.now) parts.now) found → result ≡ Some found }
+{
+    check_parts(parts).err()
 }
 
 /// The first malformed record of a frame, or behind good records its first malformed entry, or
@@ -36,14 +55,44 @@ pub fn check_frame(frame: Frame<'_>) -> Option<Fault>
     check_content(frame).err()
 }
 
-fn check(capture: &[u8]) -> Result<(), Fault>
-    ensures { MatchResult result (λ _. IsReadable capture.now) (HasFirstFault capture.now) }
+fn check_parts(parts: &[&[u8]]) -> Result<(), PartFault>
+    requires { length parts.now < 2 ^ 32 }
+    ensures { MatchResult result
+        (λ _. AreReadable (map (λ part. part.now) parts.now))
+        (HasFirstPartFault (map (λ part. part.now) parts.now)) }
 {
-    let mut frames = Frames::new(capture)?;
-    while let Some(frame) = frames.next_frame()? {
-        check_content(frame)?;
+    let mut before = None;
+    let mut number = 0;
+    for part in parts {
+        number += 1;
+        match check_part(*part, before) {
+            Ok(last) => before = last,
+            Err(fault) => {
+                return Err(PartFault {
+                    part: number,
+                    fault,
+                });
+            }
+        }
     }
     Ok(())
+}
+
+/// Checks a part behind the frame with the sequence `before`, if there is one, and gives the last
+/// sequence so far.
+fn check_part(part: &[u8], before: Option<u64>) -> Result<Option<u64>, Fault>
+    ensures { MatchResult result
+        (λ last. (frames : List WholeFrame) × IsPart whole_format before part.now frames
+        × (last ≡ last_after whole_format before frames))
+        (IsFirstFaultBehind whole_format before part.now) }
+{
+    let mut frames = Frames::after(part, 0, before)?;
+    let mut last = before;
+    while let Some(frame) = frames.next_frame()? {
+        check_content(frame)?;
+        last = Some(frame.sequence);
+    }
+    Ok(last)
 }
 
 fn check_content(frame: Frame<'_>) -> Result<(), Fault>

@@ -1,7 +1,9 @@
 //! Laws of the definitions, as contracts of functions that do nothing.
 
-ghost use Rattle.std.specs.Prelude.{◌≡◌, ◌⊎◌, ◌+◌, ℕ, List, All, Option, None, Result, Ok, Err};
+ghost use Rattle.std.specs.Prelude.{◌≡◌, ◌⊎◌, ◌+◌, ◌↔◌, ℕ, List, [], ◌∷◌, All, Option, None, Result, Ok, Err};
 ghost use Rattle.capture_frame.specs.declared.fault.Fault.{Fault};
+ghost use Rattle.capture_frame.specs.declared.fault.PartFault.{PartFault};
+ghost use Rattle.capture_frame.specs.Parts.{joined};
 ghost use Rattle.capture_frame.specs.Units.{Placed, IsBytes, ReadsOrFails, ReadsInOneWay, FailsInOneWay, NeverBoth};
 ghost use Rattle.capture_frame.specs.Calls.{Calls};
 ghost use Rattle.capture_frame.specs.Envelope.{FrameText, attachments_place};
@@ -9,7 +11,7 @@ ghost use Rattle.record_view.specs.Records.{HasReadableRecords};
 ghost use Rattle.transaction_view.specs.declared.entry.Entry.{Entry};
 ghost use Rattle.transaction_view.specs.Attachments.{EntryText, entry_format, HasEntries, EntriesFail};
 ghost use Rattle.transaction_view.specs.Reading.{Reading, Steps, entries_start, GiveEntries};
-ghost use Rattle.transaction_view.specs.Grammar.{WholeFrame, IsInGrammar, IsReadable, HasFirstFault};
+ghost use Rattle.transaction_view.specs.Grammar.{WholeFrame, IsInGrammar, IsReadable, HasFirstFault, AreInGrammar, AreReadable, HasFirstPartFault};
 
 /// Every list of bytes is a capture in the grammar, in one way, or has exactly one first fault, and
 /// never both.
@@ -22,6 +24,27 @@ pub fn one_reading()
         HasFirstFault capture fault → HasFirstFault capture other → fault ≡ other }
     ensures never_both { (capture : List ℕ) (fault : Fault) →
         IsReadable capture → HasFirstFault capture fault → ⊥ }
+{}
+
+/// Every list of parts is in the grammar, in one way, or has exactly one first fault, and never
+/// both. Parts in the grammar are, frame by frame, their joined capture, which is of version 2. One
+/// part is a capture: it is read as one, and its first fault is the capture's.
+pub fn one_reading_of_parts()
+    ensures one_of { (parts : List (List ℕ)) → All IsBytes parts →
+        AreReadable parts ⊎ ((found : PartFault) × HasFirstPartFault parts found) }
+    ensures one_reading { (parts : List (List ℕ)) (frames others : List WholeFrame) →
+        AreInGrammar parts frames → AreInGrammar parts others → frames ≡ others }
+    ensures one_fault { (parts : List (List ℕ)) (found other : PartFault) →
+        HasFirstPartFault parts found → HasFirstPartFault parts other → found ≡ other }
+    ensures never_both { (parts : List (List ℕ)) (found : PartFault) →
+        AreReadable parts → HasFirstPartFault parts found → ⊥ }
+    ensures joined { (parts : List (List ℕ)) (frames : List WholeFrame) →
+        AreInGrammar parts frames → IsInGrammar (joined parts) frames }
+    ensures one_part { (capture : List ℕ) (frames : List WholeFrame) →
+        AreInGrammar (capture ∷ []) frames ↔ IsInGrammar capture frames }
+    ensures fault_of_one_part { (capture : List ℕ) (found : PartFault) →
+        HasFirstPartFault (capture ∷ []) found ↔
+        ((found.part ≡ 1) × HasFirstFault capture found.fault) }
 {}
 
 /// The attachment bytes of every frame whose records have no fault are entries, in one way, or fail

@@ -89,10 +89,13 @@ pub(crate) const RETURNS: &[u8] = b"BNDRCAP1\x08\0\0\0\0\0\0\0\
     \x14\x72\x00\x00\
     \x15\x72\x00\x00";
 
-/// A write of seven records, of which the second and the fourth have attachments.
-pub(crate) const WITH_ATTACHMENTS: &[u8] = b"BNDRCAP1\x08\0\0\0\0\0\0\0\
+/// The device of the next one.
+pub(crate) const DEVICE: u32 = 0xfffe_fdfc;
+
+/// Of version 2: a write of seven records, of which the second and the fourth have attachments.
+pub(crate) const WITH_ATTACHMENTS: &[u8] = b"BNDRCAP2\x08\0\0\0\0\0\0\0\
     \x01\0\0\0\0\0\0\0\x02\0\0\0\x03\0\0\0\
-    \x01\0\0\0\x30\x01\0\0\x29\0\0\0\0\0\0\0\
+    \x01\0\0\0\x30\x01\0\0\x29\0\0\0\xfc\xfd\xfe\xff\
     \x00\x63\x40\x40\xa0\xa1\xa2\xa3\xa4\xa5\xa6\xa7\0\0\0\0\0\0\0\0\0\0\0\0\x00\0\0\0\0\0\0\0\
     \0\0\0\0\x05\0\0\0\0\0\0\0\x00\0\0\0\0\0\0\0\xb0\xb1\xb2\xb3\xb4\xb5\xb6\xb7\0\0\0\0\0\0\0\
     \0\
