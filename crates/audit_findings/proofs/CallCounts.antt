@@ -1,16 +1,18 @@
 -- What is counted of rows, and listed, as it is of the calls and the refused sends themselves.
-use Rattle.std.proofs.Common.{◌≡◌, ℕ, ◌+◌, Bool, true, false, cond, not, ◌&&◌, List, [], ◌∷◌, map, filter, refl, sym, ap, ap₂, ◌∙◌, arith}
+use Rattle.std.proofs.Common.{◌≡◌, ℕ, ◌+◌, Bool, true, false, cond, not, ◌&&◌, ◌||◌, List, [], ◌∷◌, map, filter, refl, sym, ap, ap₂, ◌∙◌, arith}
+use Rattle.std.proofs.lemmas.Bool.{true≢false}
 use Rattle.std.proofs.lemmas.List.Sums.{sum_by-cons}
 use Rattle.std.specs.Prelude.{count_by}
 use Rattle.event_core.specs.Events.{EventText}
 use Rattle.call_stacks.specs.declared.opener.Opener.{Opener}
 use Rattle.call_stacks.specs.declared.verdict.Verdict.{Verdict}
 use Rattle.call_stacks.specs.declared.verdict.Verdict.TheVariants.{Answered, Failed, Replied, Crossed, Open}
+use Rattle.audit_findings.specs.declared.opener_row.End.{End}
 use Rattle.audit_findings.specs.declared.opener_row.End.TheVariants.{Caller, Server}
 use Rattle.audit_findings.specs.declared.opener_row.OpenerRow.{OpenerRow}
 use Rattle.audit_findings.specs.Calls.{is_call, is_crossed, is_open, is_unanswered}
 use Rattle.audit_findings.specs.Kept.{kept_call}
-use Rattle.audit_findings.specs.ThreadRows.{opener_row, is_at, is_verdict, is_of, is_but}
+use Rattle.audit_findings.specs.ThreadRows.{opener_row, is_at, is_verdict, is_of, is_but, is_listed}
 
 -- ---- rows of things
 
@@ -35,7 +37,83 @@ module _ {X R : Type 0} (row : X → R) (test : R → Bool) (own : X → Bool) (
         | false ↦ rest
       ])
 
+module _ {X : Type 0} (kept test : X → Bool) (within : (x : X) → test x ≡ true → kept x ≡ true) where
+  -- what passes a test is found among those that are kept
+  pub count_kept : (xs : List X) → count_by test (filter kept xs) ≡ count_by test xs
+  count_kept [] = refl
+  count_kept (x ∷ xs) =
+      let rest = count_kept xs in
+      let more = count_more test x (filter kept xs) in
+      let whole = count_more test x xs in
+      elim (kept x) as (λ k. (kept x ≡ k) → count_by test (cond k (x ∷ filter kept xs) (filter kept xs)) ≡ count_by test (x ∷ xs)) [
+        | true ↦ λ is. omega (arith, rest, more, whole)
+        | false ↦ λ is.
+            elim (test x) as (λ b. (test x ≡ b) → (count_by test (x ∷ xs) ≡ cond b 1 0 + count_by test xs)
+            → count_by test (filter kept xs) ≡ count_by test (x ∷ xs)) [
+              | true ↦ λ passes all. absurd (true≢false (sym (within x passes) ∙ is))
+              | false ↦ λ fails all. omega (arith, rest, all)
+            ] refl whole
+      ] refl
+
+  pub filter_kept : (xs : List X) → filter test (filter kept xs) ≡ filter test xs
+  filter_kept [] = refl
+  filter_kept (x ∷ xs) =
+      let rest = filter_kept xs in
+      elim (kept x) as (λ k. (kept x ≡ k) → filter test (cond k (x ∷ filter kept xs) (filter kept xs)) ≡ cond (test x) (x ∷ filter test xs) (filter test xs)) [
+        | true ↦ λ is. ap (λ (t : List X). cond (test x) (x ∷ t) t) rest
+        | false ↦ λ is.
+            elim (test x) as (λ b. (test x ≡ b) → filter test (filter kept xs) ≡ cond b (x ∷ filter test xs) (filter test xs)) [
+              | true ↦ λ passes. absurd (true≢false (sym (within x passes) ∙ is))
+              | false ↦ λ fails. rest
+            ] refl
+      ] refl
+
 -- ---- openers
+
+same_end : (end other : End) → is_at end other ≡ true → other ≡ end
+same_end Caller Caller is = refl
+same_end Caller Server is = absurd (true≢false (sym is))
+same_end Server Caller is = absurd (true≢false (sym is))
+same_end Server Server is = refl
+
+same_verdict : (verdict other : Verdict) → is_verdict verdict other ≡ true → other ≡ verdict
+same_verdict Answered Answered is = refl
+same_verdict Answered _ is = absurd (true≢false (sym is))
+same_verdict Failed Failed is = refl
+same_verdict Failed _ is = absurd (true≢false (sym is))
+same_verdict Replied Replied is = refl
+same_verdict Replied _ is = absurd (true≢false (sym is))
+same_verdict Crossed Crossed is = refl
+same_verdict Crossed _ is = absurd (true≢false (sym is))
+same_verdict Open Open is = refl
+same_verdict Open _ is = absurd (true≢false (sym is))
+
+both_true : (a b : Bool) → (a && b) ≡ true → (a ≡ true) × (b ≡ true)
+both_true true true is = (refl, refl)
+both_true true false is = absurd (true≢false (sym is))
+both_true false b is = absurd (true≢false (sym is))
+
+-- whether a section lists the calls at this end that have this verdict
+abbrev pub lists : End → Verdict → Bool
+lists end verdict = (is_at Caller end && not (is_verdict Answered verdict)) || (is_at Server end && not (is_verdict Replied verdict))
+
+pub of_listed : (end : End) (verdict : Verdict) → lists end verdict ≡ true → (o : OpenerRow) → is_of end verdict o ≡ true → is_listed o ≡ true
+of_listed end verdict listed o is =
+    let both = both_true (is_at end o.end) (is_verdict verdict o.row.verdict) is in
+    ap₂ lists (same_end end o.end both.0) (same_verdict verdict o.row.verdict both.1) ∙ listed
+
+or_first : (b c : Bool) → b ≡ true → (b || c) ≡ true
+or_first b c is = ap (λ (a : Bool). a || c) is
+
+or_second : (b c : Bool) → c ≡ true → (b || c) ≡ true
+or_second true c is = refl
+or_second false c is = is
+
+pub made_listed : (o : OpenerRow) → is_but Caller Answered o ≡ true → is_listed o ≡ true
+made_listed o is = or_first (is_but Caller Answered o) (is_but Server Replied o) is
+
+pub served_listed : (o : OpenerRow) → is_but Server Replied o ≡ true → is_listed o ≡ true
+served_listed o is = or_second (is_but Caller Answered o) (is_but Server Replied o) is
 
 made_is : (b : Bool) → is_at Caller (cond b Caller Server) ≡ b
 made_is true = refl

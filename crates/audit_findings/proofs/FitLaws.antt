@@ -14,21 +14,19 @@ use Rattle.pending_ledger.specs.Pending.{place_of}
 use Rattle.pending_ledger.specs.Requests.{request_place}
 use Rattle.record_view.specs.Records.{RecordText, HasRecords}
 use Rattle.summary_law.proofs.ReadLaws.{length-read}
-use Rattle.summary_law.specs.ByKey.{EachFits, each_fits_parts}
+use Rattle.summary_law.specs.ByKey.{each_fits_parts}
 use Rattle.summary_law.specs.Fits.{IsShort, IsPlaced}
 use Rattle.summary_law.specs.Summary.{FitsInParts}
 use Rattle.transaction_view.specs.Attachments.{EntryText, HasEntries}
 use Rattle.transaction_view.specs.Grammar.{WholeFrame}
 use Rattle.capture_frame.specs.declared.process.Process.{Process}
 use Rattle.process_ledgers.specs.declared.process_item.ProcessItem.{ProcessItem}
-use Rattle.process_ledgers.specs.declared.process_summary.ProcessSummary.{ProcessSummary}
-use Rattle.summary_law.specs.InOrder.{SumsInOrder}
 use Rattle.audit_findings.specs.Frames.{Show}
 use Rattle.event_core.specs.Events.{events_of_wholes}
-use Rattle.audit_findings.specs.Ledgers.{AreFewEvents, AreFewFrames}
+use Rattle.audit_findings.specs.Ledgers.{AreFewEvents, AreFewFrames, FitFed}
 use Rattle.process_ledgers.specs.declared.process_item.ProcessItem.TheVariants.{Nothing}
 use Rattle.process_ledgers.specs.ProcessItem.{item_of_event, fed_by, fed_by_all}
-use Rattle.process_ledgers.specs.ProcessLedgers.{FitProcess, SumsProcessItems, process_parts}
+use Rattle.process_ledgers.specs.ProcessLedgers.{FitProcess, process_parts}
 use Rattle.capture_frame.specs.Process.{same_process, process_of_frame}
 use Rattle.process_ledgers.specs.Items.{KeepsPlace, buffer_item_of, clear_item_of, death_item_of, handle_item_of, node_item_of, oneway_item_of, request_item_of}
 use Rattle.process_ledgers.specs.Processes.{process_of_whole, read_of, items_of_process}
@@ -40,14 +38,6 @@ use Rattle.audit_findings.proofs.Rising.{placed_made}
 -- the process of a view's frame
 abbrev pub process_key : Frame → Process
 process_key frame = process_of_frame (frame_text frame)
-
--- the items of each process can be summarised
-abbrev pub FitFed : List (Process × ProcessItem) → Type 0
-FitFed fed = EachFits same_process FitProcess fed
-
--- and these entries sum them
-abbrev pub SumsFed : List (Process × ProcessSummary) → List (Process × ProcessItem) → Type 0
-SumsFed entries fed = SumsInOrder same_process SumsProcessItems entries fed
 
 pub fit_parts : FitsInParts FitFed
 fit_parts = each_fits_parts same_process FitProcess process_parts

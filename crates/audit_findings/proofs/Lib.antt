@@ -17,6 +17,7 @@ pub mod OneFindings
 pub mod StandLaws
 pub mod PlaceLaws
 pub mod FitLaws
+mod LeftOut
 pub mod ThreadFits
 mod SortedRows
 mod ThreadRowLaws

@@ -1,5 +1,8 @@
 -- Lists of all that something holds of, and the same in rising order.
-use Rattle.std.proofs.Common.{◌≡◌, ℕ, ◌⊎◌, inl, inr, Bool, true, false, cond, List, [], ◌∷◌, ◌++◌, filter, refl, sym, ap, subst, ◌∙◌}
+use Rattle.std.proofs.Common.{◌≡◌, ◌≢◌, ℕ, ◌+◌, ◌≤◌, ◌⊎◌, inl, inr, Bool, true, false, cond, List, [], ◌∷◌, ◌++◌, length, filter, refl, sym, ap, subst, ◌∙◌, arith}
+use Rattle.std.specs.Prelude.{AllPairs, count_by}
+use Rattle.std.proofs.lemmas.List.Elements.{All-contains}
+use Rattle.std.proofs.lemmas.List.Sums.{sum_by-cons}
 use Rattle.std.specs.Cmp.{IsTotalOrder}
 use Rattle.std.specs.List.{flat_map, AllByRecursion}
 use Rattle.std.specs.List.Sorted.{IsStrictlySortedBy}
@@ -9,7 +12,8 @@ use Rattle.std.specs.declared.cmp.Ordering.TheVariants.{Less, Equal, Greater}
 use Rattle.std.proofs.lemmas.Cmp.{nat_cmp_total, on_total, ranked}
 use Rattle.std.proofs.lemmas.Map.Lookups.{exact_unsigned}
 use Rattle.call_stacks.specs.Matching.{ListsInOrder}
-use Rattle.call_stacks.proofs.Members.{In, Rises, listed}
+use Rattle.call_stacks.proofs.Members.{In, Rises, contained, listed, only_list}
+use Rattle.audit_findings.proofs.Rising.{pairs_head, pairs_tail}
 
 -- a list of all that something holds of, in some order, and perhaps more than once
 pub record Listing {X : Type 0} (Is : X → Type 0) : Type 0 where
@@ -209,3 +213,62 @@ module _ {X : Type 0} (rank : X → ℕ) where
             (λ x here. listing.sound x (in_sorted by_rank listing.list x here))
             (λ x is. sorted_in by_rank listing.list exact x (listing.whole x is)),
       )
+
+-- ---- how many there are
+
+-- of lists in rising order the one whose things are all in the other is no longer
+pub no_longer : {X : Type 0} (rank : X → ℕ) (xs ys : List X) → Rises rank xs → Rises rank ys → ((x : X) → In x xs → In x ys) → length xs ≤ length ys
+no_longer rank [] ys first second to = omega arith
+no_longer rank (x ∷ xs) [] first second to = absurd (to x (inl refl))
+no_longer {X} rank (x ∷ xs) (y ∷ ys) first second to =
+    let rest = no_longer rank xs ys first.1 second.1 (λ z there. elim (to z (inr there)) [
+      | inl same ↦
+          let above = first.0 z there in
+          let equal : rank z ≡ rank y = ap rank same in
+          elim (to x (inl refl)) [
+            | inl is ↦ let here : rank x ≡ rank y = ap rank is in absurd (omega (arith, above, equal, here))
+            | inr behind ↦ let over = second.0 x behind in absurd (omega (arith, above, equal, over))
+          ]
+      | inr later ↦ later
+    ]) in
+    omega (arith, rest)
+
+module _ {X : Type 0} (rank : X → ℕ) (test : X → Bool) where
+  counted_more : (x : X) (xs : List X) → count_by test (x ∷ xs) ≡ cond (test x) 1 0 + count_by test xs
+  counted_more x xs = sum_by-cons (λ y. cond (test y) 1 0) x xs
+
+  counted_put : (x : X) (ys : List X) → ((y : X) → In y ys → rank x ≢ rank y)
+      → count_by test (put (by_rank rank) x ys) ≡ cond (test x) 1 0 + count_by test ys
+  counted_put x [] apart = counted_more x []
+  counted_put x (y ∷ ys) apart =
+      elim (by_rank rank x y) as (λ o. (by_rank rank x y ≡ o)
+      → count_by test (match_ordering o (x ∷ y ∷ ys) (y ∷ ys) (y ∷ put (by_rank rank) x ys)) ≡ cond (test x) 1 0 + count_by test (y ∷ ys)) [
+        | Less ↦ λ is. counted_more x (y ∷ ys)
+        | Equal ↦ λ is. absurd (apart y (inl refl) (exact_unsigned (rank x) (rank y) is))
+        | Greater ↦ λ is.
+            let rest = counted_put x ys (λ z there. apart z (inr there)) in
+            let first = counted_more y (put (by_rank rank) x ys) in
+            let second = counted_more y ys in
+            omega (arith, rest, first, second)
+      ] refl
+
+  counted_sorted : (xs : List X) → AllPairs (λ x y. rank x ≢ rank y) xs → count_by test (sorted (by_rank rank) xs) ≡ count_by test xs
+  counted_sorted [] apart = refl
+  counted_sorted (x ∷ xs) apart =
+      let Differ : X → X → Type 0 = λ a b. rank a ≢ rank b in
+      counted_put x (sorted (by_rank rank) xs)
+      (λ y there. All-contains (Differ x) xs y (pairs_head Differ x xs apart) (contained xs y (in_sorted (by_rank rank) xs y there)))
+      ∙ ap (λ (n : ℕ). cond (test x) 1 0 + n) (counted_sorted xs (pairs_tail Differ x xs apart)) ∙ sym (counted_more x xs)
+
+  -- of things of which no two have one rank as many pass a test as of the same in rising order
+  pub counted_in_order : (Is : X → Type 0) (things ordered : List X) → AllPairs (λ x y. rank x ≢ rank y) things
+      → ((x : X) → In x things → Is x) → ((x : X) → Is x → In x things) → ListsInOrder rank Is ordered
+      → ((x y : X) → In x things → In y things → rank x ≡ rank y → x ≡ y) → count_by test things ≡ count_by test ordered
+  counted_in_order Is things ordered apart sound whole in_order one =
+      let exact : (x y : X) → In x things → In y things → by_rank rank x y ≡ Equal → x ≡ y =
+      λ x y at_x at_y same. one x y at_x at_y (exact_unsigned (rank x) (rank y) same) in
+      let list : ListsInOrder rank Is (sorted (by_rank rank) things)
+      = listed rank Is (sorted (by_rank rank) things) (rises rank (sorted (by_rank rank) things) (sorted_ascends (by_rank rank) (on_total rank nat_cmp_total) things))
+      (λ x here. sound x (in_sorted (by_rank rank) things x here))
+      (λ x is. sorted_in (by_rank rank) things exact x (whole x is)) in
+      sym (counted_sorted things apart) ∙ ap (count_by test) (only_list rank Is (sorted (by_rank rank) things) ordered list in_order)

@@ -10,7 +10,7 @@ use Rattle.std.proofs.lemmas.List.Elements.{All-cons, All-map, All-nil, All-weak
 use Rattle.std.proofs.lemmas.List.Kept.{AllPairs-cons}
 use Rattle.capture_frame.specs.declared.frame.Frame.{Frame}
 use Rattle.capture_frame.specs.Units.{AllStand, placed, Placed}
-use Rattle.capture_frame.specs.Envelope.{FrameText, placed_frame, frame_bytes, frame_header_length}
+use Rattle.capture_frame.specs.Envelope.{FrameText, Before, in_version, placed_frame, frame_bytes, frame_header_length}
 use Rattle.capture_frame.proofs.FrameLaws.{length-frame_bytes}
 use Rattle.object_view.specs.declared.bad_object.BadObject.{BadObject}
 use Rattle.record_view.specs.Records.{record_bytes}
@@ -133,17 +133,17 @@ wholes_rise wholes are apart =
     omega (arith, far, to, from))
 
 -- the frames of a capture are whole
-all_whole : (base : ℕ) (before : Option ℕ) (wholes : List WholeFrame) → AllStand whole_format before wholes
+all_whole : (base : ℕ) (before : Before) (wholes : List WholeFrame) → AllStand whole_format before wholes
     → All IsWhole (placed (λ (w : WholeFrame). frame_bytes w.frame) base wholes)
 all_whole base before [] stand = All-nil IsWhole
 all_whole base before (w ∷ wholes) stand =
     let next = base + length (frame_bytes w.frame) in
     All-cons IsWhole (record { place = base; unit = w }) (placed (λ (x : WholeFrame). frame_bytes x.frame) next wholes)
-    (stand.0.has_records, stand.0.has_entries) (all_whole next (Some w.frame.sequence) wholes stand.1)
+    (stand.0.has_records, stand.0.has_entries) (all_whole next (in_version before.version (Some w.frame.sequence)) wholes stand.1)
 
 pub events_rise : (capture : List ℕ) (wholes : List WholeFrame) → IsInGrammar capture wholes
     → PlacesRise (λ (e : EventText). e.place) (events_of_wholes (wholes_of wholes))
-events_rise capture wholes is = wholes_rise (wholes_of wholes) (all_whole 16 None wholes is.2.stand) (wholes_apart wholes)
+events_rise capture wholes is = wholes_rise (wholes_of wholes) (all_whole 16 (in_version is.0 None) wholes is.3.stand) (wholes_apart wholes)
 
 -- ---- the rows of a capture
 

@@ -5,7 +5,7 @@ use Rattle.std.specs.List.{find, flat_map}
 use Rattle.std.specs.Option.{option_map}
 use Rattle.std.proofs.lemmas.List.{append-nil, drop_at}
 use Rattle.std.proofs.lemmas.List.Elements.{All-cons, All-nil}
-use Rattle.capture_frame.specs.Envelope.{attachments_place, file_header, frame_bytes}
+use Rattle.capture_frame.specs.Envelope.{Before, in_version, attachments_place, file_header, frame_bytes}
 use Rattle.capture_frame.specs.Units.{AllStand, IsBytes, Placed, placed, placed_at}
 use Rattle.capture_frame.proofs.NumberLaws.{IsBytes-drop}
 use Rattle.object_view.specs.declared.sort.Sort.{Sort}
@@ -52,7 +52,7 @@ good_entries whole has h =
     let attachments = IsBytes-attachments whole.frame [] (subst IsBytes (sym (append-nil (frame_bytes whole.frame))) h) in
     record { entries = has; bytes = IsBytes-front (flat_map entry_bytes whole.entries) [] (subst IsBytes has.joined attachments) }
 
-each_good : (base : ℕ) (before : Option ℕ) (wholes : List WholeFrame) → AllStand whole_format before wholes
+each_good : (base : ℕ) (before : Before) (wholes : List WholeFrame) → AllStand whole_format before wholes
     → IsBytes (flat_map (λ (w : WholeFrame). frame_bytes w.frame) wholes) → (x : Placed WholeFrame)
     → In x (placed (λ (w : WholeFrame). frame_bytes w.frame) base wholes) → HasGoodEntries x.unit
 each_good base before [] stand h x here = absurd here
@@ -60,15 +60,15 @@ each_good base before (w ∷ wholes) stand h x (inl is) =
     subst (λ (p : Placed WholeFrame). HasGoodEntries p.unit) (sym is)
     (good_entries w stand.0.has_entries (IsBytes-front (frame_bytes w.frame) (flat_map (λ (w : WholeFrame). frame_bytes w.frame) wholes) h))
 each_good base before (w ∷ wholes) stand h x (inr there) =
-    each_good (base + length (frame_bytes w.frame)) (Some w.frame.sequence) wholes stand.1
+    each_good (base + length (frame_bytes w.frame)) (in_version before.version (Some w.frame.sequence)) wholes stand.1
     (IsBytes-back (frame_bytes w.frame) (flat_map (λ (w : WholeFrame). frame_bytes w.frame) wholes) h) x there
 
 all_good : (capture : List ℕ) (wholes : List WholeFrame) → IsBytes capture → IsInGrammar capture wholes → (x : Placed WholeFrame)
     → In x (wholes_of wholes) → HasGoodEntries x.unit
 all_good capture wholes h is =
-    let behind = IsBytes-back file_header is.0 (subst IsBytes is.1 h) in
+    let behind = IsBytes-back (file_header is.0) is.1 (subst IsBytes is.2 h) in
     let spelled = flat_map (λ (w : WholeFrame). frame_bytes w.frame) wholes in
-    each_good 16 None wholes is.2.stand (IsBytes-front spelled [] (subst IsBytes is.2.joined behind))
+    each_good 16 (in_version is.0 None) wholes is.3.stand (IsBytes-front spelled [] (subst IsBytes is.3.joined behind))
 
 -- ---- attachments
 

@@ -14,9 +14,12 @@ use Rattle.std.proofs.lemmas.Map.Made.{AllPairs-from_IsDistinct, IsDistinct-from
 use Rattle.std.specs.List.{AllByRecursion, AllZip, IsDistinct, flat_map}
 use Rattle.std.specs.List.Sorted.{IsNonDecreasingBy}
 use Rattle.call_stacks.proofs.Members.{In, in_list, contained, in-map, map-in}
+use Rattle.std.specs.Prelude.{count_by, filter}
+use Rattle.audit_findings.proofs.CallCounts.{count_told}
+use Rattle.audit_findings.proofs.Listings.{in_kept, kept_in, counted_in_order}
 use Rattle.call_stacks.specs.Matching.{ListsInOrder}
 use Rattle.pending_ledger.proofs.ListLaws.{contains_none, all_pairs_append}
-use Rattle.audit_findings.proofs.Rising.{pairs_map, pairs_unmap, pairs_nil, pairs_head, pairs_tail}
+use Rattle.audit_findings.proofs.Rising.{pairs_map, pairs_unmap, pairs_nil, pairs_head, pairs_tail, rising_kept}
 
 -- where all ranks differ, a rank is that of one thing
 one_of_rank : {X : Type 0} (rank : X → ℕ) (xs : List X) → AllPairs (λ a b. rank a ≢ rank b) xs → (a b : X) → In a xs → In b xs → rank a ≡ rank b → a ≡ b
@@ -99,6 +102,19 @@ module _ {X R : Type 0} (row : X → R) (key : R → ℕ) (things : List X) (apa
       let found = in-map row things r (in_list (map row things) r there) in
       (found.0, contained things found.0 found.1, found.2)) in
       (told.0, told.2, are_sorted told.0 told.1 told.2)
+
+-- of things in rising order those that pass a test are in rising order
+pub kept_in_order : {X : Type 0} (rank : X → ℕ) (Is : X → Type 0) (test : X → Bool) (xs : List X) → ListsInOrder rank Is xs
+    → ListsInOrder rank (λ x. Is x × (test x ≡ true)) (filter test xs)
+kept_in_order rank Is test xs list = record {
+  rising = rising_kept rank test xs list.rising;
+  exact = λ x. (
+    λ here.
+        let kept = in_kept test xs x (in_list (filter test xs) x here) in
+        ((list.exact x).0 (contained xs x kept.0), kept.1),
+    λ is. contained (filter test xs) x (kept_in test xs x (in_list xs x ((list.exact x).1 is.0)) is.1),
+  );
+}
 
 -- ---- things of several lists, one list behind another
 
@@ -183,3 +199,19 @@ module _ {K E F X R : Type 0} (eq : K → K → Bool) (key : E → K) (Is : E �
         },
         found.1,
       )
+
+  -- as many of the rows of all lists pass a test as of those of the same things in rising order
+  pub gathered_count : (es : List E) (fs : List F) → AllZip (λ e f. ListsInOrder (λ x. place (row x)) (Is e) (own f)) es fs → IsDistinct eq (map key es)
+      → (Whole : X → Type 0) → ((x : X) → Whole x ↔ ((e : E) × In e es × Is e x)) → (test : R → Bool) → (told : List X)
+      → ListsInOrder (λ x. place (row x)) Whole told → count_by test (flat_map (λ f. map row (own f)) fs) ≡ count_by test (map row told)
+  gathered_count es fs zip distinct Whole each test told listed =
+      let rank : X → ℕ = λ x. place (row x) in
+      let things = flat_map own fs in
+      let passes : X → Bool = λ x. test (row x) in
+      let apart = lists_apart eq key rank Is own one es fs zip distinct in
+      ap (count_by test) (mapped_flat fs) ∙ count_told row test passes (λ x. refl) things
+      ∙ counted_in_order rank passes Whole things told apart
+      (λ x here. (each x).1 (from_lists eq key rank Is own one es fs zip x (contained things x here)))
+      (λ x is. let mine = (each x).0 is in in_list things x (into_lists eq key rank Is own one es fs zip mine.0 x mine.1 mine.2))
+      listed (λ x y at_x at_y same. one_of_rank rank things apart x y at_x at_y same)
+      ∙ sym (count_told row test passes (λ x. refl) told)

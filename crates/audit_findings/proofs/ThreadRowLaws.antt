@@ -1,6 +1,6 @@
 -- The calls of each thread, as those of all threads.
 use Rattle.std.proofs.Common.{◌≡◌, ◌≢◌, ℕ, ◌<◌, Bool, true, false, cond, List, [], ◌∷◌, ◌++◌, map, filter, Some, None, refl, sym, ap, ap₂, subst, ◌∙◌, ⊎_elim, inl, inr, arith}
-use Rattle.std.specs.Prelude.{◌↔◌, All, Contains, ⊤}
+use Rattle.std.specs.Prelude.{◌↔◌, ◌^◌, All, Contains, count_by, ⊤}
 use Rattle.std.proofs.lemmas.Bool.{cases_Bool}
 use Rattle.std.proofs.lemmas.List.{length-map}
 use Rattle.std.proofs.lemmas.List.Concat.{flat_map-cons}
@@ -10,7 +10,7 @@ use Rattle.std.proofs.lemmas.Map.Views.{Contains-from_any}
 use Rattle.std.specs.List.{AllZip, IsDistinct, cons_option, flat_map, list_any}
 use Rattle.std.specs.Map.{keys_of}
 use Rattle.event_core.specs.Events.{EventText}
-use Rattle.call_stacks.proofs.Members.{In, in_list, contained, in-map, map-in}
+use Rattle.call_stacks.proofs.Members.{In, in_list, contained, in-map, map-in, only_list, rises_from_pairs}
 use Rattle.call_stacks.proofs.Retold.{ReadAlike, stands_judged, openers_of, strays_of, sends_of, sends_listed, told_opener, told_send}
 use Rattle.call_stacks.proofs.Sums.{marked}
 use Rattle.call_stacks.proofs.Unmarked.{with_unmarked, opener_marks, stray_marks, send_marks}
@@ -33,12 +33,17 @@ use Rattle.audit_findings.specs.Places.{RiseInPlace}
 use Rattle.event_core.specs.Events.{thread_of}
 use Rattle.capture_frame.specs.Process.{same_thread}
 use Rattle.audit_findings.specs.ThreadLedger.{text_call, leaves_mark, fed_call, fed_calls, SumsThreads}
-use Rattle.audit_findings.specs.ThreadRows.{opener_row, send_row, found_opener, found_send, openers_in, strays_in, sends_in, AreGatheredRows, AreSortedRows, KeepRows}
+use Rattle.audit_findings.specs.ThreadRows.{opener_row, send_row, found_opener, found_send, is_listed, is_of, openers_in, listed_in, strays_in, sends_in}
+use Rattle.audit_findings.specs.ThreadRows.{AreGatheredRows, AreSortedRows, AreListedOf, IsCountOf, KeepRows}
+use Rattle.audit_findings.specs.declared.opener_row.End.TheVariants.{Caller, Server}
+use Rattle.call_stacks.specs.declared.verdict.Verdict.TheVariants.{Answered, Replied}
+use Rattle.std.proofs.lemmas.List.Sums.{count_by-le-length}
+use Rattle.audit_findings.proofs.CallListings.{some_openers}
 use Rattle.summary_law.proofs.InOrderLaws.{entries_distinct, each_sums, none_else}
 use Rattle.capture_frame.proofs.ProcessLaws.{same_thread_eq, same_thread_equiv}
-use Rattle.audit_findings.proofs.Listings.{kept_in}
+use Rattle.audit_findings.proofs.Listings.{kept_in, no_longer}
 use Rattle.audit_findings.proofs.Rising.{pairs_map, rising_kept}
-use Rattle.audit_findings.proofs.SortedRows.{gathered_rows}
+use Rattle.audit_findings.proofs.SortedRows.{gathered_rows, gathered_count, kept_in_order}
 use Rattle.audit_findings.proofs.ThreadFits.{filter_short}
 
 -- the events of this thread, in their order
@@ -156,6 +161,17 @@ module _ {X : Type 0} (event : X → EventText) (IsIn : List (JudgedOf EventText
 
 -- ---- the rows of all threads
 
+-- the listed rows of calls are those of the calls that are listed
+filter_rows : (told : List (Opener EventText)) → filter is_listed (map opener_row told) ≡ map opener_row (filter (λ o. is_listed (opener_row o)) told)
+filter_rows [] = refl
+filter_rows (o ∷ told) =
+    let rest = filter_rows told in
+    elim (is_listed (opener_row o)) as (λ b. cond b (opener_row o ∷ filter is_listed (map opener_row told)) (filter is_listed (map opener_row told))
+    ≡ map opener_row (cond b (o ∷ filter (λ x. is_listed (opener_row x)) told) (filter (λ x. is_listed (opener_row x)) told))) [
+      | true ↦ ap (λ (t : List OpenerRow). opener_row o ∷ t) rest
+      | false ↦ rest
+    ]
+
 -- where each entry's findings are told as a list of things, the rows of all findings are those of these lists
 all_told : {E F X R : Type 0} (P : E → Type 0) (Gives : E → F → Type 0) (Is : E → X → Type 0) (rank : X → ℕ) (row : X → R) (rows_in : F → List R)
     → ((e : E) (f : F) → P e → Gives e f → (said : List X) × ListsInOrder rank (Is e) said × (rows_in f ≡ map row said))
@@ -236,18 +252,93 @@ module _ (entries : List (Thread × Calls ⊤)) (events : List EventText) (sums 
   keys_differ = entries_distinct same_thread_equiv CallsSum entries (fed_calls events) sums.sums
 
   module _ (gathered rows : ThreadRows) (in_turn : AreGatheredRows entries gathered) (sorted : AreSortedRows gathered rows) where
-    kept_openers : (said : List (Opener EventText)) × AreOpeners events said × (rows.openers.items ≡ map opener_row said)
-    kept_openers =
-        let event : Opener EventText → EventText = λ o. o.event in
-        let Is = IsOpener text_reads in
+    -- all calls, in rising place
+    all_openers : (told : List (Opener EventText)) × AreOpeners events told
+    all_openers = some_openers events rise
+
+    abbrev IsListed : (Opener EventText → Type 0) → Opener EventText → Type 0
+    IsListed Is o = Is o × (is_listed (opener_row o) ≡ true)
+
+    -- the listed calls of a thread
+    listed_told : (e : Thread × Calls ⊤) (found : CallFindings (CallEvent ⊤)) → SumsOwn e → Gives e found
+        → (said : List (Opener EventText)) × ListsInOrder (λ o. o.event.place) (IsListed (IsOfKey (IsOpener text_reads) events e.0)) said
+        × (listed_in found ≡ map opener_row said)
+    listed_told e found own gives =
+        let told = openers_told e found own gives in
+        let test : Opener EventText → Bool = λ o. is_listed (opener_row o) in (
+          filter test told.0,
+          kept_in_order (λ (o : Opener EventText). o.event.place) (IsOfKey (IsOpener text_reads) events e.0) test told.0 told.1,
+          ap (filter is_listed) told.2 ∙ filter_rows told.0,
+        )
+
+    one_of_threads : (e other : Thread × Calls ⊤) (x y : Opener EventText) → IsOfKey (IsOpener text_reads) events e.0 x
+        → IsOfKey (IsOpener text_reads) events other.0 y → x.event.place ≡ y.event.place → same_thread e.0 other.0 ≡ true
+    one_of_threads e other x y is_first is_other same =
+        one_thread (λ (o : Opener EventText). o.event) (IsOpener text_reads) opener_stands events rise e.0 other.0 x y is_first is_other same
+
+    of_threads : (o : Opener EventText) → IsOfOwn (λ o. o.event) (IsOpener text_reads) events o
+        ↔ ((e : Thread × Calls ⊤) × In e entries × IsOfKey (IsOpener text_reads) events e.0 o)
+    of_threads = of_entries (λ (o : Opener EventText). o.event) (IsOpener text_reads) opener_stands entries events sums (opener_marks text_reads)
+
+    kept_listed : AreListedOf all_openers.0 rows.listed.items
+    kept_listed =
+        let Is : List (JudgedOf EventText) → Opener EventText → Type 0 = IsOpener text_reads in
+        let Own : Opener EventText → Type 0 = IsOfOwn (λ o. o.event) Is events in
+        let rank : Opener EventText → ℕ = λ o. o.event.place in
+        let test : Opener EventText → Bool = λ o. is_listed (opener_row o) in
+        let told = all_told SumsOwn Gives (λ e. IsListed (IsOfKey Is events e.0)) rank opener_row listed_in listed_told
+        entries in_turn.founds each_own in_turn.are in
+        let found = gathered_rows same_thread (λ (e : Thread × Calls ⊤). e.0) (λ e. IsListed (IsOfKey Is events e.0))
+        (λ (said : List (Opener EventText)). said) opener_row (λ (r : OpenerRow). r.row.place)
+        (λ e other x y is_first is_other same. one_of_threads e other x y is_first.0 is_other.0 same)
+        entries told.0 told.1 keys_differ (IsListed Own)
+        (λ o. (
+          λ is. let own = (of_threads o).0 is.0 in (own.0, own.1, (own.2, is.1)),
+          λ some. ((of_threads o).1 (some.0, some.1, some.2.0), some.2.1),
+        ))
+        gathered.listed.items rows.listed.items (in_turn.listed_are ∙ told.2) sorted.listed sorted.listed_rise in
+        found.2 ∙ ap (map opener_row) (only_list rank (IsListed Own) found.0 (filter test all_openers.0) found.1
+        (kept_in_order rank Own test all_openers.0 all_openers.1)) ∙ sym (filter_rows all_openers.0)
+
+    -- as many pass a test as of all calls
+    counted_openers : (test : OpenerRow → Bool) → count_by test (flat_map openers_in in_turn.founds) ≡ count_by test (map opener_row all_openers.0)
+    counted_openers test =
+        let Is : List (JudgedOf EventText) → Opener EventText → Type 0 = IsOpener text_reads in
         let told = all_told SumsOwn Gives (λ e o. IsOfKey Is events e.0 o) (λ o. o.event.place) opener_row openers_in openers_told
         entries in_turn.founds each_own in_turn.are in
-        gathered_rows same_thread (λ (e : Thread × Calls ⊤). e.0) (λ e o. IsOfKey Is events e.0 o) (λ (said : List (Opener EventText)). said)
-        opener_row (λ (r : OpenerRow). r.row.place)
-        (λ e other x y is_first is_other same. one_thread event Is opener_stands events rise e.0 other.0 x y is_first is_other same)
-        entries told.0 told.1 keys_differ
-        (IsOfOwn event Is events) (of_entries event Is opener_stands entries events sums (opener_marks text_reads)) gathered.openers.items rows.openers.items
-        (in_turn.openers_are ∙ told.2) sorted.openers sorted.openers_rise
+        ap (count_by test) told.2
+        ∙ gathered_count same_thread (λ (e : Thread × Calls ⊤). e.0) (λ e o. IsOfKey Is events e.0 o) (λ (said : List (Opener EventText)). said)
+        opener_row (λ (r : OpenerRow). r.row.place) one_of_threads entries told.0 told.1 keys_differ (IsOfOwn (λ o. o.event) Is events) of_threads
+        test all_openers.0 all_openers.1
+
+    -- no more than there are events
+    few_counted : (test : OpenerRow → Bool) → count_by test (flat_map openers_in in_turn.founds) < 2 ^ 64
+    few_counted test =
+        let event : Opener EventText → EventText = λ o. o.event in
+        let place : EventText → ℕ = λ e. e.place in
+        let told = all_openers.0 in
+        let counted = counted_openers test in
+        let passed = count_by-le-length test (map opener_row told) in
+        let rows_long = length-map told opener_row in
+        let long = length-map told event in
+        let fewer = no_longer place (map event told) events
+        (rises_from_pairs place (map event told) (pairs_map (λ (a b : EventText). a.place < b.place) event told all_openers.1.rising))
+        (rises_from_pairs place events rise)
+        (λ e there.
+        let o = in-map event told e there in
+        let own = (all_openers.1.exact o.0).0 (contained told o.0 o.1) in
+        let of = of_thread (thread_of o.0.event) events o.0.event (opener_stands (texts_of (thread_of o.0.event) events) o.0 own) in
+        subst (λ (x : EventText). In x events) (sym o.2) (in_list events o.0.event of.0)) in
+        let short = sums.placed.0 in
+        omega (arith, counted, passed, rows_long, long, fewer, short)
+
+    kept_answered : IsCountOf Caller Answered all_openers.0 rows.answered
+    kept_answered =
+        sorted.answered ∙ in_turn.answered_is (few_counted (is_of Caller Answered)) ∙ counted_openers (is_of Caller Answered)
+
+    kept_replied : IsCountOf Server Replied all_openers.0 rows.replied
+    kept_replied =
+        sorted.replied ∙ in_turn.replied_is (few_counted (is_of Server Replied)) ∙ counted_openers (is_of Server Replied)
 
     kept_strays : (said : List EventText) × AreStrays events said × (rows.strays.items ≡ map (λ e. e.place) said)
     kept_strays =
@@ -275,9 +366,11 @@ module _ (entries : List (Thread × Calls ⊤)) (events : List EventText) (sums 
 
     pub rows_kept : KeepRows rows events
     rows_kept = record {
-      openers = kept_openers.0;
-      are_openers = kept_openers.1;
-      openers_kept = kept_openers.2;
+      openers = all_openers.0;
+      are_openers = all_openers.1;
+      listed_kept = kept_listed;
+      answered_kept = kept_answered;
+      replied_kept = kept_replied;
       strays = kept_strays.0;
       are_strays = kept_strays.1;
       strays_kept = kept_strays.2;

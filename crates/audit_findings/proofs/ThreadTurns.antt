@@ -1,5 +1,8 @@
 -- The rows of threads, one thread behind another.
-use Rattle.std.proofs.Common.{ℕ, List, [], ◌∷◌, ◌++◌, refl, sym, ap, ◌∙◌, append_assoc}
+use Rattle.std.proofs.Common.{◌≡◌, ℕ, ◌+◌, ◌-◌, ◌^◌, min, List, [], ◌∷◌, ◌++◌, refl, sym, ap, ◌∙◌, append_assoc, arith}
+use Rattle.std.specs.Prelude.{count_by}
+use Rattle.std.specs.List.{flat_map}
+use Rattle.std.proofs.lemmas.List.Sums.{sum_by-append}
 use Rattle.std.proofs.lemmas.List.{append-nil}
 use Rattle.std.specs.Prelude.{⊤}
 use Rattle.std.proofs.lemmas.List.Concat.{flat_map-cons}
@@ -11,44 +14,88 @@ use Rattle.capture_frame.specs.declared.process.Thread.{Thread}
 use Rattle.audit_findings.specs.declared.opener_row.OpenerRow.{OpenerRow}
 use Rattle.audit_findings.specs.declared.refused.SendRow.{SendRow}
 use Rattle.audit_findings.specs.declared.thread_rows.ThreadRows.{ThreadRows}
-use Rattle.audit_findings.specs.ThreadRows.{openers_in, strays_in, sends_in, TakesOver, AreRowsInTurn, AreGatheredRows}
+use Rattle.call_stacks.specs.declared.verdict.Verdict.{Verdict}
+use Rattle.call_stacks.specs.declared.verdict.Verdict.TheVariants.{Answered, Replied}
+use Rattle.audit_findings.specs.declared.opener_row.End.{End}
+use Rattle.audit_findings.specs.declared.opener_row.End.TheVariants.{Caller, Server}
+use Rattle.audit_findings.specs.ThreadRows.{openers_in, listed_in, count_in, strays_in, sends_in, is_of, TakesOver, Holds, AreRowsInTurn, AreGatheredRows}
 
-pub no_threads : AreRowsInTurn [] [] [] []
-no_threads = record { founds = []; are = tt; openers_are = refl; strays_are = refl; sends_are = refl }
+pub no_threads : AreRowsInTurn [] [] 0 0 [] []
+no_threads = record {
+  founds = [];
+  are = tt;
+  listed_are = refl;
+  answered_is = λ few. refl;
+  replied_is = λ few. refl;
+  strays_are = refl;
+  sends_are = refl;
+}
+
+-- a count with that of a thread in front
+more_in_front : (end : End) (verdict : Verdict) (found : CallFindings (CallEvent ⊤)) (founds : List (CallFindings (CallEvent ⊤))) (number : ℕ)
+    → Holds number (count_by (is_of end verdict) (flat_map openers_in founds))
+    → Holds (count_in end verdict found + number) (count_by (is_of end verdict) (flat_map openers_in (found ∷ founds)))
+more_in_front end verdict found founds number holds few =
+    let both : count_by (is_of end verdict) (flat_map openers_in (found ∷ founds))
+    ≡ count_in end verdict found + count_by (is_of end verdict) (flat_map openers_in founds)
+    = ap (count_by (is_of end verdict)) (flat_map-cons openers_in found founds) ∙ sum_by-append _ (openers_in found) (flat_map openers_in founds) in
+    let rest = holds (omega (arith, both, few)) in
+    omega (arith, both, rest)
 
 -- one thread more, in front
-pub thread_in_front : (e : Thread × Calls ⊤) (entries : List (Thread × Calls ⊤)) (found : CallFindings (CallEvent ⊤)) (openers : List OpenerRow) (strays : List ℕ)
-    (sends : List SendRow) → GivesFindings e.1 found → AreRowsInTurn entries openers strays sends
-    → AreRowsInTurn (e ∷ entries) (openers_in found ++ openers) (strays_in found ++ strays) (sends_in found ++ sends)
-thread_in_front e entries found openers strays sends gives rows = record {
+pub thread_in_front : (e : Thread × Calls ⊤) (entries : List (Thread × Calls ⊤)) (found : CallFindings (CallEvent ⊤)) (listed : List OpenerRow)
+    (answered replied : ℕ) (strays : List ℕ) (sends : List SendRow) → GivesFindings e.1 found → AreRowsInTurn entries listed answered replied strays sends
+    → AreRowsInTurn (e ∷ entries) (listed_in found ++ listed) (count_in Caller Answered found + answered) (count_in Server Replied found + replied)
+    (strays_in found ++ strays) (sends_in found ++ sends)
+thread_in_front e entries found listed answered replied strays sends gives rows = record {
   founds = found ∷ rows.founds;
   are = (gives, rows.are);
-  openers_are = ap (λ (t : List OpenerRow). openers_in found ++ t) rows.openers_are ∙ sym (flat_map-cons openers_in found rows.founds);
+  listed_are = ap (λ (t : List OpenerRow). listed_in found ++ t) rows.listed_are ∙ sym (flat_map-cons listed_in found rows.founds);
+  answered_is = more_in_front Caller Answered found rows.founds answered rows.answered_is;
+  replied_is = more_in_front Server Replied found rows.founds replied rows.replied_is;
   strays_are = ap (λ (t : List ℕ). strays_in found ++ t) rows.strays_are ∙ sym (flat_map-cons strays_in found rows.founds);
   sends_are = ap (λ (t : List SendRow). sends_in found ++ t) rows.sends_are ∙ sym (flat_map-cons sends_in found rows.founds);
 }
 
+-- a number that another was added to
+added : (old own new more count : ℕ) → new ≡ min (old + own) (2 ^ 64 - 1) → Holds (old + (own + more)) count → Holds (new + more) count
+added old own new more count is holds few =
+    let whole = holds few in
+    omega (arith, is, whole, few)
+
 -- rows that a thread's were taken over into, with those to come
-pub taken_over : (entries : List (Thread × Calls ⊤)) (old new : ThreadRows) (found : CallFindings (CallEvent ⊤)) (openers : List OpenerRow) (strays : List ℕ)
-    (sends : List SendRow) → TakesOver old found new
-    → AreRowsInTurn entries (old.openers.items ++ (openers_in found ++ openers)) (old.strays.items ++ (strays_in found ++ strays))
+pub taken_over : (entries : List (Thread × Calls ⊤)) (old new : ThreadRows) (found : CallFindings (CallEvent ⊤)) (listed : List OpenerRow)
+    (answered replied : ℕ) (strays : List ℕ) (sends : List SendRow) → TakesOver old found new
+    → AreRowsInTurn entries (old.listed.items ++ (listed_in found ++ listed)) (old.answered + (count_in Caller Answered found + answered))
+    (old.replied + (count_in Server Replied found + replied)) (old.strays.items ++ (strays_in found ++ strays))
     (old.sends.items ++ (sends_in found ++ sends))
-    → AreRowsInTurn entries (new.openers.items ++ openers) (new.strays.items ++ strays) (new.sends.items ++ sends)
-taken_over entries old new found openers strays sends takes rows = record {
+    → AreRowsInTurn entries (new.listed.items ++ listed) (new.answered + answered) (new.replied + replied) (new.strays.items ++ strays)
+    (new.sends.items ++ sends)
+taken_over entries old new found listed answered replied strays sends takes rows = record {
   founds = rows.founds;
   are = rows.are;
-  openers_are = ap (λ (t : List OpenerRow). t ++ openers) takes.openers ∙ append_assoc old.openers.items (openers_in found) openers ∙ rows.openers_are;
+  listed_are = ap (λ (t : List OpenerRow). t ++ listed) takes.listed ∙ append_assoc old.listed.items (listed_in found) listed ∙ rows.listed_are;
+  answered_is = added old.answered (count_in Caller Answered found) new.answered answered _ takes.answered rows.answered_is;
+  replied_is = added old.replied (count_in Server Replied found) new.replied replied _ takes.replied rows.replied_is;
   strays_are = ap (λ (t : List ℕ). t ++ strays) takes.strays ∙ append_assoc old.strays.items (strays_in found) strays ∙ rows.strays_are;
   sends_are = ap (λ (t : List SendRow). t ++ sends) takes.sends ∙ append_assoc old.sends.items (sends_in found) sends ∙ rows.sends_are;
 }
 
+none_more : (number count : ℕ) → Holds (number + 0) count → Holds number count
+none_more number count holds few =
+    let whole = holds few in
+    omega (arith, whole)
+
 -- rows with none to come
 pub all_turned : (entries : List (Thread × Calls ⊤)) (rows : ThreadRows)
-    → AreRowsInTurn entries (rows.openers.items ++ []) (rows.strays.items ++ []) (rows.sends.items ++ []) → AreGatheredRows entries rows
+    → AreRowsInTurn entries (rows.listed.items ++ []) (rows.answered + 0) (rows.replied + 0) (rows.strays.items ++ []) (rows.sends.items ++ [])
+    → AreGatheredRows entries rows
 all_turned entries rows are = record {
   founds = are.founds;
   are = are.are;
-  openers_are = sym (append-nil rows.openers.items) ∙ are.openers_are;
+  listed_are = sym (append-nil rows.listed.items) ∙ are.listed_are;
+  answered_is = none_more rows.answered _ are.answered_is;
+  replied_is = none_more rows.replied _ are.replied_is;
   strays_are = sym (append-nil rows.strays.items) ∙ are.strays_are;
   sends_are = sym (append-nil rows.sends.items) ∙ are.sends_are;
 }

@@ -1,5 +1,7 @@
 -- What the ledgers of some events, and of some frames, come to while they are made.
-use Rattle.std.specs.Prelude.{◌≡◌, ℕ, ◌+◌, ◌<◌, ◌^◌, List, [], ◌∷◌, ◌++◌, length, map, count_by, All}
+use Rattle.std.specs.Prelude.{◌≡◌, ℕ, ◌+◌, ◌<◌, ◌^◌, true, List, [], ◌∷◌, ◌++◌, length, map, count_by, All}
+use Rattle.std.specs.List.{list_any}
+use Rattle.std.specs.Map.{keys_of}
 use Rattle.std.specs.Option.{option_map_or}
 use Rattle.std.specs.Ordering.{nat_cmp}
 use Rattle.capture_frame.specs.declared.frame.Frame.{Frame}
@@ -23,7 +25,13 @@ use Rattle.event_core.specs.Events.{events_of_wholes}
 use Rattle.audit_findings.specs.Kept.{Keep, kept_bad}
 use Rattle.audit_findings.specs.Objects.{BadOwned, AreObjectFindings, attachments_of}
 use Rattle.audit_findings.specs.Oneway.{CountsOneway}
-use Rattle.process_ledgers.specs.ProcessLedgers.{SumsProcesses}
+use Rattle.process_ledgers.specs.ProcessLedgers.{FitProcess, SumsProcessItems, SumsProcesses}
+use Rattle.process_ledgers.specs.declared.process_item.ProcessItem.{ProcessItem}
+use Rattle.process_ledgers.specs.declared.process_summary.ProcessSummary.{ProcessSummary}
+use Rattle.summary_law.specs.ByKey.{EachFits}
+use Rattle.summary_law.specs.InOrder.{SumsInOrder}
+use Rattle.capture_frame.specs.Process.{same_process}
+use Rattle.capture_frame.specs.declared.process.Process.{Process}
 use Rattle.audit_findings.specs.ThreadLedger.{SumsThreadCalls}
 
 -- how many bytes of a list of offsets an event has
@@ -100,3 +108,27 @@ GiveSections ledgers sections =
 -- the key and the count of a tally's row
 abbrev pub row_of : ℕ × ℕ × ℕ → CodeRow
 row_of row = record { word = row.0; count = row.1 }
+
+-- the items of each process can be summarised
+abbrev pub FitFed : List (Process × ProcessItem) → Type 0
+FitFed fed = EachFits same_process FitProcess fed
+
+-- and these entries sum them
+abbrev pub SumsFed : List (Process × ProcessSummary) → List (Process × ProcessItem) → Type 0
+SumsFed entries fed = SumsInOrder same_process SumsProcessItems entries fed
+
+-- one of them is of this process
+abbrev pub HasCome : Process → List (Process × ProcessItem) → Type 0
+HasCome process fed = list_any (same_process process) (keys_of fed) ≡ true
+
+-- the entries sum what was fed, which can be summarised with the item behind it
+abbrev pub CanTakeItem : List (Process × ProcessSummary) → Process → ProcessItem → Type 0
+CanTakeItem entries process item =
+    (fed : List (Process × ProcessItem)) × SumsFed entries fed × FitFed (fed ++ (process, item) ∷ [])
+
+-- whatever the old entries sum, the new ones sum it with the item behind it, where the process has come before
+abbrev pub TakesItem : List (Process × ProcessSummary) → Process → ProcessItem → List (Process × ProcessSummary)
+    → Type 0
+TakesItem old process item new =
+    (fed : List (Process × ProcessItem)) → HasCome process fed → SumsFed old fed
+    → FitFed (fed ++ (process, item) ∷ []) → SumsFed new (fed ++ (process, item) ∷ [])

@@ -1,5 +1,5 @@
 -- The rows of the calls of all threads, and what is kept of them.
-use Rattle.std.specs.Prelude.{◌≡◌, ◌++◌, ◌&&◌, ℕ, if◌then◌else◌, not, Bool, true, false, List, map, None, ⊤}
+use Rattle.std.specs.Prelude.{◌≡◌, ℕ, ◌+◌, ◌-◌, ◌<◌, ◌^◌, min, ◌++◌, ◌&&◌, ◌||◌, if◌then◌else◌, not, Bool, true, false, List, map, filter, count_by, None, ⊤}
 use Rattle.std.specs.List.{AllZip, flat_map}
 use Rattle.std.specs.List.Sorted.{IsPermutation, IsNonDecreasingBy}
 use Rattle.event_core.specs.Events.{EventText}
@@ -63,48 +63,82 @@ is_of end verdict o = is_at end o.end && is_verdict verdict o.row.verdict
 abbrev pub is_but : End → Verdict → OpenerRow → Bool
 is_but end verdict o = is_at end o.end && not (is_verdict verdict o.row.verdict)
 
--- the rows of the calls of a thread
+-- whether a section lists the call: one that its thread makes and that is not answered, or one that it serves and that
+-- is not replied to
+abbrev pub is_listed : OpenerRow → Bool
+is_listed o = is_but Caller Answered o || is_but Server Replied o
+
+-- the calls of a thread, as rows
 abbrev pub openers_in : CallFindings (CallEvent ⊤) → List OpenerRow
 openers_in found = map found_opener found.openers.items
 
+-- those of them that are listed, and how many have their thread at this end and this verdict
+abbrev pub listed_in : CallFindings (CallEvent ⊤) → List OpenerRow
+listed_in found = filter is_listed (openers_in found)
+
+abbrev pub count_in : End → Verdict → CallFindings (CallEvent ⊤) → ℕ
+count_in end verdict found = count_by (is_of end verdict) (openers_in found)
+
+-- its strays and its refused sends
 abbrev pub strays_in : CallFindings (CallEvent ⊤) → List ℕ
 strays_in found = map event_place found.strays.items
 
 abbrev pub sends_in : CallFindings (CallEvent ⊤) → List SendRow
 sends_in found = map found_send found.refused.items
 
--- the rows are the old ones with those of a thread behind them
+-- the rows are the old ones with those of a thread behind them, and what is counted are both together
 pub record TakesOver (old : ThreadRows) (found : CallFindings (CallEvent ⊤)) (new : ThreadRows) : Type 0 where
-  pub openers : new.openers.items ≡ old.openers.items ++ openers_in found
+  pub listed : new.listed.items ≡ old.listed.items ++ listed_in found
+  pub answered : new.answered ≡ min (old.answered + count_in Caller Answered found) (2 ^ 64 - 1)
+  pub replied : new.replied ≡ min (old.replied + count_in Server Replied found) (2 ^ 64 - 1)
   pub strays : new.strays.items ≡ old.strays.items ++ strays_in found
   pub sends : new.sends.items ≡ old.sends.items ++ sends_in found
 
--- the rows of the threads of some entries, one thread behind another
-pub record AreRowsInTurn (entries : List (Thread × Calls ⊤)) (openers : List OpenerRow) (strays : List ℕ)
-    (sends : List SendRow) : Type 0 where
+-- the number is the count, if that has 64 bits
+abbrev pub Holds : ℕ → ℕ → Type 0
+Holds number count = count < 2 ^ 64 → number ≡ count
+
+-- the rows of the threads of some entries, one thread behind another, and how many of their calls are not listed
+pub record AreRowsInTurn (entries : List (Thread × Calls ⊤)) (listed : List OpenerRow) (answered replied : ℕ)
+    (strays : List ℕ) (sends : List SendRow) : Type 0 where
   pub founds : List (CallFindings (CallEvent ⊤))
   pub are : AllZip (λ (e : Thread × Calls ⊤) found. GivesFindings e.1 found) entries founds
-  pub openers_are : openers ≡ flat_map openers_in founds
+  pub listed_are : listed ≡ flat_map listed_in founds
+  pub answered_is : Holds answered (count_by (is_of Caller Answered) (flat_map openers_in founds))
+  pub replied_is : Holds replied (count_by (is_of Server Replied) (flat_map openers_in founds))
   pub strays_are : strays ≡ flat_map strays_in founds
   pub sends_are : sends ≡ flat_map sends_in founds
 
 abbrev pub AreGatheredRows : List (Thread × Calls ⊤) → ThreadRows → Type 0
-AreGatheredRows entries rows = AreRowsInTurn entries rows.openers.items rows.strays.items rows.sends.items
+AreGatheredRows entries rows =
+    AreRowsInTurn entries rows.listed.items rows.answered rows.replied rows.strays.items rows.sends.items
 
--- the lists are the old ones, each in the order of its places
+-- the lists are the old ones, each in the order of its places, and the numbers are the same
 pub record AreSortedRows (old new : ThreadRows) : Type 0 where
-  pub openers : IsPermutation old.openers.items new.openers.items
-  pub openers_rise : IsNonDecreasingBy (λ o. o.row.place) new.openers.items
+  pub listed : IsPermutation old.listed.items new.listed.items
+  pub listed_rise : IsNonDecreasingBy (λ o. o.row.place) new.listed.items
+  pub answered : new.answered ≡ old.answered
+  pub replied : new.replied ≡ old.replied
   pub strays : IsPermutation old.strays.items new.strays.items
   pub strays_rise : IsNonDecreasingBy (λ n. n) new.strays.items
   pub sends : IsPermutation old.sends.items new.sends.items
   pub sends_rise : IsNonDecreasingBy (λ s. s.place) new.sends.items
 
+-- these are the listed ones of these calls, in their order, and so many of the calls have their thread at this end
+-- and this verdict
+abbrev pub AreListedOf : List (Opener EventText) → List OpenerRow → Type 0
+AreListedOf told listed = listed ≡ filter is_listed (map opener_row told)
+
+abbrev pub IsCountOf : End → Verdict → List (Opener EventText) → ℕ → Type 0
+IsCountOf end verdict told count = count ≡ count_by (is_of end verdict) (map opener_row told)
+
 -- the rows keep the openers, the strays and the refused sends of all threads of these events
 pub record KeepRows (rows : ThreadRows) (events : List EventText) : Type 0 where
   pub openers : List (Opener EventText)
   pub are_openers : AreOpeners events openers
-  pub openers_kept : rows.openers.items ≡ map opener_row openers
+  pub listed_kept : AreListedOf openers rows.listed.items
+  pub answered_kept : IsCountOf Caller Answered openers rows.answered
+  pub replied_kept : IsCountOf Server Replied openers rows.replied
   pub strays : List EventText
   pub are_strays : AreStrays events strays
   pub strays_kept : rows.strays.items ≡ map (λ e. e.place) strays

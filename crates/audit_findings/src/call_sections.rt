@@ -37,13 +37,15 @@ impl CallSections {
             (said : CallSectionsText) × AreCallSections events said × KeepCalls kept said) }
     {
         let ThreadRows {
-            openers,
+            listed,
+            answered,
+            replied,
             strays,
             sends,
         } = ThreadRows::of(alloc, ledger)?;
         Ok(CallSections {
-            calls: Calls::of(alloc, openers.as_slice())?,
-            served: Served::of(alloc, openers.as_slice())?,
+            calls: Calls::of(alloc, answered, listed.as_slice())?,
+            served: Served::of(alloc, replied, listed.as_slice())?,
             strays: Rows::of(strays),
             refused: Refused::of(alloc, sends.as_slice())?,
         })

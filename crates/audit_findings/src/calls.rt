@@ -1,10 +1,12 @@
 //! The section `calls`.
 
-ghost use Rattle.std.specs.Prelude.{◌≡◌, List, map, IfOk};
+ghost use Rattle.std.specs.Prelude.{◌≡◌, List, IfOk};
 ghost use Rattle.event_core.specs.Events.{EventText};
 ghost use Rattle.audit_findings.specs.Calls.{AreCalls, CallsText};
 ghost use Rattle.audit_findings.specs.Kept.{KeepsCalls};
-ghost use Rattle.audit_findings.specs.ThreadRows.{found_call, opener_row};
+ghost use Rattle.audit_findings.specs.ThreadRows.{found_call, AreListedOf, IsCountOf};
+ghost use Rattle.audit_findings.specs.declared.opener_row.End.TheVariants.{Caller};
+ghost use Rattle.call_stacks.specs.declared.verdict.Verdict.TheVariants.{Answered};
 
 use crate::opener_row::{End, OpenerRow, count_of, rows_but};
 use crate::rows::Rows;
@@ -47,18 +49,19 @@ pub struct Calls {
 }
 
 impl Calls {
-    /// What is kept of the calls among these.
-    pub(crate) fn of(alloc: Global, openers: &[OpenerRow]) -> Result<Self, AllocError>
+    /// What is kept of the calls that threads make: of these many answered ones, and of those among
+    /// the listed ones.
+    pub(crate) fn of(alloc: Global, answered: u64, listed: &[OpenerRow]) -> Result<Self, AllocError>
         ensures { IfOk result (λ calls. (told : List (Opener EventText)) →
-            openers.entry.now ≡ map opener_row told →
+            IsCountOf Caller Answered told answered → AreListedOf told listed.entry.now →
             (said : CallsText) × AreCalls told said × KeepsCalls calls said) }
     {
-        let crossed = count_of(openers, End::Caller, Verdict::Crossed);
-        let open = count_of(openers, End::Caller, Verdict::Open);
-        let rows = rows_but(alloc, openers, End::Caller, Verdict::Answered)?;
+        let crossed = count_of(listed, End::Caller, Verdict::Crossed);
+        let open = count_of(listed, End::Caller, Verdict::Open);
+        let rows = rows_but(alloc, listed, End::Caller, Verdict::Answered)?;
         Ok(Calls {
-            answered: count_of(openers, End::Caller, Verdict::Answered),
-            failed: count_of(openers, End::Caller, Verdict::Failed),
+            answered,
+            failed: count_of(listed, End::Caller, Verdict::Failed),
             unanswered: crossed + open,
             rows: Rows::of(rows),
         })

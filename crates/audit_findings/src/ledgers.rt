@@ -3,6 +3,7 @@
 ghost use Rattle.std.specs.Prelude.{◌≡◌, [], ◌∷◌, IfOk, OnOk};
 ghost use Rattle.summary_law.specs.Summary.{CanJoin, Joins};
 ghost use Rattle.audit_findings.specs.Ledgers.{SumsLedgers, AreFewFrames, CanTake, Takes, AreOfFew, GiveSections};
+ghost use Rattle.audit_findings.specs.Ledgers.{CanTakeItem, TakesItem};
 
 use crate::call_sections::CallSections;
 use crate::event_ledgers::EventLedgers;
@@ -51,7 +52,7 @@ impl Ledgers {
         while let Some(event) = events.next_event() {
             self.events.add(event)?;
             self.threads.add(event)?;
-            self.processes.add((process, ProcessItem::of(event)))?;
+            add_item(&mut self.processes, process, ProcessItem::of(event))?;
         }
         Ok(())
     }
@@ -83,5 +84,22 @@ impl Ledgers {
             calls,
             processes,
         })
+    }
+}
+
+/// Adds an item of a process that has come before. Most records are no item, and for these nothing
+/// is looked up.
+fn add_item(
+    processes: &mut InOrder<Process, ProcessSummary>,
+    process: Process,
+    item: ProcessItem,
+) -> Result<(), AllocError>
+    requires { CanTakeItem processes.old.entries.entries process item }
+    ensures { OnOk result
+        (TakesItem processes.old.entries.entries process item processes.new.entries.entries) }
+{
+    match item {
+        ProcessItem::Nothing => Ok(()),
+        _ => processes.add((process, item)),
     }
 }

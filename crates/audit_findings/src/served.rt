@@ -1,11 +1,13 @@
 //! The section `served`.
 
-ghost use Rattle.std.specs.Prelude.{◌≡◌, List, map, IfOk};
+ghost use Rattle.std.specs.Prelude.{List, IfOk};
 ghost use Rattle.event_core.specs.Events.{EventText};
 ghost use Rattle.call_stacks.specs.declared.opener.Opener.{Opener};
 ghost use Rattle.audit_findings.specs.Calls.{AreServed, ServedText};
 ghost use Rattle.audit_findings.specs.Kept.{KeepsServed};
-ghost use Rattle.audit_findings.specs.ThreadRows.{opener_row};
+ghost use Rattle.audit_findings.specs.ThreadRows.{AreListedOf, IsCountOf};
+ghost use Rattle.audit_findings.specs.declared.opener_row.End.TheVariants.{Server};
+ghost use Rattle.call_stacks.specs.declared.verdict.Verdict.TheVariants.{Replied};
 
 use crate::calls::CallRow;
 use crate::opener_row::{End, OpenerRow, count_of, rows_but};
@@ -27,17 +29,18 @@ pub struct Served {
 }
 
 impl Served {
-    /// What is kept of the served calls among these.
-    pub(crate) fn of(alloc: Global, openers: &[OpenerRow]) -> Result<Self, AllocError>
+    /// What is kept of the calls that threads serve: of these many replied ones, and of those among
+    /// the listed ones.
+    pub(crate) fn of(alloc: Global, replied: u64, listed: &[OpenerRow]) -> Result<Self, AllocError>
         ensures { IfOk result (λ served. (told : List (Opener EventText)) →
-            openers.entry.now ≡ map opener_row told →
+            IsCountOf Server Replied told replied → AreListedOf told listed.entry.now →
             (said : ServedText) × AreServed told said × KeepsServed served said) }
     {
-        let rows = rows_but(alloc, openers, End::Server, Verdict::Replied)?;
+        let rows = rows_but(alloc, listed, End::Server, Verdict::Replied)?;
         Ok(Served {
-            replied: count_of(openers, End::Server, Verdict::Replied),
-            crossed: count_of(openers, End::Server, Verdict::Crossed),
-            left_open: count_of(openers, End::Server, Verdict::Open),
+            replied,
+            crossed: count_of(listed, End::Server, Verdict::Crossed),
+            left_open: count_of(listed, End::Server, Verdict::Open),
             rows: Rows::of(rows),
         })
     }

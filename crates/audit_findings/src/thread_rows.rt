@@ -1,24 +1,30 @@
 //! The rows of the calls of all threads.
 
-ghost use Rattle.std.specs.Prelude.{◌≡◌, ◌++◌, List, map, IfOk, OnOk};
+ghost use Rattle.std.specs.Prelude.{◌≡◌, ◌++◌, List, map, filter, count_by, IfOk, OnOk};
 ghost use Rattle.event_core.specs.Events.{EventText};
 ghost use Rattle.call_stacks.specs.Calls.{event_place};
 ghost use Rattle.audit_findings.specs.Places.{RiseInPlace};
 ghost use Rattle.audit_findings.specs.ThreadLedger.{SumsThreadCalls};
-ghost use Rattle.audit_findings.specs.ThreadRows.{found_opener, found_send, TakesOver, AreGatheredRows, AreSortedRows, KeepRows};
+ghost use Rattle.audit_findings.specs.ThreadRows.{found_opener, found_send, is_listed, is_of};
+ghost use Rattle.audit_findings.specs.ThreadRows.{TakesOver, AreGatheredRows, AreSortedRows, KeepRows};
 
-use crate::opener_row::OpenerRow;
+use crate::opener_row::{End, OpenerRow};
 use crate::refused::SendRow;
 use crate::thread_ledger::ThreadLedger;
-use call_stacks::{CallEvent, CallFindings, Opener, RefusedSend};
+use call_stacks::{CallEvent, CallFindings, Opener, RefusedSend, Verdict};
 use std::alloc::{AllocError, Global};
 use summary_law::InOrder;
 
-/// The rows of the calls of all threads, each list in rising place once it is sorted.
+/// The rows of the calls of all threads, each list in rising place once it is sorted. Calls that no
+/// section lists, which most are, are counted as their thread is taken over.
 #[derive(Drop)]
 pub(crate) struct ThreadRows {
-    /// The calls, made and served ones.
-    pub openers: Vec<OpenerRow>,
+    /// The calls that a section lists, made and served ones.
+    pub listed: Vec<OpenerRow>,
+    /// How many calls that threads make are answered.
+    pub answered: u64,
+    /// How many calls that threads serve are replied to.
+    pub replied: u64,
     /// The places of the closers that match no opener.
     pub strays: Vec<u64>,
     /// The refused sends.
@@ -42,7 +48,9 @@ impl ThreadRows {
             AreGatheredRows ledger.threads.entries.entries rows) }
     {
         let mut rows = ThreadRows {
-            openers: Vec::new(alloc),
+            listed: Vec::new(alloc),
+            answered: 0,
+            replied: 0,
             strays: Vec::new(alloc),
             sends: Vec::new(alloc),
         };
@@ -54,11 +62,17 @@ impl ThreadRows {
         Ok(rows)
     }
 
-    /// Takes over the calls of a thread.
+    /// Takes over the calls of a thread. The numbers never get to 2^64, as no capture has so many
+    /// records; that is known to the caller alone, so they are sums that stop there.
     fn take_over(&mut self, found: &CallFindings<CallEvent<()>>) -> Result<(), AllocError>
         ensures { OnOk result (TakesOver self.old found.now self.new) }
     {
-        push_openers(&mut self.openers, found.openers.as_slice())?;
+        let openers = found.openers.as_slice();
+        let answered = count_found(openers, End::Caller, Verdict::Answered);
+        let replied = count_found(openers, End::Server, Verdict::Replied);
+        self.answered = self.answered.saturating_add(answered);
+        self.replied = self.replied.saturating_add(replied);
+        push_listed(&mut self.listed, openers)?;
         push_places(&mut self.strays, found.strays.as_slice())?;
         push_sends(&mut self.sends, found.refused.as_slice())
     }
@@ -67,21 +81,34 @@ impl ThreadRows {
     fn sort(&mut self)
         ensures { AreSortedRows self.old self.new }
     {
-        self.openers.sort_unstable_by_key(|opener| opener.row.place);
+        self.listed.sort_unstable_by_key(|opener| opener.row.place);
         self.strays.sort_unstable();
         self.sends.sort_unstable_by_key(|sent| sent.place);
     }
 }
 
-fn push_openers(
+/// How many calls have their thread at this end and this verdict.
+fn count_found(openers: &[Opener<CallEvent<()>>], end: End, verdict: Verdict) -> u64
+    ensures { result ≡ count_by (is_of end verdict) (map found_opener openers.now) }
+{
+    openers
+        .iter()
+        .filter(|opener| OpenerRow::of(opener).is_of(end, verdict))
+        .count() as u64
+}
+
+fn push_listed(
     rows: &mut Vec<OpenerRow>,
     openers: &[Opener<CallEvent<()>>],
 ) -> Result<(), AllocError>
     ensures { OnOk result (rows.new.items ≡
-        rows.old.items ++ map found_opener openers.now) }
+        rows.old.items ++ filter is_listed (map found_opener openers.now)) }
 {
     for opener in openers {
-        rows.push(OpenerRow::of(opener))?;
+        let row = OpenerRow::of(opener);
+        if row.is_listed() {
+            rows.push(row)?;
+        }
     }
     Ok(())
 }

@@ -10,11 +10,13 @@ use Rattle.std.proofs.lemmas.List.Sums.{sum_by-append}
 use Rattle.capture_frame.specs.declared.fault.Fault.{Fault}
 use Rattle.capture_frame.specs.declared.fault.FaultKind.{FaultKind}
 use Rattle.capture_frame.specs.declared.frame.Frame.{Frame}
+use Rattle.capture_frame.specs.declared.version.Version.{Version}
 use Rattle.capture_frame.specs.Cut.{AreFrames, AreFramesBefore, AreViewsOf, frames_before}
-use Rattle.capture_frame.specs.Envelope.{FrameText, file_header, frame_text, placed_frame, frame_bytes}
+use Rattle.capture_frame.specs.Envelope.{FrameText, Before, in_version, file_header, frame_text, placed_frame, frame_bytes}
 use Rattle.capture_frame.specs.FirstFault.{IsFirstFault, frame_format, in_header, in_frames}
 use Rattle.capture_frame.specs.Units.{Placed, placed, placed_at, spelling_of, Splits, FirstFailure, IsBytes, state_after}
 use Rattle.capture_frame.proofs.FrameLaws.{length-frame_bytes}
+use Rattle.capture_frame.proofs.HeaderLaws.{length-file_header}
 use Rattle.capture_frame.proofs.NumberLaws.{IsBytes-drop}
 use Rattle.capture_frame.proofs.UnitLaws.{Splits-cons, Splits-tail, FirstFailure-cons}
 use Rattle.transaction_view.specs.FirstFault.{HasGoodContent, HasContentFault, ContentFails, in_content}
@@ -45,9 +47,10 @@ StandFrom base frames = map placed_frame frames ≡ placed frame_bytes base (tex
 
 -- the capture begins with these frames, and then has the rest
 record BeginsWithCut (capture : List ℕ) (frames : List Frame) (rest : List ℕ) : Type 0 where
+  pub version : Version
   pub bytes : List ℕ
-  pub joined : capture ≡ file_header ++ bytes
-  pub splits : Splits frame_format None bytes (texts_of frames) rest
+  pub joined : capture ≡ file_header version ++ bytes
+  pub splits : Splits frame_format (in_version version None) bytes (texts_of frames) rest
   pub stand : StandFrom 16 frames
 
 -- ---- one frame, and the others
@@ -110,11 +113,13 @@ begins_cut : (capture : List ℕ) (frames : List Frame) (rest : List ℕ) → Be
 begins_cut capture frames rest begins short bytes =
     let spelled = flat_map frame_bytes (texts_of frames) in
     let spans = spans_are frames in
-    let whole = ap length begins.joined ∙ length-append file_header begins.bytes in
+    let header = length-file_header begins.version in
+    let whole = ap length begins.joined ∙ length-append (file_header begins.version) begins.bytes in
     let parts = ap length begins.splits.joined ∙ length-append spelled rest in
-    let there = subst IsBytes (drop_at file_header begins.bytes 16 refl) (IsBytes-drop 16 (file_header ++ begins.bytes) (subst IsBytes begins.joined bytes)) in
+    let there = subst IsBytes (drop_at (file_header begins.version) begins.bytes 16 header)
+    (IsBytes-drop 16 (file_header begins.version ++ begins.bytes) (subst IsBytes begins.joined bytes)) in
     record {
-      few = omega (arith, spans, whole, parts, short);
+      few = omega (arith, spans, header, whole, parts, short);
       apart = stand_apart 16 frames begins.stand;
       bytes = of_bytes frames rest (subst IsBytes begins.splits.joined there);
     }
@@ -127,11 +132,11 @@ wholes_by (f ∷ frames) sound =
     let good = All-head IsGood f frames sound in
     whole_of f good.0.0 good.1.0 ∷ wholes_by frames (All-tail IsGood f frames sound)
 
-may_stand_whole : (before : Option ℕ) (f : Frame) (good : IsGood f) → frame_format.MayStand before (frame_text f)
+may_stand_whole : (before : Before) (f : Frame) (good : IsGood f) → frame_format.MayStand before (frame_text f)
     → MayStandWhole before (whole_of f good.0.0 good.1.0)
 may_stand_whole before f good stands = record { header = stands; has_records = good.0.1; has_entries = good.1.1 }
 
-whole_splits : (before : Option ℕ) (bytes : List ℕ) (frames : List Frame) (sound : AreSound frames) (rest : List ℕ)
+whole_splits : (before : Before) (bytes : List ℕ) (frames : List Frame) (sound : AreSound frames) (rest : List ℕ)
     → Splits frame_format before bytes (texts_of frames) rest → Splits whole_format before bytes (wholes_by frames sound) rest
 unfolding wholes_by
 whole_splits before bytes [] sound rest splits = record { joined = splits.joined; stand = tt }
@@ -141,7 +146,7 @@ whole_splits before bytes (f ∷ frames) sound rest splits =
     let tail = Splits-tail frame_format before bytes (frame_text f) (texts_of frames) rest splits in
     let middle = spelling_of frame_format (texts_of frames) ++ rest in
     Splits-cons whole_format before bytes middle (whole_of f good.0.0 good.1.0) (wholes_by frames others) rest
-    (may_stand_whole before f good tail.1) tail.0 (whole_splits (Some f.sequence) middle frames others rest tail.2)
+    (may_stand_whole before f good tail.1) tail.0 (whole_splits (in_version before.version (Some f.sequence)) middle frames others rest tail.2)
 
 abbrev placed_from : ℕ → List WholeFrame → List (Placed WholeFrame)
 placed_from base wholes = placed (λ whole. frame_bytes whole.frame) base wholes
@@ -172,7 +177,7 @@ shown_by_cut frames stand sound = record {
 
 -- ---- a fault of the frames is the first of the capture
 
-content_fails : (before : Option ℕ) (bytes : List ℕ) (base : ℕ) (front : List Frame) (frame : Frame) (behind : List Frame) (rest : List ℕ)
+content_fails : (before : Before) (bytes : List ℕ) (base : ℕ) (front : List Frame) (frame : Frame) (behind : List Frame) (rest : List ℕ)
     (fault : Fault) → AreSound front → Splits frame_format before bytes (texts_of (front ++ frame ∷ behind)) rest
     → StandFrom base (front ++ frame ∷ behind) → HasContentFault frame fault
     → (distance : ℕ) × FirstFailure whole_format before bytes fault.kind distance × (fault.place ≡ base + distance)
@@ -196,7 +201,7 @@ content_fails before bytes base (f ∷ front) frame behind rest fault sound spli
     let text = frame_text f in
     let tail = Splits-tail frame_format before bytes text (texts_of others) rest splits in
     let middle = spelling_of frame_format (texts_of others) ++ rest in
-    let later = content_fails (Some f.sequence) middle (base + length (frame_bytes text)) front frame behind rest fault
+    let later = content_fails (in_version before.version (Some f.sequence)) middle (base + length (frame_bytes text)) front frame behind rest fault
     (All-tail IsGood f front sound) tail.2 (stands_first base f others stand).1 fails in
     let place = later.2 in (
       length (frame_bytes text) + later.0,
@@ -208,14 +213,14 @@ content_fails before bytes base (f ∷ front) frame behind rest fault sound spli
 first_in_cut : (capture : List ℕ) (frames : List Frame) (rest : List ℕ) (fault : Fault) → BeginsWithCut capture frames rest
     → IsFirstIn frames fault → HasFirstFault capture fault
 first_in_cut capture frames rest fault begins first =
-    let splits = subst (λ (t : List Frame). Splits frame_format None begins.bytes (texts_of t) rest) first.are begins.splits in
+    let splits = subst (λ (t : List Frame). Splits frame_format (in_version begins.version None) begins.bytes (texts_of t) rest) first.are begins.splits in
     let stand = subst (StandFrom 16) first.are begins.stand in
-    let failure = content_fails None begins.bytes 16 first.before first.frame first.behind rest fault first.sound splits stand first.fails in
-    in_frames begins.bytes failure.0 begins.joined failure.1 failure.2
+    let failure = content_fails (in_version begins.version None) begins.bytes 16 first.before first.frame first.behind rest fault first.sound splits stand first.fails in
+    in_frames begins.version begins.bytes failure.0 begins.joined failure.1 failure.2
 
 -- ---- and without one, so is that at which they are cut off
 
-header_fails : (before : Option ℕ) (bytes : List ℕ) (frames : List Frame) (rest : List ℕ) (kind : FaultKind) (within : ℕ) → AreSound frames
+header_fails : (before : Before) (bytes : List ℕ) (frames : List Frame) (rest : List ℕ) (kind : FaultKind) (within : ℕ) → AreSound frames
     → Splits frame_format before bytes (texts_of frames) rest → frame_format.Fails (state_after frame_format before (texts_of frames)) rest kind within
     → FirstFailure whole_format before bytes kind (length (spelling_of frame_format (texts_of frames)) + within)
 header_fails before bytes [] rest kind within sound splits fails = record {
@@ -232,7 +237,7 @@ header_fails before bytes (f ∷ frames) rest kind within sound splits fails =
     let tail = Splits-tail frame_format before bytes text (texts_of frames) rest splits in
     let spelled = spelling_of frame_format (texts_of frames) in
     let middle = spelled ++ rest in
-    let later = header_fails (Some f.sequence) middle frames rest kind within (All-tail IsGood f frames sound) tail.2 fails in
+    let later = header_fails (in_version before.version (Some f.sequence)) middle frames rest kind within (All-tail IsGood f frames sound) tail.2 fails in
     let whole = ap length (flat_map-cons frame_bytes text (texts_of frames)) ∙ length-append (frame_bytes text) spelled in
     let far : length (frame_bytes text) + (length spelled + within) ≡ length (spelling_of frame_format (texts_of (f ∷ frames))) + within =
     omega (arith, whole) in
@@ -245,9 +250,10 @@ header_fails before bytes (f ∷ frames) rest kind within sound splits fails =
 -- all frames, behind which nothing stands
 all_begin : (capture : List ℕ) (frames : List Frame) → AreFrames capture frames → BeginsWithCut capture frames []
 all_begin capture frames are = record {
-  bytes = are.whole.0;
-  joined = are.whole.1;
-  splits = subst (λ (t : List FrameText). Splits frame_format None are.whole.0 t []) (sym are.views.said) are.whole.2;
+  version = are.whole.0;
+  bytes = are.whole.1;
+  joined = are.whole.2;
+  splits = subst (λ (t : List FrameText). Splits frame_format (in_version are.whole.0 None) are.whole.1 t []) (sym are.views.said) are.whole.3;
   stand = are.views.stand ∙ ap (placed frame_bytes 16) (sym are.views.said);
 }
 
@@ -264,20 +270,21 @@ no_frames_cut = record {
 }
 
 -- the frames before a fault of a frame's header
-begins_before : (capture : List ℕ) (frames : List Frame) (bytes : List ℕ) (texts : List FrameText) (rest : List ℕ)
-    → capture ≡ file_header ++ bytes → Splits frame_format None bytes texts rest → AreViewsOf texts frames → BeginsWithCut capture frames rest
-begins_before capture frames bytes texts rest joined splits views = record {
+begins_before : (version : Version) (capture : List ℕ) (frames : List Frame) (bytes : List ℕ) (texts : List FrameText) (rest : List ℕ)
+    → capture ≡ file_header version ++ bytes → Splits frame_format (in_version version None) bytes texts rest → AreViewsOf texts frames → BeginsWithCut capture frames rest
+begins_before version capture frames bytes texts rest joined splits views = record {
+  version = version;
   bytes = bytes;
   joined = joined;
-  splits = subst (λ (t : List FrameText). Splits frame_format None bytes t rest) (sym views.said) splits;
+  splits = subst (λ (t : List FrameText). Splits frame_format (in_version version None) bytes t rest) (sym views.said) splits;
   stand = views.stand ∙ ap (placed frame_bytes 16) (sym views.said);
 }
 
 cut_by : (capture : List ℕ) (fault : Fault) (frames : List Frame) (first : IsFirstFault frame_format capture fault)
     → AreViewsOf (frames_before capture fault first) frames → length capture ≤ 2 ^ 30 → IsBytes capture → AreCut frames
 cut_by capture fault frames (in_header fails) views short bytes = subst AreCut (sym (none_said frames views.said)) no_frames_cut
-cut_by capture fault frames (in_frames behind distance joined fails place) views short bytes =
-    begins_cut capture frames fails.rest (begins_before capture frames behind fails.before fails.rest joined fails.splits views) short bytes
+cut_by capture fault frames (in_frames version behind distance joined fails place) views short bytes =
+    begins_cut capture frames fails.rest (begins_before version capture frames behind fails.before fails.rest joined fails.splits views) short bytes
 
 pub before_cut : (capture : List ℕ) (fault : Fault) (frames : List Frame) → AreFramesBefore capture fault frames → length capture ≤ 2 ^ 30
     → IsBytes capture → AreCut frames
@@ -290,20 +297,20 @@ earlier_by capture fault other frames (in_header fails) views found =
     let none = ap length (none_said frames views.said) in
     let some = ap length found.are ∙ length-append found.before (found.frame ∷ found.behind) in
     absurd (omega (arith, none, some))
-earlier_by capture fault other frames (in_frames behind distance joined fails place) views found =
-    first_in_cut capture frames fails.rest other (begins_before capture frames behind fails.before fails.rest joined fails.splits views) found
+earlier_by capture fault other frames (in_frames version behind distance joined fails place) views found =
+    first_in_cut capture frames fails.rest other (begins_before version capture frames behind fails.before fails.rest joined fails.splits views) found
 
 none_earlier : (capture : List ℕ) (fault : Fault) (frames : List Frame) (first : IsFirstFault frame_format capture fault)
     → AreViewsOf (frames_before capture fault first) frames → AreSound frames → HasFirstFault capture fault
 none_earlier capture fault frames (in_header fails) views sound = in_header fails
-none_earlier capture fault frames (in_frames behind distance joined fails place) views sound =
-    let splits = subst (λ (t : List FrameText). Splits frame_format None behind t fails.rest) (sym views.said) fails.splits in
-    let failing = subst (λ (t : List FrameText). frame_format.Fails (state_after frame_format None t) fails.rest fault.kind fails.within)
+none_earlier capture fault frames (in_frames version behind distance joined fails place) views sound =
+    let splits = subst (λ (t : List FrameText). Splits frame_format (in_version version None) behind t fails.rest) (sym views.said) fails.splits in
+    let failing = subst (λ (t : List FrameText). frame_format.Fails (state_after frame_format (in_version version None) t) fails.rest fault.kind fails.within)
     (sym views.said) fails.fails in
-    let whole = header_fails None behind frames fails.rest fault.kind fails.within sound splits failing in
+    let whole = header_fails (in_version version None) behind frames fails.rest fault.kind fails.within sound splits failing in
     let same = ap (λ (t : List FrameText). length (spelling_of frame_format t)) views.said in
     let stands = fails.stands in
-    in_frames behind (length (spelling_of frame_format (texts_of frames)) + fails.within) joined whole (omega (arith, place, same, stands))
+    in_frames version behind (length (spelling_of frame_format (texts_of frames)) + fails.within) joined whole (omega (arith, place, same, stands))
 
 -- and where they have none it is
 pub cut_off_first : (capture : List ℕ) (fault : Fault) (frames : List Frame) → AreFramesBefore capture fault frames → AreSound frames
@@ -327,7 +334,7 @@ pub whole_capture : (capture : List ℕ) (frames : List Frame) → AreFrames cap
 whole_capture capture frames are sound =
     let begins = all_begin capture frames are in (
       wholes_by frames sound,
-      (begins.bytes, begins.joined, whole_splits None begins.bytes frames sound [] begins.splits),
+      (begins.version, begins.bytes, begins.joined, whole_splits (in_version begins.version None) begins.bytes frames sound [] begins.splits),
       shown_by_cut frames begins.stand sound,
     )
 

@@ -53,7 +53,8 @@ fn judge_runs<J: RunJobs + Sync, T: Threads + Sync, G: Gate + Sync>(
     requires cut { AreCut (all_frames (map (λ run. run.now) runs.now)) }
     requires some { AreJobRuns (map (λ run. run.now) runs.now) }
     requires jobs { (can : AreJobRuns (map (λ run. run.now) runs.now)) →
-        AllZip IsJobOf (map (λ run. run.now) runs.now) (J.jobs (map (λ run. run.now) runs.now) can) }
+        AllZip IsJobOf (map (λ run. run.now) runs.now)
+        (J.jobs (map (λ run. run.now) runs.now) can) }
     ensures sound { IfOk result (λ _. AreSound (all_frames (map (λ run. run.now) runs.now))) }
     ensures fault { IfErr result (IsLeastOf (all_frames (map (λ run. run.now) runs.now))) }
 {

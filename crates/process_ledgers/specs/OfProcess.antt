@@ -44,12 +44,14 @@ IsOfProcess (Some ledgers) events process = AreLedgersOf ledgers.value events pr
 -- of a process without an item nothing is read
 abbrev pub ReadsItems : {I : Type 0} → (EventText → Option I) → Type 0
 ReadsItems read =
-    (events : List EventText) (process : Process) → HasNoItems events process → items_of_process read process events ≡ []
+    (events : List EventText) (process : Process) → HasNoItems events process
+    → items_of_process read process events ≡ []
 
 -- where something is so of a process at some place, some event of the process is an item of a ledger
 abbrev pub NeedsItems : (List EventText → Process → ℕ → Type 0) → Type 0
 NeedsItems IsSo =
-    (events : List EventText) (process : Process) (place : ℕ) → HasNoItems events process → IsSo events process place → ⊥
+    (events : List EventText) (process : Process) (place : ℕ) → HasNoItems events process
+    → IsSo events process place → ⊥
 
 -- the entries are those of the processes of these frames, in the order of their first frames
 pub record AreOfProcesses (processes : List (Process × ProcessSummary)) (wholes : List (Placed WholeFrame)) :
@@ -61,4 +63,5 @@ pub record AreOfProcesses (processes : List (Process × ProcessSummary)) (wholes
 -- what is listed of whatever process the ledgers are of
 abbrev pub GivesOf : {R : Type 0} → (List EventText → Process → List R → Type 0) → ProcessSummary → List R → Type 0
 GivesOf AreOf summary rows =
-    (events : List EventText) (process : Process) → IsOfProcess summary.ledgers events process → AreOf events process rows
+    (events : List EventText) (process : Process) → IsOfProcess summary.ledgers events process
+    → AreOf events process rows

@@ -1,16 +1,16 @@
 -- What a map of summaries in the order of first items tells, and what the keys of a list in that order are.
-use Rattle.std.proofs.Common.{◌≡◌, ◌≢◌, Bool, true, false, not, ◌&&◌, List, [], ◌∷◌, ◌++◌, map, filter, Option, Some, None, is_some, All, slice_index_or, refl, sym, ap, subst, ◌∙◌, ⊎_elim}
+use Rattle.std.proofs.Common.{◌≡◌, ◌≢◌, Bool, true, false, cond, not, ◌&&◌, ◌||◌, List, [], ◌∷◌, ◌++◌, map, filter, Option, Some, None, is_some, All, slice_index_or, refl, sym, ap, ap₂, subst, ◌∙◌, ⊎_elim, append-nil}
 use Rattle.std.proofs.lemmas.Bool.{cases_Bool, true≢false}
 use Rattle.std.proofs.lemmas.List.{map-append}
-use Rattle.std.proofs.lemmas.List.Elements.{All-cons, All-head, All-tail, All-filter, All-weaker, Contains-get_or}
+use Rattle.std.proofs.lemmas.List.Elements.{All-cons, All-head, All-tail, All-filter, All-weaker, Contains-get_or, filter_map-append}
 use Rattle.std.proofs.lemmas.Map.Made.{is_some-lookup, All-is_member}
 use Rattle.std.proofs.lemmas.Map.Views.{lookup-from_Contains}
 use Rattle.std.specs.Cmp.{IsEquivalence}
-use Rattle.std.specs.List.{list_any, flat_map, AllByRecursion, IsDistinct}
+use Rattle.std.specs.List.{list_any, flat_map, cons_option, AllByRecursion, IsDistinct}
 use Rattle.std.specs.Map.{lookup, keys_of}
-use Rattle.summary_law.specs.ByKey.{items_of, IsPart}
+use Rattle.summary_law.specs.ByKey.{items_of, under, IsPart}
 use Rattle.summary_law.specs.InOrder.{firsts, SumsInOrder}
-use Rattle.summary_law.proofs.FirstLaws.{filter_twice, list_any-firsts}
+use Rattle.summary_law.proofs.FirstLaws.{filter_twice, list_any-firsts, firsts_stay}
 
 and_itself : (b : Bool) → b ≡ (b && b)
 and_itself true = refl
@@ -133,3 +133,44 @@ module _ {K : Type 0} {eq : K → K → Bool} (laws : IsEquivalence eq) where
     -- a key that no entry has has no items
     pub none_else : (key : K) → list_any (eq key) (keys_of entries) ≡ false → items_of eq key items ≡ []
     none_else key missing = no_part (lookup (eq key) entries) (items_of eq key items) (sums.parts key) (is_some-lookup (eq key) entries ∙ missing)
+
+-- ---- an item that changes no summary
+
+one_more : {X : Type 0} (xs : List X) (x : X) → xs ++ x ∷ [] ≢ []
+one_more [] x = λ none. absurd cc
+one_more (y ∷ xs) x = λ none. absurd cc
+
+module _ {K : Type 0} {eq : K → K → Bool} (laws : IsEquivalence eq) where
+  any_alike : (a b : K) → eq a b ≡ true → (keys : List K) → list_any (eq a) keys ≡ list_any (eq b) keys
+  any_alike a b same [] = refl
+  any_alike a b same (key ∷ keys) = ap₂ (λ (x y : Bool). x || y) (laws.congr a b key same) (any_alike a b same keys)
+
+  -- a key that has come has items
+  has_items : {I : Type 0} (key : K) (items : List (K × I)) → list_any (eq key) (keys_of items) ≡ true → items_of eq key items ≢ []
+  has_items key [] come = λ none. true≢false (sym come)
+  has_items {I} key (e ∷ items) come =
+      elim (eq key e.0) as (λ b. (b || list_any (eq key) (keys_of items)) ≡ true → cons_option (cond b (Some e.1) None) (items_of eq key items) ≢ []) [
+        | true ↦ λ come none. absurd cc
+        | false ↦ λ come. has_items key items come
+      ] come
+
+  module _ {S I : Type 0} (Sums : S → List I → Type 0) (key : K) (item : I)
+      (idle : (part : S) (own : List I) → Sums part own → Sums part (own ++ item ∷ [])) where
+    part_stays : (b : Bool) (part : Option S) (own : List I) → (b ≡ true → own ≢ []) → IsPart Sums part own
+        → IsPart Sums part (own ++ cons_option (cond b (Some item) None) [])
+    part_stays false part own some is = subst (IsPart Sums part) (sym (append-nil own)) is
+    part_stays true None own some is = absurd (some refl is)
+    part_stays true (Some part) own some is = (one_more own item, idle part own is.1)
+
+    -- what sums the items before it sums them with it
+    pub item_left_out : (entries : List (K × S)) (items : List (K × I)) → list_any (eq key) (keys_of items) ≡ true → SumsInOrder eq Sums entries items
+        → SumsInOrder eq Sums entries (items ++ (key, item) ∷ [])
+    item_left_out entries items come sums =
+        record {
+          order = firsts_stay eq laws (keys_of entries) items key item sums.order
+              (ap (list_any (eq key)) sums.order ∙ list_any-firsts eq laws key (keys_of items) ∙ come);
+          parts = λ other.
+              subst (IsPart Sums (lookup (eq other) entries)) (sym (filter_map-append (under eq other) items ((key, item) ∷ [])))
+              (part_stays (eq other key) (lookup (eq other) entries) (items_of eq other items)
+              (λ same. has_items other items (any_alike other key same (keys_of items) ∙ come)) (sums.parts other));
+        }

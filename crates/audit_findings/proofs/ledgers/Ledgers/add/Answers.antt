@@ -4,13 +4,14 @@ use Rattle.event_core.specs.Reading.{event_text}
 use Rattle.event_core.proofs.EventsGiven.{none_yet}
 use Rattle.event_core.proofs.EventPlaces.{step_falls}
 use Rattle.event_core.specs.Events.{events_of_wholes}
-use Rattle.audit_findings.specs.Ledgers.{AreFewEvents, SumsEvents, SumsFrames}
+use Rattle.audit_findings.specs.Ledgers.{AreFewEvents, SumsEvents, SumsFrames, SumsFed, FitFed}
 use Rattle.audit_findings.specs.ThreadLedger.{SumsThreadCalls}
 use Rattle.audit_findings.proofs.FrameLaws.{shown_good, shown_alone, few_with, few_next, all_given, given_next, texts_next}
 use Rattle.process_ledgers.specs.declared.process_item.ProcessItem.{ProcessItem}
 use Rattle.process_ledgers.specs.declared.process_item.ProcessItem.TheVariants.{Nothing}
 use Rattle.process_ledgers.specs.ProcessItem.{fed_by_all}
-use Rattle.audit_findings.proofs.FitLaws.{SumsFed, FitFed, fed_given, fit_with, fit_mark, fit_next, all_fed, fed_next}
+use Rattle.audit_findings.proofs.FitLaws.{fed_given, fit_with, fit_mark, fit_next, all_fed, fed_next}
+use Rattle.audit_findings.proofs.LeftOut.{comes, come_before}
 use Rattle.audit_findings.proofs.SequenceLaws.{frame_count}
 use Rattle.audit_findings.proofs.ledgers.Ledgers.add.Goals as goal
 
@@ -39,7 +40,7 @@ loop-event-init c = (
   none_yet c.of-events.result [] c.of-events.ensures refl,
   λ before sums few. subst (SumsEvents c.args.self.now.events) (sym (append-nil before)) sums,
   λ before sums few. subst (SumsThreadCalls c.args.self.now.threads) (sym (append-nil before)) sums,
-  λ fed sums fit. subst (SumsFed _) (sym (append-nil fed)) sums,
+  λ fed come sums fit. subst (SumsFed _) (sym (append-nil fed)) sums,
 )
 
 pub add-requires-in-Some : goal.add-requires-in-Some
@@ -70,8 +71,8 @@ add-requires-in-Some-2 c =
       subst AreFewEvents (sym (texts_next before i.1 c.in-Some.event)) (few_next before frame few c.next_event.new.self _ more),
     )
 
-pub add-requires-in-Some-3 : goal.add-requires-in-Some-3
-add-requires-in-Some-3 c =
+pub add_item-requires : goal.add_item-requires
+add_item-requires c =
     let frame = c.args.frame in
     let wholes = c.requires.0 in
     let process = c.of_process-process.result in
@@ -82,7 +83,7 @@ add-requires-in-Some-3 c =
     let more = given_next frame c.loop-event.events c.next_event.new.self i.1 c.in-Some.event i.2 steps in
     let marked = c.in_ok-add.ensures (fed_by_all wholes) c.requires.2.processes (fit_mark frame before process fit) in (
       before ++ map (fed_given process) i.1,
-      i.5 before marked fit,
+      i.5 before (comes process Nothing (fed_by_all wholes)) marked fit,
       subst (λ (item : ProcessItem). FitFed ((before ++ map (fed_given process) i.1) ++ (process, item) ∷ [])) (sym c.of.ensures)
           (subst FitFed (sym (fed_next before process i.1 c.in-Some.event)) (fit_next before process frame fit c.next_event.new.self _ more)),
     )
@@ -109,13 +110,13 @@ loop-event-preserved c =
           let fits = few_next before frame few c.next_event.new.self _ more in
           subst (SumsThreadCalls c.add-in-Some-2.new.self) (texts_next before i.1 found)
           (c.in_ok-add-3.ensures (before ++ map event_text i.1) (i.4 before sums few) (subst AreFewEvents (sym (texts_next before i.1 found)) fits)),
-      λ fed sums fit.
+      λ fed come sums fit.
           let fits = fit_next fed process frame fit c.next_event.new.self _ more in
           let given = fed ++ map (fed_given process) i.1 in
           let fits_one = subst FitFed (sym (fed_next fed process i.1 found)) fits in
           subst (SumsFed _) (fed_next fed process i.1 found)
-          (subst (λ (item : ProcessItem). SumsFed c.add-in-Some-3.new.self.entries.entries (given ++ (process, item) ∷ [])) c.of.ensures
-          (c.in_ok-add-4.ensures given (i.5 fed sums fit)
+          (subst (λ (item : ProcessItem). SumsFed c.add_item.new.processes.entries.entries (given ++ (process, item) ∷ [])) c.of.ensures
+          (c.in_ok-add_item.ensures given (come_before process fed (map (fed_given process) i.1) come) (i.5 fed come sums fit)
           (subst (λ (item : ProcessItem). FitFed (given ++ (process, item) ∷ [])) (sym c.of.ensures) fits_one))),
     )
 
@@ -134,7 +135,7 @@ returns c wholes others sums show few =
           let fed = fed_by_all wholes ++ (process, Nothing) ∷ [] in
           let fit = fit_with frame process c.of_process-process.ensures wholes others show few in
           subst (SumsFed _) (all_fed frame process c.of_process-process.ensures wholes others show c.loop-event.events c.next_event.new.self i.1 i.2 steps)
-          (i.5 fed (c.in_ok-add.ensures (fed_by_all wholes) sums.processes (fit_mark frame fed process fit)) fit);
+          (i.5 fed (comes process Nothing (fed_by_all wholes)) (c.in_ok-add.ensures (fed_by_all wholes) sums.processes (fit_mark frame fed process fit)) fit);
       events = subst (SumsEvents c.loop-event.self.events) (all_given before frame wholes others refl show c.loop-event.events c.next_event.new.self i.1 i.2 steps)
           (i.3 before sums.events (few_with before frame wholes others refl show few));
       threads = subst (SumsThreadCalls c.loop-event.self.threads) (all_given before frame wholes others refl show c.loop-event.events c.next_event.new.self i.1 i.2 steps)

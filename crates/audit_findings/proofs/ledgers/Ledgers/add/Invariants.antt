@@ -7,9 +7,9 @@ use Rattle.event_core.proofs.EventsGiven.{Given}
 use Rattle.event_core.proofs.EventPlaces.{left_of}
 use Rattle.capture_frame.specs.declared.process.Process.{Process}
 use Rattle.process_ledgers.specs.declared.process_item.ProcessItem.{ProcessItem}
-use Rattle.audit_findings.specs.Ledgers.{SumsEvents}
+use Rattle.audit_findings.specs.Ledgers.{SumsEvents, SumsFed, HasCome}
 use Rattle.audit_findings.specs.ThreadLedger.{SumsThreadCalls}
-use Rattle.audit_findings.proofs.FitLaws.{SumsFed, FitWith, fed_given}
+use Rattle.audit_findings.proofs.FitLaws.{FitWith, fed_given}
 use Rattle.audit_findings.proofs.FrameLaws.{AreFewWith}
 use Rattle.audit_findings.proofs.ledgers.Ledgers.add.Given as goal
 
@@ -22,7 +22,7 @@ invariant-loop-event l =
     → SumsEvents l.self.events (before ++ map event_text given))
     × ((before : List EventText) → SumsThreadCalls l.initial.self.threads before → AreFewWith before l.fn.frame
     → SumsThreadCalls l.self.threads (before ++ map event_text given))
-    × ((fed : List (Process × ProcessItem)) → SumsFed l.initial.self.processes.entries.entries fed → FitWith fed l.process l.fn.frame
+    × ((fed : List (Process × ProcessItem)) → HasCome l.process fed → SumsFed l.initial.self.processes.entries.entries fed → FitWith fed l.process l.fn.frame
     → SumsFed l.self.processes.entries.entries (fed ++ map (fed_given l.process) given))
 
 abbrev pub decreases-loop-event : goal.decreases-loop-event
