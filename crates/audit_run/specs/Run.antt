@@ -59,9 +59,9 @@ abbrev pub Writes : {C A : Type 0} → (C → List ℕ → Type 0) → (C → A 
 Writes IsOn GoesWith capture old new (Ok answer) = IsAnswered IsOn GoesWith capture old new answer
 Writes IsOn GoesWith capture old new (Err error) = Breaks IsOn capture old new error
 
--- What comes of a reader or a file, by what reading gives (`Gives`), which texts are right for that (`IsOn`) and what an
--- answer says of it (`GoesWith`); then what the writer held before and holds after, and the answer. A capture was given,
--- and this came of it; or none was, which is answered, and nothing was written.
+-- What comes of a reader or a file, by what reading gives (`Gives`), which texts are right for that (`IsOn`) and what
+-- an answer says of it (`GoesWith`); then what the writer held before and holds after, and the answer. A capture was
+-- given, and this came of it; or none was, which is answered, and nothing was written.
 pub data Runs {C A : Type 0} (Gives : Result C RunError → Type 0) (IsOn : C → List ℕ → Type 0)
     (GoesWith : C → A → Type 0) (old new : Option (List ℕ)) (result : Result A RunError) : Type 0 where
   given : (capture : C) → Gives (Ok capture) → Writes IsOn GoesWith capture old new result

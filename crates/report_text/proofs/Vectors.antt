@@ -29,9 +29,9 @@ use Rattle.report_text.specs.Oneway.{oneway_row}
 use Rattle.report_text.specs.Served.{served_row}
 use Rattle.report_text.specs.Text.{report_text}
 
--- a process by its number
+-- a process of the device 1, by its number
 abbrev numbered : ℕ → Process
-numbered number = record { number = number }
+numbered number = record { device = 1; number = number }
 
 nothing : FindingsText
 nothing = record {
@@ -65,10 +65,11 @@ nothing = record {
   };
 }
 
--- `BC_TRANSACTION` to the handle 1 with flags 0x82
+-- `BC_TRANSACTION` to the handle 1 with flags 0x82, on the device 1
 send : EventText
 send = record {
   place = 48;
+  device = 1;
   process = 100;
   thread = 101;
   kind = BcTransaction;
@@ -99,7 +100,7 @@ hundred_said : decimal 100 ≡ codes "100"
 hundred_said = decimal_pair 100 (omega arith) (omega arith) ∙ ap (λ (t : List ℕ). t ++ codes "00") (decimal_digit 1 (omega arith))
 
 empty_report : report_text nothing
-    ≡ codes "BINDER AUDIT 1\nframes 0 records 0 opaque 0 missing 0\ncodes 0\ncalls 0 answered 0 failed 0 unanswered 0\nserved 0 replied 0 crossed 0 open 0\nstrays 0\nrefused 0\nhandles 0 unbalanced 0\nnodes 0 unbalanced 0\nbuffers 0 leaked 0\nfrees 0 stray 0\nrequests 0 standing 0\ndeaths 0 unacknowledged 0 stray 0\nclears 0 unconfirmed 0 stray 0\noneway sent 0 received 0 refused 0\nobjects binder 0 weak_binder 0 handle 0 weak_handle 0 fd 0 fda 0 ptr 0 bad 0\nflags 0\n"
+    ≡ codes "BINDER AUDIT 2\nframes 0 records 0 opaque 0 missing 0\ncodes 0\ncalls 0 answered 0 failed 0 unanswered 0\nserved 0 replied 0 crossed 0 open 0\nstrays 0\nrefused 0\nhandles 0 unbalanced 0\nnodes 0 unbalanced 0\nbuffers 0 leaked 0\nfrees 0 stray 0\nrequests 0 standing 0\ndeaths 0 unacknowledged 0 stray 0\nclears 0 unconfirmed 0 stray 0\noneway sent 0 received 0 refused 0\nobjects binder 0 weak_binder 0 handle 0 weak_handle 0 fd 0 fda 0 ptr 0 bad 0\nflags 0\n"
 unfolding nothing report_text
 empty_report = rw zero_said refl
 
@@ -109,11 +110,11 @@ acquire_row = rw two_said refl
 opaque_row : codes_row (record { word = 0x400c6313; count = 1 }) ≡ codes "  0x400c6313 OPAQUE 1"
 opaque_row = rw one_said refl
 
-open_row : calls_row (record { event = send; verdict = Open; closer = None }) ≡ codes "  48 100 101 1 0 open -"
+open_row : calls_row (record { event = send; verdict = Open; closer = None }) ≡ codes "  48 1 100 101 1 0 open -"
 unfolding send number_at digits
 open_row = refl
 
-failed_row : calls_row (record { event = send; verdict = Failed; closer = Some 148 }) ≡ codes "  48 100 101 1 0 failed 148"
+failed_row : calls_row (record { event = send; verdict = Failed; closer = Some 148 }) ≡ codes "  48 1 100 101 1 0 failed 148"
 unfolding send number_at digits
 failed_row = refl
 
@@ -122,29 +123,29 @@ crossed_row : served_row (record {
   event = record send { kind = BrTransaction; payload = replicate 16 0 ++ 7 ∷ replicate 7 0 ++ 0xfe ∷ replicate 3 0xff ++ replicate 36 0 };
   verdict = Crossed;
   closer = Some 148;
-}) ≡ codes "  48 100 101 -2 7 crossed 148"
+}) ≡ codes "  48 1 100 101 -2 7 crossed 148"
 unfolding send number_at digits
 crossed_row = refl
 
-error_row : kind_row (record send { kind = BrFailedReply; payload = [] }) ≡ codes "  48 100 101 BR_FAILED_REPLY"
+error_row : kind_row (record send { kind = BrFailedReply; payload = [] }) ≡ codes "  48 1 100 101 BR_FAILED_REPLY"
 unfolding send digits
 error_row = refl
 
-sent_row : oneway_row (of_process (numbered 100) (Sent 3, 2, 36893488147419103230)) ≡ codes "  100 sent 3 2 36893488147419103230"
+sent_row : oneway_row (of_process (numbered 100) (Sent 3, 2, 36893488147419103230)) ≡ codes "  1 100 sent 3 2 36893488147419103230"
 unfolding digits
 sent_row = refl
 
-received_row : oneway_row (of_process (numbered 100) (Received, 2, 0)) ≡ codes "  100 received 2 0"
+received_row : oneway_row (of_process (numbered 100) (Received, 2, 0)) ≡ codes "  1 100 received 2 0"
 unfolding digits
 received_row = refl
 
-overlap_row : objects_row (record { owner = send; bad = bad_at 1 20 Overlap }) ≡ codes "  48 100 1 20 Overlap"
+overlap_row : objects_row (record { owner = send; bad = bad_at 1 20 Overlap }) ≡ codes "  48 1 100 1 20 Overlap"
 unfolding send
 overlap_row = rw (forty_eight_said, hundred_said, one_said, twenty_said) refl
 
-unknown_row : flags_row send ≡ codes "  48 100 0x00000082"
+unknown_row : flags_row send ≡ codes "  48 1 100 0x00000082"
 unfolding send number_at
-unknown_row = rw (forty_eight_said, hundred_said) refl
+unknown_row = rw (forty_eight_said, one_said, hundred_said) refl
 
 zero_number : hex_number 0 ≡ codes "0x0"
 unfolding digits
@@ -155,14 +156,14 @@ unfolding digits
 address_number = refl
 
 negative_row : handles_row (of_process (numbered 100) (record { handle = 2; strong = record { sum = pos 0; low = negsuc 1 }; weak = record { sum = pos 1; low = pos 0 } }))
-    ≡ codes "  100 2 0 -2 1 0"
+    ≡ codes "  1 100 2 0 -2 1 0"
 negative_row = rw (hundred_said, zero_said, one_said, two_said) refl
 
-dead_row : deaths_row (record send { kind = BrDeadBinder; payload = 1 ∷ replicate 7 0 }) ≡ codes "  48 100 0x1 unacknowledged"
+dead_row : deaths_row (record send { kind = BrDeadBinder; payload = 1 ∷ replicate 7 0 }) ≡ codes "  48 1 100 0x1 unacknowledged"
 unfolding send number_at digits
 dead_row = refl
 
-done_row : deaths_row (record send { kind = BcDeadBinderDone; payload = 1 ∷ replicate 7 0 }) ≡ codes "  48 100 0x1 stray"
+done_row : deaths_row (record send { kind = BcDeadBinderDone; payload = 1 ∷ replicate 7 0 }) ≡ codes "  48 1 100 0x1 stray"
 unfolding send number_at digits
 done_row = refl
 
@@ -216,7 +217,7 @@ widest_objects = refl
 
 -- the least number is `negsuc` of one less than its amount
 widest_handle : handles_row (of_process (numbered 4294967295) (record { handle = 0; strong = record { sum = negsuc 0; low = negsuc 9223372036854775807 }; weak = record { sum = pos 9223372036854775807; low = pos 0 } }))
-    ≡ codes "  4294967295 0 -1 -9223372036854775808 9223372036854775807 0"
+    ≡ codes "  1 4294967295 0 -1 -9223372036854775808 9223372036854775807 0"
 unfolding digits
 widest_handle = refl
 
@@ -226,6 +227,6 @@ widest_node : nodes_row (of_process (numbered 7) (record {
   weak = record { sum = pos 2; low = negsuc 2 };
   strong_due = pos 4;
   weak_due = negsuc 9223372036854775807;
-})) ≡ codes "  7 0x0 0xffffffffffffffff 10 -10 2 -3 4 -9223372036854775808"
+})) ≡ codes "  1 7 0x0 0xffffffffffffffff 10 -10 2 -3 4 -9223372036854775808"
 unfolding most digits
 widest_node = refl

@@ -25,7 +25,7 @@ use Rattle.report_text.specs.Flags.{flags_section}
 
 -- the title
 abbrev pub title : List ℕ
-title = codes "BINDER AUDIT 1"
+title = codes "BINDER AUDIT 2"
 
 abbrev pub title_lines : FindingsText → List (List ℕ)
 title_lines said = title ∷ []

@@ -103,7 +103,7 @@ fn call_row<S: CallSection>(section: &S, event: Event<'_>, call: CallRow) -> Row
 
 /// Pushes what a row says of the call's record.
 fn push_record<S: CallSection>(section: &S, line: &mut Row, event: Event<'_>)
-    requires { array_string_len line.old ≤ 64 }
+    requires { array_string_len line.old ≤ 85 }
     ensures text { line.new.bytes ≡ line.old.bytes
         ++ record_fields S.field (event_text event.entry) }
     ensures short { array_string_len line.new ≤ array_string_len line.old + 42 }

@@ -17,7 +17,8 @@ impl EventSection for Clears {
     ghost section = { clears_section };
 
     ghost head_of = { λ kept _.
-        clears_head kept.events.counts.clears kept.processes.clears.unclosed kept.processes.clears.strays };
+        clears_head kept.events.counts.clears kept.processes.clears.unclosed
+        kept.processes.clears.strays };
 
     ghost bare = { λ e. refl };
 

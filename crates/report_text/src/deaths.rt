@@ -17,7 +17,8 @@ impl EventSection for Deaths {
     ghost section = { deaths_section };
 
     ghost head_of = { λ kept _.
-        deaths_head kept.events.counts.deaths kept.processes.deaths.unclosed kept.processes.deaths.strays };
+        deaths_head kept.events.counts.deaths kept.processes.deaths.unclosed
+        kept.processes.deaths.strays };
 
     ghost bare = { λ e. refl };
 

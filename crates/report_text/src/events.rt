@@ -79,7 +79,7 @@ impl<S: EventSection> Section for OfEvents<S> {
 /// A row with the place and the process of its event.
 pub(crate) fn row_start(event: Event<'_>) -> Row
     ensures text { result.bytes ≡ row_start (event_text event.entry) }
-    ensures short { array_string_len result ≤ 43 }
+    ensures short { array_string_len result ≤ 64 }
 {
     let mut line = Row::new();
     push_counted(&mut line, "  ", event.place);
@@ -91,7 +91,7 @@ pub(crate) fn row_start(event: Event<'_>) -> Row
 /// A row with the place, the process and the thread of its event.
 pub(crate) fn thread_start(event: Event<'_>) -> Row
     ensures text { result.bytes ≡ thread_start (event_text event.entry) }
-    ensures short { array_string_len result ≤ 64 }
+    ensures short { array_string_len result ≤ 85 }
 {
     let mut line = row_start(event);
     line.push_str(" ");

@@ -7,11 +7,14 @@ ghost use Rattle.report_text.specs.Process.{process_field, thread_field};
 use crate::line::{Row, push_decimal};
 use capture_frame::Process;
 
+/// Pushes the device and the number of a process.
 pub(crate) fn push_process(line: &mut Row, process: Process)
-    requires { array_string_len line.old + 20 ≤ 256 }
+    requires { array_string_len line.old + 41 ≤ 256 }
     ensures text { line.new.bytes ≡ line.old.bytes ++ process_field process }
-    ensures short { array_string_len line.new ≤ array_string_len line.old + 20 }
+    ensures short { array_string_len line.new ≤ array_string_len line.old + 41 }
 {
+    push_decimal(line, u64::from(process.device));
+    line.push_str(" ");
     push_decimal(line, u64::from(process.number));
 }
 

@@ -11,7 +11,7 @@ use capture_frame::Process;
 /// A row with its process.
 pub(crate) fn process_start(process: Process) -> Row
     ensures text { result.bytes ≡ process_start process }
-    ensures short { array_string_len result ≤ 22 }
+    ensures short { array_string_len result ≤ 43 }
 {
     let mut line = Row::new();
     line.push_str("  ");

@@ -97,7 +97,7 @@ fn title_line() -> Row
     ensures { result.bytes ≡ title }
 {
     let mut line = Row::new();
-    line.push_str("BINDER AUDIT 1");
+    line.push_str("BINDER AUDIT 2");
     line
 }
 

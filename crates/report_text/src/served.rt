@@ -16,7 +16,8 @@ impl CallSection for Served {
     ghost section = { served_section };
 
     ghost head_of = { λ kept _.
-        served_head kept.calls.served.replied kept.calls.served.crossed kept.calls.served.left_open };
+        served_head kept.calls.served.replied kept.calls.served.crossed
+        kept.calls.served.left_open };
 
     ghost field = { sender_field };
 
