@@ -6,7 +6,7 @@ use std::alloc::{AllocError, Global};
 use std::io;
 use std::thread::Threads;
 
-const TITLE: &[u8] = b"BINDER AUDIT 1\n";
+const TITLE: &[u8] = b"BINDER AUDIT 2\n";
 
 const NO_FAULT: &[u8] = b"no malformed record\n";
 
@@ -54,7 +54,7 @@ impl Answers {
     fn is_due(&self, alloc: Global, due: &str) -> Result<bool, AllocError> {
         match due.strip_prefix("report ") {
             Some(frames) => {
-                let begin = format!(in alloc; "BINDER AUDIT 1\nframes {frames} records ")?;
+                let begin = format!(in alloc; "BINDER AUDIT 2\nframes {frames} records ")?;
                 Ok(self.by_one.as_slice().starts_with(begin.as_bytes()))
             }
             None => {

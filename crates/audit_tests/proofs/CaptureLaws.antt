@@ -1,5 +1,5 @@
 -- The views of the frames that a reader of a capture has gone through.
-use Rattle.std.proofs.Common.{◌≡◌, ℕ, ◌+◌, ◌≤◌, ◌^◌, List, [], ◌∷◌, ◌++◌, length, All, Some, Ok, refl, sym, ap, ap₂, subst, ◌∙◌, length-append, arith}
+use Rattle.std.proofs.Common.{◌≡◌, ℕ, ◌+◌, ◌≤◌, ◌^◌, List, [], ◌∷◌, ◌++◌, length, All, Some, None, Ok, refl, sym, ap, ap₂, subst, ◌∙◌, length-append, arith}
 use Rattle.std.specs.List.{sum_by}
 use Rattle.std.proofs.lemmas.List.{length-drop, map-append}
 use Rattle.std.proofs.lemmas.List.Concat.{flat_map-cons}
@@ -30,10 +30,10 @@ spelled whole = frame_bytes whole.frame
 pub shown_at_start : Show [] (wholes_of [])
 shown_at_start = none_shown
 
-place_is : (capture : List ℕ) (reading : Reading) (done : List WholeFrame) (stands : StandsBehind capture reading done) (found : Frame) (new : Reading)
+place_is : (capture : List ℕ) (reading : Reading) (done : List WholeFrame) (stands : StandsBehind capture None reading done) (found : Frame) (new : Reading)
     → Steps reading (Ok (Some found)) new → found.place ≡ 16 + length (spelling_of whole_format done)
 place_is capture reading done stands found new steps =
-    let s = steps_from capture reading done stands (Ok (Some found)) new steps in
+    let s = steps_from capture None reading done stands (Ok (Some found)) new steps in
     let begins = s.0.view.place_is in
     let walked = stands.frames.walks.length_is in
     omega (arith, begins, walked)
@@ -44,7 +44,7 @@ unfolding spelled
 wholes-snoc done whole = placed-snoc spelled 16 done whole
 
 -- the frame that the reader gives stands behind the others
-pub shown_next : (capture : List ℕ) (reading : Reading) (done : List WholeFrame) (stands : StandsBehind capture reading done) (frames : List Frame)
+pub shown_next : (capture : List ℕ) (reading : Reading) (done : List WholeFrame) (stands : StandsBehind capture None reading done) (frames : List Frame)
     → Show frames (wholes_of done) → (found : Frame) (new : Reading) → Steps reading (Ok (Some found)) new → (records : List RecordText) (entries : List EntryText)
     → HasRecords (frame_text found) records → HasEntries (frame_text found) entries
     → Show (frames ++ found ∷ []) (wholes_of (done ++ whole_of found records entries ∷ []))
@@ -95,7 +95,7 @@ shown_are_good frames done show short =
     let spans = spans_are frames 16 done show in
     record { few = omega (arith, spans, short); good = all_good frames (wholes_of done) show; apart = stand_apart frames done show }
 
-pub within_limit : (capture : List ℕ) (reading : Reading) (done : List WholeFrame) (stands : StandsBehind capture reading done) → length capture ≤ 2 ^ 30
+pub within_limit : (capture : List ℕ) (reading : Reading) (done : List WholeFrame) (stands : StandsBehind capture None reading done) → length capture ≤ 2 ^ 30
     → length (spelling_of whole_format done) ≤ 2 ^ 32
 within_limit capture reading done stands short =
     let joined = ap length stands.frames.walks.splits.joined ∙ length-append (spelling_of whole_format done) _ in

@@ -1,11 +1,13 @@
 //! What no clause says: the sections of a capture, typed by hand, of however many parts.
 
+mod built;
 mod captures;
 mod lookup;
 mod one_pass;
 mod pieces;
 mod small_captures;
 mod splits;
+mod two_devices;
 mod workers;
 
 ghost use Rattle.std.specs.Prelude.{◌≤◌, List, length};
@@ -85,7 +87,10 @@ const COUNTS: RecordCounts = RecordCounts {
 
 /// The handle that process 100 took a reference to.
 const HANDLES: &[OfProcess<HandleRow>] = &[OfProcess {
-    process: Process { number: 100 },
+    process: Process {
+        device: 0,
+        number: 100,
+    },
     row: HandleRow {
         handle: 1,
         strong: Count { sum: 1, low: 0 },

@@ -114,7 +114,7 @@ fn many_handles(alloc: Global) -> Result<Vec<u8>, AllocError> {
 }
 
 /// How the report on them starts, up to the second row.
-const MANY_START: &str = "BINDER AUDIT 1\n\
+const MANY_START: &str = "BINDER AUDIT 2\n\
     frames 1 records 65537 opaque 0 missing 0\n\
     codes 1\n\
     \x20\x200x40046305 BC_ACQUIRE 65537\n\
@@ -123,12 +123,12 @@ const MANY_START: &str = "BINDER AUDIT 1\n\
     strays 0\n\
     refused 0\n\
     handles 65537 unbalanced 65537\n\
-    \x20\x207 100000 1 0 0 0\n\
-    \x20\x207 100001 1 0 0 0\n";
+    \x20\x200 7 100000 1 0 0 0\n\
+    \x20\x200 7 100001 1 0 0 0\n";
 
 /// How it ends, from the last row but one.
-const MANY_END: &str = "  7 165535 1 0 0 0\n\
-    \x20\x207 165536 1 0 0 0\n\
+const MANY_END: &str = "  0 7 165535 1 0 0 0\n\
+    \x20\x200 7 165536 1 0 0 0\n\
     nodes 0 unbalanced 0\n\
     buffers 0 leaked 0\n\
     frees 0 stray 0\n\
@@ -139,8 +139,8 @@ const MANY_END: &str = "  7 165535 1 0 0 0\n\
     objects binder 0 weak_binder 0 handle 0 weak_handle 0 fd 0 fda 0 ptr 0 bad 0\n\
     flags 0\n";
 
-/// How many bytes the rows between have, of 19 each.
-const MANY_BETWEEN: usize = 65_533 * 19;
+/// How many bytes the rows between have, of 21 each.
+const MANY_BETWEEN: usize = 65_533 * 21;
 
 #[test]
 fn tells_more_rows_than_it_holds(rt: HostRuntime) -> Result<(), Fail> {
@@ -173,12 +173,12 @@ fn has_ends(told: &str, start: &str, end: &str) -> bool {
     }
 }
 
-/// A read of thread 101 of process 100 with a transaction at 48 whose one object is misaligned. Two
-/// sequences behind it a write of thread 8 of process 7, with a transaction at 196 whose flags are
-/// 0x82, and an opaque record.
-const CAPTURE: &[u8] = b"BNDRCAP1\x08\0\0\0\0\0\0\0\
+/// A read of thread 101 of process 100 on device 5, with a transaction at 48 whose one object is
+/// misaligned. Two sequences behind it a write of thread 8 of process 7 on the greatest device,
+/// with a transaction at 196 whose flags are 0x82, and an opaque record.
+const CAPTURE: &[u8] = b"BNDRCAP2\x08\0\0\0\0\0\0\0\
     \x01\0\0\0\0\0\0\0\x64\0\0\0\x65\0\0\0\
-    \x02\0\0\0\x44\0\0\0\x30\0\0\0\0\0\0\0\
+    \x02\0\0\0\x44\0\0\0\x30\0\0\0\x05\0\0\0\
     \x02\x72\x40\x80\0\0\0\0\0\0\0\0\0\0\0\0\0\0\0\0\0\0\0\0\
     \x01\0\0\0\0\0\0\0\0\0\0\0\x1c\0\0\0\0\0\0\0\
     \x08\0\0\0\0\0\0\0\0\x90\0\0\0\0\0\0\0\0\0\0\0\0\0\0\
@@ -186,37 +186,37 @@ const CAPTURE: &[u8] = b"BNDRCAP1\x08\0\0\0\0\0\0\0\
     \0\0\x85\x2a\x68\x73\0\0\0\0\0\0\0\0\0\0\0\0\0\0\0\0\0\0\0\0\0\0\
     \x02\0\0\0\0\0\0\0\
     \x03\0\0\0\0\0\0\0\x07\0\0\0\x08\0\0\0\
-    \x01\0\0\0\x54\0\0\0\0\0\0\0\0\0\0\0\
+    \x01\0\0\0\x54\0\0\0\0\0\0\0\xff\xff\xff\xff\
     \0\x63\x40\x40\x01\0\0\0\0\0\0\0\0\0\0\0\0\0\0\0\0\0\0\0\
     \x82\0\0\0\0\0\0\0\0\0\0\0\0\0\0\0\0\0\0\0\
     \0\0\0\0\0\0\0\0\0\0\0\0\0\0\0\0\0\0\0\0\0\0\0\0\
     \x13\x63\x0c\x40\0\0\0\0\0\0\0\0\0\0\0\0";
 
-const REPORT: &str = "BINDER AUDIT 1\n\
+const REPORT: &str = "BINDER AUDIT 2\n\
     frames 2 records 3 opaque 1 missing 1\n\
     codes 3\n\
     \x20\x200x400c6313 OPAQUE 1\n\
     \x20\x200x40406300 BC_TRANSACTION 1\n\
     \x20\x200x80407202 BR_TRANSACTION 1\n\
     calls 1 answered 0 failed 0 unanswered 1\n\
-    \x20\x20196 7 8 1 0 open -\n\
+    \x20\x20196 4294967295 7 8 1 0 open -\n\
     served 0 replied 0 crossed 0 open 0\n\
     strays 0\n\
     refused 0\n\
     handles 0 unbalanced 0\n\
     nodes 0 unbalanced 0\n\
     buffers 1 leaked 1\n\
-    \x20\x2048 100 0x9000 28 BR_TRANSACTION\n\
+    \x20\x2048 5 100 0x9000 28 BR_TRANSACTION\n\
     frees 0 stray 0\n\
     requests 0 standing 0\n\
     deaths 0 unacknowledged 0 stray 0\n\
     clears 0 unconfirmed 0 stray 0\n\
     oneway sent 0 received 1 refused 0\n\
-    \x20\x20100 received 1 28\n\
+    \x20\x205 100 received 1 28\n\
     objects binder 0 weak_binder 0 handle 0 weak_handle 0 fd 0 fda 0 ptr 0 bad 1\n\
-    \x20\x2048 100 0 2 Misaligned\n\
+    \x20\x2048 5 100 0 2 Misaligned\n\
     flags 1\n\
-    \x20\x20196 7 0x00000082\n";
+    \x20\x20196 4294967295 7 0x00000082\n";
 
 #[test]
 fn reports_a_capture(rt: HostRuntime) -> Result<(), Fail> {

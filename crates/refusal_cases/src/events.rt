@@ -5,7 +5,8 @@ ghost use Rattle.capture_frame.specs.Cut.{AreFrames};
 
 use crate::no_answer::NoAnswer;
 use crate::told;
-use capture_frame::{Cut, Frame, cut};
+use audit_join::CAPTURE_LIMIT;
+use capture_frame::{Cut, Frame, PartCut, Thread, cut, cut_parts};
 use event_core::{Event, Events};
 use std::alloc::{AllocError, Global};
 use std::io::Write;
@@ -22,6 +23,30 @@ pub(crate) fn cut_all<W: Write>(
         Err(Cut::Memory) => Err(NoAnswer::Memory),
         Err(Cut::Bad { fault, before }) => {
             told::fault(fault, out)?;
+            told::frames(before.as_slice(), out)
+        }
+    }
+}
+
+/// A part of one frame, a write with the sequence 0 on device 1.
+const FIRST_PART: &[u8] = b"BNDRCAP2\x08\0\0\0\0\0\0\0\
+    \0\0\0\0\0\0\0\0\x64\0\0\0\x65\0\0\0\x01\0\0\0\0\0\0\0\0\0\0\0\x01\0\0\0";
+
+/// Prints the frames of three parts, of which the capture is the second and the third one has no
+/// frame; or the first fault of the parts and the frames before.
+pub(crate) fn cut_all_parts<W: Write>(
+    alloc: Global,
+    capture: &[u8],
+    out: &mut W,
+) -> Result<(), NoAnswer> {
+    if capture.len() > CAPTURE_LIMIT {
+        return Err(NoAnswer::Unfit);
+    }
+    match cut_parts(alloc, &[FIRST_PART, capture, &FIRST_PART[..16]]) {
+        Ok(frames) => told::frames(frames.as_slice(), out),
+        Err(PartCut::Memory) => Err(NoAnswer::Memory),
+        Err(PartCut::Bad { found, before }) => {
+            told::part_fault(found, out)?;
             told::frames(before.as_slice(), out)
         }
     }
@@ -44,14 +69,22 @@ pub(crate) fn events_of_process<'c>(
     capture: &'c [u8],
 ) -> Result<Vec<Event<'c>>, NoAnswer> {
     let frames = frames_of(alloc, capture)?;
-    let process = frames.first().map(|frame| frame.process);
+    let process = frames.first().map(|frame| frame.of_process());
     let mut events = Vec::new(alloc);
     for frame in &frames {
-        if Some(frame.process) == process {
+        if Some(frame.of_process()) == process {
             push_events(*frame, &mut events)?;
         }
     }
     Ok(events)
+}
+
+/// The thread that a frame is of.
+fn thread_of(frame: Frame<'_>) -> Thread {
+    Thread {
+        process: frame.of_process(),
+        number: frame.thread,
+    }
 }
 
 /// The events of the thread that the first frame is of.
@@ -60,10 +93,10 @@ pub(crate) fn events_of_thread<'c>(
     capture: &'c [u8],
 ) -> Result<Vec<Event<'c>>, NoAnswer> {
     let frames = frames_of(alloc, capture)?;
-    let thread = frames.first().map(|frame| (frame.process, frame.thread));
+    let thread = frames.first().map(|frame| thread_of(*frame));
     let mut events = Vec::new(alloc);
     for frame in &frames {
-        if Some((frame.process, frame.thread)) == thread {
+        if Some(thread_of(*frame)) == thread {
             push_events(*frame, &mut events)?;
         }
     }

@@ -76,6 +76,7 @@ fn of_lists<W: Write>(
     by_name! { name, out;
         "read_capture" => runs::read(alloc, bytes, out),
         "cut" => events::cut_all(alloc, bytes, out),
+        "cut_parts" => events::cut_all_parts(alloc, bytes, out),
         "Tally: add, rows" => ledgers::tally(alloc, bytes, Way::Add, out),
         "Tally: join, rows" => ledgers::tally(alloc, bytes, Way::Join, out),
         "HandleLedger: add, rows" => ledgers::handles(alloc, bytes, Way::Add, out),

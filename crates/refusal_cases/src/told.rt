@@ -3,7 +3,7 @@
 use crate::no_answer::NoAnswer;
 use audit_findings::{CodeRow, Sections};
 use call_stacks::{CallFindings, Opener, RefusedSend};
-use capture_frame::{Fault, Frame};
+use capture_frame::{Fault, Frame, PartFault};
 use event_core::Event;
 use handle_ledger::{HandleRow, NodeRow};
 use std::io::Write;
@@ -17,6 +17,16 @@ pub(crate) fn line<W: Write>(out: &mut W, what: &str, numbers: &[u64]) -> Result
 /// Prints a fault's place and its kind's number.
 pub(crate) fn fault<W: Write>(fault: Fault, out: &mut W) -> Result<(), NoAnswer> {
     line(out, "fault", &[fault.place, fault.kind as u64])
+}
+
+/// Prints the number of a part, and the place in it and the kind's number of its fault.
+pub(crate) fn part_fault<W: Write>(found: PartFault, out: &mut W) -> Result<(), NoAnswer> {
+    let fault = found.fault;
+    line(
+        out,
+        "fault of part",
+        &[found.part as u64, fault.place, fault.kind as u64],
+    )
 }
 
 /// Prints where each frame begins, and its sequence.

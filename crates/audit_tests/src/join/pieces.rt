@@ -11,8 +11,9 @@ use capture_frame::Frame;
 use std::alloc::{AllocError, Global};
 use summary_law::{Summary, summary_of};
 
-/// The summary of these frames, joined from those of so many pieces of so many frames: first those of each half of
-/// the pieces, and then the two that result. What is left of the frames is in the last piece.
+/// The summary of these frames, joined from those of so many pieces of so many frames: first those
+/// of each half of the pieces, and then the two that result. What is left of the frames is in the
+/// last piece.
 fn joined_in_pieces<'c>(
     alloc: Global,
     frames: &[Frame<'c>],

@@ -7,10 +7,18 @@ ghost use Rattle.event_core.specs.Events.{wholes_of};
 ghost use Rattle.audit_join.specs.Audit.{IsAudited};
 ghost use Rattle.audit_join.specs.declared.limits.TheConstants.{CAPTURE_LIMIT};
 
+use super::built::{
+    BC_ACQUIRE, BC_CLEAR_DEATH_NOTIFICATION, BC_FREE_BUFFER, BC_INCREFS, BC_INCREFS_DONE,
+    BC_RELEASE, BC_REPLY, BC_REPLY_SG, BC_REQUEST_DEATH_NOTIFICATION, BC_TRANSACTION, BR_ACQUIRE,
+    BR_CLEAR_DEATH_NOTIFICATION_DONE, BR_DEAD_BINDER, BR_DEAD_REPLY, BR_FAILED_REPLY, BR_INCREFS,
+    BR_NOOP, BR_REPLY, BR_TRANSACTION, BR_TRANSACTION_COMPLETE, BR_TRANSACTION_SEC_CTX, BUFFER,
+    CODE, DATA_SIZE, FLAGS, HANDLE_TYPE, MOST, OFFSETS_SIZE, READ, SENDER_PID, Shape, TARGET,
+    WRITE, capture_of,
+};
 use super::captures::within_limit;
 use super::frames_of;
 use super::pieces::found_in_pieces;
-use super::workers::{HEADER, shares};
+use super::workers::shares;
 use audit_join::{AuditError, Findings, Piece, audit, audit_one};
 use capture_frame::Frame;
 use claim_board::{NoGate, Workers};
@@ -20,82 +28,8 @@ use std::process::Abort;
 use std::test::Fail;
 use std::thread::Threads;
 
-/// A record: its code word, which says how long its payload is, and the words of 32 bits in the
-/// payload that are not 0, each behind its position.
-type Record = (u32, &'static [(u32, u32)]);
-
-/// A frame: its sequence, process, thread and direction, its records, and its attachment bytes in
-/// words of 32 bits.
-type Part = (u64, u32, u32, u32, &'static [Record], &'static [u32]);
-
-const WRITE: u32 = 1;
-
-const READ: u32 = 2;
-
-const BC_TRANSACTION: u32 = 0x4040_6300;
-
-const BC_REPLY: u32 = 0x4040_6301;
-
-const BC_REPLY_SG: u32 = 0x4048_6312;
-
-const BC_FREE_BUFFER: u32 = 0x4008_6303;
-
-const BC_INCREFS: u32 = 0x4004_6304;
-
-const BC_ACQUIRE: u32 = 0x4004_6305;
-
-const BC_RELEASE: u32 = 0x4004_6306;
-
-const BC_INCREFS_DONE: u32 = 0x4010_6308;
-
-const BC_REQUEST_DEATH_NOTIFICATION: u32 = 0x400c_630e;
-
-const BC_CLEAR_DEATH_NOTIFICATION: u32 = 0x400c_630f;
-
-const BR_TRANSACTION: u32 = 0x8040_7202;
-
-const BR_TRANSACTION_SEC_CTX: u32 = 0x8048_7202;
-
-const BR_REPLY: u32 = 0x8040_7203;
-
-const BR_DEAD_REPLY: u32 = 0x0000_7205;
-
-const BR_TRANSACTION_COMPLETE: u32 = 0x0000_7206;
-
-const BR_INCREFS: u32 = 0x8010_7207;
-
-const BR_ACQUIRE: u32 = 0x8010_7208;
-
-const BR_NOOP: u32 = 0x0000_720c;
-
-const BR_DEAD_BINDER: u32 = 0x8008_720f;
-
-const BR_CLEAR_DEATH_NOTIFICATION_DONE: u32 = 0x8008_7210;
-
-const BR_FAILED_REPLY: u32 = 0x0000_7211;
-
-/// `BINDER_TYPE_HANDLE`.
-const HANDLE_TYPE: u32 = 0x7368_2a85;
-
-const MOST: u32 = 0xffff_ffff;
-
-// The positions of fields in `struct binder_transaction_data`, in words.
-const TARGET: u32 = 0;
-
-const CODE: u32 = 4;
-
-const FLAGS: u32 = 5;
-
-const SENDER_PID: u32 = 6;
-
-const DATA_SIZE: u32 = 8;
-
-const OFFSETS_SIZE: u32 = 10;
-
-const BUFFER: u32 = 12;
-
 /// Captures by their frames.
-const CAPTURES: &[&[Part]] = &[
+const CAPTURES: &[&[Shape]] = &[
     // a call and its reply
     &[
         (
@@ -423,74 +357,6 @@ const CAPTURES: &[&[Part]] = &[
 /// The most frames that one of them has.
 const MOST_FRAMES: u64 = 4;
 
-// The word of a payload at this position.
-fn word_at(words: &[(u32, u32)], position: u32) -> u32 {
-    for (place, word) in words {
-        if *place == position {
-            return *word;
-        }
-    }
-    0
-}
-
-fn push_word(bytes: &mut Vec<u8>, word: u32) -> Result<(), AllocError> {
-    bytes.extend_from_slice(&word.to_le_bytes())
-}
-
-// The code word and the payload, of so many words as the code word says.
-fn push_record(bytes: &mut Vec<u8>, record: &Record) -> Result<(), AllocError> {
-    let (code, words) = *record;
-    push_word(bytes, code)?;
-    for position in 0..(code >> 18) & 0xfff {
-        push_word(bytes, word_at(words, position))?;
-    }
-    Ok(())
-}
-
-fn records_of(alloc: Global, records: &[Record]) -> Result<Vec<u8>, AllocError> {
-    let mut bytes = Vec::new(alloc);
-    for record in records {
-        push_record(&mut bytes, record)?;
-    }
-    Ok(bytes)
-}
-
-fn words_of(alloc: Global, words: &[u32]) -> Result<Vec<u8>, AllocError> {
-    let mut bytes = Vec::new(alloc);
-    for word in words {
-        push_word(&mut bytes, *word)?;
-    }
-    Ok(bytes)
-}
-
-fn length_of(bytes: &Vec<u8>) -> u32 {
-    u32::try_from(bytes.len()).unwrap_or(u32::MAX)
-}
-
-fn push_part(alloc: Global, capture: &mut Vec<u8>, part: &Part) -> Result<(), AllocError> {
-    let (sequence, process, thread, direction, records, attachments) = *part;
-    let records = records_of(alloc, records)?;
-    let attachments = words_of(alloc, attachments)?;
-    capture.extend_from_slice(&sequence.to_le_bytes())?;
-    push_word(capture, process)?;
-    push_word(capture, thread)?;
-    push_word(capture, direction)?;
-    push_word(capture, length_of(&records))?;
-    push_word(capture, length_of(&attachments))?;
-    push_word(capture, 0)?;
-    capture.extend_from_slice(records.as_slice())?;
-    capture.extend_from_slice(attachments.as_slice())
-}
-
-fn capture_of(alloc: Global, frames: &[Part]) -> Result<Vec<u8>, AllocError> {
-    let mut capture = Vec::new(alloc);
-    capture.extend_from_slice(HEADER)?;
-    for part in frames {
-        push_part(alloc, &mut capture, part)?;
-    }
-    Ok(capture)
-}
-
 // The findings tell this. They end here, where no other value of a size is dropped.
 fn expect_told<T: Threads + Sync + Abort>(rt: &T, alloc: Global, found: Findings<'_>, due: &str) {
     let told = text(rt, alloc, &found);
@@ -578,7 +444,7 @@ fn expect_alike<T: Threads + Sync + Abort>(
 fn expect_capture<T: Threads + Sync + Abort>(
     rt: &T,
     alloc: Global,
-    frames: &[Part],
+    frames: &[Shape],
 ) -> Result<(), Fail> {
     let capture = capture_of(alloc, frames)?;
     expect_alike(rt, alloc, within_limit(rt, capture.as_slice()))

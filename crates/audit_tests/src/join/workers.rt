@@ -134,7 +134,7 @@ fn one_pass_gives_the_same(rt: HostRuntime) -> Result<(), Fail> {
     Ok(())
 }
 
-pub(crate) const HEADER: &[u8] = b"BNDRCAP1\x08\0\0\0\0\0\0\0";
+const HEADER: &[u8] = b"BNDRCAP1\x08\0\0\0\0\0\0\0";
 
 /// A frame header behind its sequence: a write of process 1 and thread 1, of four command bytes.
 const WRITE: &[u8] = b"\0\0\0\0\0\0\0\x01\0\0\0\x01\0\0\0\x01\0\0\0\x04\0\0\0\0\0\0\0\0\0\0\0";
@@ -178,7 +178,7 @@ fn expect_fault_by<T: Threads + Sync + Abort>(
 }
 
 // By any workers and pieces it is.
-fn expect_fault<T: Threads + Sync + Abort>(
+pub(crate) fn expect_fault<T: Threads + Sync + Abort>(
     rt: &T,
     alloc: Global,
     capture: &[u8],
@@ -277,7 +277,10 @@ fn more_workers_than_pieces(rt: HostRuntime) -> Result<(), Fail> {
 
 /// The handle that is let go before it is taken.
 const HANDLES: &[OfProcess<HandleRow>] = &[OfProcess {
-    process: Process { number: 100 },
+    process: Process {
+        device: 0,
+        number: 100,
+    },
     row: HandleRow {
         handle: 3,
         strong: Count { sum: 0, low: -1 },

@@ -19,7 +19,7 @@ const CAPTURE: &[u8] = b"BNDRCAP1\x08\0\0\0\0\0\0\0\
 \0\0\0\0\0\0\0\0\0\0\0\0\0\0\0\0\0\0\0\0\0\0\0\0\0\0\0\0\0\0\0\0\
 \0\x70\0\0\0\0\0\0\0\0\0\0\0\0\0\0";
 
-const REPORT: &[u8] = b"BINDER AUDIT 1\n\
+const REPORT: &[u8] = b"BINDER AUDIT 2\n\
 frames 2 records 4 opaque 0 missing 0\n\
 codes 4\n  0x00007206 BR_TRANSACTION_COMPLETE 1\n  0x0000720c BR_NOOP 1\n  \
 0x40406300 BC_TRANSACTION 1\n  0x80407203 BR_REPLY 1\n\
@@ -29,7 +29,7 @@ strays 0\n\
 refused 0\n\
 handles 0 unbalanced 0\n\
 nodes 0 unbalanced 0\n\
-buffers 1 leaked 1\n  156 100 0x7000 0 BR_REPLY\n\
+buffers 1 leaked 1\n  156 0 100 0x7000 0 BR_REPLY\n\
 frees 0 stray 0\n\
 requests 0 standing 0\n\
 deaths 0 unacknowledged 0 stray 0\n\

@@ -24,7 +24,7 @@ fn is_report<T: Threads + Sync, G: Gate + Sync>(
     Ok(written == Written::Report && out.as_slice().starts_with(beginning))
 }
 
-const OF_TWO: &[u8] = b"BINDER AUDIT 1\nframes 2 records 2 opaque 0 missing 0\n";
+const OF_TWO: &[u8] = b"BINDER AUDIT 2\nframes 2 records 2 opaque 0 missing 0\n";
 
 #[test]
 fn two_pieces_meet(rt: HostRuntime) -> Result<(), Fail> {
@@ -35,7 +35,7 @@ fn two_pieces_meet(rt: HostRuntime) -> Result<(), Fail> {
     Ok(())
 }
 
-const OF_FOUR: &[u8] = b"BINDER AUDIT 1\nframes 4 records 4 opaque 0 missing 0\n";
+const OF_FOUR: &[u8] = b"BINDER AUDIT 2\nframes 4 records 4 opaque 0 missing 0\n";
 
 #[test]
 fn four_pieces_meet(rt: HostRuntime) -> Result<(), Fail> {

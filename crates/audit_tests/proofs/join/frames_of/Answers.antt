@@ -10,8 +10,8 @@ pub returns-clause-good : goal.returns-clause-good
 returns-clause-good c =
     let audited = c.requires.audited in
     let spelled = spelling_of whole_format audited.0 in
-    let whole = ap length audited.2.1 ∙ length-append file_header audited.2.0 in
-    let bytes = ap length audited.2.2.joined ∙ length-append spelled [] in
+    let whole = ap length audited.2.2 ∙ length-append (file_header audited.2.0) audited.2.1 in
+    let bytes = ap length audited.2.3.joined ∙ length-append spelled [] in
     let limit = c.requires.limit in
     subst AreGoodFrames (sym c.frames.ensures)
     (shown_are_good c.args.found.now.frames audited.0 audited.3.show (omega (arith, whole, bytes, limit)))

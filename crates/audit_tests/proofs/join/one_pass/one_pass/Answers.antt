@@ -1,4 +1,4 @@
-use Rattle.std.proofs.Common.{List, [], ◌∷◌, ◌++◌, sym, subst}
+use Rattle.std.proofs.Common.{List, None, [], ◌∷◌, ◌++◌, sym, subst}
 use Rattle.std.proofs.lemmas.Result.{err_from_is_err_and}
 use Rattle.capture_frame.specs.declared.frame.Frame.{Frame}
 use Rattle.transaction_view.proofs.CaptureWalk.{whole_of, stands_at_start, stands_behind_next, left_falls, header_fails, content_fails, frames_end}
@@ -12,7 +12,7 @@ pub loop-summary-init : goal.loop-summary-init
 loop-summary-init c =
     let none = sym c.new-frames.ensures.items in (
       [],
-      stands_at_start c.args.capture.now c.in_ok-reader.reader c.in_ok-reader.ensures.0 c.in_ok-reader.ensures.1,
+      stands_at_start c.args.capture.now None c.in_ok-reader.reader c.in_ok-reader.ensures,
       subst (λ (t : List Frame). Show t (wholes_of [])) none shown_at_start,
       subst (SumsPiece c.empty-summary.result) none c.empty-summary.ensures,
     )
@@ -21,12 +21,12 @@ pub returns-in_err-frame-clause-malformed : goal.returns-in_err-frame-clause-mal
 returns-in_err-frame-clause-malformed c =
     let p = err_from_is_err_and c.from_residual-in_err-frame.result c.from_residual-in_err-frame.ensures.1 in
     let done = c.loop-summary.invariant in
-    rw (p.1, p.2) (header_fails c.args.capture.now c.loop-summary.reader done.0 done.1 c.in_err-frame.field-0.0 c.next_frame.new.self c.in_err-frame.ensures)
+    rw (p.1, p.2) (header_fails c.args.capture.now None c.loop-summary.reader done.0 done.1 c.in_err-frame.field-0.0 c.next_frame.new.self c.in_err-frame.ensures)
 
 pub returns-in-Some-check_frame-clause-malformed : goal.returns-in-Some-check_frame-clause-malformed
 returns-in-Some-check_frame-clause-malformed c =
     let done = c.loop-summary.invariant in
-    content_fails c.args.capture.now c.loop-summary.reader done.0 done.1 c.in-Some.frame c.next_frame.new.self c.in-Some-check_frame.fault
+    content_fails c.args.capture.now None c.loop-summary.reader done.0 done.1 c.in-Some.frame c.next_frame.new.self c.in-Some-check_frame.fault
     (rw c.in-Some.is at c.in_ok-frame.ensures) c.in-Some-check_frame.ensures.first
 
 pub take_frame-requires : goal.take_frame-requires
@@ -36,7 +36,7 @@ take_frame-requires c =
     let steps = rw c.in-Some.is at c.in_ok-frame.ensures in
     let good = c.in_default-check_frame.ensures.first in
     let whole = whole_of found good.0.0 good.1.0 in
-    let stands = stands_behind_next c.args.capture.now c.loop-summary.reader done.0 done.1 found good.0.0 good.1.0 c.next_frame.new.self steps good.0.1 good.1.1 in
+    let stands = stands_behind_next c.args.capture.now None c.loop-summary.reader done.0 done.1 found good.0.0 good.1.0 c.next_frame.new.self steps good.0.1 good.1.1 in
     let show = shown_next c.args.capture.now c.loop-summary.reader done.0 done.1 c.loop-summary.frames.items done.2 found c.next_frame.new.self steps
     good.0.0 good.1.0 good.0.1 good.1.1 in (
       c.loop-summary.frames.items,
@@ -48,7 +48,7 @@ take_frame-requires c =
 pub loop-summary-smaller : goal.loop-summary-smaller
 loop-summary-smaller c =
     let done = c.loop-summary.invariant in
-    left_falls c.args.capture.now c.loop-summary.reader done.0 done.1 c.in-Some.frame c.next_frame.new.self (rw c.in-Some.is at c.in_ok-frame.ensures)
+    left_falls c.args.capture.now None c.loop-summary.reader done.0 done.1 c.in-Some.frame c.next_frame.new.self (rw c.in-Some.is at c.in_ok-frame.ensures)
 
 pub loop-summary-preserved : goal.loop-summary-preserved
 loop-summary-preserved c =
@@ -57,7 +57,7 @@ loop-summary-preserved c =
     let steps = rw c.in-Some.is at c.in_ok-frame.ensures in
     let good = c.in_default-check_frame.ensures.first in
     let whole = whole_of found good.0.0 good.1.0 in
-    let stands = stands_behind_next c.args.capture.now c.loop-summary.reader done.0 done.1 found good.0.0 good.1.0 c.next_frame.new.self steps good.0.1 good.1.1 in
+    let stands = stands_behind_next c.args.capture.now None c.loop-summary.reader done.0 done.1 found good.0.0 good.1.0 c.next_frame.new.self steps good.0.1 good.1.1 in
     let show = shown_next c.args.capture.now c.loop-summary.reader done.0 done.1 c.loop-summary.frames.items done.2 found c.next_frame.new.self steps
     good.0.0 good.1.0 good.0.1 good.1.1 in
     let fits = shown_are_good (c.loop-summary.frames.items ++ found ∷ []) (done.0 ++ whole ∷ []) show
@@ -91,6 +91,6 @@ returns-clause-found c =
     let said = c.in_ok-sections.ensures frames (wholes_of done.0) done.3 (shown_are_good frames done.0 done.2 short) done.2 in (
       done.0,
       said.0,
-      frames_end c.args.capture.now c.loop-summary.reader done.0 done.1 c.next_frame.new.self (rw c.in_default.is at c.in_ok-frame.ensures),
+      frames_end c.args.capture.now None c.loop-summary.reader done.0 done.1 c.next_frame.new.self (rw c.in_default.is at c.in_ok-frame.ensures),
       rw c.new-2.ensures (record { show = done.2; are = said.1; keep = said.2 }),
     )
