@@ -25,24 +25,26 @@ def u64(number):
     return number.to_bytes(8, "little")
 
 
-def frame_header(direction, sequence, process, thread, commands, attachments):
-    """The header of a frame that tells of so many command bytes and attachment bytes."""
+def frame_header(direction, sequence, process, thread, commands, attachments, device=0):
+    """The header of a frame that tells of so many command bytes and attachment bytes. A device other
+    than 0 is for version 2."""
     return (u64(sequence) + u32(process) + u32(thread) + bytes([direction, 0, 0, 0])
-            + u32(commands) + u32(attachments) + u32(0))
+            + u32(commands) + u32(attachments) + u32(device))
 
 
-def frame(direction, sequence, process, thread, records=(), entries=()):
+def frame(direction, sequence, process, thread, records=(), entries=(), device=0):
     commands, attachments = b"".join(records), b"".join(entries)
     lengths = len(commands), len(attachments)
-    return frame_header(direction, sequence, process, thread, *lengths) + commands + attachments
+    header = frame_header(direction, sequence, process, thread, *lengths, device)
+    return header + commands + attachments
 
 
-def write(sequence, process, thread, *records):
-    return frame(1, sequence, process, thread, records)
+def write(sequence, process, thread, *records, device=0):
+    return frame(1, sequence, process, thread, records, device=device)
 
 
-def read(sequence, process, thread, *records, entries=()):
-    return frame(2, sequence, process, thread, records, entries)
+def read(sequence, process, thread, *records, entries=(), device=0):
+    return frame(2, sequence, process, thread, records, entries, device)
 
 
 def record(code, *numbers):
@@ -97,7 +99,9 @@ def changed(capture, *changes):
     return capture
 
 
+# The file headers of the two versions.
 HEADER = b"BNDRCAP1" + u32(8) + u32(0)
+HEADER_2 = b"BNDRCAP2" + u32(8) + u32(0)
 MAX_32, MAX_64 = 2**32 - 1, 2**64 - 1
 
 COMMANDS = (
@@ -152,14 +156,19 @@ def oneway(*sizes):
     return transaction(BR_TRANSACTION, flags=1, sizes=sizes, buffer=0x9000)
 
 
-def attached(sequence, process, *attachments):
+def attached(sequence, process, *attachments, device=0):
     """A read of oneway transactions, each with an entry of its own of this body and list."""
     return read(sequence, process, 101,
                 *(oneway(len(body), len(listed)) for body, listed in attachments),
-                entries=[entry(68 * at, *both) for at, both in enumerate(attachments)])
+                entries=[entry(68 * at, *both) for at, both in enumerate(attachments)],
+                device=device)
 
 
 ONE_HANDLE = HANDLE, offsets(0)
+
+# Version 2: process 100 takes a reference to handle 5 of device 1, and lets one go of device 0.
+TWO_DEVICES = (HEADER_2 + write(1, 100, 101, record(BC_ACQUIRE, u32(5)), device=1)
+               + write(2, 100, 101, record(BC_RELEASE, u32(5)), device=0))
 
 # A transaction at 48 with a HANDLE, whose entry is at 116.
 DELIVERY = HEADER + attached(1, 100, ONE_HANDLE)
@@ -534,6 +543,102 @@ def oneway_traffic():
     )
 
 
+def one_number_on_two_devices():
+    """Thread 101 of process 100 on device 3 and on device 0, by the same handles, nodes, addresses
+    and cookies. What is opened on the one is closed on the other alone: so of each ledger all that
+    is open stays open, and each close is a stray. Each device has a oneway transaction besides."""
+    def on_3(direction, sequence, *records):
+        return frame(direction, sequence, 100, 101, records, device=3)
+
+    def on_0(direction, sequence, *records):
+        return frame(direction, sequence, 100, 101, records, device=0)
+
+    def send(size):
+        return transaction(BC_TRANSACTION, target=5, code=1, flags=1, sizes=(size, 0))
+    return HEADER_2 + on_3(
+        1, 1, *each(BC_ACQUIRE, 5, 5), *each(BC_INCREFS, 6),
+        watch(BC_REQUEST_DEATH_NOTIFICATION, 7, 0x70), watch(BC_CLEAR_DEATH_NOTIFICATION, 8, 0x80),
+        transaction(BC_TRANSACTION, target=5, code=2),
+    ) + on_3(
+        2, 2, node(BR_ACQUIRE, 0x20, 0x30), *each_long(BR_DEAD_BINDER, 0x90),
+        transaction(BR_TRANSACTION, flags=1, sizes=(24, 0), buffer=0x8000),
+    ) + on_0(
+        1, 3, *each(BC_RELEASE, 5), *each(BC_DECREFS, 6),
+        watch(BC_CLEAR_DEATH_NOTIFICATION, 7, 0x70), node(BC_ACQUIRE_DONE, 0x20, 0x30),
+        *each_long(BC_DEAD_BINDER_DONE, 0x90), *each_long(BC_FREE_BUFFER, 0x8000), send(20),
+    ) + on_0(
+        2, 4, *each_long(BR_DEAD_BINDER, 0x70),
+        *each_long(BR_CLEAR_DEATH_NOTIFICATION_DONE, 0x80),
+        record(BR_TRANSACTION_COMPLETE), transaction(BR_REPLY, buffer=0x9000),
+        transaction(BR_TRANSACTION, flags=1, sizes=(8, 0), buffer=0xA000),
+    ) + on_3(
+        1, 5, *each_long(BC_FREE_BUFFER, 0x9000), send(10),
+    ) + on_0(
+        2, 6, record(BR_FAILED_REPLY),
+    )
+
+
+def threads_of_two_devices():
+    """Thread 7 of process 100 on devices 1 and 2. The reply is to the call on device 1, which is not
+    the last call. The error reply on device 2 is to the call there, as the oneway transaction before
+    it was sent on the other device."""
+    return HEADER_2 + write(
+        1, 100, 7, transaction(BC_TRANSACTION, target=1, code=1), device=1,
+    ) + write(
+        2, 100, 7, transaction(BC_TRANSACTION, target=2, code=2), device=2,
+    ) + read(
+        3, 100, 7, transaction(BR_REPLY, buffer=0x7000), device=1,
+    ) + write(
+        4, 100, 7, transaction(BC_TRANSACTION, target=3, code=3, flags=1), device=1,
+    ) + read(
+        5, 100, 7, record(BR_FAILED_REPLY), device=2,
+    ) + read(
+        6, 100, 7, record(BR_DEAD_REPLY), device=1,
+    )
+
+
+def processes_of_devices():
+    """Processes of several devices, in the order of neither number. Some have an empty first frame;
+    device 1 with process 2 and device 2 with process 1 are two."""
+    first = (2, 1), (1, 2), (MAX_32, 1), (1, MAX_32), (0, 2), (2, 2)
+    return HEADER_2 + b"".join(
+        write(at, number, 1, device=device) for at, (device, number) in enumerate(first, 1)
+    ) + write(
+        7, 1, 1, *each(BC_ACQUIRE, 2, 1), device=0,
+    ) + read(
+        8, 2, 1, node(BR_ACQUIRE, 1, 1), device=0,
+    ) + write(
+        9, 2, 1, *each(BC_INCREFS, 1), transaction(BC_TRANSACTION, target=4, flags=1), device=2,
+    ) + write(
+        10, 1, 1, *each(BC_ACQUIRE, 1), transaction(BC_TRANSACTION, target=4, flags=1), device=2,
+    ) + write(
+        11, MAX_32, 2, *each(BC_ACQUIRE, 1), device=1,
+    ) + read(
+        12, 2, 2, node(BR_INCREFS, 1, 1), oneway(3, 0), device=1,
+    ) + write(
+        13, 1, 1, *each(BC_ACQUIRE, 1), device=MAX_32,
+    )
+
+
+def rows_of_one_device():
+    """A row in each section that has places, all of device 7 and process 100."""
+    return HEADER_2 + write(
+        1, 100, 101, transaction(BC_TRANSACTION, target=1, code=2, flags=0x82),
+        transaction(BC_TRANSACTION, target=2, code=3, flags=1, sizes=(5, 0)), device=7,
+    ) + read(
+        2, 100, 101, record(BR_FAILED_REPLY), device=7,
+    ) + read(
+        3, 100, 102, transaction(BR_TRANSACTION, code=4, sender=200, buffer=0x8000),
+        *each_long(BR_DEAD_BINDER, 0x70), *each_long(BR_CLEAR_DEATH_NOTIFICATION_DONE, 0x80),
+        device=7,
+    ) + attached(
+        4, 100, (HANDLE, offsets(2)), ONE_HANDLE, device=7,
+    ) + write(
+        5, 100, 103, transaction(BC_REPLY), *each_long(BC_FREE_BUFFER, 0x10),
+        watch(BC_REQUEST_DEATH_NOTIFICATION, 7, 0x71), watch(BC_CLEAR_DEATH_NOTIFICATION, 8, 0x81),
+        *each_long(BC_DEAD_BINDER_DONE, 0x72), device=7,
+    )
+
 
 # ---- the captures
 
@@ -625,6 +730,38 @@ CAPTURES = {
     # counts and sums of oneway transactions
     "oneway.cap": oneway_traffic(),
 
+    # -- devices
+    # version 2, and device 0 alone
+    "version-2.cap": changed(ACQUIRES, (7, b"2")),
+    # version 2 without frames
+    "version-2-empty.cap": HEADER_2,
+    # one handle of one process on two devices
+    "handle-of-two-devices.cap": TWO_DEVICES,
+    # the same bytes in version 1, where no device stands
+    "device-in-version-1.cap": changed(TWO_DEVICES, (7, b"1")),
+    # one process on two devices: what is opened on the one is closed on the other
+    "one-number-on-two-devices.cap": one_number_on_two_devices(),
+    # two threads of one number on two devices of one process
+    "threads-of-two-devices.cap": threads_of_two_devices(),
+    # the order of processes is that of their first frames, whatever the device
+    "processes-of-devices.cap": processes_of_devices(),
+    # each row that has a place has its device
+    "rows-of-one-device.cap": rows_of_one_device(),
+    # the greatest device
+    "greatest-device.cap": HEADER_2 + write(1, 100, 101, *each(BC_ACQUIRE, 5), device=MAX_32),
+    # the highest bit of the device alone
+    "device-of-one-bit.cap": changed(ACQUIRES, (7, b"2"), (47, b"\x80")),
+    # sequences rise over all devices; the gap is of both together
+    "missing-of-two-devices.cap": HEADER_2 + write(5, 1, 1, device=1) + write(9, 1, 1, device=2),
+    # the same sequence on two devices
+    "sequence-of-two-devices.cap": HEADER_2 + write(5, 1, 1, device=1) + write(5, 1, 1, device=2),
+    # the byte behind the direction is reserved in version 2 too
+    "reserved-of-version-2.cap": changed(TWO_DEVICES, (33, b"\x01")),
+    # so is the byte before the lengths; a length is wrong too, which is judged later
+    "reserved-and-length-of-version-2.cap": changed(TWO_DEVICES, (35, b"\x80"), (36, b"\x60")),
+    # a return in a write, in the second frame
+    "letter-on-a-device.cap": changed(TWO_DEVICES, (89, b"\x72")),
+
     # -- each record of the tables, and names
     # each command and each return of the tables, once
     "every-command.cap": HEADER + write(1, 100, 101, *map(record, COMMANDS))
@@ -642,8 +779,12 @@ CAPTURES = {
     "no-bytes.cap": b"",
     # the first byte of the magic; the protocol is wrong too, which is judged later
     "magic-and-protocol.cap": changed(ACQUIRES, (0, b"b"), (8, b"\x07")),
-    # the last byte of the magic
-    "magic-of-version-2.cap": changed(ACQUIRES, (7, b"2")),
+    # the last byte of the magic, of a capture that has devices
+    "magic-of-version-3.cap": changed(TWO_DEVICES, (7, b"3")),
+    # the same, one below that of version 1
+    "magic-of-version-0.cap": changed(ACQUIRES, (7, b"0")),
+    # the first byte of the magic, in version 2
+    "magic-in-small.cap": changed(TWO_DEVICES, (0, b"b")),
     # the first byte of the protocol
     "protocol-7.cap": changed(ACQUIRES, (8, b"\x07")),
     # the last byte of the protocol, and the reserved field, which is judged later

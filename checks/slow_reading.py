@@ -104,10 +104,19 @@ class Fault(Exception):
     """The first fault of a capture: its kind and its place."""
 
 
+class Process(NamedTuple):
+    """A process is named by its device and its number, and so it stands in a row."""
+    device: int
+    number: int
+
+    def __str__(self):
+        return f"{self.device} {self.number}"
+
+
 class Frame(NamedTuple):
     place: int
     sequence: int
-    process: int
+    process: Process
     thread: int
     direction: int
     commands: bytes
@@ -129,7 +138,7 @@ class Entry(NamedTuple):
 class Event(NamedTuple):
     """A record of a capture, with the process and the thread of its frame."""
     place: int
-    process: int
+    process: Process
     thread: int
     code: int
     kind: str
@@ -172,38 +181,44 @@ def buffer(event):
 # ---- from bytes to frames and events, or to the first fault
 
 
-def judge_file_header(capture):
+VERSIONS = {b"BNDRCAP1": 1, b"BNDRCAP2": 2}
+
+
+def version_of(capture):
+    """The version that the file header tells."""
     if len(capture) < 16:
         raise Fault("HeaderShort", 0)
-    if capture[:8] != b"BNDRCAP1":
+    if capture[:8] not in VERSIONS:
         raise Fault("HeaderMagic", 0)
     if number(capture, 8, 4) != 8:
         raise Fault("HeaderProtocol", 8)
     if number(capture, 12, 4) != 0:
         raise Fault("HeaderReserved", 12)
+    return VERSIONS[capture[:8]]
 
 
-# Sequence, process, thread, direction, reserved, command length, attachment length, reserved.
+# Sequence, process, thread, direction, reserved, command length, attachment length, and the device,
+# which version 1 has not: there the field is reserved too.
 FRAME_HEADER = struct.Struct("<QIIB3sIII")
 
 
-def read_frame(capture, place, before):
+def read_frame(capture, version, place, before):
     """The frame that begins there, behind these frames."""
     if place + 32 > len(capture):
         raise Fault("FrameShort", place)
-    sequence, process, thread, direction, reserved, commands, attachments, reserved_too = (
+    sequence, process, thread, direction, reserved, commands, attachments, device = (
         FRAME_HEADER.unpack_from(capture, place))
     if before and sequence <= before[-1].sequence:
         raise Fault("FrameSequence", place)
     if direction not in DIRECTIONS:
         raise Fault("FrameDirection", place)
-    if any(reserved) or reserved_too != 0:
+    if any(reserved) or version == 1 and device != 0:
         raise Fault("FrameReserved", place)
     first = place + 32
     second, end = first + commands, first + commands + attachments
     if end > len(capture):
         raise Fault("FrameLength", place)
-    return Frame(place, sequence, process, thread, direction,
+    return Frame(place, sequence, Process(device, process), thread, direction,
                  capture[first:second], capture[second:end])
 
 
@@ -273,10 +288,10 @@ def events_of(frame):
 
 def read_capture(capture):
     """The frames and the events of a capture without a fault."""
-    judge_file_header(capture)
+    version = version_of(capture)
     frames, events, place = [], [], 16
     while place < len(capture):
-        frame = read_frame(capture, place, frames)
+        frame = read_frame(capture, version, place, frames)
         frames.append(frame)
         events += events_of(frame)
         place += 32 + len(frame.commands) + len(frame.attachments)
@@ -710,7 +725,7 @@ def report_of(frames, events):
     processes = different(frame.process for frame in frames)
     found = calls_of(events)
     return [
-        "BINDER AUDIT 1",
+        "BINDER AUDIT 2",
         *totals(frames, events),
         *codes(events),
         *calls(found),

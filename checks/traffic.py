@@ -1,12 +1,12 @@
 #!/usr/bin/env python3
 """A large capture of made-up traffic, as checks/limits and checks/load need.
 
-    checks/traffic.py BYTES FILE    writes into the file a capture of at most so many bytes
+    checks/traffic.py BYTES FILE [DEVICES]    writes into the file a capture of at most so many bytes
 
-Forty processes of eight threads each talk to one another: calls, some of them served within others, oneway
+Where more devices than one are asked for the capture is one of version 2, and each conversation is of one device. Forty processes of eight threads each talk to one another: calls, some of them served within others, oneway
 transactions, attachments, buffers that are freed or forgotten, references to handles and nodes, requests to be told of
 a death with their clears and deaths, a few error replies, bad objects, unknown flags and gaps in the sequences. The
-same number of bytes gives the same capture. `captures.py` has the frames and records.
+same numbers give the same capture. `captures.py` has the frames and records.
 """
 
 import random
@@ -23,13 +23,19 @@ OBJECTS = (BINDER, WEAK_BINDER, HANDLE, HANDLE, HANDLE, HANDLE, WEAK_HANDLE, FD,
 
 
 class World:
-    """The threads that do nothing, and the buffers that may be delivered into."""
+    """The threads that do nothing, and the buffers of each device that may be delivered into."""
 
-    def __init__(self):
+    def __init__(self, devices):
         self.random = random.Random(1)
+        self.devices = devices
         self.idle = [(process, thread) for process in range(PROCESSES) for thread in range(THREADS)]
-        self.buffers = [[] for _ in range(PROCESSES)]
-        self.next_buffer = [0x7000_0000_0000] * PROCESSES
+        # By device and process. The addresses are the same on all devices.
+        self.buffers = [[[] for _ in range(PROCESSES)] for _ in range(devices)]
+        self.next_buffer = [[0x7000_0000_0000] * PROCESSES for _ in range(devices)]
+
+    def device(self):
+        """The device of a new conversation. Of one device nothing is drawn, so that its traffic stays what it is."""
+        return self.random.randrange(self.devices) if self.devices > 1 else 0
 
     def often(self, thousandths):
         return self.random.random() * 1000 < thousandths
@@ -44,11 +50,11 @@ class World:
                     return self.idle.pop()
         return None
 
-    def buffer(self, process):
-        if self.buffers[process]:
-            return self.buffers[process].pop()
-        self.next_buffer[process] += 0x1000
-        return self.next_buffer[process]
+    def buffer(self, device, process):
+        if self.buffers[device][process]:
+            return self.buffers[device][process].pop()
+        self.next_buffer[device][process] += 0x1000
+        return self.next_buffer[device][process]
 
     def data(self):
         """The body of a transaction and its list of offsets: numbers, and here and there an object."""
@@ -63,11 +69,11 @@ class World:
     def flags(self, known):
         return known | 0x100 if self.often(1) else known
 
-    def free(self, process, buffer):
+    def free(self, device, process, buffer):
         """The record that frees a buffer, but for two in a thousand that stay."""
         if self.often(2):
             return []
-        self.buffers[process].append(buffer)
+        self.buffers[device][process].append(buffer)
         return each_long(BC_FREE_BUFFER, buffer)
 
     def references(self):
@@ -85,7 +91,7 @@ def shown(world, records, kind, data, **fields):
     return records, [entry(at, body, listed)] if world.often(600) else []
 
 
-def call(world, client, depth=0):
+def call(world, device, client, depth=0):
     """The frames of a call and its reply: the direction, the thread, the records and the entries of each."""
     target, code = world.random.randrange(40), world.random.randint(1, 60)
     data = world.data()
@@ -96,7 +102,7 @@ def call(world, client, depth=0):
         yield 2, client, [record(BR_NOOP), record(BR_DEAD_REPLY)], []
         return
     yield 2, client, [record(BR_NOOP), record(BR_TRANSACTION_COMPLETE)], []
-    buffer, answered = world.buffer(server[0]), world.buffer(client[0])
+    buffer, answered = world.buffer(device, server[0]), world.buffer(device, client[0])
     nodes, thanks = [], []
     if world.often(100):
         take, let_go, done = world.random.choice(NODES)
@@ -108,18 +114,18 @@ def call(world, client, depth=0):
     if thanks:
         yield 1, server, thanks, []
     if depth < 3 and world.often(120):
-        yield from call(world, server, depth + 1)
+        yield from call(world, device, server, depth + 1)
     if not world.often(1):
         data = world.data()
-        records = world.free(server[0], buffer) + world.references()
+        records = world.free(device, server[0], buffer) + world.references()
         yield 1, server, *shown(world, records, BC_REPLY, data, flags=world.flags(0))
         yield 2, server, [record(BR_NOOP), record(BR_TRANSACTION_COMPLETE)], []
         yield 2, client, *shown(world, [record(BR_NOOP)], BR_REPLY, data, buffer=answered)
-        yield 1, client, world.free(client[0], answered), []
+        yield 1, client, world.free(device, client[0], answered), []
     world.idle.append(server)
 
 
-def oneway_call(world, client):
+def oneway_call(world, device, client):
     """The frames of a oneway transaction."""
     data = world.data()
     yield 1, client, *shown(world, [], BC_TRANSACTION, data, target=world.random.randrange(40), code=9, flags=0x11)
@@ -129,14 +135,14 @@ def oneway_call(world, client):
     yield 2, client, [record(BR_NOOP), record(BR_TRANSACTION_COMPLETE)], []
     server = world.thread(client[0])
     if server is not None:
-        buffer = world.buffer(server[0])
+        buffer = world.buffer(device, server[0])
         kind = BR_TRANSACTION_SEC_CTX if world.often(200) else BR_TRANSACTION
         yield 2, server, *shown(world, [record(BR_NOOP)], kind, data, code=9, flags=0x11, buffer=buffer)
-        yield 1, server, world.free(server[0], buffer), []
+        yield 1, server, world.free(device, server[0], buffer), []
         world.idle.append(server)
 
 
-def death(world, client):
+def death(world, _, client):
     """The frames of a request to be told of a death: it is told of, taken back, or stands."""
     handle, cookie = world.random.randrange(120), 0x9000 + 8 * world.random.randrange(4000)
     yield 1, client, [watch(BC_REQUEST_DEATH_NOTIFICATION, handle, cookie)], []
@@ -149,22 +155,22 @@ def death(world, client):
 
 
 def begun(world):
-    """What a thread does next, and the thread; None where none is free."""
+    """What a thread does next, and on which device, and the thread; None where none is free."""
     client = world.thread()
     if client is None:
         return None
-    kinds = (call, oneway_call, death)
-    return world.random.choices(kinds, (75, 20, 5))[0](world, client), client
+    device, kinds = world.device(), (call, oneway_call, death)
+    return world.random.choices(kinds, (75, 20, 5))[0](world, device, client), device, client
 
 
-def frames():
+def frames(devices):
     """Frames without end, of many conversations at once."""
-    world, open_now, sequence = World(), [], 0
+    world, open_now, sequence = World(devices), [], 0
     while True:
         while len(open_now) < AT_ONCE and (new := begun(world)) is not None:
             open_now.append(new)
         at = world.random.randrange(len(open_now))
-        conversation, client = open_now[at]
+        conversation, device, client = open_now[at]
         drawn = next(conversation, None)
         if drawn is None:
             open_now[at] = open_now[-1]
@@ -174,14 +180,14 @@ def frames():
         direction, (process, thread), records, entries = drawn
         sequence += 2 if world.often(1) else 1
         number = 1000 + 7 * process
-        yield frame(direction, sequence, number, number + thread, records, entries)
+        yield frame(direction, sequence, number, number + thread, records, entries, device)
 
 
-def write_traffic(path, most):
+def write_traffic(path, most, devices=1):
     """Writes a capture of at most so many bytes, and gives the number of frames."""
     with open(path, "wb") as out:
-        length, count = out.write(HEADER), 0
-        for one in frames():
+        length, count = out.write(HEADER if devices == 1 else HEADER_2), 0
+        for one in frames(devices):
             length += len(one)
             if length > most:
                 return count
@@ -190,6 +196,6 @@ def write_traffic(path, most):
 
 
 if __name__ == "__main__":
-    if len(sys.argv) != 3:
-        sys.exit("usage: checks/traffic.py BYTES FILE")
-    print(write_traffic(sys.argv[2], int(sys.argv[1])))
+    if len(sys.argv) not in (3, 4):
+        sys.exit("usage: checks/traffic.py BYTES FILE [DEVICES]")
+    print(write_traffic(sys.argv[2], int(sys.argv[1]), *map(int, sys.argv[3:])))
