@@ -35,15 +35,20 @@ handle_rows m ordered items sums =
       weak = count_at nat_cmp handle_of (handle_change Weak) e.1.weak e.0 items counts.weak;
     })
 
+-- the row of the items that are read from things is that of the things
+pub read_handle_row : {E : Type 0} (read : E → Option HandleItem) (things : List E) (row : HandleRow)
+    → IsHandleRow itself (filter_map read things) row → IsHandleRow read things row
+read_handle_row read things row counts = record {
+  strong = read_counts read (change_at_handle itself row.handle Strong) row.strong things counts.strong;
+  weak = read_counts read (change_at_handle itself row.handle Weak) row.weak things counts.weak;
+}
+
 -- the rows of the items that are read from things are those of the things
 pub read_handle_rows : {E : Type 0} (read : E → Option HandleItem) (things : List E) (rows : List HandleRow)
     → AreHandleRows itself (filter_map read things) rows → AreHandleRows read things rows
 read_handle_rows read things =
     read_rows nat_cmp handle_of (λ (row : HandleRow). row.handle) read things (IsHandleRow itself (filter_map read things)) (IsHandleRow read things)
-    (λ row counts. record {
-      strong = read_counts read (change_at_handle itself row.handle Strong) row.strong things counts.strong;
-      weak = read_counts read (change_at_handle itself row.handle Weak) row.weak things counts.weak;
-    })
+    (read_handle_row read things)
 
 -- one item more, of which this is what it does to each count
 pub handle_more : (old new : HandleCounts) (item : HandleItem) → CountsOneMore (handle_change Strong item) old.strong new.strong
@@ -53,7 +58,7 @@ handle_more old new item strong weak = λ items sums fits. record {
   weak = count_more (handle_change Weak) old.weak new.weak items item weak sums.weak;
 }
 
-one_row : {E : Type 0} (read : E → Option HandleItem) (things : List E) (row other : HandleRow) → row.handle ≡ other.handle → IsHandleRow read things row
+pub one_row : {E : Type 0} (read : E → Option HandleItem) (things : List E) (row other : HandleRow) → row.handle ≡ other.handle → IsHandleRow read things row
     → IsHandleRow read things other → row ≡ other
 one_row read things row other same a b =
     let strong = one_count row.strong other.strong (map (change_at_handle read row.handle Strong) things) a.strong

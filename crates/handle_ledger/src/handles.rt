@@ -13,7 +13,7 @@ use summary_law::{ByKey, Summary};
 /// The counts of each handle that one process named. The caller separates the items of processes.
 #[derive(Drop)]
 pub struct HandleLedger {
-    handles: ByKey<u32, HandleCounts>,
+    pub(crate) handles: ByKey<u32, HandleCounts>,
 }
 
 impl HandleLedger {

@@ -4,6 +4,8 @@
 mod handle_counts;
 mod handle_row;
 mod handles;
+mod held_row;
+mod held_rows;
 pub mod laws;
 mod node_counts;
 mod node_row;
@@ -11,5 +13,6 @@ mod nodes;
 
 pub use handle_row::HandleRow;
 pub use handles::HandleLedger;
+pub use held_row::HeldRow;
 pub use node_row::NodeRow;
 pub use nodes::NodeLedger;

@@ -1,4 +1,5 @@
 pub mod Fields
+pub mod Held
 pub mod Objects
 pub mod Reading
 pub mod State

@@ -1,7 +1,7 @@
 //! Objects by hand: each sort, and the edges of what is refused.
 
 use crate::expect::{holds, same};
-use object_view::{BadObject, Cause, Object, Objects, Sort};
+use object_view::{BadObject, Cause, Object, Objects, Sort, held_step};
 use std::process::Abort;
 use transaction_view::Entry;
 
@@ -210,6 +210,22 @@ fn reads_the_fields(rt: HostRuntime) {
     same(&rt, buffer.length(), Some(0xb3b2_b1b0_afae_adac));
     same(&rt, buffer.parent(), Some(0xbbba_b9b8_b7b6_b5b4));
     same(&rt, buffer.parent_offset(), Some(0xc3c2_c1c0_bfbe_bdbc));
+}
+
+#[test]
+fn tells_the_reference_that_an_object_carries(rt: HostRuntime) {
+    same(
+        &rt,
+        held_step(first_object(&rt, HANDLE)),
+        Some((0xa7a6_a5a4, false)),
+    );
+    same(
+        &rt,
+        held_step(first_object(&rt, WEAK_HANDLE)),
+        Some((0xa7a6_a5a4, true)),
+    );
+    same(&rt, held_step(first_object(&rt, BINDER)), None);
+    same(&rt, held_step(first_object(&rt, FD)), None);
 }
 
 #[test]

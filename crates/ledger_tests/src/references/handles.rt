@@ -1,11 +1,11 @@
 //! Handles.
 
 use event_core::{HandleChange, HandleItem, Strength};
-use handle_ledger::{HandleLedger, HandleRow};
+use handle_ledger::{HandleLedger, HandleRow, HeldRow};
 use std::alloc::{AllocError, Global};
 use std::process::Abort;
 use std::test::Fail;
-use summary_law::{Count, summary_of};
+use summary_law::{Count, Tally, summary_of};
 use test_kit::in_three_from_the_front;
 
 /// A handle, and what is done to its references of a strength.
@@ -64,7 +64,44 @@ const ROWS: &[HandleRow] = &[
     row!(4294967295, 0, 0, 1, 0),
 ];
 
-/// The ledger of the three parts of the items that end at these has the rows of all.
+/// Held references, each with whether it is a weak one, and a weight: of two handles that an item
+/// names, and of two that none does.
+const HELD: &[((u32, bool), u64)] = &[
+    ((7, true), 1),
+    ((5, false), 9),
+    ((5, true), 1),
+    ((8, false), 0),
+    ((0, false), 1),
+    ((5, false), 1),
+    ((7, true), 1),
+];
+
+/// A row, and how many strong and how many weak references are held.
+macro_rules! held_row {
+    ($taken:expr, $strong:literal, $weak:literal) => {
+        HeldRow {
+            taken: $taken,
+            held_strong: $strong,
+            held_weak: $weak,
+        }
+    };
+}
+
+const HELD_ROWS: &[HeldRow] = &[
+    held_row!(row!(0, 0, 0, 0, 0), 1, 0),
+    held_row!(row!(1, 1, 0, 0, 0), 0, 0),
+    held_row!(row!(2, -2, -2, 0, 0), 0, 0),
+    held_row!(row!(3, 0, 0, 1, 0), 0, 0),
+    held_row!(row!(4, 0, 0, -1, -1), 0, 0),
+    held_row!(row!(5, 1, 0, -1, -1), 2, 1),
+    held_row!(row!(6, 0, -1, 0, 0), 0, 0),
+    held_row!(row!(7, 0, 0, 0, 0), 0, 2),
+    held_row!(row!(8, 0, 0, 0, 0), 1, 0),
+    held_row!(row!(4294967295, 0, 0, 1, 0), 0, 0),
+];
+
+/// The ledger of the three parts of the items that end at these has the rows of all, also beside what
+/// is held.
 fn expect_rows(
     rt: &impl Abort,
     alloc: Global,
@@ -74,6 +111,9 @@ fn expect_rows(
     let ledger: HandleLedger = in_three_from_the_front(alloc, ITEMS, first_end, second_end)?;
     let rows = ledger.rows()?;
     assert!(rt; rows.as_slice() == ROWS);
+    let held: Tally<(u32, bool)> = summary_of(alloc, HELD)?;
+    let rows = ledger.rows_held(&held)?;
+    assert!(rt; rows.as_slice() == HELD_ROWS);
     Ok(())
 }
 

@@ -1,0 +1,86 @@
+//! The rows of handles, with the references that deliveries hold.
+
+ghost use Rattle.handle_ledger.specs.Held.{GivesHandleRow, GivesHandles, GivesHeldRow, GivesHeldRows};
+ghost use Rattle.std.specs.BTreeSet.{contains};
+ghost use Rattle.std.specs.List.{list_any};
+ghost use Rattle.std.specs.Map.{keys_of};
+ghost use Rattle.std.specs.Ordering.{eq_by_cmp, nat_cmp};
+ghost use Rattle.std.specs.Prelude.{◌≡◌, ℕ, IfOk};
+
+use crate::handle_row::HandleRow;
+use crate::handles::HandleLedger;
+use crate::held_row::HeldRow;
+use std::alloc::AllocError;
+use std::collections::BTreeSet;
+use summary_law::{Count, Tally};
+
+impl HandleLedger {
+    /// A row for each handle that an item names or that is held, also where all its counts are 0,
+    /// handles rising. A held reference is a handle with whether it is a weak one; its weight does
+    /// not count.
+    pub fn rows_held(&self, held: &Tally<(u32, bool)>) -> Result<Vec<HeldRow>, AllocError>
+        ensures { IfOk result (λ rows. GivesHeldRows self.now held.now rows.items) }
+    {
+        let handles = self.named_or_held(held)?;
+        let mut rows = Vec::new(self.handles.allocator());
+        for handle in &handles {
+            rows.push(self.held_row(*handle, held))?;
+        }
+        Ok(rows)
+    }
+
+    /// The handles that have a row.
+    fn named_or_held(&self, held: &Tally<(u32, bool)>) -> Result<BTreeSet<u32>, AllocError>
+        ensures { IfOk result (λ handles. GivesHandles self.now held.now handles) }
+    {
+        let mut handles = self.named()?;
+        let rows = held.rows()?;
+        for row in rows.as_slice() {
+            handles.insert(row.0.0)?;
+        }
+        Ok(handles)
+    }
+
+    /// The handles that an item names.
+    fn named(&self) -> Result<BTreeSet<u32>, AllocError>
+        ensures { IfOk result (λ handles. (handle : ℕ) → contains nat_cmp handles handle ≡
+            list_any (eq_by_cmp nat_cmp handle) (keys_of self.now.handles.entries.entries)) }
+    {
+        let mut handles = BTreeSet::new(self.handles.allocator());
+        for (handle, _) in &self.handles.entries {
+            handles.insert(*handle)?;
+        }
+        Ok(handles)
+    }
+
+    /// The row of a handle, whether or not it has one.
+    fn held_row(&self, handle: u32, held: &Tally<(u32, bool)>) -> HeldRow
+        ensures handle { result.taken.handle ≡ handle }
+        ensures counted { GivesHeldRow self.now held.now result }
+    {
+        HeldRow {
+            taken: self.row(handle),
+            held_strong: held.amount((handle, false)).count,
+            held_weak: held.amount((handle, true)).count,
+        }
+    }
+
+    /// What the process took of a handle itself: nothing where no item names it.
+    fn row(&self, handle: u32) -> HandleRow
+        ensures handle { result.handle ≡ handle }
+        ensures counted { GivesHandleRow self.now result }
+    {
+        match self.handles.entries.get(&handle) {
+            Some(counts) => HandleRow {
+                handle,
+                strong: counts.strong,
+                weak: counts.weak,
+            },
+            None => HandleRow {
+                handle,
+                strong: Count::new(),
+                weak: Count::new(),
+            },
+        }
+    }
+}
