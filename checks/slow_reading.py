@@ -499,15 +499,31 @@ def handle_of(event):
     return number(event.payload, 0, 4)
 
 
+def held_by(deliveries):
+    """How many objects of each name that carry a handle these deliveries have, by the handle."""
+    held = Counter()
+    for delivery in deliveries:
+        if delivery.entry is not None:
+            good, _ = objects_of(delivery.entry)
+            held.update((name, number(delivery.entry.body, offset + 8, 4))
+                        for name, offset in good if name in ("handle", "weak_handle"))
+    return held
+
+
 def handles(processes, events):
     named = of_kind(events, "BC_ACQUIRE", "BC_RELEASE", "BC_INCREFS", "BC_DECREFS")
+    unfreed = BUFFERS.outstanding(events)
     rows, unbalanced = [], 0
-    for process, own in of_each_process(processes, named):
-        for handle, same in of_rising_keys(own, handle_of):
+    for (process, own), (_, deliveries) in zip(
+            of_each_process(processes, named), of_each_process(processes, unfreed)):
+        took, held = grouped(own, handle_of), held_by(deliveries)
+        for handle in sorted({*took, *(handle for _, handle in held)}):
+            same = took.get(handle, [])
             strong, strong_low = count(same, "BC_ACQUIRE", "BC_RELEASE")
             weak, weak_low = count(same, "BC_INCREFS", "BC_DECREFS")
             unbalanced += (strong, weak) != (0, 0)
-            rows.append(f"  {process} {handle} {strong} {strong_low} {weak} {weak_low}")
+            rows.append(f"  {process} {handle} {strong} {strong_low} {weak} {weak_low}"
+                        f" {held['handle', handle]} {held['weak_handle', handle]}")
     return [f"handles {len(rows)} unbalanced {unbalanced}", *rows]
 
 
@@ -680,20 +696,20 @@ def cause_of(body, end, offset):
 
 
 def objects_of(entry):
-    """The names of the good objects in front of the first bad one; and of that one the index, the
-    offset and the cause, or None."""
+    """The names and offsets of the good objects in front of the first bad one; and of that one the
+    index, the offset and the cause, or None."""
     if len(entry.listed) % 8 != 0:
         return [], (0, 0, "ListLength")
-    names, end = [], 0
+    good, end = [], 0
     for index in range(len(entry.listed) // 8):
         offset = number(entry.listed, 8 * index, 8)
         cause = cause_of(entry.body, end, offset)
         if cause is not None:
-            return names, (index, offset, cause)
+            return good, (index, offset, cause)
         name, length = SORTS[number(entry.body, offset, 4)]
-        names.append(name)
+        good.append((name, offset))
         end = offset + length
-    return names, None
+    return good, None
 
 
 def objects(events):
@@ -701,7 +717,7 @@ def objects(events):
     for event in events:
         if event.entry is not None:
             good, bad = objects_of(event.entry)
-            names += good
+            names += [name for name, _ in good]
             if bad is not None:
                 index, offset, cause = bad
                 rows.append(f"  {event.place} {event.process} {index} {offset} {cause}")

@@ -48,7 +48,7 @@ placed_long base (r ∷ records) = let more = placed_long (base + length (record
 
 -- ---- each has a small list of offsets
 
-abbrev bytes_of : Option AttachmentText → ℕ
+abbrev pub bytes_of : Option AttachmentText → ℕ
 bytes_of entry = option_map_or (λ (a : AttachmentText). length a.offset_bytes) entry 0
 
 found_small : (frame : FrameText) (start place base : ℕ) (entries : List EntryText) (state : Option ℕ) → AllStand (entry_format frame) state entries

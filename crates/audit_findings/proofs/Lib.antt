@@ -4,6 +4,11 @@ pub mod OutcomeLaws
 pub mod SequenceLaws
 pub mod CodeLaws
 pub mod FrameLaws
+pub mod HeldLaws
+pub mod HeldFrames
+pub mod HeldWalk
+pub mod HeldAhead
+pub mod HandleRows
 pub mod EventSizes
 pub mod PieceLaws
 pub mod RecordsThere
@@ -32,6 +37,7 @@ pub mod Listings
 pub mod CallListings
 pub mod PlaceListings
 pub mod RowListings
-mod SomeSections
+pub mod HeldKeys
 mod SomeObjects
+mod SomeSections
 pub mod SomeFindings

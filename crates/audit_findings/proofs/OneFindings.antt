@@ -14,14 +14,15 @@ use Rattle.call_stacks.specs.declared.findings.RefusedSend.{RefusedSend}
 use Rattle.event_core.specs.Events.{EventText, events_of_wholes, wholes_of}
 use Rattle.event_core.specs.declared.oneway.OnewayKey.{OnewayKey}
 use Rattle.event_core.specs.declared.pending.PendingItem.{PendingItem}
-use Rattle.handle_ledger.proofs.HandleLaws.{one_list_of_handle_rows}
+use Rattle.handle_ledger.proofs.HeldLaws.{one_list_of_held_rows}
 use Rattle.handle_ledger.proofs.NodeLaws.{one_list_of_node_rows}
-use Rattle.handle_ledger.specs.declared.handle_row.HandleRow.{HandleRow}
+use Rattle.handle_ledger.specs.Held.{Held, AreHeldRows}
+use Rattle.handle_ledger.specs.declared.held_row.HeldRow.{HeldRow}
 use Rattle.handle_ledger.specs.declared.node_row.NodeRow.{NodeRow}
 use Rattle.pending_ledger.proofs.ListLaws.{one_place}
 use Rattle.pending_ledger.specs.Pending.{ArePlacesOf}
 use Rattle.process_ledgers.proofs.OnewayLaws.{oneway_cmp_total, oneway_cmp_exact}
-use Rattle.process_ledgers.specs.Items.{handle_item_of, node_item_of, oneway_item_of}
+use Rattle.process_ledgers.specs.Items.{buffer_pending_of, handle_item_of, node_item_of, oneway_item_of}
 use Rattle.process_ledgers.specs.OnewayLedger.{oneway_cmp, oneway_pair}
 use Rattle.process_ledgers.specs.Processes.{items_of_process, processes_of, read_of}
 use Rattle.audit_findings.specs.declared.in_turn.OfProcess.{OfProcess}
@@ -30,14 +31,15 @@ use Rattle.audit_findings.specs.declared.references.References.{References}
 use Rattle.audit_findings.specs.Calls.{CallsText, ServedText, RefusedText, AreCalls, AreServed, AreCallFindings, AreStrays, AreRefused}
 use Rattle.audit_findings.specs.Findings.{FindingsText, AreFindings, EventSectionsText, AreEventSections, CallSectionsText, AreCallSections, ProcessSectionsText, AreProcessSections}
 use Rattle.audit_findings.specs.Handles.{AreHandlesOf, AreHandleFindings, is_unbalanced_handle}
+use Rattle.audit_findings.specs.Held.{AreHeldBy, AreHeldIn, unweighed}
 use Rattle.audit_findings.specs.InTurn.{AreInTurn, AreRowsOf, of_process}
 use Rattle.audit_findings.specs.Nodes.{AreNodesOf, AreNodeFindings, is_unbalanced_node}
 use Rattle.audit_findings.specs.Oneway.{AreOnewayRows, AreOnewayOf}
-use Rattle.audit_findings.specs.Places.{AreEventsAt, AreOpenAndStray, IsCountOfPlaces, IsOpenStill, IsStrayClose, RiseInPlace, OpenAndStrayText}
+use Rattle.audit_findings.specs.Places.{AreEventsAt, AreOpenAndStray, IsCountOfPlaces, IsOpenIn, IsOpenStill, IsStrayClose, RiseInPlace, OpenAndStrayText}
 use Rattle.audit_findings.specs.RecordCounts.{AreRecordCounts}
 use Rattle.audit_findings.specs.References.{AreReferences}
 use Rattle.audit_findings.proofs.OneCodes.{one_list_of_codes}
-use Rattle.audit_findings.proofs.OneObjects.{one_of_objects}
+use Rattle.audit_findings.proofs.OneObjects.{one_list_of_held, one_of_objects}
 use Rattle.audit_findings.proofs.PlacesRise.{events_rise}
 use Rattle.audit_findings.proofs.SameMembers.{same_members}
 use Rattle.audit_findings.proofs.TallyRows.{one_list_of_tally_rows}
@@ -69,12 +71,6 @@ module _ {R : Type 0} (AreOf : Process → List R → Type 0)
       let counted : List (OfProcess R) → ℕ = count_by (λ (row : OfProcess R). is_unbalanced row.row) in
       let make : ℕ → List (OfProcess R) → References R = λ n list. record { unbalanced = n; rows = list } in
       ap₂ make (a.unbalanced ∙ ap counted rows ∙ sym b.unbalanced) rows
-
-one_handles : (wholes : List (Placed WholeFrame)) (said others : References HandleRow) → AreHandleFindings wholes said → AreHandleFindings wholes others
-    → said ≡ others
-one_handles wholes =
-    one_references (AreHandlesOf (events_of_wholes wholes)) (λ process. one_list_of_handle_rows (read_of handle_item_of process) (events_of_wholes wholes))
-    is_unbalanced_handle (processes_of wholes)
 
 one_nodes : (wholes : List (Placed WholeFrame)) (said others : References NodeRow) → AreNodeFindings wholes said → AreNodeFindings wholes others
     → said ≡ others
@@ -117,6 +113,26 @@ one_list_of_events : (IsSo : ℕ → Type 0) (events said other : List EventText
 one_list_of_events IsSo events said other rise a b =
     let places : List EventText → List ℕ = λ es. map (λ e. e.place) es in
     same_events events rise said other a.stand b.stand (one_list_of_places IsSo (places said) (places other) a.places b.places)
+
+-- ---- handles
+
+-- what deliveries hold that are never freed is one list
+one_held : (events : List EventText) (process : Process) (held others : List Held) → RiseInPlace events → AreHeldIn events process held
+    → AreHeldIn events process others → held ≡ others
+one_held events process held others rise a b =
+    let same = one_list_of_events (IsOpenIn buffer_pending_of events process) events a.0 b.0 rise a.1 b.1 in
+    one_list_of_held b.0 held others (subst (λ es. AreHeldBy es held) same a.2) b.2
+
+one_handles : (wholes : List (Placed WholeFrame)) (said others : References HeldRow) → RiseInPlace (events_of_wholes wholes)
+    → AreHandleFindings wholes said → AreHandleFindings wholes others → said ≡ others
+one_handles wholes said others rise =
+    let events = events_of_wholes wholes in
+    one_references (AreHandlesOf events)
+    (λ process rows more a b.
+    let same = one_held events process a.0 b.0 rise a.1 b.1 in
+    one_list_of_held_rows (read_of handle_item_of process) events (unweighed b.0) rows more
+    (subst (λ held. AreHeldRows (read_of handle_item_of process) events (unweighed held) rows) same a.2) b.2)
+    is_unbalanced_handle (processes_of wholes) said others
 
 one_open_and_stray : (read : EventText → Option (PendingItem ℕ)) (events : List EventText) (said other : OpenAndStrayText) → RiseInPlace events
     → AreOpenAndStray read events said → AreOpenAndStray read events other → said ≡ other
@@ -204,7 +220,7 @@ one_process_sections : (wholes : List (Placed WholeFrame)) (said other : Process
     → AreProcessSections wholes said → AreProcessSections wholes other → said ≡ other
 one_process_sections wholes said other rise a b =
     let events = events_of_wholes wholes in
-    let handles = one_handles wholes said.handles other.handles a.handles b.handles in
+    let handles = one_handles wholes said.handles other.handles rise a.handles b.handles in
     let nodes = one_nodes wholes said.nodes other.nodes a.nodes b.nodes in
     let leaked = one_list_of_events _ events said.leaked other.leaked rise a.leaked b.leaked in
     let stray_frees = one_list_of_events _ events said.stray_frees other.stray_frees rise a.stray_frees b.stray_frees in

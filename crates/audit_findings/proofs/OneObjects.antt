@@ -7,7 +7,11 @@ use Rattle.object_view.specs.declared.sort.Sort.TheVariants.{Binder, WeakBinder,
 use Rattle.object_view.specs.Objects.{ObjectText, AreObjects}
 use Rattle.object_view.proofs.ListLaws.{one_list}
 use Rattle.audit_findings.specs.declared.sort_counts.SortCounts.{SortCounts}
-use Rattle.audit_findings.specs.Objects.{Attached, Outcome, IsOutcome, AreOutcomes, BadOwned, AreObjectFindings, count_of, times_of, good_objects, bad_objects}
+use Rattle.event_core.specs.Events.{EventText}
+use Rattle.handle_ledger.specs.Held.{Held}
+use Rattle.std.specs.List.{filter_map}
+use Rattle.audit_findings.specs.Held.{AreHeldBy, held_in}
+use Rattle.audit_findings.specs.Objects.{Attached, Outcome, IsOutcome, AreOutcomes, BadOwned, AreObjectFindings, attachments_of, count_of, times_of, good_objects, bad_objects}
 
 -- ---- the outcomes of attachments are one list
 
@@ -31,6 +35,11 @@ same_outcomes (u ∷ us) (v ∷ vs) same a b =
 
 one_list_of_outcomes : (attachments : List Attached) (us vs : List Outcome) → AreOutcomes attachments us → AreOutcomes attachments vs → us ≡ vs
 one_list_of_outcomes attachments us vs a b = same_outcomes us vs (a.each ∙ sym b.each) a.are_objects b.are_objects
+
+-- and so are the references among their good objects
+pub one_list_of_held : (events : List EventText) (held others : List Held) → AreHeldBy events held → AreHeldBy events others → held ≡ others
+one_list_of_held events held others a b =
+    a.2 ∙ ap (λ (outcomes : List Outcome). filter_map held_in (good_objects outcomes)) (one_list_of_outcomes (attachments_of events) a.0 b.0 a.1 b.1) ∙ sym b.2
 
 same_counts : (a b : SortCounts) → ((sort : Sort) → count_of a sort ≡ count_of b sort) → a ≡ b
 same_counts a b each =

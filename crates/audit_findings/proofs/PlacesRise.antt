@@ -93,7 +93,7 @@ wholes_apart wholes i j d below within =
 -- ---- their events
 
 -- the events of a whole frame rise
-whole_rises : (w : Placed WholeFrame) → PlacesRise (λ (e : EventText). e.place) (events_of_whole w)
+pub whole_rises : (w : Placed WholeFrame) → PlacesRise (λ (e : EventText). e.place) (events_of_whole w)
 whole_rises w =
     let base = w.place + 32 in
     pairs_map (λ (a b : EventText). a.place < b.place) (event_of (placed_text w) w.unit.entries) (placed_records (placed_text w) w.unit.records)
@@ -102,10 +102,15 @@ whole_rises w =
     omega (arith, apart, length-record_bytes (get_or (placed record_bytes base w.unit.records) i d).unit))
 
 -- and stand within it
-StandsWithin : Placed WholeFrame → EventText → Type 0
+pub StandsWithin : Placed WholeFrame → EventText → Type 0
 StandsWithin w e = (w.place ≤ e.place) × (e.place < w.place + text_span w.unit.frame)
 
-whole_within : (w : Placed WholeFrame) → IsWhole w → All (StandsWithin w) (events_of_whole w)
+pub within_span : (w : Placed WholeFrame) (e : EventText) → StandsWithin w e
+    → (w.place ≤ e.place) × (e.place < w.place + (frame_header_length + length w.unit.frame.commands + length w.unit.frame.attachments))
+unfolding StandsWithin
+within_span w e within = within
+
+pub whole_within : (w : Placed WholeFrame) → IsWhole w → All (StandsWithin w) (events_of_whole w)
 unfolding StandsWithin
 whole_within w whole =
     let base = w.place + 32 in

@@ -52,16 +52,34 @@ module _ {K : Type 0} (cmp : K → K → Ordering) (laws : IsTotalOrder cmp) (ex
   any_key : (keys : List K) (key : K) → In key keys → list_any (eq_by_cmp cmp key) (sorted cmp keys) ≡ true
   any_key keys key here = any_in (eq_by_cmp cmp key) (sorted cmp keys) key (key_in keys key here) (itself key)
 
+  -- ---- a row for each key of a list
+
+  pub rows_of_keys : {R : Type 0} (row_key : R → K) (make : K → R) (keyed : (key : K) → row_key (make key) ≡ key) (named : List K) (is_key : K → Bool)
+      → ((key : K) → In key named → is_key key ≡ true) → ((key : K) → is_key key ≡ true → In key named) → (IsRow : R → Type 0)
+      → ((key : K) → IsRow (make key)) → (rows : List R) × AreRows cmp row_key is_key IsRow rows
+  rows_of_keys {R} row_key make keyed named is_key in_named named_in IsRow each =
+      let keys = sorted cmp named in (
+        map make keys,
+        record {
+          rising = subst (IsStrictlySortedBy cmp) (sym (keys_back row_key make keyed keys)) (strictly_sorted cmp laws named);
+          named = All-map (λ (row : R). is_key (row_key row) ≡ true) make keys
+              (all_in (λ key. is_key (row_key (make key)) ≡ true) keys
+              (λ key here. ap is_key (keyed key) ∙ in_named key (in_sorted cmp named key here)));
+          whole = λ key is. any_made row_key make keyed (eq_by_cmp cmp key) keys ∙ any_key named key (named_in key is);
+          right = All-map IsRow make keys (all_in (λ key. IsRow (make key)) keys (λ key here. each key));
+        },
+      )
+
   -- ---- a row for each key that is named
 
   module _ {I E : Type 0} (key_of : I → K) (read : E → Option I) where
-    abbrev key_read : E → Option K
+    abbrev pub key_read : E → Option K
     key_read e = option_map key_of (read e)
 
-    abbrev named_keys : List E → List K
+    abbrev pub named_keys : List E → List K
     named_keys things = filter_map key_read things
 
-    in_named : (things : List E) (key : K) → In key (named_keys things) → is_named cmp key_of read things key ≡ true
+    pub in_named : (things : List E) (key : K) → In key (named_keys things) → is_named cmp key_of read things key ≡ true
     in_named [] key here = absurd here
     in_named (e ∷ es) key here =
         let rest = is_named cmp key_of read es key in
@@ -75,7 +93,7 @@ module _ {K : Type 0} (cmp : K → K → Ordering) (laws : IsTotalOrder cmp) (ex
           ]
         ] here
 
-    named_in : (things : List E) (key : K) → is_named cmp key_of read things key ≡ true → In key (named_keys things)
+    pub named_in : (things : List E) (key : K) → is_named cmp key_of read things key ≡ true → In key (named_keys things)
     named_in [] key named = let no : ⊥ = cc in absurd no
     named_in (e ∷ es) key named =
         let rest = is_named cmp key_of read es key in
@@ -91,27 +109,15 @@ module _ {K : Type 0} (cmp : K → K → Ordering) (laws : IsTotalOrder cmp) (ex
 
     pub made_rows : {R : Type 0} (row_key : R → K) (make : K → R) (keyed : (key : K) → row_key (make key) ≡ key) (things : List E) (IsRow : R → Type 0)
         → ((key : K) → IsRow (make key)) → (rows : List R) × AreRows cmp row_key (is_named cmp key_of read things) IsRow rows
-    made_rows {R} row_key make keyed things IsRow each =
-        let named = named_keys things in
-        let keys = sorted cmp named in
-        let is_key = is_named cmp key_of read things in (
-          map make keys,
-          record {
-            rising = subst (IsStrictlySortedBy cmp) (sym (keys_back row_key make keyed keys)) (strictly_sorted cmp laws named);
-            named = All-map (λ (row : R). is_key (row_key row) ≡ true) make keys
-                (all_in (λ key. is_key (row_key (make key)) ≡ true) keys
-                (λ key here. ap is_key (keyed key) ∙ in_named things key (in_sorted cmp named key here)));
-            whole = λ key is. any_made row_key make keyed (eq_by_cmp cmp key) keys ∙ any_key named key (named_in things key is);
-            right = All-map IsRow make keys (all_in (λ key. IsRow (make key)) keys (λ key here. each key));
-          },
-        )
+    made_rows row_key make keyed things =
+        rows_of_keys row_key make keyed (named_keys things) (is_named cmp key_of read things) (in_named things) (named_in things)
 
   -- ---- a row for each key that items stand under
 
-  abbrev item_key : K × ℕ → K
+  abbrev pub item_key : K × ℕ → K
   item_key item = item.0
 
-  has_items : (items : List (K × ℕ)) (key : K) → In key (map item_key items) → 0 < count_of cmp key items
+  pub has_items : (items : List (K × ℕ)) (key : K) → In key (map item_key items) → 0 < count_of cmp key items
   has_items [] key here = absurd here
   has_items (i ∷ is) key here =
       let rest = items_of (eq_by_cmp cmp) key is in
@@ -127,7 +133,7 @@ module _ {K : Type 0} (cmp : K → K → Ordering) (laws : IsTotalOrder cmp) (ex
         ]
       ] refl
 
-  items_has : (items : List (K × ℕ)) (key : K) → 0 < count_of cmp key items → In key (map item_key items)
+  pub items_has : (items : List (K × ℕ)) (key : K) → 0 < count_of cmp key items → In key (map item_key items)
   items_has [] key some = absurd (omega arith)
   items_has (i ∷ is) key some =
       let rest = items_of (eq_by_cmp cmp) key is in

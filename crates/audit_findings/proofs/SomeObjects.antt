@@ -20,6 +20,11 @@ use Rattle.call_stacks.proofs.Members.{In, in_list, contained, in-map}
 use Rattle.pending_ledger.proofs.ListLaws.{contains_read}
 use Rattle.audit_findings.specs.declared.sort_counts.SortCounts.{SortCounts}
 use Rattle.event_core.specs.Events.{events_of_wholes, wholes_of}
+use Rattle.std.proofs.Common.{All, Contains}
+use Rattle.std.specs.List.{filter_map}
+use Rattle.std.proofs.lemmas.List.Elements.{All-contains}
+use Rattle.handle_ledger.specs.Held.{Held}
+use Rattle.audit_findings.specs.Held.{AreHeldBy, held_in}
 use Rattle.audit_findings.specs.Objects.{Attached, AreObjectFindings, AreOutcomes, BadOwned, IsOutcome, Outcome, attached_to, attachments_of, bad_objects, count_of, good_objects, times_of}
 use Rattle.audit_findings.proofs.Listings.{in_flat}
 
@@ -162,3 +167,16 @@ some_of_objects capture wholes h is =
     (λ a here.
     let from = contains_read attached_to events a (contained (attachments_of events) a here) in
     event_list (wholes_of wholes) (all_good capture wholes h is) from.0 (in_list events from.0 from.1) a.attachment (attached_made from.0 from.0.entry a from.2))
+
+-- ---- what some of the events hold
+
+pub some_held_by : (capture : List ℕ) (wholes : List WholeFrame) → IsBytes capture → IsInGrammar capture wholes → (some : List EventText)
+    → All (Contains (events_of_wholes (wholes_of wholes))) some → (held : List Held) × AreHeldBy some held
+some_held_by capture wholes h is some there =
+    let events = events_of_wholes (wholes_of wholes) in
+    let found = some_outcomes (attachments_of some)
+    (λ a here.
+    let from = contains_read attached_to some a (contained (attachments_of some) a here) in
+    event_list (wholes_of wholes) (all_good capture wholes h is) from.0 (in_list events from.0 (All-contains (Contains events) some from.0 there from.1))
+    a.attachment (attached_made from.0 from.0.entry a from.2)) in
+    (filter_map held_in (good_objects found.0), (found.0, found.1, refl))

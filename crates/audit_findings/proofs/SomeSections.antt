@@ -1,5 +1,5 @@
 -- Each section of a report has what is asked of it.
-use Rattle.std.proofs.Common.{◌≡◌, ℕ, ℤ, zero, suc, pos, negsuc, ◌+◌, ◌<◌, ◌≤◌, ◌⊎◌, inl, inr, Bool, not, ◌&&◌, eqb, Option, refl, sym, ap, subst, arith}
+use Rattle.std.proofs.Common.{◌≡◌, ℕ, ℤ, zero, suc, pos, negsuc, ◌+◌, ◌<◌, ◌≤◌, ◌⊎◌, inl, inr, Bool, true, false, not, ◌&&◌, eqb, Option, refl, sym, ap, subst, arith}
 use Rattle.std.proofs.Common.{List, [], ◌∷◌, ◌++◌, length, map, filter, take, append_assoc}
 use Rattle.std.specs.Cmp.{IsTotalOrder}
 use Rattle.std.specs.List.Sorted.{IsStrictlyIncreasing}
@@ -16,16 +16,18 @@ use Rattle.std.proofs.lemmas.Map.Lookups.{CmpEqualImpliesEq, exact_unsigned, exa
 use Rattle.binder_code.specs.declared.record_kind.Kind.TheVariants.{BcFreeBuffer, BcRequestDeathNotification, BcClearDeathNotification, BrTransaction, BrTransactionSecCtx, BrReply, BrDeadBinder}
 use Rattle.capture_frame.specs.declared.process.Process.{Process}
 use Rattle.capture_frame.specs.Units.{Placed}
-use Rattle.transaction_view.specs.Grammar.{WholeFrame}
+use Rattle.transaction_view.specs.Grammar.{WholeFrame, IsInGrammar}
+use Rattle.capture_frame.specs.Units.{IsBytes}
 use Rattle.event_core.specs.Events.{EventText}
 use Rattle.event_core.specs.declared.node.NodeKey.{NodeKey}
 use Rattle.event_core.specs.declared.oneway.OnewayKey.{OnewayKey}
 use Rattle.event_core.specs.declared.pending.PendingItem.{PendingItem}
 use Rattle.event_core.specs.declared.strength.Strength.TheVariants.{Strong, Weak}
 use Rattle.call_stacks.proofs.Members.{In, in_list, contained}
-use Rattle.handle_ledger.specs.Handles.{AreHandleRows, IsHandleRow, change_at_handle, handle_of}
+use Rattle.handle_ledger.specs.Handles.{change_at_handle}
+use Rattle.handle_ledger.specs.Held.{Held, AreHeldRows, IsHeldRow, held_count, is_named_or_held}
 use Rattle.handle_ledger.specs.Nodes.{AreNodeRows, IsNodeRow, change_at_node, due_at_node, node_cmp, node_of}
-use Rattle.handle_ledger.specs.declared.handle_row.HandleRow.{HandleRow}
+use Rattle.handle_ledger.specs.declared.held_row.HeldRow.{HeldRow}
 use Rattle.handle_ledger.specs.declared.node_row.NodeRow.{NodeRow}
 use Rattle.pending_ledger.specs.Pending.{IsOutstanding, IsStray, place_of}
 use Rattle.pending_ledger.specs.Requests.{IsStanding}
@@ -37,12 +39,13 @@ use Rattle.audit_findings.specs.declared.record_counts.RecordCounts.{RecordCount
 use Rattle.audit_findings.specs.Buffers.{AreLeaked, AreStrayFrees}
 use Rattle.audit_findings.specs.Calls.{CallsText, ServedText, RefusedText, AreCallFindings, AreRefused, is_call, is_answered, is_failed, is_replied, is_crossed, is_open, is_unanswered}
 use Rattle.audit_findings.specs.Codes.{AreCodeRows}
-use Rattle.event_core.specs.Events.{events_of_wholes}
+use Rattle.event_core.specs.Events.{events_of_wholes, wholes_of}
 use Rattle.audit_findings.specs.Handles.{AreHandleFindings, AreHandlesOf, is_unbalanced_handle}
+use Rattle.audit_findings.specs.Held.{unweighed}
 use Rattle.audit_findings.specs.Nodes.{AreNodeFindings, AreNodesOf, is_unbalanced_node}
 use Rattle.audit_findings.specs.Oneway.{AreOnewayOf, AreOnewayRows}
 use Rattle.process_ledgers.specs.OnewayLedger.{oneway_cmp, oneway_pair}
-use Rattle.audit_findings.specs.Places.{AreEventsAt, AreOpenAndStray, IsCountOfPlaces, IsOpenStill, IsStrayClose, OpenAndStrayText, RiseInPlace, SomeProcess}
+use Rattle.audit_findings.specs.Places.{AreEventsAt, AreOpenAndStray, IsCountOfPlaces, IsOpenIn, IsOpenStill, IsStrayClose, OpenAndStrayText, RiseInPlace, SomeProcess}
 use Rattle.process_ledgers.proofs.ItemPlaces.{clear_keeps, death_keeps, pending_keeps}
 use Rattle.process_ledgers.specs.Items.{KeepsPlace, buffer_pending_of, clear_item_of, death_item_of, handle_item_of, node_item_of, oneway_item_of, request_item_of}
 use Rattle.process_ledgers.specs.Processes.{items_of_process, processes_of, read_of}
@@ -57,7 +60,9 @@ use Rattle.audit_findings.proofs.EventsAt.{HasEventAt, events_at, stands_somewhe
 use Rattle.audit_findings.proofs.Listings.{Listing, either, kept_in, sorted, in_sorted, strictly_sorted}
 use Rattle.process_ledgers.proofs.OnewayLaws.{oneway_cmp_total, oneway_cmp_exact}
 use Rattle.audit_findings.proofs.PlaceListings.{outstanding_listing, stray_listing, standing_listing, of_processes, some_places}
-use Rattle.audit_findings.proofs.RowListings.{all_in, key_in, keys_back, made_rows, some_in_turn, tally_rows}
+use Rattle.audit_findings.proofs.RowListings.{all_in, key_in, keys_back, made_rows, rows_of_keys, some_in_turn, tally_rows}
+use Rattle.audit_findings.proofs.HeldKeys.{in_named_or_held, named_or_held, named_or_held_in}
+use Rattle.audit_findings.proofs.SomeObjects.{some_held_by}
 use Rattle.audit_findings.proofs.StandLaws.{open_stands, stray_stands, request_stands}
 
 -- ---- calls
@@ -226,14 +231,22 @@ some_count changes =
 
 -- ---- handles and nodes
 
-handle_rows : (process : Process) (events : List EventText) → (rows : List HandleRow) × AreHandleRows (read_of handle_item_of process) events rows
-handle_rows process events =
+held_rows : (process : Process) (events : List EventText) (held : List Held)
+    → (rows : List HeldRow) × AreHeldRows (read_of handle_item_of process) events (unweighed held) rows
+held_rows process events held =
     let read = read_of handle_item_of process in
+    let items = unweighed held in
     let strong = λ (handle : ℕ). some_count (map (change_at_handle read handle Strong) events) in
     let weak = λ (handle : ℕ). some_count (map (change_at_handle read handle Weak) events) in
-    let make : ℕ → HandleRow = λ handle. record { handle = handle; strong = (strong handle).0; weak = (weak handle).0 } in
-    made_rows nat_cmp nat_cmp_total exact_unsigned handle_of read (λ (row : HandleRow). row.handle) make (λ handle. refl) events (IsHandleRow read events)
-    (λ handle. record { strong = (strong handle).1; weak = (weak handle).1 })
+    let make : ℕ → HeldRow = λ handle. record {
+      taken = record { handle = handle; strong = (strong handle).0; weak = (weak handle).0 };
+      held_strong = held_count items handle false;
+      held_weak = held_count items handle true;
+    } in
+    rows_of_keys nat_cmp nat_cmp_total exact_unsigned (λ (row : HeldRow). row.taken.handle) make (λ handle. refl)
+    (named_or_held read events items) (is_named_or_held read events items) (in_named_or_held read events items) (named_or_held_in read events items)
+    (IsHeldRow read events items)
+    (λ handle. record { taken = record { strong = (strong handle).1; weak = (weak handle).1 }; strong = refl; weak = refl })
 
 node_cmp_total : IsTotalOrder node_cmp
 node_cmp_total = then_total (on_total (λ (key : NodeKey). key.ptr) nat_cmp_total) (on_total (λ (key : NodeKey). key.cookie) nat_cmp_total)
@@ -265,10 +278,21 @@ some_references {R} AreOf is_unbalanced some processes =
     let said : References R = record { unbalanced = count_by (λ (row : OfProcess R). is_unbalanced row.row) rows.0; rows = rows.0 } in
     (said, record { rows = rows.1; unbalanced = refl })
 
-some_handles : (wholes : List (Placed WholeFrame)) → (said : References HandleRow) × AreHandleFindings wholes said
-some_handles wholes =
-    let events = events_of_wholes wholes in
-    some_references (AreHandlesOf events) is_unbalanced_handle (λ process. handle_rows process events) (processes_of wholes)
+some_handles : (capture : List ℕ) (wholes : List WholeFrame) → IsBytes capture → IsInGrammar capture wholes
+    → (said : References HeldRow) × AreHandleFindings (wholes_of wholes) said
+some_handles capture wholes bytes is =
+    let events = events_of_wholes (wholes_of wholes) in
+    some_references (AreHandlesOf events) is_unbalanced_handle
+    (λ process.
+    let open_there = IsOpenIn buffer_pending_of events process in
+    let unfreed = some_events open_there events (outstanding_listing (eq_by_cmp nat_cmp) (items_of_process buffer_pending_of process events))
+    (λ place is.
+    let stands = open_stands buffer_pending_of pending_keeps events process place is in
+    (stands.0, stands.1, stands.3)) in
+    let held = some_held_by capture wholes bytes is unfreed.0 unfreed.1.stand in
+    let rows = held_rows process events held.0 in
+    (rows.0, (held.0, (unfreed.0, unfreed.1, held.1), rows.1)))
+    (processes_of (wholes_of wholes))
 
 some_nodes : (wholes : List (Placed WholeFrame)) → (said : References NodeRow) × AreNodeFindings wholes said
 some_nodes wholes =
@@ -292,10 +316,12 @@ some_call_sections events rise =
     let said : CallSectionsText = record { calls = calls.0; served = calls.1; strays = strays.0; refused = refused.0 } in
     (said, record { calls = calls.2; strays = strays.1; refused = refused.1 })
 
-pub some_process_sections : (wholes : List (Placed WholeFrame)) → (said : ProcessSectionsText) × AreProcessSections wholes said
-some_process_sections wholes =
+pub some_process_sections : (capture : List ℕ) (units : List WholeFrame) → IsBytes capture → IsInGrammar capture units
+    → (said : ProcessSectionsText) × AreProcessSections (wholes_of units) said
+some_process_sections capture units bytes is =
+    let wholes = wholes_of units in
     let events = events_of_wholes wholes in
-    let handles = some_handles wholes in
+    let handles = some_handles capture units bytes is in
     let nodes = some_nodes wholes in
     let leaked = some_leaked events in
     let stray_frees = some_stray_frees events in

@@ -4,7 +4,7 @@ use Rattle.transaction_view.specs.Grammar.{WholeFrame}
 use Rattle.capture_frame.specs.Units.{Placed}
 use Rattle.event_core.specs.Events.{EventText, events_of_wholes}
 use Rattle.event_core.specs.declared.oneway.OnewayKey.{OnewayKey}
-use Rattle.handle_ledger.specs.declared.handle_row.HandleRow.{HandleRow}
+use Rattle.handle_ledger.specs.declared.held_row.HeldRow.{HeldRow}
 use Rattle.handle_ledger.specs.declared.node_row.NodeRow.{NodeRow}
 use Rattle.audit_findings.specs.declared.codes.CodeRow.{CodeRow}
 use Rattle.audit_findings.specs.declared.in_turn.OfProcess.{OfProcess}
@@ -72,7 +72,7 @@ pub record AreCallSections (events : List EventText) (said : CallSectionsText) :
 
 -- what is counted and paired in each process
 pub record ProcessSectionsText : Type 0 where
-  pub handles : References HandleRow
+  pub handles : References HeldRow
   pub nodes : References NodeRow
   pub leaked : List EventText
   pub stray_frees : List EventText

@@ -1,25 +1,54 @@
--- The section `handles`: the references that each process holds by handle (docs/REPORT.md).
-use Rattle.std.specs.Prelude.{◌||◌, Bool, List}
+-- The section `handles`: the references that each process holds by handle, those that it took itself and those that its
+-- deliveries hold (docs/REPORT.md).
+use Rattle.std.specs.Prelude.{◌≡◌, ◌||◌, ℕ, Bool, List}
+use Rattle.std.specs.List.{AllZip}
+use Rattle.capture_frame.specs.declared.frame.Frame.{Frame}
 use Rattle.capture_frame.specs.declared.process.Process.{Process}
 use Rattle.capture_frame.specs.Units.{Placed}
 use Rattle.transaction_view.specs.Grammar.{WholeFrame}
 use Rattle.event_core.specs.Events.{EventText, events_of_wholes}
-use Rattle.handle_ledger.specs.Handles.{AreHandleRows}
-use Rattle.handle_ledger.specs.declared.handle_row.HandleRow.{HandleRow}
+use Rattle.handle_ledger.specs.Held.{Held, AreHeldRows}
+use Rattle.handle_ledger.specs.declared.held_row.HeldRow.{HeldRow}
 use Rattle.process_ledgers.specs.Items.{handle_item_of}
+use Rattle.process_ledgers.specs.OfProcess.{IsOfProcess}
 use Rattle.process_ledgers.specs.Processes.{processes_of, read_of}
+use Rattle.process_ledgers.specs.declared.process_summary.ProcessSummary.{ProcessSummary}
+use Rattle.audit_findings.specs.declared.in_turn.OfProcess.{OfProcess}
 use Rattle.audit_findings.specs.declared.references.References.{References}
+use Rattle.audit_findings.specs.Frames.{Show}
+use Rattle.audit_findings.specs.Held.{AreHeldIn, unweighed}
+use Rattle.audit_findings.specs.InTurn.{AreRowsOf}
 use Rattle.audit_findings.specs.References.{AreReferences, is_not_zero}
 
--- the rows of this process: one for each handle that it names, handles rising
-abbrev pub AreHandlesOf : List EventText → Process → List HandleRow → Type 0
-AreHandlesOf events process rows = AreHandleRows (read_of handle_item_of process) events rows
+-- the rows of this process: one for each handle that it names or to which its deliveries hold a reference, handles
+-- rising
+abbrev pub AreHandlesOf : List EventText → Process → List HeldRow → Type 0
+AreHandlesOf events process rows =
+    (held : List Held) × AreHeldIn events process held
+    × AreHeldRows (read_of handle_item_of process) events (unweighed held) rows
 
 -- whether the strong or the weak references that the process took are not as many as those that it let go
-abbrev pub is_unbalanced_handle : HandleRow → Bool
-is_unbalanced_handle row = is_not_zero row.strong.sum || is_not_zero row.weak.sum
+abbrev pub is_unbalanced_handle : HeldRow → Bool
+is_unbalanced_handle row = is_not_zero row.taken.strong.sum || is_not_zero row.taken.weak.sum
 
 -- the section: the rows of each process in turn
-abbrev pub AreHandleFindings : List (Placed WholeFrame) → References HandleRow → Type 0
+abbrev pub AreHandleFindings : List (Placed WholeFrame) → References HeldRow → Type 0
 AreHandleFindings wholes said =
     AreReferences (AreHandlesOf (events_of_wholes wholes)) is_unbalanced_handle (processes_of wholes) said
+
+-- the lists are the rows of each process of these frames in turn
+abbrev pub AreListedHandles : List (Placed WholeFrame) → List (List (OfProcess HeldRow)) → Type 0
+AreListedHandles wholes lists = AllZip (AreRowsOf (AreHandlesOf (events_of_wholes wholes))) (processes_of wholes) lists
+
+-- the summary is that of some process of the frames that these views show
+abbrev pub IsOfShown : ProcessSummary → List Frame → Type 0
+IsOfShown summary frames =
+    (wholes : List (Placed WholeFrame)) × (process : Process) × Show frames wholes
+    × IsOfProcess summary.ledgers (events_of_wholes wholes) process
+
+-- whatever process of the frames that these views show the summary is of, the rows are its
+abbrev pub GivesHandles : ProcessSummary → List Frame → List HeldRow → Type 0
+GivesHandles summary frames rows =
+    (wholes : List (Placed WholeFrame)) (process : Process) → Show frames wholes
+    → IsOfProcess summary.ledgers (events_of_wholes wholes) process
+    → AreHandlesOf (events_of_wholes wholes) process rows

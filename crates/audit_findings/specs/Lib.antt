@@ -7,6 +7,8 @@ pub mod RecordCounts
 pub mod InTurn
 pub mod References
 pub mod Handles
+pub mod Held
+pub mod HeldCounts
 pub mod Nodes
 pub mod Buffers
 pub mod Requests

@@ -1,61 +1,71 @@
 //! The section `handles`.
 
-ghost use Rattle.std.specs.Prelude.{◌≡◌, List, count_by, IfOk};
+ghost use Rattle.std.specs.Prelude.{◌≡◌, List, count_by, map, IfOk};
 ghost use Rattle.capture_frame.specs.Units.{Placed};
 ghost use Rattle.transaction_view.specs.Grammar.{WholeFrame};
-ghost use Rattle.handle_ledger.specs.declared.handle_row.HandleRow.{HandleRow};
-ghost use Rattle.process_ledgers.specs.OfProcess.{AreOfProcesses};
-ghost use Rattle.audit_findings.specs.Handles.{AreHandleFindings, is_unbalanced_handle};
+ghost use Rattle.handle_ledger.specs.declared.held_row.HeldRow.{HeldRow};
+ghost use Rattle.audit_findings.specs.Frames.{AreGoodFrames};
+ghost use Rattle.audit_findings.specs.Handles.{AreHandleFindings, AreListedHandles, GivesHandles, IsOfShown, is_unbalanced_handle};
 ghost use Rattle.audit_findings.specs.declared.in_turn.OfProcess.{OfProcess};
 
-use crate::in_turn::{InTurn, OfProcess, rows_in_turn};
+use crate::held::held_at;
+use crate::in_turn::OfProcess;
 use crate::references::References;
 use crate::rows::Rows;
-use capture_frame::Process;
-use handle_ledger::HandleRow;
-use process_ledgers::{ProcessLedgers, ProcessSummary};
+use capture_frame::Frame;
+use handle_ledger::HeldRow;
+use process_ledgers::ProcessSummary;
 use std::alloc::{AllocError, Global};
-use summary_law::InOrder;
 
-/// The rows of the handles of a process.
-struct Handles;
-
-impl InTurn for Handles {
-    ghost use Rattle.audit_findings.specs.Handles.{AreHandlesOf};
-
-    type Row = HandleRow;
-
-    ghost are_of = { AreHandlesOf };
-
-    fn rows(ledgers: &ProcessLedgers) -> Result<Vec<HandleRow>, AllocError> {
-        ledgers.handles.rows()
+/// The rows of the handles of one process. What its deliveries hold that it never frees is read
+/// from the frames again.
+pub(crate) fn handles_of_process(
+    alloc: Global,
+    frames: &[Frame<'_>],
+    summary: &ProcessSummary,
+) -> Result<Vec<HeldRow>, AllocError>
+    requires good { AreGoodFrames frames.now }
+    requires shown { IsOfShown summary.now frames.now }
+    ensures { IfOk result (λ rows. GivesHandles summary.now frames.now rows.items) }
+{
+    match summary.ledgers() {
+        Some(ledgers) => {
+            let unfreed = ledgers.buffers.outstanding()?;
+            let held = held_at(alloc, frames, unfreed.as_slice())?;
+            ledgers.handles.rows_held(&held)
+        }
+        None => Ok(Vec::new(alloc)),
     }
 }
 
 /// The section: the rows of each process in turn.
 pub(crate) fn handles_of(
     alloc: Global,
-    processes: &InOrder<Process, ProcessSummary>,
-) -> Result<References<HandleRow>, AllocError>
+    lists: &[Vec<OfProcess<HeldRow>>],
+) -> Result<References<HeldRow>, AllocError>
     ensures { IfOk result (λ found. (wholes : List (Placed WholeFrame)) →
-        AreOfProcesses processes.now.entries.entries wholes → AreHandleFindings wholes found) }
+        AreListedHandles wholes (map (λ list. list.items) lists.now) →
+        AreHandleFindings wholes found) }
 {
-    let rows = rows_in_turn::<Handles>(alloc, processes)?;
+    let mut rows = Vec::new(alloc);
+    for list in lists {
+        rows.extend_from_slice(list.as_slice())?;
+    }
     Ok(References {
         unbalanced: unbalanced_count(rows.as_slice()),
         rows: Rows::of(rows),
     })
 }
 
-fn unbalanced_count(rows: &[OfProcess<HandleRow>]) -> u64
+fn unbalanced_count(rows: &[OfProcess<HeldRow>]) -> u64
     ensures { result ≡
-        count_by (λ (row : OfProcess HandleRow). is_unbalanced_handle row.row) rows.now }
+        count_by (λ (row : OfProcess HeldRow). is_unbalanced_handle row.row) rows.now }
 {
     rows.iter().filter(|row| is_unbalanced(&row.row)).count() as u64
 }
 
-fn is_unbalanced(row: &HandleRow) -> bool
+fn is_unbalanced(row: &HeldRow) -> bool
     ensures { result ≡ is_unbalanced_handle row.now }
 {
-    row.strong.sum != 0 || row.weak.sum != 0
+    row.taken.strong.sum != 0 || row.taken.weak.sum != 0
 }

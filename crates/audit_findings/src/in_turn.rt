@@ -58,7 +58,7 @@ pub(crate) fn rows_in_turn<S: InTurn>(
 }
 
 /// Pushes the rows of one process.
-fn push_rows_of<R: Copy>(
+pub(crate) fn push_rows_of<R: Copy>(
     rows: &mut Vec<OfProcess<R>>,
     process: Process,
     own: &[R],

@@ -1,6 +1,6 @@
 //! What frames come to.
 
-ghost use Rattle.std.specs.Prelude.{◌≡◌, [], ◌∷◌, IfOk, OnOk};
+ghost use Rattle.std.specs.Prelude.{◌≡◌, [], ◌∷◌, map, IfOk, OnOk};
 ghost use Rattle.summary_law.specs.Summary.{CanJoin, Joins};
 ghost use Rattle.audit_findings.specs.Ledgers.{SumsLedgers, AreFewFrames, CanTake, Takes, AreOfFew, GiveSections};
 ghost use Rattle.audit_findings.specs.Ledgers.{CanTakeItem, TakesItem};
@@ -9,11 +9,13 @@ use crate::call_sections::CallSections;
 use crate::event_ledgers::EventLedgers;
 use crate::event_sections::EventSections;
 use crate::findings::Sections;
+use crate::in_turn::OfProcess;
 use crate::process_sections::ProcessSections;
 use crate::sequences::Sequences;
 use crate::thread_ledger::ThreadLedger;
 use capture_frame::{Frame, Process};
 use event_core::Events;
+use handle_ledger::HeldRow;
 use process_ledgers::{ProcessItem, ProcessSummary};
 use std::alloc::{AllocError, Global};
 use summary_law::{InOrder, Summary};
@@ -70,12 +72,16 @@ impl Ledgers {
         })
     }
 
-    /// What the findings keep of the frames.
-    pub fn sections(self, alloc: Global) -> Result<Sections, AllocError>
+    /// What the findings keep of the frames, whose processes have these lists of handles.
+    pub fn sections(
+        self,
+        alloc: Global,
+        handles: &[Vec<OfProcess<HeldRow>>],
+    ) -> Result<Sections, AllocError>
         requires { AreOfFew self }
-        ensures { IfOk result (GiveSections self) }
+        ensures { IfOk result (GiveSections self (map (λ list. list.items) handles.now)) }
     {
-        let processes = ProcessSections::of(alloc, &self.processes)?;
+        let processes = ProcessSections::of(alloc, &self.processes, handles)?;
         let calls = CallSections::of(alloc, self.threads)?;
         let events = EventSections::of(alloc, self.events)?;
         Ok(Sections {

@@ -12,6 +12,7 @@ mod event_sections;
 mod findings;
 mod flags;
 mod handles;
+mod held;
 mod in_turn;
 pub mod laws;
 mod ledgers;

@@ -1,13 +1,16 @@
 //! The summary of some frames of a capture.
 
-ghost use Rattle.std.specs.Prelude.{List, IfOk};
+ghost use Rattle.std.specs.Prelude.{◌≡◌, ◌<◌, List, map, IfOk};
 ghost use Rattle.capture_frame.specs.declared.frame.Frame.{Frame};
 ghost use Rattle.audit_findings.specs.Frames.{AreGoodFrames, good_frames_parts};
-ghost use Rattle.audit_findings.specs.Summary.{SumsPiece, GiveSectionsOf};
+ghost use Rattle.audit_findings.specs.Summary.{SumsPiece, AreHandlesAt, GiveSectionsOf, process_count};
 
 use crate::findings::Sections;
+use crate::handles::handles_of_process;
+use crate::in_turn::{OfProcess, push_rows_of};
 use crate::ledgers::Ledgers;
 use capture_frame::Frame;
+use handle_ledger::HeldRow;
 use std::alloc::{AllocError, Global};
 use std::marker::PhantomData;
 use summary_law::Summary;
@@ -21,12 +24,39 @@ pub struct PieceSummary<'c> {
 }
 
 impl<'c> PieceSummary<'c> {
-    /// What the findings keep of the frames.
-    pub fn sections(self) -> Result<Sections, AllocError>
-        requires { (frames : List Frame) × SumsPiece self frames × AreGoodFrames frames }
-        ensures { IfOk result (GiveSectionsOf self.entry) }
+    /// How many processes the frames have.
+    pub fn process_count(&self) -> usize
+        ensures { result ≡ process_count self.now }
     {
-        self.ledgers.sections(self.alloc)
+        self.ledgers.processes.entries.len()
+    }
+
+    /// The rows of handles of a process by its number, in the order of first frames. The frames are
+    /// those that are summarised.
+    pub fn handles(
+        &self,
+        frames: &[Frame<'_>],
+        number: usize,
+    ) -> Result<Vec<OfProcess<HeldRow>>, AllocError>
+        requires sums { SumsPiece self.now frames.now }
+        requires good { AreGoodFrames frames.now }
+        requires within { number < process_count self.now }
+        ensures { IfOk result (λ rows. AreHandlesAt frames.now number rows.items) }
+    {
+        let (process, summary) = self.ledgers.processes.entries.get_index(number).unwrap();
+        let own = handles_of_process(self.alloc, frames, summary)?;
+        let mut rows = Vec::new(self.alloc);
+        push_rows_of(&mut rows, *process, own.as_slice())?;
+        Ok(rows)
+    }
+
+    /// What the findings keep of the frames, whose processes have these rows of handles.
+    pub fn sections(self, handles: &[Vec<OfProcess<HeldRow>>]) -> Result<Sections, AllocError>
+        requires { (frames : List Frame) × SumsPiece self frames × AreGoodFrames frames }
+        ensures { IfOk result
+            (GiveSectionsOf self.entry (map (λ list. list.items) handles.now)) }
+    {
+        self.ledgers.sections(self.alloc, handles)
     }
 }
 

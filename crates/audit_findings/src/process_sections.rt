@@ -1,11 +1,12 @@
 //! The sections of what is counted and paired in each process.
 
-ghost use Rattle.std.specs.Prelude.{List, IfOk};
+ghost use Rattle.std.specs.Prelude.{List, map, IfOk};
 ghost use Rattle.capture_frame.specs.Units.{Placed};
 ghost use Rattle.transaction_view.specs.Grammar.{WholeFrame};
 ghost use Rattle.event_core.specs.Events.{events_of_wholes};
 ghost use Rattle.process_ledgers.specs.OfProcess.{AreOfProcesses};
 ghost use Rattle.audit_findings.specs.Findings.{ProcessSectionsText, AreProcessSections};
+ghost use Rattle.audit_findings.specs.Handles.{AreListedHandles};
 ghost use Rattle.audit_findings.specs.Places.{RiseInPlace};
 
 use crate::buffers::BufferPairs;
@@ -22,7 +23,7 @@ use crate::references::References;
 use crate::requests::Standing;
 use crate::rows::Rows;
 use capture_frame::Process;
-use handle_ledger::{HandleRow, NodeRow};
+use handle_ledger::{HeldRow, NodeRow};
 use process_ledgers::ProcessSummary;
 use std::alloc::{AllocError, Global};
 use summary_law::InOrder;
@@ -30,8 +31,8 @@ use summary_law::InOrder;
 /// What the sections keep that count and pair in each process.
 #[derive(Drop)]
 pub struct ProcessSections {
-    /// The references that processes hold by handle.
-    pub handles: References<HandleRow>,
+    /// The references that processes hold by handle, and those that their deliveries hold.
+    pub handles: References<HeldRow>,
     /// The references to the nodes of processes.
     pub nodes: References<NodeRow>,
     /// The places of the deliveries that are never freed, rising.
@@ -52,19 +53,21 @@ pub struct ProcessSections {
 impl ProcessSections {
     ghost use Rattle.audit_findings.specs.Kept.{KeepProcesses};
 
-    /// Those of all processes.
+    /// Those of all processes, whose rows of handles are these lists.
     pub(crate) fn of(
         alloc: Global,
         processes: &InOrder<Process, ProcessSummary>,
+        handles: &[Vec<OfProcess<HeldRow>>],
     ) -> Result<Self, AllocError>
         ensures { IfOk result (λ kept. (wholes : List (Placed WholeFrame)) →
             AreOfProcesses processes.now.entries.entries wholes →
+            AreListedHandles wholes (map (λ list. list.items) handles.now) →
             RiseInPlace (events_of_wholes wholes) →
             (said : ProcessSectionsText) × AreProcessSections wholes said
             × KeepProcesses kept said) }
     {
         Ok(ProcessSections {
-            handles: handles_of(alloc, processes)?,
+            handles: handles_of(alloc, handles)?,
             nodes: nodes_of(alloc, processes)?,
             leaked: Rows::of(places_of::<Unclosed<BufferPairs>>(alloc, processes)?),
             stray_frees: Rows::of(places_of::<Strays<BufferPairs>>(alloc, processes)?),

@@ -5,3 +5,4 @@ pub mod JobLaws
 pub mod CutLaws
 pub mod FaultLaws
 pub mod ShareLaws
+pub mod HandleJobs

@@ -1,22 +1,27 @@
 //! From a capture to its findings.
 
-ghost use Rattle.std.specs.Prelude.{◌≡◌, ◌≤◌, List, length, IfErr, IfOk};
+ghost use Rattle.std.specs.Prelude.{◌≤◌, List, length, map, IfErr, IfOk};
+ghost use Rattle.capture_frame.specs.Units.{Placed};
 ghost use Rattle.transaction_view.specs.Grammar.{WholeFrame};
 ghost use Rattle.audit_findings.specs.Frames.{AreGoodFrames, Show};
 ghost use Rattle.event_core.specs.Events.{wholes_of};
 ghost use Rattle.audit_findings.specs.Findings.{FindingsText};
-ghost use Rattle.audit_findings.specs.Kept.{AreOfFrames, Tell, kept_findings};
+ghost use Rattle.audit_findings.specs.Handles.{AreListedHandles};
+ghost use Rattle.audit_findings.specs.Kept.{Tell};
+ghost use Rattle.audit_findings.specs.Summary.{SumsPiece};
 ghost use Rattle.audit_join.specs.Audit.{IsAudited, IsMalformed};
 ghost use Rattle.audit_join.specs.declared.limits.TheConstants.{CAPTURE_LIMIT};
 
 use crate::audit_error::AuditError;
+use crate::handle_work::HandleWork;
 use crate::judging::judge;
 use crate::limits::CAPTURE_LIMIT;
 use crate::piece::Piece;
 use crate::shares::sum_shares;
-use audit_findings::{Findings, PieceSummary, Sections};
+use audit_findings::{Findings, OfProcess, PieceSummary};
 use capture_frame::{Cut, Frame, cut};
-use claim_board::{Gate, NoGate, Workers};
+use claim_board::{Gate, NoGate, Workers, run_all};
+use handle_ledger::HeldRow;
 use std::alloc::{AllocError, Global};
 use std::thread::Threads;
 
@@ -77,15 +82,30 @@ fn findings_of<'c, T: Threads + Sync>(
         (said : FindingsText) × Tell wholes said found.frames found.sections) }
 {
     let whole: PieceSummary<'c> = sum_shares(rt, alloc, frames.as_slice(), workers.get())?;
-    let sections = whole.sections()?;
-    Ok(look_again(frames, sections))
+    let handles = look_again(rt, alloc, frames.as_slice(), &whole, workers)?;
+    let sections = whole.sections(handles.as_slice())?;
+    Ok(Findings::new(frames, sections))
 }
 
-/// The findings of frames whose sections are made. Here both are at hand; what has to look at the
-/// capture a second time has its place here.
-fn look_again<'c>(frames: Vec<Frame<'c>>, sections: Sections) -> Findings<'c>
-    requires { AreOfFrames frames.items sections }
-    ensures { result ≡ kept_findings frames.entry.items sections }
+/// The rows of handles of each process. What deliveries hold that are never freed is known only
+/// when all frames are summed, so it is read from them a second time, by workers that take a
+/// process at a time.
+fn look_again<'c, T: Threads + Sync>(
+    rt: &T,
+    alloc: Global,
+    frames: &[Frame<'c>],
+    whole: &PieceSummary<'c>,
+    workers: Workers,
+) -> Result<Vec<Vec<OfProcess<HeldRow>>>, AllocError>
+    requires sums { SumsPiece whole.now frames.now }
+    requires good { AreGoodFrames frames.now }
+    ensures { IfOk result (λ lists. (wholes : List (Placed WholeFrame)) → Show frames.now wholes →
+        AreListedHandles wholes (map (λ list. list.items) lists.items)) }
 {
-    Findings::new(frames, sections)
+    let work = HandleWork { whole, frames };
+    match run_all(rt, alloc, &work, workers, &NoGate) {
+        Ok(lists) => Ok(lists),
+        // No job has a fault.
+        Err(_) => Err(AllocError),
+    }
 }

@@ -3,6 +3,7 @@
 
 mod audit_error;
 mod audits;
+mod handle_work;
 mod judging;
 pub mod laws;
 mod limits;

@@ -4,7 +4,7 @@ use crate::line::{Row, push_counted};
 use crate::process_row::{process_start, push_count, unbalanced_head};
 use crate::whole_rows::WholeSection;
 use audit_findings::{Findings, OfProcess, Sections};
-use handle_ledger::HandleRow;
+use handle_ledger::HeldRow;
 
 /// The section.
 #[derive(Clone, Copy)]
@@ -15,7 +15,7 @@ impl WholeSection for Handles {
     ghost use Rattle.report_text.specs.Handles.{handles_section};
     ghost use Rattle.report_text.specs.ProcessRow.{unbalanced_head};
 
-    type Kept = OfProcess<HandleRow>;
+    type Kept = OfProcess<HeldRow>;
 
     ghost section = { handles_section };
 
@@ -26,16 +26,19 @@ impl WholeSection for Handles {
         unbalanced_head("handles", rows, sections.processes.handles.unbalanced)
     }
 
-    fn rows<'f>(&self, found: &'f Findings<'_>) -> &'f [OfProcess<HandleRow>] {
+    fn rows<'f>(&self, found: &'f Findings<'_>) -> &'f [OfProcess<HeldRow>] {
         found.sections().processes.handles.rows.as_slice()
     }
 
-    fn line(&self, of: &OfProcess<HandleRow>) -> Row {
+    fn line(&self, of: &OfProcess<HeldRow>) -> Row {
         let row = &of.row;
         let mut line = process_start(of.process);
-        push_counted(&mut line, " ", u64::from(row.handle));
-        push_count(&mut line, row.strong.sum, row.strong.low);
-        push_count(&mut line, row.weak.sum, row.weak.low);
+        let taken = &row.taken;
+        push_counted(&mut line, " ", u64::from(taken.handle));
+        push_count(&mut line, taken.strong.sum, taken.strong.low);
+        push_count(&mut line, taken.weak.sum, taken.weak.low);
+        push_counted(&mut line, " ", row.held_strong);
+        push_counted(&mut line, " ", row.held_weak);
         line
     }
 }

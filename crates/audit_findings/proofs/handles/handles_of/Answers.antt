@@ -1,17 +1,33 @@
-use Rattle.std.proofs.Common.{ap, sym, subst, ◌∙◌}
+use Rattle.std.proofs.Common.{◌++◌, map, take, sym, ap, subst, ◌∙◌, arith}
 use Rattle.std.specs.Prelude.{count_by}
-use Rattle.handle_ledger.specs.declared.handle_row.HandleRow.{HandleRow}
+use Rattle.std.specs.List.{flat_map}
+use Rattle.std.proofs.lemmas.List.{take_all}
 use Rattle.event_core.specs.Events.{events_of_wholes}
+use Rattle.handle_ledger.specs.declared.held_row.HeldRow.{HeldRow}
 use Rattle.process_ledgers.specs.Processes.{processes_of}
 use Rattle.audit_findings.specs.declared.in_turn.OfProcess.{OfProcess}
 use Rattle.audit_findings.specs.Handles.{AreHandlesOf, is_unbalanced_handle}
 use Rattle.audit_findings.specs.InTurn.{AreInTurn}
-use Rattle.audit_findings.proofs.NoRows.{no_handles_of}
+use Rattle.audit_findings.proofs.HandleRows.{ListOfRows, joined_next, joined_to}
 use Rattle.audit_findings.proofs.handles.handles_of.Goals as goal
 
+pub loop-list-init : goal.loop-list-init
+loop-list-init c = c.new-rows.ensures.items
+
+pub loop-list-preserved : goal.loop-list-preserved
+loop-list-preserved c =
+    c.in_ok-extend_from_slice.ensures.items ∙ ap (λ rows. rows ++ c.as_slice.result.now) c.loop-list.invariant
+    ∙ ap (λ rows. joined_to c.args.lists.now c.loop-list.list-index ++ rows) (c.as_slice.ensures.value ∙ ap (λ (list : ListOfRows). list.items) c.list-item.is)
+    ∙ sym (joined_next c.args.lists.now c.loop-list.list-index _ c.loop-list-test.true)
+
 pub returns : goal.returns
-returns c wholes of = record {
-  rows = subst (AreInTurn (AreHandlesOf (events_of_wholes wholes)) (processes_of wholes)) (sym c.of.ensures) (c.in_ok-rows.ensures no_handles_of wholes of);
-  unbalanced = c.unbalanced_count.ensures
-      ∙ ap (count_by (λ (row : OfProcess HandleRow). is_unbalanced_handle row.row)) (c.as_slice.ensures.value ∙ sym c.of.ensures);
-}
+returns c wholes listed =
+    let lists = c.args.lists.now in
+    let items = λ (list : ListOfRows). list.items in
+    let whole = take_all c.loop-list.list-index lists (omega arith) in
+    let rows = c.of.ensures ∙ c.loop-list.invariant ∙ ap (λ ls. flat_map (λ list. list) (map items ls)) whole in
+    record {
+      rows = (map items lists, listed, rows);
+      unbalanced = c.unbalanced_count.ensures
+          ∙ ap (count_by (λ (row : OfProcess HeldRow). is_unbalanced_handle row.row)) (c.as_slice-2.ensures.value ∙ sym c.of.ensures);
+    }

@@ -5,10 +5,10 @@ use Rattle.process_ledgers.proofs.OfProcesses.{are_of_processes}
 use Rattle.audit_findings.proofs.ledgers.Ledgers.sections.Goals as goal
 
 pub returns : goal.returns
-returns c wholes sums few =
+returns c wholes sums few listed =
     let events = events_of_wholes wholes in
     let rise = few.1.0.1 in
-    let processes = c.in_ok-processes.ensures wholes (are_of_processes c.args.self.processes.entries.entries wholes sums.processes) rise in
+    let processes = c.in_ok-processes.ensures wholes (are_of_processes c.args.self.processes.entries.entries wholes sums.processes) listed rise in
     let calls = c.in_ok-calls.ensures events sums.threads rise in
     let counted = c.in_ok-events.ensures events sums.events in
     let said : FindingsText = record {

@@ -3,6 +3,7 @@ use Rattle.audit_findings.specs.Ledgers.{GiveSections}
 use Rattle.audit_findings.specs.Summary.{GiveSectionsOf}
 use Rattle.audit_findings.proofs.EventSizes.{few_frames}
 use Rattle.audit_findings.proofs.FrameLaws.{good_shown}
+use Rattle.audit_findings.proofs.HandleRows.{lists_of}
 use Rattle.audit_findings.proofs.piece_summary.PieceSummary.sections.Goals as goal
 
 pub sections-requires : goal.sections-requires
@@ -13,6 +14,6 @@ sections-requires c =
 
 pub returns : goal.returns
 returns c =
-    IfOk-weaker c.sections.result (GiveSections c.args.self.ledgers) (GiveSectionsOf c.args.self)
-    (λ sections give frames wholes sums good show. give wholes (sums wholes show) (few_frames frames wholes good show))
+    IfOk-weaker c.sections.result (GiveSections c.args.self.ledgers (lists_of c.args.handles.now)) (GiveSectionsOf c.args.self (lists_of c.args.handles.now))
+    (λ sections give frames wholes sums good show listed. give wholes (sums wholes show) (few_frames frames wholes good show) listed)
     c.sections.ensures

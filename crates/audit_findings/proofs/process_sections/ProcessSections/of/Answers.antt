@@ -8,7 +8,7 @@ use Rattle.audit_findings.proofs.StandLaws.{no_buffers, no_clears, no_deaths, op
 use Rattle.audit_findings.proofs.process_sections.ProcessSections.of.Goals as goal
 
 pub returns : goal.returns
-returns c wholes of rise =
+returns c wholes of listed rise =
     let events = events_of_wholes wholes in
     let leaked_stand = open_stands buffer_pending_of pending_keeps in
     let strays_stand = stray_stands buffer_pending_of pending_keeps in
@@ -31,7 +31,7 @@ returns c wholes of rise =
     } in (
       said,
       record {
-        handles = c.in_ok-handles_of.ensures wholes of;
+        handles = c.in_ok-handles_of.ensures wholes listed;
         nodes = c.in_ok-nodes_of.ensures wholes of;
         leaked = leaked.1;
         stray_frees = strays.1;

@@ -1,0 +1,180 @@
+-- The rows of handles of a process: the deliveries that it never frees, and what they hold.
+use Rattle.std.proofs.Common.{◌≡◌, ◌||◌, ◌<◌, ◌+◌, ℕ, zero, suc, Bool, true, false, eqb, List, [], ◌∷◌, ◌++◌, length, map, take, Contains, Option, Some, None, Vec, Global, inl, inr, ⊎_elim, refl, sym, ap, subst, ◌∙◌, arith, get_or}
+use Rattle.std.proofs.Math.Seq.{take-suc}
+use Rattle.std.specs.Prelude.{All, filter, slice_get, slice_index_or}
+use Rattle.std.specs.Option.{unwrap_or}
+use Rattle.std.specs.List.{flat_map, list_any}
+use Rattle.std.specs.List.Sorted.{IsStrictlyIncreasing, IsStrictlySortedBy}
+use Rattle.std.proofs.lemmas.Bool.{cases_Bool, eq-eqb, eqb-true}
+use Rattle.std.proofs.lemmas.Grind.{flat_map-append}
+use Rattle.std.proofs.lemmas.List.{append-nil, map-append}
+use Rattle.std.proofs.lemmas.List.Elements.{All-contains_itself, All-filter, All-head, All-nil, All-tail}
+use Rattle.std.proofs.lemmas.List.Kept.{AllPairs-from_increasing}
+use Rattle.call_stacks.proofs.Members.{In, contained, in-map, in_list, map-in}
+use Rattle.capture_frame.specs.declared.process.Process.{Process}
+use Rattle.capture_frame.specs.Units.{Placed}
+use Rattle.event_core.specs.Events.{EventText, events_of_wholes}
+use Rattle.process_ledgers.specs.declared.process_summary.ProcessSummary.{ProcessSummary}
+use Rattle.transaction_view.specs.Grammar.{WholeFrame}
+use Rattle.event_core.specs.declared.handle.HandleItem.{HandleItem}
+use Rattle.handle_ledger.proofs.HeldLaws.{read_held_rows}
+use Rattle.handle_ledger.specs.Held.{Held, AreHeldRows}
+use Rattle.handle_ledger.specs.declared.held_row.HeldRow.{HeldRow}
+use Rattle.event_core.specs.declared.pending.PendingItem.{PendingItem}
+use Rattle.pending_ledger.specs.Pending.{ArePlacesOf, IsOutstanding}
+use Rattle.pending_ledger.specs.Sums.{GivesLeaked}
+use Rattle.process_ledgers.proofs.ItemPlaces.{pending_keeps}
+use Rattle.process_ledgers.specs.declared.process_ledgers.ProcessLedgers.{ProcessLedgers}
+use Rattle.std.specs.Ordering.{eq_by_cmp, nat_cmp}
+use Rattle.process_ledgers.specs.Items.{buffer_item_of, buffer_pending_of, handle_item_of}
+use Rattle.process_ledgers.specs.OfProcess.{AreLedgersOf, AreOfProcesses, HasNoItems, IsOfProcess}
+use Rattle.process_ledgers.specs.Processes.{items_of_process, processes_of, read_of}
+use Rattle.audit_findings.specs.declared.in_turn.OfProcess.{OfProcess}
+use Rattle.audit_findings.specs.Handles.{AreHandlesOf}
+use Rattle.audit_findings.specs.Held.{AreHeldBy, AreHeldIn, unweighed}
+use Rattle.audit_findings.specs.HeldCounts.{AreChosen}
+use Rattle.audit_findings.specs.Kept.{places_of}
+use Rattle.audit_findings.specs.Places.{AreEventsAt, IsOpenIn, RiseInPlace}
+use Rattle.audit_findings.proofs.EventsAt.{HasEventAt}
+use Rattle.audit_findings.proofs.HeldLaws.{held_none}
+use Rattle.audit_findings.proofs.Listings.{in_kept, kept_in}
+use Rattle.audit_findings.proofs.Rising.{pairs_map, rising_kept}
+use Rattle.audit_findings.proofs.SameMembers.{same_members}
+use Rattle.audit_findings.proofs.StandLaws.{no_buffers, open_needs, open_stands, pending_made}
+
+-- ---- the events at some places, chosen from all
+
+-- whether the event is at one of these places
+abbrev pub is_at : List ℕ → EventText → Bool
+is_at places e = list_any (λ place. eqb place e.place) places
+
+is_in : (places : List ℕ) (place : ℕ) → In place places → list_any (λ p. eqb p place) places ≡ true
+is_in [] place here = absurd here
+is_in (p ∷ places) place (inl same) = rw (eq-eqb p place (sym same)) refl
+is_in (p ∷ places) place (inr there) = let rest = is_in places place there in or_second (eqb p place) rest
+  where
+    or_second : (b : Bool) {c : Bool} → c ≡ true → (b || c) ≡ true
+    or_second true is = refl
+    or_second false is = is
+
+in_is : (places : List ℕ) (place : ℕ) → list_any (λ p. eqb p place) places ≡ true → In place places
+in_is [] place any = let wrong : false ≡ true = any in absurd (cc)
+in_is (p ∷ places) place any =
+    ⊎_elim
+    (λ (same : eqb p place ≡ true). inl (sym (eqb-true p place same)))
+    (λ (other : eqb p place ≡ false). inr (in_is places place (ap (λ b. b || list_any (λ q. eqb q place) places) (sym other) ∙ any)))
+    (cases_Bool (eqb p place))
+
+module _ (events : List EventText) (rise : RiseInPlace events) (places : List ℕ) where
+  chosen_in : (n : ℕ) → ((place : ℕ) → Contains places place → HasEventAt events place) → Contains places n
+      → Contains (places_of (filter (is_at places) events)) n
+  chosen_in n stands there =
+      let e = stands n there in
+      let at = is_in places e.0.place (subst (λ m. In m places) (sym e.2) (in_list places n there)) in
+      contained (places_of (filter (is_at places) events)) n
+      (subst (λ m. In m (places_of (filter (is_at places) events))) e.2
+      (map-in (λ (x : EventText). x.place) (filter (is_at places) events) e.0 (kept_in (is_at places) events e.0 (in_list events e.0 e.1) at)))
+
+  in_chosen : (n : ℕ) → Contains (places_of (filter (is_at places) events)) n → Contains places n
+  in_chosen n there =
+      let from = in-map (λ (x : EventText). x.place) (filter (is_at places) events) n (in_list (places_of (filter (is_at places) events)) n there) in
+      let kept = in_kept (is_at places) events from.0 from.1 in
+      contained places n (subst (λ m. In m places) (sym from.2) (in_is places from.0.place kept.1))
+
+  -- they stand at these places, which rise
+  pub chosen_at : IsStrictlyIncreasing places → ((place : ℕ) → Contains places place → HasEventAt events place) → AreChosen (is_at places) events [] places
+  chosen_at rising stands =
+      same_members places (places_of (filter (is_at places) events)) (AllPairs-from_increasing places rising)
+      (pairs_map (λ a b. a < b) (λ (e : EventText). e.place) (filter (is_at places) events)
+      (rising_kept (λ (e : EventText). e.place) (is_at places) events rise))
+      (λ n there. chosen_in n stands there) in_chosen
+      ∙ sym (append-nil (places_of (filter (is_at places) events)))
+
+-- they are the events at which something is so, where it is so at these places
+pub events_chosen : (IsSo : ℕ → Type 0) (events : List EventText) (places : List ℕ) → ArePlacesOf IsSo places → AreChosen (is_at places) events [] places
+    → AreEventsAt IsSo events (filter (is_at places) events)
+events_chosen IsSo events places are chosen = record {
+  stand = All-filter (is_at places) (Contains events) events (All-contains_itself events);
+  places = subst (ArePlacesOf IsSo) (chosen ∙ append-nil (places_of (filter (is_at places) events))) are;
+}
+
+-- what a ledger of deliveries and frees gives as outstanding
+pub open_places : (events : List EventText) (process : Process) (ledgers : ProcessLedgers) (places : List ℕ) → GivesLeaked ledgers.buffers places
+    → AreLedgersOf ledgers events process → ArePlacesOf (IsOpenIn buffer_pending_of events process) places
+open_places events process ledgers places gives of =
+    subst (λ (items : List (PendingItem ℕ)). ArePlacesOf (IsOutstanding (eq_by_cmp nat_cmp) items) places) (sym (pending_made process events))
+    (gives (items_of_process buffer_item_of process events) of.buffers)
+
+-- an event stands at each of these places
+pub chosen_open : (events : List EventText) → RiseInPlace events → (process : Process) (places : List ℕ)
+    → ArePlacesOf (IsOpenIn buffer_pending_of events process) places → AreChosen (is_at places) events [] places
+chosen_open events rise process places are =
+    chosen_at events rise places are.rising
+    (λ place there.
+    let found = open_stands buffer_pending_of pending_keeps events process place ((are.exact place).0 there) in
+    (found.0, found.1, found.3))
+
+-- ---- a process without an item
+
+no_rows : AreHeldRows (λ (item : HandleItem). Some item) [] [] []
+unfolding IsStrictlySortedBy
+no_rows = record { rising = tt; named = All-nil _; whole = λ key is. let no : ⊥ = cc in absurd no; right = All-nil _ }
+
+no_places : (events : List EventText) (process : Process) → HasNoItems events process → ArePlacesOf (IsOpenIn buffer_pending_of events process) []
+no_places events process none = record {
+  rising = λ k within. absurd (omega (arith, within));
+  exact = λ place. (λ there. absurd (nowhere place there), λ is. absurd (open_needs buffer_pending_of no_buffers events process place none is));
+}
+  where
+    nowhere : (place : ℕ) → Contains [] place → ⊥
+    nowhere place (k, within, is) = absurd (omega (arith, within))
+
+-- it has no row
+pub no_handles_of : (events : List EventText) (process : Process) → HasNoItems events process → AreHandlesOf events process []
+no_handles_of events process none = (
+  [],
+  ([], record { stand = All-nil (Contains events); places = no_places events process none }, held_none [] refl),
+  read_held_rows (read_of handle_item_of process) events [] [] (subst (λ items. AreHeldRows (λ item. Some item) items [] []) (sym none.handles) no_rows),
+)
+
+-- ---- the entry of a process by its number
+
+entry_is : {X : Type 0} (P : X → Type 0) (xs : List X) (n : ℕ) (x : X) → All P xs → slice_get xs n ≡ Some x → P x
+entry_is P [] n x all is = let wrong : None ≡ Some x = is in absurd (cc)
+entry_is P (y ∷ xs) zero x all is = subst P (ap (λ o. unwrap_or o y) is) (All-head P y xs all)
+entry_is P (y ∷ xs) (suc n) x all is = entry_is P xs n x (All-tail P y xs all) is
+
+key_is : {X Y : Type 0} (key : X → Y) (xs : List X) (n : ℕ) (x : X) (d : Y) → slice_get xs n ≡ Some x → slice_index_or (map key xs) n d ≡ key x
+key_is key [] n x d is = let wrong : None ≡ Some x = is in absurd (cc)
+key_is key (y ∷ xs) zero x d is = ap (λ o. key (unwrap_or o y)) is
+key_is key (y ∷ xs) (suc n) x d is = key_is key xs n x d is
+
+-- it is that of the process with this number
+pub entry_at : (entries : List (Process × ProcessSummary)) (wholes : List (Placed WholeFrame)) (number : ℕ) (e : Process × ProcessSummary)
+    → AreOfProcesses entries wholes → slice_get entries number ≡ Some e
+    → IsOfProcess e.1.ledgers (events_of_wholes wholes) e.0 × ((d : Process) → slice_index_or (processes_of wholes) number d ≡ e.0)
+entry_at entries wholes number e of is = (
+  entry_is (λ (x : Process × ProcessSummary). IsOfProcess x.1.ledgers (events_of_wholes wholes) x.0) entries number e of.each is,
+  λ d. ap (λ (ps : List Process). slice_index_or ps number d) (sym of.order) ∙ key_is (λ (x : Process × ProcessSummary). x.0) entries number e d is,
+)
+
+-- ---- lists, one behind another
+
+abbrev pub ListOfRows : Type 0
+ListOfRows = Vec (OfProcess HeldRow) Global
+
+abbrev pub lists_of : List ListOfRows → List (List (OfProcess HeldRow))
+lists_of lists = map (λ (list : ListOfRows). list.items) lists
+
+-- the first of these lists
+abbrev pub joined_to : List ListOfRows → ℕ → List (OfProcess HeldRow)
+joined_to lists n = flat_map (λ list. list) (map (λ (list : ListOfRows). list.items) (take n lists))
+
+pub joined_next : (lists : List ListOfRows) (n : ℕ) (d : ListOfRows) → n < length lists → joined_to lists (n + 1) ≡ joined_to lists n ++ (get_or lists n d).items
+joined_next lists n d within =
+    let one : n + 1 ≡ suc n = omega arith in
+    let items = λ (list : ListOfRows). list.items in
+    let last = get_or lists n d in
+    ap (λ m. joined_to lists m) one ∙ ap (λ ls. flat_map (λ list. list) (map items ls)) (take-suc lists n d within)
+    ∙ ap (flat_map (λ list. list)) (map-append items (take n lists) (last ∷ []))
+    ∙ flat_map-append (λ list. list) (map items (take n lists)) (last.items ∷ []) ∙ ap (λ rows. joined_to lists n ++ rows) (append-nil last.items)

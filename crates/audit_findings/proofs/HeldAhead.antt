@@ -1,0 +1,377 @@
+-- The frame of the first place that is left, among whole frames that views show.
+use Rattle.std.proofs.Common.{◌≡◌, ℕ, suc, ◌+◌, ◌^◌, ◌<◌, ◌≤◌, Bool, List, [], ◌∷◌, ◌++◌, length, map, All, Contains, Option, Some, None, refl, sym, ap, ap₂, subst, ◌∙◌, append_assoc, length-append, arith}
+use Rattle.std.specs.Prelude.{AllPairs, IsSome, filter, slice_get}
+use Rattle.std.specs.Option.{unwrap_or}
+use Rattle.std.specs.List.{sum_by}
+use Rattle.std.proofs.lemmas.List.{append-nil, map-append}
+use Rattle.std.proofs.lemmas.List.Concat.{flat_map-cons}
+use Rattle.std.proofs.lemmas.List.Elements.{All-append, All-cons, All-contains, All-filter, All-head, All-map, All-nil, All-tail, filter-append}
+use Rattle.std.proofs.lemmas.List.Sums.{sum_by-append, sum_by-cons}
+use Rattle.capture_frame.specs.declared.frame.Frame.{Frame}
+use Rattle.capture_frame.specs.Envelope.{FrameText, frame_text, placed_frame}
+use Rattle.capture_frame.specs.Lookup.{Holds, IsFrameAt, StandApart, span_of}
+use Rattle.capture_frame.specs.Units.{Placed}
+use Rattle.capture_frame.proofs.LookupLaws.{one_held, some_held}
+use Rattle.event_core.specs.Events.{EventText, events_of_whole, events_of_wholes, placed_text}
+use Rattle.handle_ledger.specs.Held.{Held}
+use Rattle.summary_law.specs.declared.tally.Tally.{Tally}
+use Rattle.transaction_view.specs.FirstFault.{HasGoodContent}
+use Rattle.transaction_view.specs.Grammar.{WholeFrame}
+use Rattle.audit_findings.specs.Frames.{AreGoodFrames, IsWhole, Show}
+use Rattle.audit_findings.specs.Held.{AreHeldBy}
+use Rattle.audit_findings.specs.HeldCounts.{AreChosen, AreOfFrame, CountsFrame, CountsHeld, HasRoom, Rise}
+use Rattle.audit_findings.specs.Kept.{places_of}
+use Rattle.audit_findings.proofs.EventSizes.{few_frames}
+use Rattle.audit_findings.proofs.FrameLaws.{events-append, first_same, none_shown, shown_first, whole_events}
+use Rattle.audit_findings.proofs.HeldLaws.{held_both, held_none}
+use Rattle.audit_findings.proofs.PlacesRise.{StandsWithin, whole_within, within_span}
+use Rattle.audit_findings.proofs.Rising.{pairs_head, pairs_map, pairs_tail, pairs_unmap, rising_kept}
+use Rattle.std.proofs.lemmas.List.Kept.{AllPairs-cons}
+use Rattle.summary_law.specs.Fits.{PlacesRise, rising_parts}
+
+-- ---- views of whole frames that stand one behind others
+
+abbrev pub attached_bytes : Placed WholeFrame → ℕ
+attached_bytes w = length w.unit.frame.attachments
+
+abbrev pub Attaches : List Frame → List (Placed WholeFrame) → Type 0
+Attaches frames wholes = sum_by attached_bytes wholes ≤ sum_by span_of frames
+
+-- views of whole frames that are split are split as well
+record ShownApart (frames : List Frame) (first second : List (Placed WholeFrame)) : Type 0 where
+  earlier : List Frame
+  later : List Frame
+  are : frames ≡ earlier ++ later
+  show_first : Show earlier first
+  show_second : Show later second
+
+shown_split : (frames : List Frame) (first second : List (Placed WholeFrame)) → Show frames (first ++ second) → ShownApart frames first second
+shown_split frames [] second show = record { earlier = []; later = frames; are = refl; show_first = none_shown; show_second = show }
+shown_split [] (w ∷ first) second show = let wrong = ap length show.stand in absurd (omega (arith, wrong))
+shown_split (f ∷ frames) (w ∷ first) second show =
+    let one = shown_first f frames (w ∷ (first ++ second)) show in
+    let same = first_same w one.0 (first ++ second) one.1 one.2 in
+    let rest = shown_split frames first second (subst (Show frames) (sym same.1) one.5) in
+    record {
+      earlier = f ∷ rest.earlier;
+      later = rest.later;
+      are = ap (λ (fs : List Frame). f ∷ fs) rest.are;
+      show_first = record {
+        stand = ap₂ (λ (x : Placed FrameText) (t : List (Placed FrameText)). x ∷ t) (one.3 ∙ ap placed_text (sym same.0)) rest.show_first.stand;
+        are_whole = All-cons IsWhole w first (subst IsWhole (sym same.0) one.4) rest.show_first.are_whole;
+      };
+      show_second = rest.show_second;
+    }
+
+contained_there : (earlier : List Frame) (f : Frame) (later : List Frame) → Contains (earlier ++ f ∷ later) f
+contained_there [] f later = (0, omega arith, refl)
+contained_there (e ∷ earlier) f later =
+    let rest = contained_there earlier f later in
+    let within = rest.1 in
+    (suc rest.0, omega (arith, within), rest.2)
+
+-- the view of a whole frame among others
+record ViewOf (frames : List Frame) (w : Placed WholeFrame) : Type 0 where
+  frame : Frame
+  there : Contains frames frame
+  same : placed_frame frame ≡ placed_text w
+  whole : IsWhole w
+
+view_of : (frames : List Frame) (before : List (Placed WholeFrame)) (w : Placed WholeFrame) (behind : List (Placed WholeFrame))
+    → Show frames (before ++ w ∷ behind) → ViewOf frames w
+view_of frames before w behind show =
+    let apart = shown_split frames before (w ∷ behind) show in
+    first_view apart.later apart.earlier apart.are apart.show_second
+  where
+    first_view : (later earlier : List Frame) → frames ≡ earlier ++ later → Show later (w ∷ behind) → ViewOf frames w
+    first_view [] earlier are show = let wrong = ap length show.stand in absurd (omega (arith, wrong))
+    first_view (f ∷ later) earlier are show =
+        let one = shown_first f later (w ∷ behind) show in
+        let same = first_same w one.0 behind one.1 one.2 in
+        record {
+          frame = f;
+          there = subst (λ fs. Contains fs f) (sym are) (contained_there earlier f later);
+          same = one.3 ∙ ap placed_text (sym same.0);
+          whole = subst IsWhole (sym same.0) one.4;
+        }
+
+-- ---- the first place that is left
+
+-- the frame of the first of the chosen events, those before it, which have none, and those behind it
+record FirstChosen (choice : EventText → Bool) (ahead : List (Placed WholeFrame)) (place : ℕ) : Type 0 where
+  front : List (Placed WholeFrame)
+  whole : Placed WholeFrame
+  behind : List (Placed WholeFrame)
+  are : ahead ≡ front ++ whole ∷ behind
+  none : filter choice (events_of_wholes front) ≡ []
+  event : EventText
+  others : List EventText
+  first : filter choice (events_of_whole whole) ≡ event ∷ others
+  at : event.place ≡ place
+
+chosen_of : (choice : EventText → Bool) (w : Placed WholeFrame) (wholes : List (Placed WholeFrame))
+    → filter choice (events_of_wholes (w ∷ wholes)) ≡ filter choice (events_of_whole w) ++ filter choice (events_of_wholes wholes)
+chosen_of choice w wholes = ap (filter choice) (flat_map-cons events_of_whole w wholes) ∙ filter-append choice (events_of_whole w) (events_of_wholes wholes)
+
+first_chosen : (choice : EventText → Bool) (ahead : List (Placed WholeFrame)) (place : ℕ) (rest : List ℕ)
+    → place ∷ rest ≡ places_of (filter choice (events_of_wholes ahead)) → FirstChosen choice ahead place
+first_chosen choice [] place rest left = let wrong : place ∷ rest ≡ [] = left in absurd (cc)
+first_chosen choice (w ∷ ahead) place rest left = by_own (first_chosen choice ahead place rest) (filter choice (events_of_whole w)) refl
+  where
+    by_own : (place ∷ rest ≡ places_of (filter choice (events_of_wholes ahead)) → FirstChosen choice ahead place) → (own : List EventText)
+        → filter choice (events_of_whole w) ≡ own → FirstChosen choice (w ∷ ahead) place
+    by_own later [] is =
+        let none = chosen_of choice w ahead ∙ ap (λ es. es ++ filter choice (events_of_wholes ahead)) is in
+        let more = later (left ∙ ap places_of none) in
+        record {
+          front = w ∷ more.front;
+          whole = more.whole;
+          behind = more.behind;
+          are = ap (λ ws. w ∷ ws) more.are;
+          none = chosen_of choice w more.front ∙ ap (λ es. es ++ filter choice (events_of_wholes more.front)) is ∙ more.none;
+          event = more.event;
+          others = more.others;
+          first = more.first;
+          at = more.at;
+        }
+    by_own later (e ∷ others) is =
+        let some = chosen_of choice w ahead ∙ ap (λ es. es ++ filter choice (events_of_wholes ahead)) is in
+        let same : place ∷ rest ≡ e.place ∷ places_of (others ++ filter choice (events_of_wholes ahead)) = left ∙ ap places_of some in
+        record {
+          front = [];
+          whole = w;
+          behind = ahead;
+          are = refl;
+          none = refl;
+          event = e;
+          others = others;
+          first = is;
+          at = sym (first_same place e.place rest (places_of (others ++ filter choice (events_of_wholes ahead))) same).0;
+        }
+
+-- its view, which holds the place
+record NextFrame (frames : List Frame) (choice : EventText → Bool) (ahead : List (Placed WholeFrame)) (place : ℕ) : Type 0 where
+  chosen : FirstChosen choice ahead place
+  view : ViewOf frames chosen.whole
+  holds : Holds place view.frame
+
+next_frame : (frames : List Frame) (done ahead : List (Placed WholeFrame)) → Show frames (done ++ ahead) → (choice : EventText → Bool) (place : ℕ)
+    (rest : List ℕ) → place ∷ rest ≡ places_of (filter choice (events_of_wholes ahead)) → NextFrame frames choice ahead place
+next_frame frames done ahead show choice place rest left =
+    let chosen = first_chosen choice ahead place rest left in
+    let w = chosen.whole in
+    let split : done ++ ahead ≡ (done ++ chosen.front) ++ w ∷ chosen.behind =
+    ap (λ ws. done ++ ws) chosen.are ∙ sym (append_assoc done chosen.front (w ∷ chosen.behind)) in
+    let view = view_of frames (done ++ chosen.front) w chosen.behind (subst (Show frames) split show) in
+    let within : StandsWithin w chosen.event =
+    All-head (StandsWithin w) chosen.event chosen.others
+    (subst (All (StandsWithin w)) chosen.first (All-filter choice (StandsWithin w) (events_of_whole w) (whole_within w view.whole))) in
+    let inside = within_span w chosen.event within in
+    let from = inside.0 in
+    let to = inside.1 in
+    let at = chosen.at in
+    let place_is = ap (λ (p : Placed FrameText). p.place) view.same in
+    let commands = ap (λ (p : Placed FrameText). length p.unit.commands) view.same in
+    let attachments = ap (λ (p : Placed FrameText). length p.unit.attachments) view.same in
+    record { chosen = chosen; view = view; holds = (omega (arith, from, at, place_is), omega (arith, to, at, place_is, commands, attachments)) }
+
+-- a list whose first element is known
+pub begins_with : (numbers : List ℕ) (first : ℕ) → Some first ≡ slice_get numbers 0 → (rest : List ℕ) × (numbers ≡ first ∷ rest)
+begins_with [] first is = let wrong : Some first ≡ None = is in absurd (cc)
+begins_with (n ∷ numbers) first is = (numbers, ap (λ m. m ∷ numbers) (ap (λ (o : Option ℕ). unwrap_or o n) (sym is)))
+
+pub begins_with_none : (numbers : List ℕ) → None ≡ slice_get numbers 0 → numbers ≡ []
+begins_with_none [] is = refl
+begins_with_none (n ∷ numbers) is = let wrong : None ≡ Some n = is in absurd (cc)
+
+-- ---- so far
+
+-- the chosen events of the frames that are done are counted, and the places of the others are left
+pub record Stands (wholes : List (Placed WholeFrame)) (choice : EventText → Bool) (left : List ℕ) (tally : Tally Held) : Type 0 where
+  pub done : List (Placed WholeFrame)
+  pub ahead : List (Placed WholeFrame)
+  pub held : List Held
+  pub are : wholes ≡ done ++ ahead
+  pub left_is : left ≡ places_of (filter choice (events_of_wholes ahead))
+  pub hold : AreHeldBy (filter choice (events_of_wholes done)) held
+  pub few : length held ≤ sum_by attached_bytes done
+  pub counts : CountsHeld tally held
+
+-- however events of these frames are chosen that stand at the places
+abbrev pub StandsFor : List Frame → List ℕ → List ℕ → Tally Held → Type 0
+StandsFor frames places left tally =
+    (wholes : List (Placed WholeFrame)) (choice : EventText → Bool) → Show frames wholes → AreChosen choice (events_of_wholes wholes) [] places
+    → Stands wholes choice left tally
+
+pub stands_at_start : (frames : List Frame) (places : List ℕ) (tally : Tally Held) → CountsHeld tally [] → StandsFor frames places places tally
+stands_at_start frames places tally counts wholes choice show chosen = record {
+  done = [];
+  ahead = wholes;
+  held = [];
+  are = refl;
+  left_is = chosen ∙ append-nil (places_of (filter choice (events_of_wholes wholes)));
+  hold = held_none [] refl;
+  few = omega arith;
+  counts = counts;
+}
+
+pub counted_at_end : (frames : List Frame) (places : List ℕ) (tally : Tally Held) → StandsFor frames places [] tally
+    → (wholes : List (Placed WholeFrame)) (choice : EventText → Bool) → Show frames wholes → AreChosen choice (events_of_wholes wholes) [] places
+    → (held : List Held) × AreHeldBy (filter choice (events_of_wholes wholes)) held × CountsHeld tally held
+counted_at_end frames places tally stands wholes choice show chosen =
+    let s = stands wholes choice show chosen in
+    let none = no_places (filter choice (events_of_wholes s.ahead)) s.left_is in
+    let all : filter choice (events_of_wholes s.done) ≡ filter choice (events_of_wholes wholes) =
+    sym (ap (λ ws. filter choice (events_of_wholes ws)) s.are ∙ ap (filter choice) (events-append s.done s.ahead)
+    ∙ filter-append choice (events_of_wholes s.done) (events_of_wholes s.ahead) ∙ ap (λ es. filter choice (events_of_wholes s.done) ++ es) none
+    ∙ append-nil (filter choice (events_of_wholes s.done))) in
+    (s.held, subst (λ es. AreHeldBy es s.held) all s.hold, s.counts)
+  where
+    no_places : (events : List EventText) → [] ≡ places_of events → events ≡ []
+    no_places [] none = refl
+    no_places (e ∷ events) none = let wrong : [] ≡ e.place ∷ places_of events = none in absurd (cc)
+
+attach_all : (frames : List Frame) (wholes : List (Placed WholeFrame)) → Show frames wholes → Attaches frames wholes
+attach_all frames [] show = omega arith
+attach_all [] (w ∷ wholes) show = let wrong = ap length show.stand in absurd (omega (arith, wrong))
+attach_all (f ∷ frames) (w ∷ wholes) show =
+    let one = shown_first f frames (w ∷ wholes) show in
+    let same = first_same w one.0 wholes one.1 one.2 in
+    let rest = attach_all frames wholes (subst (Show frames) (sym same.1) one.5) in
+    let bytes = ap (λ (p : Placed FrameText). length p.unit.attachments) (one.3 ∙ ap placed_text (sym same.0)) in
+    let spans = sum_by-cons span_of f frames in
+    let attached = sum_by-cons attached_bytes w wholes in
+    omega (arith, rest, bytes, spans, attached)
+
+-- where the places of events rise, so do those of the first ones and of the chosen others
+rise_part : (choice : EventText → Bool) (events later : List EventText) → Rise (places_of (events ++ later))
+    → Rise (places_of events ++ places_of (filter choice later))
+rise_part choice [] later rise =
+    pairs_map (λ a b. a < b) (λ (e : EventText). e.place) (filter choice later)
+    (rising_kept (λ (e : EventText). e.place) choice later (pairs_unmap (λ a b. a < b) (λ (e : EventText). e.place) later rise))
+rise_part choice (e ∷ events) later rise =
+    let above = pairs_head (λ a b. a < b) e.place (places_of (events ++ later)) rise in
+    let more = rise_part choice events later (pairs_tail (λ a b. a < b) e.place (places_of (events ++ later)) rise) in
+    AllPairs-cons (λ a b. a < b) e.place (places_of events ++ places_of (filter choice later)) (all_part events above) more
+  where
+    all_part : (us : List EventText) → All (λ p. e.place < p) (places_of (us ++ later)) → All (λ p. e.place < p) (places_of us ++ places_of (filter choice later))
+    all_part [] above =
+        All-map (λ p. e.place < p) (λ (x : EventText). x.place) (filter choice later)
+        (All-filter choice (λ (x : EventText). e.place < x.place) later (unmapped later above))
+      where
+        unmapped : (us : List EventText) → All (λ p. e.place < p) (places_of us) → All (λ (x : EventText). e.place < x.place) us
+        unmapped [] all = All-nil (λ (x : EventText). e.place < x.place)
+        unmapped (u ∷ us) all =
+            All-cons (λ (x : EventText). e.place < x.place) u us (All-head (λ p. e.place < p) u.place (places_of us) all)
+            (unmapped us (All-tail (λ p. e.place < p) u.place (places_of us) all))
+    all_part (u ∷ us) above =
+        All-cons (λ p. e.place < p) u.place (places_of us ++ places_of (filter choice later))
+        (All-head (λ p. e.place < p) u.place (places_of (us ++ later)) above)
+        (all_part us (All-tail (λ p. e.place < p) u.place (places_of (us ++ later)) above))
+
+module _ (frames : List Frame) (good : AreGoodFrames frames) (wholes : List (Placed WholeFrame)) (choice : EventText → Bool) (show : Show frames wholes)
+    (place : ℕ) (rest : List ℕ) (tally : Tally Held) (s : Stands wholes choice (place ∷ rest) tally) where
+  next : NextFrame frames choice s.ahead place
+  next = next_frame frames s.done s.ahead (subst (Show frames) s.are show) choice place rest s.left_is
+
+  -- a frame is there
+  pub some_frame : (found : Option Frame) → IsFrameAt frames place found → IsSome found
+  some_frame found at = some_held frames place found next.view.frame at next.view.there next.holds
+
+  module _ (frame : Frame) (at : IsFrameAt frames place (Some frame)) where
+    the_frame : next.view.frame ≡ frame
+    the_frame = one_held frames place frame next.view.frame at next.view.there next.holds
+
+    same : placed_frame frame ≡ placed_text next.chosen.whole
+    same = ap placed_frame (sym the_frame) ∙ next.view.same
+
+    split : wholes ≡ (s.done ++ next.chosen.front) ++ next.chosen.whole ∷ next.chosen.behind
+    split = s.are ∙ ap (λ ws. s.done ++ ws) next.chosen.are ∙ sym (append_assoc s.done next.chosen.front (next.chosen.whole ∷ next.chosen.behind))
+
+    pub good_frame : HasGoodContent (frame_text frame)
+    good_frame = All-contains (λ f. HasGoodContent (frame_text f)) frames frame good.good at.0
+
+    -- with room for what it holds
+    enough : length s.held + length frame.attachments.now ≤ 2 ^ 32
+    enough =
+        let bytes = ap (λ (p : Placed FrameText). length p.unit.attachments) same in
+        let all = attach_all frames wholes show in
+        let parts = ap (sum_by attached_bytes) split ∙ sum_by-append attached_bytes (s.done ++ next.chosen.front) (next.chosen.whole ∷ next.chosen.behind) in
+        let front = sum_by-append attached_bytes s.done next.chosen.front in
+        let here = sum_by-cons attached_bytes next.chosen.whole next.chosen.behind in
+        let few = s.few in
+        let total = good.few in
+        omega (arith, bytes, all, parts, front, here, few, total)
+
+    pub room_for_frame : HasRoom tally (length frame.attachments.now)
+    room_for_frame = (s.held, s.counts, enough)
+
+    events_of_it : AreOfFrame frame (events_of_whole next.chosen.whole)
+    events_of_it =
+        let of = whole_events frame next.chosen.whole same next.view.whole in
+        (of.0, of.1, of.2, of.3, sym (append-nil (events_of_whole next.chosen.whole)) ∙ of.4)
+
+    abbrev others : List ℕ
+    others = places_of (filter choice (events_of_wholes next.chosen.behind))
+
+    left_here : AreChosen choice (events_of_whole next.chosen.whole) others (place ∷ rest)
+    left_here =
+        let w = next.chosen.whole in
+        let behind = next.chosen.behind in
+        let parts = ap (filter choice) (events-append next.chosen.front (w ∷ behind)) ∙ filter-append choice (events_of_wholes next.chosen.front) (events_of_wholes (w ∷ behind))
+        ∙ ap (λ es. es ++ filter choice (events_of_wholes (w ∷ behind))) next.chosen.none ∙ chosen_of choice w behind in
+        s.left_is ∙ ap (λ ws. places_of (filter choice (events_of_wholes ws))) next.chosen.are ∙ ap places_of parts
+        ∙ map-append (λ (e : EventText). e.place) (filter choice (events_of_whole w)) (filter choice (events_of_wholes behind))
+
+    rising : Rise (places_of (events_of_whole next.chosen.whole) ++ others)
+    rising =
+        let w = next.chosen.whole in
+        let behind = next.chosen.behind in
+        let before = s.done ++ next.chosen.front in
+        let all = (few_frames frames wholes good show).1.0.1 in
+        let parts = ap events_of_wholes split ∙ events-append before (w ∷ behind) ∙ ap (λ es. events_of_wholes before ++ es) (flat_map-cons events_of_whole w behind) in
+        let later = rising_parts (λ (e : EventText). e.place) (events_of_wholes before) (events_of_whole w ++ events_of_wholes behind)
+        (subst (PlacesRise (λ (e : EventText). e.place)) parts all) in
+        rise_part choice (events_of_whole w) (events_of_wholes behind)
+        (pairs_map (λ a b. a < b) (λ (e : EventText). e.place) (events_of_whole w ++ events_of_wholes behind) later.1)
+
+    -- the frame is done
+    pub stands_behind : (new : Tally Held) (left : List ℕ) → CountsFrame tally frame (place ∷ rest) new left → Stands wholes choice left new
+    stands_behind new left counts =
+        let w = next.chosen.whole in
+        let before = s.done ++ next.chosen.front in
+        let c = counts (events_of_whole w) choice others events_of_it rising left_here in
+        let held_before : AreHeldBy (filter choice (events_of_wholes before)) s.held =
+        subst (λ es. AreHeldBy es s.held)
+        (sym (ap (filter choice) (events-append s.done next.chosen.front) ∙ filter-append choice (events_of_wholes s.done) (events_of_wholes next.chosen.front)
+        ∙ ap (λ es. filter choice (events_of_wholes s.done) ++ es) next.chosen.none ∙ append-nil (filter choice (events_of_wholes s.done)))) s.hold in
+        let all : filter choice (events_of_wholes before) ++ filter choice (events_of_whole w) ≡ filter choice (events_of_wholes (before ++ w ∷ [])) =
+        sym (ap (filter choice) (events-append before (w ∷ []) ∙ ap (λ es. events_of_wholes before ++ es) (append-nil (events_of_whole w)))
+        ∙ filter-append choice (events_of_wholes before) (events_of_whole w)) in
+        let bytes = ap (λ (p : Placed FrameText). length p.unit.attachments) same in
+        let long = length-append s.held c.1.0 in
+        let few = s.few in
+        let few_more = c.1.2 in
+        let front = sum_by-append attached_bytes s.done next.chosen.front in
+        let here = sum_by-append attached_bytes before (w ∷ []) in
+        let one = sum_by-cons attached_bytes w [] in
+        record {
+          done = before ++ w ∷ [];
+          ahead = next.chosen.behind;
+          held = s.held ++ c.1.0;
+          are = split ∙ sym (append_assoc before (w ∷ []) next.chosen.behind);
+          left_is = c.0;
+          hold = subst (λ es. AreHeldBy es (s.held ++ c.1.0)) all
+              (held_both (filter choice (events_of_wholes before)) (filter choice (events_of_whole w)) s.held c.1.0 held_before c.1.1);
+          few = omega (arith, bytes, long, few, few_more, front, here, one);
+          counts = c.1.3 s.held s.counts enough;
+        }
+
+    -- and fewer places are left
+    pub fewer_left : (new : Tally Held) (left : List ℕ) → CountsFrame tally frame (place ∷ rest) new left → length left < length (place ∷ rest)
+    fewer_left new left counts =
+        let c = counts (events_of_whole next.chosen.whole) choice others events_of_it rising left_here in
+        let long = ap length c.0 in
+        let parts = ap length left_here ∙ length-append (places_of (filter choice (events_of_whole next.chosen.whole))) others in
+        let some = ap (λ es. length (places_of es)) next.chosen.first in
+        omega (arith, long, parts, some)

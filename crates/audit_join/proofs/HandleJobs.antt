@@ -1,0 +1,117 @@
+-- The jobs that processes are, and what they give together.
+use Rattle.std.proofs.Common.{◌≡◌, ℕ, zero, suc, ◌+◌, ◌^◌, ◌<◌, ◌≤◌, Bool, not, List, [], ◌∷◌, length, map, Some, Vec, Global, refl, sym, ap, ◌∙◌, arith}
+use Rattle.std.specs.Prelude.{All, filter, IfSome, slice_get, slice_index_or}
+use Rattle.std.specs.List.{AllZip, range_with_len}
+use Rattle.std.proofs.lemmas.List.{length-map}
+use Rattle.std.proofs.lemmas.List.Elements.{All-cons, All-nil}
+use Rattle.std.proofs.lemmas.List.FromFn.{get_or-map-range_with_len, length-map-range_with_len}
+use Rattle.std.proofs.lemmas.List.Sums.{count_by-le-length, length-filter}
+use Rattle.capture_frame.specs.Process.{same_process}
+use Rattle.capture_frame.specs.Units.{Placed}
+use Rattle.capture_frame.specs.declared.frame.Frame.{Frame}
+use Rattle.capture_frame.specs.declared.process.Process.{Process}
+use Rattle.claim_board.specs.Board.{AreJobs}
+use Rattle.claim_board.specs.Results.{AreInOrder}
+use Rattle.claim_board.specs.Running.{AreWorkJobs, job_at, no_place}
+use Rattle.claim_board.specs.declared.job.Job.{Job}
+use Rattle.event_core.specs.Events.{events_of_wholes}
+use Rattle.handle_ledger.specs.declared.held_row.HeldRow.{HeldRow}
+use Rattle.process_ledgers.proofs.OfProcesses.{are_of_processes}
+use Rattle.process_ledgers.specs.OfProcess.{AreOfProcesses}
+use Rattle.process_ledgers.specs.Processes.{process_of_whole, processes_of}
+use Rattle.process_ledgers.specs.declared.process_summary.ProcessSummary.{ProcessSummary}
+use Rattle.summary_law.specs.InOrder.{firsts}
+use Rattle.transaction_view.specs.Grammar.{WholeFrame}
+use Rattle.audit_findings.proofs.EventSizes.{few_frames}
+use Rattle.audit_findings.proofs.FrameLaws.{good_shown}
+use Rattle.audit_findings.proofs.HandleRows.{ListOfRows, lists_of}
+use Rattle.audit_findings.specs.Frames.{AreGoodFrames, Show}
+use Rattle.audit_findings.specs.Handles.{AreHandlesOf, AreListedHandles}
+use Rattle.audit_findings.specs.InTurn.{AreRowsOf}
+use Rattle.audit_findings.specs.Summary.{AreHandlesAt, SumsPiece, process_count}
+use Rattle.audit_findings.specs.declared.in_turn.OfProcess.{OfProcess}
+use Rattle.audit_findings.specs.declared.piece_summary.PieceSummary.{PieceSummary}
+use Rattle.audit_join.specs.Processes.{process_job, process_jobs}
+
+-- ---- how many processes there are
+
+few_firsts : {K : Type 0} (eq : K → K → Bool) (keys : List K) → length (firsts eq keys) ≤ length keys
+few_firsts eq [] = omega arith
+few_firsts eq (k ∷ keys) =
+    let test = λ other. not (eq other k) in
+    let rest = few_firsts eq keys in
+    let long = length-filter test (firsts eq keys) in
+    let few = count_by-le-length test (firsts eq keys) in
+    omega (arith, rest, long, few)
+
+-- as many as are told apart
+process_number : (entries : List (Process × ProcessSummary)) (wholes : List (Placed WholeFrame)) → AreOfProcesses entries wholes
+    → length entries ≡ length (processes_of wholes)
+process_number entries wholes of = sym (length-map entries (λ (e : Process × ProcessSummary). e.0)) ∙ ap length of.order
+
+entries_of : (summary : PieceSummary) (frames : List Frame) (wholes : List (Placed WholeFrame)) → SumsPiece summary frames → Show frames wholes
+    → AreOfProcesses summary.ledgers.processes.entries.entries wholes
+entries_of summary frames wholes sums show = are_of_processes summary.ledgers.processes.entries.entries wholes (sums wholes show).processes
+
+pub few_processes : (summary : PieceSummary) (frames : List Frame) → SumsPiece summary frames → AreGoodFrames frames → process_count summary ≤ 2 ^ 32
+few_processes summary frames sums good =
+    let shown = good_shown frames good.good in
+    let few = (few_frames frames shown.0 good shown.1).0 in
+    let number = process_number summary.ledgers.processes.entries.entries shown.0 (entries_of summary frames shown.0 sums shown.1) in
+    let firsts_few = few_firsts same_process (map process_of_whole shown.0) in
+    let long = length-map shown.0 process_of_whole in
+    omega (arith, few, number, firsts_few, long)
+
+-- ---- as jobs
+
+pub jobs_long : (n : ℕ) → length (process_jobs n) ≡ n
+jobs_long n = length-map-range_with_len process_job 0 n
+
+pub job_is : (n i : ℕ) → i < n → job_at (process_jobs n) i ≡ process_job i
+job_is n i within = get_or-map-range_with_len process_job 0 n i i _ within (omega arith)
+
+pub within_count : (n i : ℕ) → i < length (process_jobs n) → i < n
+within_count n i within = let long = jobs_long n in omega (arith, within, long)
+
+in_order : (start n : ℕ) → AreJobs (map process_job (range_with_len start n))
+in_order start zero = tt
+in_order start (suc zero) = (tt, tt, tt)
+in_order start (suc (suc n)) = (tt, (omega arith, tt), in_order (start + 1) (suc n))
+
+abbrev IsPlacedJob : Job → Type 0
+IsPlacedJob job = (job.start < no_place) × IfSome job.fault (λ x. x < no_place)
+
+all_placed : (start n : ℕ) → start + n ≤ 2 ^ 32 → All IsPlacedJob (map process_job (range_with_len start n))
+all_placed start zero fits = All-nil IsPlacedJob
+all_placed start (suc n) fits =
+    All-cons IsPlacedJob (process_job start) (map process_job (range_with_len (start + 1) n)) (omega (arith, fits), tt)
+    (all_placed (start + 1) n (omega (arith, fits)))
+
+pub process_work : (n : ℕ) → n ≤ 2 ^ 32 → AreWorkJobs (process_jobs n)
+process_work n few = record {
+  in_order = in_order 0 n;
+  places = all_placed 0 n (omega (arith, few));
+  few = let long = jobs_long n in omega (arith, few, long);
+}
+
+-- ---- what they give
+
+listed : (AreOf : Process → List HeldRow → Type 0) (processes : List Process) (lists : List ListOfRows) → length lists ≡ length processes
+    → ((i : ℕ) (list : ListOfRows) → slice_get lists i ≡ Some list → (d : Process) → AreRowsOf AreOf (slice_index_or processes i d) list.items)
+    → AllZip (AreRowsOf AreOf) processes (lists_of lists)
+listed AreOf [] [] long each = tt
+listed AreOf [] (l ∷ lists) long each = absurd (omega (arith, long))
+listed AreOf (p ∷ processes) [] long each = absurd (omega (arith, long))
+listed AreOf (p ∷ processes) (l ∷ lists) long each =
+    (each zero l refl p, listed AreOf processes lists (omega (arith, long)) (λ i list is d. each (suc i) list is d))
+
+-- the lists of all processes
+pub all_listed : (summary : PieceSummary) (frames : List Frame) (lists : List ListOfRows) → SumsPiece summary frames
+    → AreInOrder (λ i (list : ListOfRows). AreHandlesAt frames i list.items) (length (process_jobs (process_count summary))) lists
+    → (wholes : List (Placed WholeFrame)) → Show frames wholes → AreListedHandles wholes (lists_of lists)
+all_listed summary frames lists sums are wholes show =
+    let number = process_number summary.ledgers.processes.entries.entries wholes (entries_of summary frames wholes sums show) in
+    let count = are.count in
+    let long = jobs_long (process_count summary) in
+    listed (AreHandlesOf (events_of_wholes wholes)) (processes_of wholes) lists (omega (arith, number, count, long))
+    (λ i list is d. are.each i list is wholes d show)

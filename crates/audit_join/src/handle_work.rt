@@ -1,0 +1,46 @@
+//! What a worker does with a process.
+
+ghost use Rattle.std.specs.Prelude.{◌≡◌};
+ghost use Rattle.audit_findings.specs.Frames.{AreGoodFrames};
+ghost use Rattle.audit_findings.specs.Summary.{SumsPiece};
+
+use audit_findings::{OfProcess, PieceSummary};
+use capture_frame::Frame;
+use claim_board::{JobStop, Work};
+use handle_ledger::HeldRow;
+use std::alloc::Global;
+
+/// A job for each process of these frames: to make its rows of handles. None has a fault.
+#[derive(Drop)]
+pub(crate) struct HandleWork<'f, 'c> {
+    pub whole: &'f PieceSummary<'c>,
+    pub frames: &'f [Frame<'c>],
+    ghost sums: { SumsPiece whole.now frames.now },
+    ghost good: { AreGoodFrames frames.now },
+}
+
+impl<'f, 'c> Work for HandleWork<'f, 'c> {
+    ghost use Rattle.audit_findings.specs.Summary.{AreHandlesAt, process_count};
+    ghost use Rattle.audit_join.specs.Processes.{process_jobs};
+
+    type Out = Vec<OfProcess<HeldRow>>;
+
+    ghost listed = { λ me. process_jobs (process_count me.whole.now) };
+
+    ghost gives = { λ me i rows. AreHandlesAt me.frames.now i rows.items };
+
+    fn jobs(&self) -> u64 {
+        self.whole.process_count() as u64
+    }
+
+    fn start(&self, i: u64) -> u64 {
+        i
+    }
+
+    fn run(&self, _alloc: Global, i: u64) -> Result<Vec<OfProcess<HeldRow>>, JobStop> {
+        match self.whole.handles(self.frames, i as usize) {
+            Ok(rows) => Ok(rows),
+            Err(_) => Err(JobStop::Memory),
+        }
+    }
+}
