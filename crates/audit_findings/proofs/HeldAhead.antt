@@ -1,6 +1,10 @@
 -- The frame of the first place that is left, among whole frames that views show.
-use Rattle.std.proofs.Common.{◌≡◌, ℕ, suc, ◌+◌, ◌^◌, ◌<◌, ◌≤◌, Bool, List, [], ◌∷◌, ◌++◌, length, map, All, Contains, Option, Some, None, refl, sym, ap, ap₂, subst, ◌∙◌, append_assoc, length-append, arith}
-use Rattle.std.specs.Prelude.{AllPairs, IsSome, filter, slice_get}
+use Rattle.std.proofs.Common.{◌≡◌, ℕ, suc, ◌+◌, ◌-◌, ◌*◌, ◌^◌, ◌<◌, ◌≤◌, inl, inr, Bool, true, leb, List, [], ◌∷◌, ◌++◌, length, map, take, drop, All, Option, Some, None, refl, sym, ap, ap₂, subst, ◌∙◌, append_assoc, length-append, arith, get_or}
+use Rattle.std.proofs.Math.Seq.{drop-append-add, get_or-append_seam, split_at}
+use Rattle.std.specs.List.Sorted.{IsNonDecreasingBy, IsPartitionedBy}
+use Rattle.std.proofs.lemmas.Bool.{cases_lt, leb-false, leb-true}
+use Rattle.std.proofs.lemmas.List.Sorted.{IsPartitionedBy-leb}
+use Rattle.std.specs.Prelude.{AllPairs, filter, slice_get, slice_index_or}
 use Rattle.std.specs.Option.{unwrap_or}
 use Rattle.std.specs.List.{sum_by}
 use Rattle.std.proofs.lemmas.List.{append-nil, map-append}
@@ -9,9 +13,8 @@ use Rattle.std.proofs.lemmas.List.Elements.{All-append, All-cons, All-contains, 
 use Rattle.std.proofs.lemmas.List.Sums.{sum_by-append, sum_by-cons}
 use Rattle.capture_frame.specs.declared.frame.Frame.{Frame}
 use Rattle.capture_frame.specs.Envelope.{FrameText, frame_text, placed_frame}
-use Rattle.capture_frame.specs.Lookup.{Holds, IsFrameAt, StandApart, span_of}
+use Rattle.capture_frame.specs.Lookup.{Holds, StandApart, span_of}
 use Rattle.capture_frame.specs.Units.{Placed}
-use Rattle.capture_frame.proofs.LookupLaws.{one_held, some_held}
 use Rattle.event_core.specs.Events.{EventText, events_of_whole, events_of_wholes, placed_text}
 use Rattle.handle_ledger.specs.Held.{Held}
 use Rattle.summary_law.specs.declared.tally.Tally.{Tally}
@@ -19,7 +22,7 @@ use Rattle.transaction_view.specs.FirstFault.{HasGoodContent}
 use Rattle.transaction_view.specs.Grammar.{WholeFrame}
 use Rattle.audit_findings.specs.Frames.{AreGoodFrames, IsWhole, Show}
 use Rattle.audit_findings.specs.Held.{AreHeldBy}
-use Rattle.audit_findings.specs.HeldCounts.{AreChosen, AreOfFrame, CountsFrame, CountsHeld, HasRoom, Rise}
+use Rattle.audit_findings.specs.HeldCounts.{AreBegun, AreChosen, AreOfFrame, CountsAt, CountsFrame, CountsHeld, GrowsBy, HasRoom, Rise}
 use Rattle.audit_findings.specs.Kept.{places_of}
 use Rattle.audit_findings.proofs.EventSizes.{few_frames}
 use Rattle.audit_findings.proofs.FrameLaws.{events-append, first_same, none_shown, shown_first, whole_events}
@@ -27,12 +30,16 @@ use Rattle.audit_findings.proofs.HeldLaws.{held_both, held_none}
 use Rattle.audit_findings.proofs.PlacesRise.{StandsWithin, whole_within, within_span}
 use Rattle.audit_findings.proofs.Rising.{pairs_head, pairs_map, pairs_tail, pairs_unmap, rising_kept}
 use Rattle.std.proofs.lemmas.List.Kept.{AllPairs-cons}
-use Rattle.summary_law.specs.Fits.{PlacesRise, rising_parts}
+use Rattle.summary_law.specs.Fits.{PlacesRise, all_parts, pairs_parts, rising_parts}
 
 -- ---- views of whole frames that stand one behind others
 
 abbrev pub attached_bytes : Placed WholeFrame → ℕ
 attached_bytes w = length w.unit.frame.attachments
+
+-- how many attachment bytes a frame has
+abbrev pub attachment_bytes : Frame → ℕ
+attachment_bytes frame = length frame.attachments.now
 
 abbrev pub Attaches : List Frame → List (Placed WholeFrame) → Type 0
 Attaches frames wholes = sum_by attached_bytes wholes ≤ sum_by span_of frames
@@ -63,37 +70,81 @@ shown_split (f ∷ frames) (w ∷ first) second show =
       show_second = rest.show_second;
     }
 
-contained_there : (earlier : List Frame) (f : Frame) (later : List Frame) → Contains (earlier ++ f ∷ later) f
-contained_there [] f later = (0, omega arith, refl)
-contained_there (e ∷ earlier) f later =
-    let rest = contained_there earlier f later in
-    let within = rest.1 in
-    (suc rest.0, omega (arith, within), rest.2)
-
--- the view of a whole frame among others
-record ViewOf (frames : List Frame) (w : Placed WholeFrame) : Type 0 where
+-- the view of a whole frame that stands among others
+record ViewOf (frames : List Frame) (w : Placed WholeFrame) (behind : List (Placed WholeFrame)) : Type 0 where
+  earlier : List Frame
   frame : Frame
-  there : Contains frames frame
+  later : List Frame
+  are : frames ≡ earlier ++ frame ∷ later
   same : placed_frame frame ≡ placed_text w
   whole : IsWhole w
+  show_behind : Show later behind
 
 view_of : (frames : List Frame) (before : List (Placed WholeFrame)) (w : Placed WholeFrame) (behind : List (Placed WholeFrame))
-    → Show frames (before ++ w ∷ behind) → ViewOf frames w
+    → Show frames (before ++ w ∷ behind) → ViewOf frames w behind
 view_of frames before w behind show =
     let apart = shown_split frames before (w ∷ behind) show in
     first_view apart.later apart.earlier apart.are apart.show_second
   where
-    first_view : (later earlier : List Frame) → frames ≡ earlier ++ later → Show later (w ∷ behind) → ViewOf frames w
+    first_view : (later earlier : List Frame) → frames ≡ earlier ++ later → Show later (w ∷ behind) → ViewOf frames w behind
     first_view [] earlier are show = let wrong = ap length show.stand in absurd (omega (arith, wrong))
     first_view (f ∷ later) earlier are show =
         let one = shown_first f later (w ∷ behind) show in
         let same = first_same w one.0 behind one.1 one.2 in
         record {
+          earlier = earlier;
           frame = f;
-          there = subst (λ fs. Contains fs f) (sym are) (contained_there earlier f later);
+          later = later;
+          are = are;
           same = one.3 ∙ ap placed_text (sym same.0);
           whole = subst IsWhole (sym same.0) one.4;
+          show_behind = subst (Show later) (sym same.1) one.5;
         }
+
+-- ---- the last of the frames that have begun
+
+-- each of frames that stand apart begins behind those before it
+begin_in_order : (frames : List Frame) → AllPairs StandApart frames → IsNonDecreasingBy (λ (f : Frame). f.place) frames
+begin_in_order frames apart i j d upto within = elim (cases_lt i j) [
+  | inl below ↦ let far = apart i j d below within in omega (arith, far)
+  | inr above ↦
+      let same : i ≡ j = omega (arith, upto, above) in
+      ap_le (λ n. (slice_index_or frames n d).place) same
+]
+  where
+    ap_le : (f : ℕ → ℕ) → i ≡ j → f i ≤ f j
+    ap_le f same = let equal = ap f same in omega (arith, equal)
+
+-- so those that begin at a place or before it are the first ones
+pub begun_first : (frames : List Frame) (place : ℕ) → AllPairs StandApart frames → IsPartitionedBy (λ (f : Frame). leb f.place place) frames
+begun_first frames place apart = IsPartitionedBy-leb (λ (f : Frame). f.place) frames place (begin_in_order frames apart)
+
+-- the one that holds the place is the last of these
+last_begun : (earlier : List Frame) (frame : Frame) (later : List Frame) (place count : ℕ) → AllPairs StandApart (earlier ++ frame ∷ later)
+    → Holds place frame → AreBegun (earlier ++ frame ∷ later) place count → count ≡ length earlier + 1
+last_begun earlier frame later place count apart holds begun =
+    let frames = earlier ++ frame ∷ later in
+    let from = holds.0 in
+    let to = holds.1 in
+    let bound = begun.0 in
+    let long = length-append earlier (frame ∷ later) in
+    let here : get_or frames (length earlier) frame ≡ frame = get_or-append_seam earlier frame later frame in
+    elim (cases_lt count (length earlier + 1)) [
+      | inl few ↦
+          let late = begun.1.1 (length earlier) frame (omega (arith, few)) (omega (arith, long)) in
+          let wrong = leb-false frame.place place (ap (λ (f : Frame). leb f.place place) (sym here) ∙ late) in
+          absurd (omega (arith, from, wrong))
+      | inr enough ↦ elim (cases_lt (length earlier + 1) count) [
+        | inl many ↦
+            let next = length earlier + 1 in
+            let early = begun.1.0 next frame (omega arith) many in
+            let begins = leb-true (get_or frames next frame).place place early in
+            let far = apart (length earlier) next frame (omega arith) (omega (arith, many, bound)) in
+            let far_here = subst (λ (f : Frame). StandApart f (get_or frames next frame)) here far in
+            absurd (omega (arith, to, begins, far_here))
+        | inr few ↦ omega (arith, enough, few)
+      ]
+    ]
 
 -- ---- the first place that is left
 
@@ -149,20 +200,18 @@ first_chosen choice (w ∷ ahead) place rest left = by_own (first_chosen choice 
           at = sym (first_same place e.place rest (places_of (others ++ filter choice (events_of_wholes ahead))) same).0;
         }
 
--- its view, which holds the place
+-- its view, which is the last that has begun
 record NextFrame (frames : List Frame) (choice : EventText → Bool) (ahead : List (Placed WholeFrame)) (place : ℕ) : Type 0 where
   chosen : FirstChosen choice ahead place
-  view : ViewOf frames chosen.whole
+  view : ViewOf frames chosen.whole chosen.behind
   holds : Holds place view.frame
 
-next_frame : (frames : List Frame) (done ahead : List (Placed WholeFrame)) → Show frames (done ++ ahead) → (choice : EventText → Bool) (place : ℕ)
+next_frame : (frames : List Frame) (ahead : List (Placed WholeFrame)) → Show frames ahead → (choice : EventText → Bool) (place : ℕ)
     (rest : List ℕ) → place ∷ rest ≡ places_of (filter choice (events_of_wholes ahead)) → NextFrame frames choice ahead place
-next_frame frames done ahead show choice place rest left =
+next_frame frames ahead show choice place rest left =
     let chosen = first_chosen choice ahead place rest left in
     let w = chosen.whole in
-    let split : done ++ ahead ≡ (done ++ chosen.front) ++ w ∷ chosen.behind =
-    ap (λ ws. done ++ ws) chosen.are ∙ sym (append_assoc done chosen.front (w ∷ chosen.behind)) in
-    let view = view_of frames (done ++ chosen.front) w chosen.behind (subst (Show frames) split show) in
+    let view = view_of frames chosen.front w chosen.behind (subst (Show frames) chosen.are show) in
     let within : StandsWithin w chosen.event =
     All-head (StandsWithin w) chosen.event chosen.others
     (subst (All (StandsWithin w)) chosen.first (All-filter choice (StandsWithin w) (events_of_whole w) (whole_within w view.whole))) in
@@ -175,6 +224,96 @@ next_frame frames done ahead show choice place rest left =
     let attachments = ap (λ (p : Placed FrameText). length p.unit.attachments) view.same in
     record { chosen = chosen; view = view; holds = (omega (arith, from, at, place_is), omega (arith, to, at, place_is, commands, attachments)) }
 
+-- ---- frames that are passed
+
+-- the tally counts no more than the attachment bytes of the frames that are passed
+pub record HasPassed (frames ahead : List Frame) (tally : Tally Held) : Type 0 where
+  pub passed : List Frame
+  pub are : frames ≡ passed ++ ahead
+  pub held : List Held
+  pub counts : CountsHeld tally held
+  pub few : length held ≤ sum_by attachment_bytes passed
+
+pub passed_at_start : (frames : List Frame) (tally : Tally Held) → CountsHeld tally [] → HasPassed frames frames tally
+passed_at_start frames tally counts = record { passed = []; are = refl; held = []; counts = counts; few = omega arith }
+
+attached_within : (frames : List Frame) → sum_by attachment_bytes frames + 32 * length frames ≤ sum_by span_of frames
+attached_within [] = omega arith
+attached_within (f ∷ frames) =
+    let rest = attached_within frames in
+    let attached = sum_by-cons attachment_bytes f frames in
+    let spans = sum_by-cons span_of f frames in
+    let long : length (f ∷ frames) ≡ length frames + 1 = omega arith in
+    omega (arith, rest, attached, spans, long)
+
+module _ (frames ahead : List Frame) (good : AreGoodFrames frames) (tally : Tally Held) (passed : HasPassed frames ahead tally) where
+  pub apart_ahead : AllPairs StandApart ahead
+  apart_ahead = (pairs_parts StandApart passed.passed ahead (subst (AllPairs StandApart) passed.are good.apart)).1
+
+  -- numbers of frames times their size are small
+  pub few_ahead : (n : ℕ) → n ≤ length ahead → n * 64 < 2 ^ 64
+  few_ahead n upto =
+      let within = attached_within frames in
+      let few = good.few in
+      let long = ap length passed.are ∙ length-append passed.passed ahead in
+      omega (arith, within, few, long, upto)
+
+  module _ (count : ℕ) (some : 0 < count) (within : count ≤ length ahead) (d : Frame) where
+    abbrev frame_there : Frame
+    frame_there = get_or ahead (count - 1) d
+
+    pub good_there : HasGoodContent (frame_text frame_there)
+    good_there =
+        (all_parts (λ f. HasGoodContent (frame_text f)) passed.passed ahead
+        (subst (All (λ f. HasGoodContent (frame_text f))) passed.are good.good)).1 (count - 1) d (omega (arith, some, within))
+
+    split_there : ahead ≡ take (count - 1) ahead ++ frame_there ∷ drop count ahead
+    split_there =
+        let one : suc (count - 1) ≡ count = omega (arith, some) in
+        split_at ahead (count - 1) d (omega (arith, some, within))
+        ∙ ap (λ n. take (count - 1) ahead ++ frame_there ∷ drop n ahead) one
+
+    -- the frames up to this one are passed
+    passed_there : frames ≡ (passed.passed ++ (take (count - 1) ahead ++ frame_there ∷ [])) ++ drop count ahead
+    passed_there =
+        passed.are ∙ ap (λ fs. passed.passed ++ fs) (split_there ∙ sym (append_assoc (take (count - 1) ahead) (frame_there ∷ []) (drop count ahead)))
+        ∙ sym (append_assoc passed.passed (take (count - 1) ahead ++ frame_there ∷ []) (drop count ahead))
+
+    attached_there : sum_by attachment_bytes passed.passed + length frame_there.attachments.now
+        ≤ sum_by attachment_bytes (passed.passed ++ (take (count - 1) ahead ++ frame_there ∷ []))
+    attached_there =
+        let parts = sum_by-append attachment_bytes passed.passed (take (count - 1) ahead ++ frame_there ∷ []) in
+        let more = sum_by-append attachment_bytes (take (count - 1) ahead) (frame_there ∷ []) in
+        let one = sum_by-cons attachment_bytes frame_there [] in
+        omega (arith, parts, more, one)
+
+    enough : length passed.held + length frame_there.attachments.now ≤ 2 ^ 32
+    enough =
+        let more = attached_there in
+        let few = passed.few in
+        let total = good.few in
+        let all = attached_within frames in
+        let parts = ap (sum_by attachment_bytes) passed_there
+        ∙ sum_by-append attachment_bytes (passed.passed ++ (take (count - 1) ahead ++ frame_there ∷ [])) (drop count ahead) in
+        omega (arith, more, few, total, all, parts)
+
+    pub room_there : HasRoom tally (length frame_there.attachments.now)
+    room_there = (passed.held, passed.counts, enough)
+
+    pub passed_further : (new : Tally Held) → GrowsBy tally (length frame_there.attachments.now) new → HasPassed frames (drop count ahead) new
+    passed_further new grows =
+        let more = grows passed.held passed.counts enough in
+        let attached = attached_there in
+        let few = passed.few in
+        let few_more = more.2 in
+        record {
+          passed = passed.passed ++ (take (count - 1) ahead ++ frame_there ∷ []);
+          are = passed_there;
+          held = more.0;
+          counts = more.1;
+          few = omega (arith, attached, few, few_more);
+        }
+
 -- a list whose first element is known
 pub begins_with : (numbers : List ℕ) (first : ℕ) → Some first ≡ slice_get numbers 0 → (rest : List ℕ) × (numbers ≡ first ∷ rest)
 begins_with [] first is = let wrong : Some first ≡ None = is in absurd (cc)
@@ -186,39 +325,41 @@ begins_with_none (n ∷ numbers) is = let wrong : None ≡ Some n = is in absurd
 
 -- ---- so far
 
--- the chosen events of the frames that are done are counted, and the places of the others are left
-pub record Stands (wholes : List (Placed WholeFrame)) (choice : EventText → Bool) (left : List ℕ) (tally : Tally Held) : Type 0 where
+-- the chosen events of the frames that are done are counted, and the places of those of the frames ahead are left
+pub record Stands (wholes : List (Placed WholeFrame)) (choice : EventText → Bool) (frames : List Frame) (left : List ℕ) (tally : Tally Held) :
+    Type 0 where
   pub done : List (Placed WholeFrame)
   pub ahead : List (Placed WholeFrame)
   pub held : List Held
   pub are : wholes ≡ done ++ ahead
+  pub show_ahead : Show frames ahead
   pub left_is : left ≡ places_of (filter choice (events_of_wholes ahead))
   pub hold : AreHeldBy (filter choice (events_of_wholes done)) held
   pub few : length held ≤ sum_by attached_bytes done
   pub counts : CountsHeld tally held
 
 -- however events of these frames are chosen that stand at the places
-abbrev pub StandsFor : List Frame → List ℕ → List ℕ → Tally Held → Type 0
-StandsFor frames places left tally =
+abbrev pub StandsFor : List Frame → List ℕ → List Frame → List ℕ → Tally Held → Type 0
+StandsFor frames places ahead left tally =
     (wholes : List (Placed WholeFrame)) (choice : EventText → Bool) → Show frames wholes → AreChosen choice (events_of_wholes wholes) [] places
-    → Stands wholes choice left tally
+    → Stands wholes choice ahead left tally
 
-pub stands_at_start : (frames : List Frame) (places : List ℕ) (tally : Tally Held) → CountsHeld tally [] → StandsFor frames places places tally
+pub stands_at_start : (frames : List Frame) (places : List ℕ) (tally : Tally Held) → CountsHeld tally [] → StandsFor frames places frames places tally
 stands_at_start frames places tally counts wholes choice show chosen = record {
   done = [];
   ahead = wholes;
   held = [];
   are = refl;
+  show_ahead = show;
   left_is = chosen ∙ append-nil (places_of (filter choice (events_of_wholes wholes)));
   hold = held_none [] refl;
   few = omega arith;
   counts = counts;
 }
 
-pub counted_at_end : (frames : List Frame) (places : List ℕ) (tally : Tally Held) → StandsFor frames places [] tally
-    → (wholes : List (Placed WholeFrame)) (choice : EventText → Bool) → Show frames wholes → AreChosen choice (events_of_wholes wholes) [] places
-    → (held : List Held) × AreHeldBy (filter choice (events_of_wholes wholes)) held × CountsHeld tally held
-counted_at_end frames places tally stands wholes choice show chosen =
+pub counted_at_end : (frames : List Frame) (places : List ℕ) (ahead : List Frame) (tally : Tally Held) → StandsFor frames places ahead [] tally
+    → CountsAt frames places tally
+counted_at_end frames places ahead tally stands wholes choice show chosen =
     let s = stands wholes choice show chosen in
     let none = no_places (filter choice (events_of_wholes s.ahead)) s.left_is in
     let all : filter choice (events_of_wholes s.done) ≡ filter choice (events_of_wholes wholes) =
@@ -270,73 +411,84 @@ rise_part choice (e ∷ events) later rise =
         (all_part us (All-tail (λ p. e.place < p) u.place (places_of (us ++ later)) above))
 
 module _ (frames : List Frame) (good : AreGoodFrames frames) (wholes : List (Placed WholeFrame)) (choice : EventText → Bool) (show : Show frames wholes)
-    (place : ℕ) (rest : List ℕ) (tally : Tally Held) (s : Stands wholes choice (place ∷ rest) tally) where
-  next : NextFrame frames choice s.ahead place
-  next = next_frame frames s.done s.ahead (subst (Show frames) s.are show) choice place rest s.left_is
+    (ahead : List Frame) (apart : AllPairs StandApart ahead) (place : ℕ) (rest : List ℕ) (tally : Tally Held)
+    (s : Stands wholes choice ahead (place ∷ rest) tally) (count : ℕ) (begun : AreBegun ahead place count) where
+  next : NextFrame ahead choice s.ahead place
+  next = next_frame ahead s.ahead s.show_ahead choice place rest s.left_is
+
+  counted : count ≡ length next.view.earlier + 1
+  counted =
+      last_begun next.view.earlier next.view.frame next.view.later place count (subst (AllPairs StandApart) next.view.are apart) next.holds
+      (subst (λ fs. AreBegun fs place count) next.view.are begun)
 
   -- a frame is there
-  pub some_frame : (found : Option Frame) → IsFrameAt frames place found → IsSome found
-  some_frame found at = some_held frames place found next.view.frame at next.view.there next.holds
+  pub some_begun : count ≡ 0 → ⊥
+  some_begun none = let is = counted in absurd (omega (arith, none, is))
 
-  module _ (frame : Frame) (at : IsFrameAt frames place (Some frame)) where
-    the_frame : next.view.frame ≡ frame
-    the_frame = one_held frames place frame next.view.frame at next.view.there next.holds
+  the_frame : (d : Frame) → get_or ahead (count - 1) d ≡ next.view.frame
+  the_frame d =
+      let is = counted in
+      let number : count - 1 ≡ length next.view.earlier = omega (arith, is) in
+      ap (λ n. get_or ahead n d) number ∙ ap (λ fs. get_or fs (length next.view.earlier) d) next.view.are
+      ∙ get_or-append_seam next.view.earlier next.view.frame next.view.later d
 
+  later_ahead : drop count ahead ≡ next.view.later
+  later_ahead =
+      let is = counted in
+      let frames_there = next.view.earlier ++ next.view.frame ∷ next.view.later in
+      ap (λ n. drop n ahead) is ∙ ap (drop (length next.view.earlier + 1)) next.view.are
+      ∙ drop-append-add next.view.earlier (next.view.frame ∷ next.view.later) 1
+
+  split : wholes ≡ (s.done ++ next.chosen.front) ++ next.chosen.whole ∷ next.chosen.behind
+  split = s.are ∙ ap (λ ws. s.done ++ ws) next.chosen.are ∙ sym (append_assoc s.done next.chosen.front (next.chosen.whole ∷ next.chosen.behind))
+
+  abbrev others : List ℕ
+  others = places_of (filter choice (events_of_wholes next.chosen.behind))
+
+  left_here : AreChosen choice (events_of_whole next.chosen.whole) others (place ∷ rest)
+  unfolding next
+  left_here =
+      let w = next.chosen.whole in
+      let behind = next.chosen.behind in
+      let parts = ap (filter choice) (events-append next.chosen.front (w ∷ behind)) ∙ filter-append choice (events_of_wholes next.chosen.front) (events_of_wholes (w ∷ behind))
+      ∙ ap (λ es. es ++ filter choice (events_of_wholes (w ∷ behind))) next.chosen.none ∙ chosen_of choice w behind in
+      s.left_is ∙ ap (λ ws. places_of (filter choice (events_of_wholes ws))) next.chosen.are ∙ ap places_of parts
+      ∙ map-append (λ (e : EventText). e.place) (filter choice (events_of_whole w)) (filter choice (events_of_wholes behind))
+
+  rising : Rise (places_of (events_of_whole next.chosen.whole) ++ others)
+  rising =
+      let w = next.chosen.whole in
+      let behind = next.chosen.behind in
+      let before = s.done ++ next.chosen.front in
+      let all = (few_frames frames wholes good show).1.0.1 in
+      let parts = ap events_of_wholes split ∙ events-append before (w ∷ behind) ∙ ap (λ es. events_of_wholes before ++ es) (flat_map-cons events_of_whole w behind) in
+      let later = rising_parts (λ (e : EventText). e.place) (events_of_wholes before) (events_of_whole w ++ events_of_wholes behind)
+      (subst (PlacesRise (λ (e : EventText). e.place)) parts all) in
+      rise_part choice (events_of_whole w) (events_of_wholes behind)
+      (pairs_map (λ a b. a < b) (λ (e : EventText). e.place) (events_of_whole w ++ events_of_wholes behind) later.1)
+
+  enough_room : length s.held + attached_bytes next.chosen.whole ≤ 2 ^ 32
+  enough_room =
+      let all = attach_all frames wholes show in
+      let parts = ap (sum_by attached_bytes) split ∙ sum_by-append attached_bytes (s.done ++ next.chosen.front) (next.chosen.whole ∷ next.chosen.behind) in
+      let front = sum_by-append attached_bytes s.done next.chosen.front in
+      let here = sum_by-cons attached_bytes next.chosen.whole next.chosen.behind in
+      let few = s.few in
+      let total = good.few in
+      omega (arith, all, parts, front, here, few, total)
+
+  module _ (frame : Frame) (d : Frame) (is : frame ≡ get_or ahead (count - 1) d) where
     same : placed_frame frame ≡ placed_text next.chosen.whole
-    same = ap placed_frame (sym the_frame) ∙ next.view.same
-
-    split : wholes ≡ (s.done ++ next.chosen.front) ++ next.chosen.whole ∷ next.chosen.behind
-    split = s.are ∙ ap (λ ws. s.done ++ ws) next.chosen.are ∙ sym (append_assoc s.done next.chosen.front (next.chosen.whole ∷ next.chosen.behind))
-
-    pub good_frame : HasGoodContent (frame_text frame)
-    good_frame = All-contains (λ f. HasGoodContent (frame_text f)) frames frame good.good at.0
-
-    -- with room for what it holds
-    enough : length s.held + length frame.attachments.now ≤ 2 ^ 32
-    enough =
-        let bytes = ap (λ (p : Placed FrameText). length p.unit.attachments) same in
-        let all = attach_all frames wholes show in
-        let parts = ap (sum_by attached_bytes) split ∙ sum_by-append attached_bytes (s.done ++ next.chosen.front) (next.chosen.whole ∷ next.chosen.behind) in
-        let front = sum_by-append attached_bytes s.done next.chosen.front in
-        let here = sum_by-cons attached_bytes next.chosen.whole next.chosen.behind in
-        let few = s.few in
-        let total = good.few in
-        omega (arith, bytes, all, parts, front, here, few, total)
-
-    pub room_for_frame : HasRoom tally (length frame.attachments.now)
-    room_for_frame = (s.held, s.counts, enough)
+    same = ap placed_frame (is ∙ the_frame d) ∙ next.view.same
 
     events_of_it : AreOfFrame frame (events_of_whole next.chosen.whole)
     events_of_it =
         let of = whole_events frame next.chosen.whole same next.view.whole in
         (of.0, of.1, of.2, of.3, sym (append-nil (events_of_whole next.chosen.whole)) ∙ of.4)
 
-    abbrev others : List ℕ
-    others = places_of (filter choice (events_of_wholes next.chosen.behind))
-
-    left_here : AreChosen choice (events_of_whole next.chosen.whole) others (place ∷ rest)
-    left_here =
-        let w = next.chosen.whole in
-        let behind = next.chosen.behind in
-        let parts = ap (filter choice) (events-append next.chosen.front (w ∷ behind)) ∙ filter-append choice (events_of_wholes next.chosen.front) (events_of_wholes (w ∷ behind))
-        ∙ ap (λ es. es ++ filter choice (events_of_wholes (w ∷ behind))) next.chosen.none ∙ chosen_of choice w behind in
-        s.left_is ∙ ap (λ ws. places_of (filter choice (events_of_wholes ws))) next.chosen.are ∙ ap places_of parts
-        ∙ map-append (λ (e : EventText). e.place) (filter choice (events_of_whole w)) (filter choice (events_of_wholes behind))
-
-    rising : Rise (places_of (events_of_whole next.chosen.whole) ++ others)
-    rising =
-        let w = next.chosen.whole in
-        let behind = next.chosen.behind in
-        let before = s.done ++ next.chosen.front in
-        let all = (few_frames frames wholes good show).1.0.1 in
-        let parts = ap events_of_wholes split ∙ events-append before (w ∷ behind) ∙ ap (λ es. events_of_wholes before ++ es) (flat_map-cons events_of_whole w behind) in
-        let later = rising_parts (λ (e : EventText). e.place) (events_of_wholes before) (events_of_whole w ++ events_of_wholes behind)
-        (subst (PlacesRise (λ (e : EventText). e.place)) parts all) in
-        rise_part choice (events_of_whole w) (events_of_wholes behind)
-        (pairs_map (λ a b. a < b) (λ (e : EventText). e.place) (events_of_whole w ++ events_of_wholes behind) later.1)
-
     -- the frame is done
-    pub stands_behind : (new : Tally Held) (left : List ℕ) → CountsFrame tally frame (place ∷ rest) new left → Stands wholes choice left new
+    pub stands_behind : (new : Tally Held) (left : List ℕ) → CountsFrame tally frame (place ∷ rest) new left
+        → Stands wholes choice (drop count ahead) left new
     stands_behind new left counts =
         let w = next.chosen.whole in
         let before = s.done ++ next.chosen.front in
@@ -355,23 +507,16 @@ module _ (frames : List Frame) (good : AreGoodFrames frames) (wholes : List (Pla
         let front = sum_by-append attached_bytes s.done next.chosen.front in
         let here = sum_by-append attached_bytes before (w ∷ []) in
         let one = sum_by-cons attached_bytes w [] in
+        let room = enough_room in
         record {
           done = before ++ w ∷ [];
           ahead = next.chosen.behind;
           held = s.held ++ c.1.0;
           are = split ∙ sym (append_assoc before (w ∷ []) next.chosen.behind);
+          show_ahead = subst (λ fs. Show fs next.chosen.behind) (sym later_ahead) next.view.show_behind;
           left_is = c.0;
           hold = subst (λ es. AreHeldBy es (s.held ++ c.1.0)) all
               (held_both (filter choice (events_of_wholes before)) (filter choice (events_of_whole w)) s.held c.1.0 held_before c.1.1);
           few = omega (arith, bytes, long, few, few_more, front, here, one);
-          counts = c.1.3 s.held s.counts enough;
+          counts = c.1.3 s.held s.counts (omega (arith, bytes, room));
         }
-
-    -- and fewer places are left
-    pub fewer_left : (new : Tally Held) (left : List ℕ) → CountsFrame tally frame (place ∷ rest) new left → length left < length (place ∷ rest)
-    fewer_left new left counts =
-        let c = counts (events_of_whole next.chosen.whole) choice others events_of_it rising left_here in
-        let long = ap length c.0 in
-        let parts = ap length left_here ∙ length-append (places_of (filter choice (events_of_whole next.chosen.whole))) others in
-        let some = ap (λ es. length (places_of es)) next.chosen.first in
-        omega (arith, long, parts, some)

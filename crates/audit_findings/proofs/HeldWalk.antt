@@ -16,7 +16,7 @@ use Rattle.handle_ledger.specs.Held.{Held}
 use Rattle.summary_law.specs.declared.tally.Tally.{Tally}
 use Rattle.transaction_view.specs.FirstFault.{HasGoodContent}
 use Rattle.audit_findings.specs.Held.{AreHeldBy}
-use Rattle.audit_findings.specs.HeldCounts.{AreChosen, AreOfFrame, CountsEvents, CountsFrame, CountsHeld, CountsMore, HasRoom, Rise}
+use Rattle.audit_findings.specs.HeldCounts.{AreChosen, AreOfFrame, CountsEvents, CountsFrame, CountsHeld, CountsMore, GrowsBy, HasRoom, Rise}
 use Rattle.audit_findings.specs.Kept.{places_of}
 use Rattle.audit_findings.specs.Ledgers.{offset_bytes_of}
 use Rattle.audit_findings.proofs.HeldFrames.{given_fit, lists_fit}
@@ -60,11 +60,11 @@ behind_rise (b ∷ before) e later others rise =
 
 -- ---- the events that a reader has given
 
--- there is room for the events of the frame that it has not given
-abbrev pub HasRoomAhead : Tally Held → Frame → List Event → Type 0
-HasRoomAhead tally frame given =
-    (held : List Held) × CountsHeld tally held
-    × (length held + length frame.attachments.now ≤ 2 ^ 32 + sum_by offset_bytes_of (map event_text given))
+-- however many references the old tally counts, there is room for those of the frame's events that it has not given
+abbrev pub GrowsGiven : Tally Held → Frame → List Event → Tally Held → Type 0
+GrowsGiven old frame given new =
+    (before : List Held) → CountsHeld old before → length before + length frame.attachments.now ≤ 2 ^ 32
+    → (held : List Held) × CountsHeld new held × (length held ≤ length before + sum_by offset_bytes_of (map event_text given))
 
 -- the chosen ones among those that it has given are counted, and the places of those that it has not given are left
 abbrev pub CountsGiven : Tally Held → Frame → List ℕ → List Event → Tally Held → List ℕ → Type 0
@@ -79,8 +79,8 @@ pub counts_at_start : (tally : Tally Held) (frame : Frame) (places : List ℕ) �
 counts_at_start tally frame places events choice others of rise chosen later is =
     (chosen ∙ ap (λ es. places_of (filter choice es) ++ others) is, [], held_none [] refl, omega arith, counts_none tally (length frame.attachments.now))
 
-pub room_at_start : (tally : Tally Held) (frame : Frame) → HasRoom tally (length frame.attachments.now) → HasRoomAhead tally frame []
-room_at_start tally frame room = let fits = room.2 in (room.0, room.1, omega (arith, fits))
+pub grows_at_start : (tally : Tally Held) (frame : Frame) → GrowsGiven tally frame [] tally
+grows_at_start tally frame before counts fits = (before, counts, omega arith)
 
 -- the texts of one event more
 texts_more : (given : List Event) (found : Event) → map event_text (given ++ found ∷ []) ≡ map event_text given ++ event_text found ∷ []
@@ -93,34 +93,44 @@ lists_more given found =
     omega (arith, split)
 
 -- room for the next event
-pub room_for_next : (tally : Tally Held) (frame : Frame) (reading : Reading) (given : List Event) (found : Event) → HasGoodContent (frame_text frame)
-    → Given (placed_frame frame) reading (given ++ found ∷ []) → HasRoomAhead tally frame given → HasRoom tally (offset_bytes_of (event_text found))
-room_for_next tally frame reading given found good so_far room =
+pub room_for_next : (old tally : Tally Held) (frame : Frame) (reading : Reading) (given : List Event) (found : Event) → HasGoodContent (frame_text frame)
+    → Given (placed_frame frame) reading (given ++ found ∷ []) → HasRoom old (length frame.attachments.now) → GrowsGiven old frame given tally
+    → HasRoom tally (offset_bytes_of (event_text found))
+room_for_next old tally frame reading given found good so_far room grows =
+    let now = grows room.0 room.1 room.2 in
     let fit = given_fit frame reading (given ++ found ∷ []) good so_far in
     let more = lists_more given found in
+    let few = now.2 in
     let fits = room.2 in
-    (room.0, room.1, omega (arith, fit, more, fits))
+    (now.0, now.1, omega (arith, fit, more, few, fits))
 
-pub room_behind_next : (old new : Tally Held) (frame : Frame) (reading : Reading) (given : List Event) (found : Event) → HasGoodContent (frame_text frame)
-    → Given (placed_frame frame) reading (given ++ found ∷ []) → HasRoomAhead old frame given
-    → CountsEvents old (offset_bytes_of (event_text found)) (event_text found ∷ []) new → HasRoomAhead new frame (given ++ found ∷ [])
-unfolding room_for_next
-room_behind_next old new frame reading given found good so_far room counts =
-    let fit = room_for_next old frame reading given found good so_far room in
-    let held = room.0 in
-    let fits = room.2 in
-    let enough = fit.2 in
-    let few = counts.2 in
+pub grows_behind_next : (old middle new : Tally Held) (frame : Frame) (reading : Reading) (given : List Event) (found : Event)
+    → HasGoodContent (frame_text frame) → Given (placed_frame frame) reading (given ++ found ∷ []) → GrowsGiven old frame given middle
+    → CountsEvents middle (offset_bytes_of (event_text found)) (event_text found ∷ []) new → GrowsGiven old frame (given ++ found ∷ []) new
+grows_behind_next old middle new frame reading given found good so_far grows counts before counted fits =
+    let now = grows before counted fits in
+    let fit = given_fit frame reading (given ++ found ∷ []) good so_far in
     let more = lists_more given found in
-    let long = length-append held counts.0 in
-    (held ++ counts.0, counts.3 held room.1 enough, omega (arith, fits, few, more, long))
+    let few = now.2 in
+    let few_more = counts.2 in
+    let long = length-append now.0 counts.0 in
+    (now.0 ++ counts.0, counts.3 now.0 now.1 (omega (arith, fit, more, few, fits)), omega (arith, few, few_more, more, long))
 
-pub room_behind_other : (tally : Tally Held) (frame : Frame) (given : List Event) (found : Event) → HasRoomAhead tally frame given
-    → HasRoomAhead tally frame (given ++ found ∷ [])
-room_behind_other tally frame given found room =
-    let fits = room.2 in
+pub grows_behind_other : (old tally : Tally Held) (frame : Frame) (given : List Event) (found : Event) → GrowsGiven old frame given tally
+    → GrowsGiven old frame (given ++ found ∷ []) tally
+grows_behind_other old tally frame given found grows before counted fits =
+    let now = grows before counted fits in
     let more = lists_more given found in
-    (room.0, room.1, omega (arith, fits, more))
+    let few = now.2 in
+    (now.0, now.1, omega (arith, few, more))
+
+pub grows_frame : (old new : Tally Held) (frame : Frame) (reading : Reading) (given : List Event) → HasGoodContent (frame_text frame)
+    → Given (placed_frame frame) reading given → GrowsGiven old frame given new → GrowsBy old (length frame.attachments.now) new
+grows_frame old new frame reading given good so_far grows before counted fits =
+    let now = grows before counted fits in
+    let fit = given_fit frame reading given good so_far in
+    let few = now.2 in
+    (now.0, now.1, omega (arith, few, fit))
 
 module _ (old middle : Tally Held) (frame : Frame) (places left : List ℕ) (given : List Event) (found : Event) (so_far : CountsGiven old frame places given middle left) where
   abbrev E : EventText

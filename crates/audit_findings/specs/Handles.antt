@@ -40,12 +40,6 @@ AreHandleFindings wholes said =
 abbrev pub AreListedHandles : List (Placed WholeFrame) → List (List (OfProcess HeldRow)) → Type 0
 AreListedHandles wholes lists = AllZip (AreRowsOf (AreHandlesOf (events_of_wholes wholes))) (processes_of wholes) lists
 
--- the summary is that of some process of the frames that these views show
-abbrev pub IsOfShown : ProcessSummary → List Frame → Type 0
-IsOfShown summary frames =
-    (wholes : List (Placed WholeFrame)) × (process : Process) × Show frames wholes
-    × IsOfProcess summary.ledgers (events_of_wholes wholes) process
-
 -- whatever process of the frames that these views show the summary is of, the rows are its
 abbrev pub GivesHandles : ProcessSummary → List Frame → List HeldRow → Type 0
 GivesHandles summary frames rows =

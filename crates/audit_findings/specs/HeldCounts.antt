@@ -1,6 +1,7 @@
 -- What a tally of held references comes to while it is made.
-use Rattle.std.specs.Prelude.{◌≡◌, ℕ, ◌+◌, ◌≤◌, ◌<◌, ◌^◌, Bool, List, [], ◌++◌, length, filter, AllPairs, Option}
+use Rattle.std.specs.Prelude.{◌≡◌, ℕ, ◌+◌, ◌≤◌, ◌<◌, ◌^◌, Bool, List, [], ◌++◌, length, leb, filter, true, false, AllPairs, Option}
 use Rattle.std.specs.List.{filter_map}
+use Rattle.std.specs.List.Sorted.{IsPartitionPoint}
 use Rattle.capture_frame.specs.Envelope.{frame_text, placed_frame}
 use Rattle.capture_frame.specs.Units.{Placed}
 use Rattle.capture_frame.specs.declared.frame.Frame.{Frame}
@@ -30,6 +31,12 @@ HasRoom tally n = (held : List Held) × CountsHeld tally held × (length held + 
 abbrev pub CountsMore : Tally Held → ℕ → List Held → Tally Held → Type 0
 CountsMore old n more new =
     (held : List Held) → CountsHeld old held → length held + n ≤ 2 ^ 32 → CountsHeld new (held ++ more)
+
+-- the new tally counts at most n more
+abbrev pub GrowsBy : Tally Held → ℕ → Tally Held → Type 0
+GrowsBy old n new =
+    (before : List Held) → CountsHeld old before → length before + n ≤ 2 ^ 32
+    → (held : List Held) × CountsHeld new held × (length held ≤ length before + n)
 
 -- the references of an attachment's good objects are counted besides
 abbrev pub CountsObjects : Tally Held → (body list : List ℕ) → Tally Held → Type 0
@@ -64,15 +71,15 @@ CountsFrame old frame places new left =
     → Rise (places_of events ++ others) → AreChosen choice events others places
     → (left ≡ others) × CountsEvents old (length frame.attachments.now) (filter choice events) new
 
--- the places are those of some events of these frames
-abbrev pub AreOfEvents : List Frame → List ℕ → Type 0
-AreOfEvents frames places =
-    (wholes : List (Placed WholeFrame)) × (choice : EventText → Bool) × Show frames wholes
-    × AreChosen choice (events_of_wholes wholes) [] places
-
 -- whatever events of these frames stand at the places, the tally counts what they hold
 abbrev pub CountsAt : List Frame → List ℕ → Tally Held → Type 0
 CountsAt frames places tally =
     (wholes : List (Placed WholeFrame)) (choice : EventText → Bool) → Show frames wholes
     → AreChosen choice (events_of_wholes wholes) [] places
     → (held : List Held) × AreHeldBy (filter choice (events_of_wholes wholes)) held × CountsHeld tally held
+
+-- so many of these frames begin at the place or before it, and the others behind it
+abbrev pub AreBegun : List Frame → ℕ → ℕ → Type 0
+AreBegun frames place count =
+    (count ≤ length frames)
+    × IsPartitionPoint (λ frame. leb frame.place place ≡ true) (λ frame. leb frame.place place ≡ false) frames count

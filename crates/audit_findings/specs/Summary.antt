@@ -31,6 +31,10 @@ AreHandlesAt frames number rows =
     (wholes : List (Placed WholeFrame)) (d : Process) → Show frames wholes
     → AreRowsOf (AreHandlesOf (events_of_wholes wholes)) (slice_index_or (processes_of wholes) number d) rows
 
+-- where the summary is that of these views
+abbrev pub GivesHandlesAt : PieceSummary → List Frame → ℕ → List (OfProcess HeldRow) → Type 0
+GivesHandlesAt summary frames number rows = SumsPiece summary frames → AreHandlesAt frames number rows
+
 -- whatever frames it sums, whose processes have these rows of handles, the sections keep their findings
 abbrev pub GiveSectionsOf : PieceSummary → List (List (OfProcess HeldRow)) → Sections → Type 0
 GiveSectionsOf summary handles sections =

@@ -5,7 +5,7 @@ ghost use Rattle.capture_frame.specs.Units.{Placed};
 ghost use Rattle.transaction_view.specs.Grammar.{WholeFrame};
 ghost use Rattle.handle_ledger.specs.declared.held_row.HeldRow.{HeldRow};
 ghost use Rattle.audit_findings.specs.Frames.{AreGoodFrames};
-ghost use Rattle.audit_findings.specs.Handles.{AreHandleFindings, AreListedHandles, GivesHandles, IsOfShown, is_unbalanced_handle};
+ghost use Rattle.audit_findings.specs.Handles.{AreHandleFindings, AreListedHandles, GivesHandles, is_unbalanced_handle};
 ghost use Rattle.audit_findings.specs.declared.in_turn.OfProcess.{OfProcess};
 
 use crate::held::held_at;
@@ -24,8 +24,7 @@ pub(crate) fn handles_of_process(
     frames: &[Frame<'_>],
     summary: &ProcessSummary,
 ) -> Result<Vec<HeldRow>, AllocError>
-    requires good { AreGoodFrames frames.now }
-    requires shown { IsOfShown summary.now frames.now }
+    requires { AreGoodFrames frames.now }
     ensures { IfOk result (λ rows. GivesHandles summary.now frames.now rows.items) }
 {
     match summary.ledgers() {

@@ -1,14 +1,15 @@
 //! The references that deliveries hold.
 
-ghost use Rattle.std.specs.Prelude.{◌≡◌, ◌≢◌, [], ◌∷◌, ℕ, List, length, IfOk, IfSome, IfNone, OnOk};
+ghost use Rattle.std.specs.Prelude.{◌≡◌, ◌≢◌, ◌≤◌, [], ◌∷◌, ℕ, List, drop, length, leb, AllPairs, IfOk, IfSome, IfNone, OnOk};
 ghost use Rattle.capture_frame.specs.Envelope.{frame_text};
+ghost use Rattle.capture_frame.specs.Lookup.{StandApart};
 ghost use Rattle.event_core.specs.Reading.{event_text};
 ghost use Rattle.transaction_view.specs.FirstFault.{HasGoodContent};
 ghost use Rattle.audit_findings.specs.Frames.{AreGoodFrames};
-ghost use Rattle.audit_findings.specs.HeldCounts.{AreOfEvents, CountsAt, CountsEvents, CountsFrame, CountsObjects, HasRoom};
+ghost use Rattle.audit_findings.specs.HeldCounts.{AreBegun, CountsAt, CountsEvents, CountsFrame, CountsObjects, GrowsBy, HasRoom};
 ghost use Rattle.audit_findings.specs.Ledgers.{offset_bytes_of};
 
-use capture_frame::{Frame, frame_at};
+use capture_frame::Frame;
 use event_core::{Event, Events};
 use object_view::{Objects, held_step};
 use std::alloc::{AllocError, Global};
@@ -25,18 +26,43 @@ pub(crate) fn held_at(
     frames: &[Frame<'_>],
     places: &[u64],
 ) -> Result<HeldTally, AllocError>
-    requires good { AreGoodFrames frames.now }
-    requires there { AreOfEvents frames.now places.now }
+    requires { AreGoodFrames frames.now }
     ensures { IfOk result (CountsAt frames.now places.now) }
 {
     let mut held = Tally::empty(alloc);
+    let mut ahead = frames;
     let mut rest = places;
     while let Some(first) = rest.first() {
-        // A record begins there, so there is a frame.
-        let frame = frame_at(frames, *first).unwrap();
-        rest = add_frame(&mut held, frame, rest)?;
+        // A record begins there, so there is a frame, the last one that has begun.
+        let count = count_begun(ahead, *first);
+        if count == 0 {
+            break;
+        }
+        rest = add_frame(&mut held, ahead[count - 1], rest)?;
+        ahead = without_first(ahead, count);
     }
     Ok(held)
+}
+
+/// These frames without the first ones.
+fn without_first<'f, 'c>(frames: &'f [Frame<'c>], count: usize) -> &'f [Frame<'c>]
+    requires { count ≤ length frames.now }
+    ensures { result.now ≡ drop count frames.entry.now }
+{
+    let (_, others) = frames.split_at(count);
+    others
+}
+
+/// How many of these frames begin at a place of the capture or before it.
+fn count_begun(frames: &[Frame<'_>], place: u64) -> usize
+    requires { AllPairs StandApart frames.now }
+    ensures { AreBegun frames.entry.now place result }
+{
+    frames.partition_point(
+        |frame: &Frame<'_>| -> bool
+            ensures { result ≡ leb frame.now.place place }
+        { frame.place <= place },
+    )
 }
 
 /// Adds what those deliveries of a frame hold that stand at the first of these places. The places
@@ -48,7 +74,8 @@ fn add_frame<'p>(
 ) -> Result<&'p [u64], AllocError>
     requires good { HasGoodContent (frame_text frame) }
     requires room { HasRoom held.old (length frame.attachments.now) }
-    ensures { IfOk result
+    ensures grows { OnOk result (GrowsBy held.old (length frame.entry.attachments.now) held.new) }
+    ensures counts { IfOk result
         (λ rest. CountsFrame held.old frame.entry places.entry.now held.new rest.now) }
 {
     let mut rest = places;

@@ -3,7 +3,7 @@
 ghost use Rattle.std.specs.Prelude.{◌≡◌, ◌<◌, List, map, IfOk};
 ghost use Rattle.capture_frame.specs.declared.frame.Frame.{Frame};
 ghost use Rattle.audit_findings.specs.Frames.{AreGoodFrames, good_frames_parts};
-ghost use Rattle.audit_findings.specs.Summary.{SumsPiece, AreHandlesAt, GiveSectionsOf, process_count};
+ghost use Rattle.audit_findings.specs.Summary.{SumsPiece, GivesHandlesAt, GiveSectionsOf, process_count};
 
 use crate::findings::Sections;
 use crate::handles::handles_of_process;
@@ -31,17 +31,16 @@ impl<'c> PieceSummary<'c> {
         self.ledgers.processes.entries.len()
     }
 
-    /// The rows of handles of a process by its number, in the order of first frames. The frames are
-    /// those that are summarised.
+    /// The rows of handles of a process by its number, in the order of first frames, where these
+    /// are the frames that are summarised.
     pub fn handles(
         &self,
         frames: &[Frame<'_>],
         number: usize,
     ) -> Result<Vec<OfProcess<HeldRow>>, AllocError>
-        requires sums { SumsPiece self.now frames.now }
         requires good { AreGoodFrames frames.now }
         requires within { number < process_count self.now }
-        ensures { IfOk result (λ rows. AreHandlesAt frames.now number rows.items) }
+        ensures { IfOk result (λ rows. GivesHandlesAt self.now frames.now number rows.items) }
     {
         let (process, summary) = self.ledgers.processes.entries.get_index(number).unwrap();
         let own = handles_of_process(self.alloc, frames, summary)?;

@@ -15,21 +15,12 @@ use Rattle.audit_findings.proofs.EventSizes.{few_frames}
 use Rattle.audit_findings.proofs.HandleRows.{chosen_open, events_chosen, is_at, no_handles_of, open_places}
 use Rattle.audit_findings.proofs.handles.handles_of_process.Goals as goal
 
-pub held_at-requires-clause-there : goal.held_at-requires-clause-there
-held_at-requires-clause-there c =
-    let shown = c.requires.shown in
-    let events = events_of_wholes shown.0 in
-    let few = few_frames c.args.frames.now shown.0 c.requires.good shown.2 in
-    let of = found_ledgers c.args.summary.now.ledgers c.in-Some.ledgers.now events shown.1 c.in-Some.ensures.some shown.3 in
-    let outstanding = open_places events shown.1 c.in-Some.ledgers.now c.in_ok-unfreed-in-Some.unfreed.items c.in_ok-unfreed-in-Some.ensures of in
-    (shown.0, is_at c.as_slice.result.now, shown.2, rw c.as_slice.ensures.value (chosen_open events few.1.0.1 shown.1 c.in_ok-unfreed-in-Some.unfreed.items outstanding))
-
 pub returns-in_ok-held-in-Some : goal.returns-in_ok-held-in-Some
 returns-in_ok-held-in-Some c =
     IfOk-weaker c.rows_held.result _ _
     (λ rows gives wholes process show is.
     let events = events_of_wholes wholes in
-    let few = few_frames c.args.frames.now wholes c.requires.good show in
+    let few = few_frames c.args.frames.now wholes c.requires show in
     let unfreed = c.in_ok-unfreed-in-Some.unfreed.items in
     let of = found_ledgers c.args.summary.now.ledgers c.in-Some.ledgers.now events process c.in-Some.ensures.some is in
     let outstanding = open_places events process c.in-Some.ledgers.now unfreed c.in_ok-unfreed-in-Some.ensures of in

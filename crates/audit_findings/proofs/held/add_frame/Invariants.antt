@@ -3,13 +3,13 @@ use Rattle.capture_frame.specs.Envelope.{placed_frame}
 use Rattle.event_core.specs.declared.event.Event.{Event}
 use Rattle.event_core.proofs.EventsGiven.{Given}
 use Rattle.event_core.proofs.EventPlaces.{left_of}
-use Rattle.audit_findings.proofs.HeldWalk.{CountsGiven, HasRoomAhead}
+use Rattle.audit_findings.proofs.HeldWalk.{CountsGiven, GrowsGiven}
 use Rattle.audit_findings.proofs.held.add_frame.Given as goal
 
 -- the reader has given these events, and the chosen ones among them are counted
 abbrev pub invariant-loop-event : goal.invariant-loop-event
 invariant-loop-event l =
-    (given : List Event) × Given (placed_frame l.fn.frame) l.events given × HasRoomAhead l.held l.fn.frame given
+    (given : List Event) × Given (placed_frame l.fn.frame) l.events given × GrowsGiven l.initial.held l.fn.frame given l.held
     × CountsGiven l.initial.held l.fn.frame l.fn.places given l.held l.rest
 
 abbrev pub decreases-loop-event : goal.decreases-loop-event

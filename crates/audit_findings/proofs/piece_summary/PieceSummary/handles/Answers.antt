@@ -6,23 +6,13 @@ use Rattle.process_ledgers.proofs.OfProcesses.{are_of_processes}
 use Rattle.process_ledgers.specs.declared.process_summary.ProcessSummary.{ProcessSummary}
 use Rattle.audit_findings.specs.Handles.{AreHandlesOf}
 use Rattle.audit_findings.specs.InTurn.{AreRowsOf, of_process}
-use Rattle.audit_findings.proofs.FrameLaws.{good_shown}
 use Rattle.audit_findings.proofs.HandleRows.{entry_at}
 use Rattle.audit_findings.proofs.piece_summary.PieceSummary.handles.Goals as goal
 
-pub handles_of_process-requires-clause-shown : goal.handles_of_process-requires-clause-shown
-handles_of_process-requires-clause-shown c =
-    let shown = good_shown c.args.frames.now c.requires.good.good in
-    let entries = c.args.self.now.ledgers.processes.entries.entries in
-    let of = are_of_processes entries shown.0 (c.requires.sums shown.0 shown.1).processes in
-    let e : Process × ProcessSummary = (c.unwrap.result.0.now, c.unwrap.result.1.now) in
-    let entry = entry_at entries shown.0 c.args.number e of (sym (rw c.unwrap.ensures at c.get_index.ensures.entry)) in
-    (shown.0, e.0, shown.1, entry.0)
-
 pub returns : goal.returns
-returns c wholes d show =
+returns c sums wholes d show =
     let entries = c.args.self.now.ledgers.processes.entries.entries in
-    let of = are_of_processes entries wholes (c.requires.sums wholes show).processes in
+    let of = are_of_processes entries wholes (sums wholes show).processes in
     let e : Process × ProcessSummary = (c.unwrap.result.0.now, c.unwrap.result.1.now) in
     let entry = entry_at entries wholes c.args.number e of (sym (rw c.unwrap.ensures at c.get_index.ensures.entry)) in
     let pushed = c.in_ok-push_rows_of.ensures ∙ ap (λ rows. rows ++ map (of_process e.0) c.as_slice.result.now) c.new-rows.ensures.items
