@@ -716,6 +716,13 @@ CAPTURES = {
     "threads-that-fall.cap": threads_that_fall(),
     # a oneway transaction is refused behind a call
     "refused-behind-a-call.cap": refused_behind_a_call(),
+    # two oneway sends in one write, within a served call: the first is taken and the second refused
+    "several-sends.cap": HEADER
+    + read(1, 100, 101, transaction(BR_TRANSACTION, code=7, sender=200, buffer=0x8000))
+    + write(2, 100, 101, transaction(BC_TRANSACTION, target=5, code=3, flags=1, sizes=(16, 0)),
+            transaction(BC_TRANSACTION, target=6, code=3, flags=1, sizes=(2000000, 0)))
+    + read(3, 100, 101, record(BR_NOOP), record(BR_TRANSACTION_COMPLETE), record(BR_FAILED_REPLY))
+    + write(4, 100, 101, *each_long(BC_FREE_BUFFER, 0x8000), transaction(BC_REPLY)),
     # a frame is missing that had a call: its reply closes the served call around it
     "lost-call.cap": HEADER
     + read(1, 200, 201, transaction(BR_TRANSACTION, code=2, sender=100, buffer=0x8000))
