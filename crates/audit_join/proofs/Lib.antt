@@ -3,5 +3,7 @@ pub mod RunLaws
 pub mod JobLists
 pub mod JobLaws
 pub mod CutLaws
+pub mod PlaceLaws
+pub mod CaptureLaws
 pub mod FaultLaws
 pub mod ShareLaws

@@ -2,3 +2,4 @@ pub mod Audit
 pub mod Runs
 pub mod Jobs
 pub mod Judged
+pub mod Parts
