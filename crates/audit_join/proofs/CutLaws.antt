@@ -1,39 +1,43 @@
--- Frames that a capture is cut into, whose records and entries are good or have a first fault.
-use Rattle.std.proofs.Common.{◌≡◌, ℕ, ◌+◌, ◌≤◌, ◌^◌, List, [], ◌∷◌, ◌++◌, length, map, Option, Some, None, refl, sym, ap, subst, ◌∙◌, append_assoc, length-append, arith}
+-- Frames that parts are cut into, whose records and entries are good or have a first fault.
+use Rattle.std.proofs.Common.{◌≡◌, ◌⊎◌, inl, inr, ℕ, suc, ◌+◌, ◌<◌, ◌≤◌, ◌^◌, List, [], ◌∷◌, ◌++◌, length, drop, map, Option, Some, None, refl, sym, ap, ap₂, subst, ◌∙◌, append_assoc, length-append, length-drop, arith}
 use Rattle.std.specs.Prelude.{All, AllPairs}
 use Rattle.std.specs.List.{flat_map, sum_by}
 use Rattle.std.proofs.lemmas.List.{drop_at}
 use Rattle.std.proofs.lemmas.List.Concat.{flat_map-cons}
-use Rattle.std.proofs.lemmas.List.Elements.{All-cons, All-head, All-nil, All-tail, All-weaker}
+use Rattle.std.proofs.lemmas.List.Elements.{All-append, All-cons, All-head, All-nil, All-tail, All-weaker}
 use Rattle.std.proofs.lemmas.List.Kept.{AllPairs-cons}
-use Rattle.std.proofs.lemmas.List.Sums.{sum_by-append}
+use Rattle.std.proofs.lemmas.List.Sums.{sum_by-append, sum_by-cons}
 use Rattle.capture_frame.specs.declared.fault.Fault.{Fault}
 use Rattle.capture_frame.specs.declared.fault.FaultKind.{FaultKind}
+use Rattle.capture_frame.specs.declared.fault.PartFault.{PartFault}
 use Rattle.capture_frame.specs.declared.frame.Frame.{Frame}
 use Rattle.capture_frame.specs.declared.version.Version.{Version}
-use Rattle.capture_frame.specs.Cut.{AreFrames, AreFramesBefore, AreViewsOf, frames_before}
+use Rattle.capture_frame.specs.declared.version.Version.TheVariants.{Two}
+use Rattle.capture_frame.specs.Cut.{AreFrames, ArePartFrames, AreFramesBeforePart, frames_before}
 use Rattle.capture_frame.specs.Envelope.{FrameText, Before, in_version, file_header, frame_text, placed_frame, frame_bytes}
-use Rattle.capture_frame.specs.FirstFault.{IsFirstFault, frame_format, in_header, in_frames}
+use Rattle.capture_frame.specs.FirstFault.{IsFirstFaultBehind, frame_format, in_header, in_frames}
+use Rattle.capture_frame.specs.Parts.{AreParts, IsFirstPartFault, last_after, joined}
 use Rattle.capture_frame.specs.Units.{Placed, placed, placed_at, spelling_of, Splits, FirstFailure, IsBytes, state_after}
+use Rattle.capture_frame.proofs.CutLaws.{frames_wide}
 use Rattle.capture_frame.proofs.FrameLaws.{length-frame_bytes}
 use Rattle.capture_frame.proofs.HeaderLaws.{length-file_header}
 use Rattle.capture_frame.proofs.NumberLaws.{IsBytes-drop}
+use Rattle.capture_frame.proofs.PartLaws.{first_here, first_later, last_after-append, one_part, parts_joined}
 use Rattle.capture_frame.proofs.UnitLaws.{Splits-cons, Splits-tail, FirstFailure-cons}
-use Rattle.transaction_view.specs.FirstFault.{HasGoodContent, HasContentFault, ContentFails, in_content}
+use Rattle.transaction_view.specs.FirstFault.{HasGoodContent, HasContentFault, in_content}
 use Rattle.transaction_view.specs.FirstFault as first_fault
-use Rattle.transaction_view.specs.Grammar.{WholeFrame, MayStandWhole, whole_format, IsInGrammar, HasFirstFault}
+use Rattle.transaction_view.specs.Grammar.{WholeFrame, MayStandWhole, whole_format, IsInGrammar, AreReadable, HasFirstPartFault}
 use Rattle.transaction_view.proofs.CaptureWalk.{whole_of}
-use Rattle.transaction_view.proofs.GrammarLaws.{IsBytes-commands, IsBytes-attachments}
+use Rattle.transaction_view.proofs.GrammarLaws.{IsBytes-commands, IsBytes-attachments, whole_wide}
+use Rattle.summary_law.specs.Fits.{all_parts}
 use Rattle.audit_findings.specs.Frames.{Show, IsWhole, AreGoodFrames}
 use Rattle.event_core.specs.Events.{placed_text}
 use Rattle.event_core.specs.Events.{wholes_of}
 use Rattle.capture_frame.specs.Lookup.{span_of, StandApart}
 use Rattle.audit_findings.proofs.FrameLaws.{first_same}
-use Rattle.audit_join.specs.declared.audit_error.AuditError.{AuditError}
-use Rattle.audit_join.specs.declared.audit_error.AuditError.TheVariants.{Memory, Malformed}
-use Rattle.audit_join.specs.Audit.{IsMalformed}
 use Rattle.audit_join.specs.Jobs.{AreSound, IsFirstIn, IsOfBytes, AreCut}
-use Rattle.audit_join.specs.Judged.{IsFirstError}
+use Rattle.audit_join.specs.Parts.{IsFirstOfParts}
+use Rattle.audit_join.proofs.FaultLaws.{fault_held}
 
 abbrev IsGood : Frame → Type 0
 IsGood frame = HasGoodContent (frame_text frame)
@@ -41,17 +45,29 @@ IsGood frame = HasGoodContent (frame_text frame)
 abbrev texts_of : List Frame → List FrameText
 texts_of frames = map frame_text frames
 
+-- the bytes of frames
+abbrev spelled : List Frame → List ℕ
+spelled frames = flat_map frame_bytes (texts_of frames)
+
 -- the views stand one behind the other, from this place on
 abbrev StandFrom : ℕ → List Frame → Type 0
 StandFrom base frames = map placed_frame frames ≡ placed frame_bytes base (texts_of frames)
 
--- the capture begins with these frames, and then has the rest
-record BeginsWithCut (capture : List ℕ) (frames : List Frame) (rest : List ℕ) : Type 0 where
+-- a part begins with these frames, and then has the rest
+record BeginsWithCut (last : Option ℕ) (part : List ℕ) (frames : List Frame) (rest : List ℕ) : Type 0 where
   pub version : Version
   pub bytes : List ℕ
-  pub joined : capture ≡ file_header version ++ bytes
-  pub splits : Splits frame_format (in_version version None) bytes (texts_of frames) rest
-  pub stand : StandFrom 16 frames
+  pub joined : part ≡ file_header version ++ bytes
+  pub splits : Splits frame_format (in_version version last) bytes (texts_of frames) rest
+
+-- parts begin with these frames: each is whole, up to one that begins with some, or in which none is read
+abbrev BeginWithCut : Option ℕ → List (List ℕ) → List Frame → Type 0
+BeginWithCut last [] frames = frames ≡ []
+BeginWithCut last (part ∷ parts) frames =
+    (frames ≡ [])
+    ⊎ ((rest : List ℕ) × BeginsWithCut last part frames rest)
+    ⊎ ((front : List Frame) × (back : List Frame) × (frames ≡ front ++ back) × BeginsWithCut last part front []
+    × BeginWithCut (last_after frame_format last (texts_of front)) parts back)
 
 -- ---- one frame, and the others
 
@@ -62,8 +78,6 @@ stands_first base f frames stand =
     let one = first_same (placed_frame f) (placed_at base (frame_text f)) (map placed_frame frames)
     (placed frame_bytes behind (texts_of frames)) stand in
     (ap (λ (p : Placed FrameText). p.place) one.0, one.1)
-
--- ---- they are cut as workers need them
 
 begin_from : (base : ℕ) (frames : List Frame) → StandFrom base frames → All (λ (f : Frame). base ≤ f.place) frames
 begin_from base [] stand = All-nil (λ (f : Frame). base ≤ f.place)
@@ -108,21 +122,191 @@ of_bytes (f ∷ frames) rest bytes =
     All-cons IsOfBytes f frames (IsBytes-commands text (others ++ rest) all, IsBytes-attachments text (others ++ rest) all)
     (of_bytes frames rest behind)
 
-begins_cut : (capture : List ℕ) (frames : List Frame) (rest : List ℕ) → BeginsWithCut capture frames rest → length capture ≤ 2 ^ 30
-    → IsBytes capture → AreCut frames
-begins_cut capture frames rest begins short bytes =
-    let spelled = flat_map frame_bytes (texts_of frames) in
-    let spans = spans_are frames in
+-- ---- frames of one part, and of the others
+
+-- frames that are views of some texts and then of others
+record AreParted (frames : List Frame) (first others : List FrameText) : Type 0 where
+  pub front : List Frame
+  pub back : List Frame
+  pub are : frames ≡ front ++ back
+  pub said : texts_of front ≡ first
+  pub said_behind : texts_of back ≡ others
+
+parted : (frames : List Frame) (first others : List FrameText) → texts_of frames ≡ first ++ others → AreParted frames first others
+parted frames [] others said = record { front = []; back = frames; are = refl; said = refl; said_behind = said }
+parted [] (t ∷ first) others said = let wrong = ap length said in absurd (omega (arith, wrong))
+parted (f ∷ frames) (t ∷ first) others said =
+    let one = first_same (frame_text f) t (texts_of frames) (first ++ others) said in
+    let later = parted frames first others one.1 in
+    record {
+      front = f ∷ later.front;
+      back = later.back;
+      are = ap (λ (l : List Frame). f ∷ l) later.are;
+      said = ap₂ (λ (x : FrameText) (l : List FrameText). x ∷ l) one.0 later.said;
+      said_behind = later.said_behind;
+    }
+
+spelled-cons : (f : Frame) (frames : List Frame) → length (spelled (f ∷ frames)) ≡ length (frame_bytes (frame_text f)) + length (spelled frames)
+spelled-cons f frames = ap length (flat_map-cons frame_bytes (frame_text f) (texts_of frames)) ∙ length-append (frame_bytes (frame_text f)) (spelled frames)
+
+spelled-append : (front back : List Frame) → length (spelled (front ++ back)) ≡ length (spelled front) + length (spelled back)
+spelled-append [] back = let none : length (spelled []) ≡ 0 = refl in omega (arith, none)
+spelled-append (f ∷ front) back =
+    let later = spelled-append front back in
+    let whole = spelled-cons f (front ++ back) in
+    let some = spelled-cons f front in
+    omega (arith, later, whole, some)
+
+stand_parted : (base : ℕ) (front back : List Frame) → StandFrom base (front ++ back) → StandFrom base front × StandFrom (base + length (spelled front)) back
+stand_parted base [] back stand = (refl, subst (λ (n : ℕ). StandFrom n back) (omega arith) stand)
+stand_parted base (f ∷ front) back stand =
+    let one = stands_first base f (front ++ back) stand in
+    let later = stand_parted (base + length (frame_bytes (frame_text f))) front back one.1 in
+    let some = spelled-cons f front in (
+      ap₂ (λ (n : ℕ) (l : List (Placed FrameText)). placed_at n (frame_text f) ∷ l) one.0 later.0,
+      subst (λ (n : ℕ). StandFrom n back) (omega (arith, some)) later.1,
+    )
+
+none_said : (frames : List Frame) → texts_of frames ≡ [] → frames ≡ []
+none_said [] said = refl
+none_said (f ∷ frames) said = let wrong = ap length said in absurd (omega (arith, wrong))
+
+-- ---- what `cut_parts` gives
+
+-- all frames of the parts
+parts_begin : (last : Option ℕ) (parts : List (List ℕ)) (frames : List Frame) (texts : List FrameText) → AreParts frame_format last parts texts
+    → texts_of frames ≡ texts → BeginWithCut last parts frames
+parts_begin last [] frames texts are said = none_said frames (said ∙ are)
+parts_begin last (part ∷ parts) frames texts (first, others, all, is, are) said =
+    let two = parted frames first others (said ∙ all) in
+    inr (inr (
+      two.front,
+      two.back,
+      two.are,
+      record {
+        version = is.0;
+        bytes = is.1;
+        joined = is.2;
+        splits = subst (λ (t : List FrameText). Splits frame_format (in_version is.0 last) is.1 t []) (sym two.said) is.3;
+      },
+      subst (λ (t : List FrameText). BeginWithCut (last_after frame_format last t) parts two.back) (sym two.said)
+          (parts_begin (last_after frame_format last first) parts two.back others are two.said_behind),
+    ))
+
+-- or those before a fault
+stopped_begin : (last behind_it : Option ℕ) (part : List ℕ) (behind : List (List ℕ)) (fault : Fault) → behind_it ≡ last
+    → (first : IsFirstFaultBehind frame_format behind_it part fault) → (frames : List Frame) → texts_of frames ≡ frames_before part fault first
+    → BeginWithCut last (part ∷ behind) frames
+stopped_begin last behind_it part behind fault is (in_header fails) frames said = inl (none_said frames said)
+stopped_begin last behind_it part behind fault is (in_frames version bytes distance joined fails place) frames said =
+    let splits = subst (λ (t : List FrameText). Splits frame_format (in_version version behind_it) bytes t fails.rest) (sym said) fails.splits in
+    inr (inl (
+      fails.rest,
+      record {
+        version = version;
+        bytes = bytes;
+        joined = joined;
+        splits = subst (λ (s : Option ℕ). Splits frame_format (in_version version s) bytes (texts_of frames) fails.rest) is splits;
+      },
+    ))
+
+before_begin : (last behind_it : Option ℕ) (front : List (List ℕ)) (part : List ℕ) (behind : List (List ℕ)) (units : List FrameText) (fault : Fault)
+    → AreParts frame_format last front units → behind_it ≡ last_after frame_format last units
+    → (first : IsFirstFaultBehind frame_format behind_it part fault) → (frames : List Frame) → texts_of frames ≡ units ++ frames_before part fault first
+    → BeginWithCut last (front ++ part ∷ behind) frames
+before_begin last behind_it [] part behind units fault whole is first frames said =
+    stopped_begin last behind_it part behind fault (is ∙ ap (last_after frame_format last) whole) first frames
+    (said ∙ ap (λ (t : List FrameText). t ++ frames_before part fault first) whole)
+before_begin last behind_it (p ∷ front) part behind units fault (here, others, all, is_part, are) is first frames said =
+    let rest = frames_before part fault first in
+    let two = parted frames here (others ++ rest) (said ∙ ap (λ (t : List FrameText). t ++ rest) all ∙ append_assoc here others rest) in
+    let state = is ∙ ap (last_after frame_format last) all ∙ last_after-append frame_format frames_wide last here others in
+    inr (inr (
+      two.front,
+      two.back,
+      two.are,
+      record {
+        version = is_part.0;
+        bytes = is_part.1;
+        joined = is_part.2;
+        splits = subst (λ (t : List FrameText). Splits frame_format (in_version is_part.0 last) is_part.1 t []) (sym two.said) is_part.3;
+      },
+      subst (λ (t : List FrameText). BeginWithCut (last_after frame_format last t) (front ++ part ∷ behind) two.back) (sym two.said)
+          (before_begin (last_after frame_format last here) behind_it front part behind others fault are state first two.back two.said_behind),
+    ))
+
+all_begin : (parts : List (List ℕ)) (frames : List Frame) → ArePartFrames parts frames → BeginWithCut None parts frames
+all_begin parts frames are = parts_begin None parts frames are.texts are.whole are.views.said
+
+some_begin : (parts : List (List ℕ)) (found : PartFault) (frames : List Frame) → AreFramesBeforePart parts found frames → BeginWithCut None parts frames
+some_begin parts found frames before =
+    let first = before.first in
+    subst (λ (ps : List (List ℕ)). BeginWithCut None ps frames) (sym first.are)
+    (before_begin None (last_after frame_format None first.units) first.front first.part first.behind first.units found.fault first.whole refl
+    first.first frames before.views.said)
+
+-- ---- they are cut as workers need them
+
+read_length : (last : Option ℕ) (part : List ℕ) (frames : List Frame) (rest : List ℕ) → BeginsWithCut last part frames rest
+    → length part ≡ 16 + length (spelled frames) + length rest
+read_length last part frames rest begins =
     let header = length-file_header begins.version in
     let whole = ap length begins.joined ∙ length-append (file_header begins.version) begins.bytes in
-    let parts = ap length begins.splits.joined ∙ length-append spelled rest in
-    let there = subst IsBytes (drop_at (file_header begins.version) begins.bytes 16 header)
+    let parts = ap length begins.splits.joined ∙ length-append (spelled frames) rest in
+    omega (arith, header, whole, parts)
+
+read_bytes : (last : Option ℕ) (part : List ℕ) (frames : List Frame) (rest : List ℕ) → BeginsWithCut last part frames rest → IsBytes part → All IsOfBytes frames
+read_bytes last part frames rest begins bytes =
+    let there = subst IsBytes (drop_at (file_header begins.version) begins.bytes 16 (length-file_header begins.version))
     (IsBytes-drop 16 (file_header begins.version ++ begins.bytes) (subst IsBytes begins.joined bytes)) in
-    record {
-      few = omega (arith, spans, header, whole, parts, short);
-      apart = stand_apart 16 frames begins.stand;
-      bytes = of_bytes frames rest (subst IsBytes begins.splits.joined there);
-    }
+    of_bytes frames rest (subst IsBytes begins.splits.joined there)
+
+few_bytes : (last : Option ℕ) (parts : List (List ℕ)) (frames : List Frame) → BeginWithCut last parts frames → length (spelled frames) ≤ sum_by length parts
+few_bytes last [] frames begin = subst (λ (l : List Frame). length (spelled l) ≤ 0) (sym begin) (omega arith)
+few_bytes last (part ∷ parts) frames (inl none) =
+    subst (λ (l : List Frame). length (spelled l) ≤ sum_by length (part ∷ parts)) (sym none) (omega arith)
+few_bytes last (part ∷ parts) frames (inr (inl (rest, begins))) =
+    let here = read_length last part frames rest begins in
+    let sum = sum_by-cons (length {A = ℕ}) part parts in
+    omega (arith, here, sum)
+few_bytes last (part ∷ parts) frames (inr (inr (front, back, are, begins, others))) =
+    let here = read_length last part front [] begins in
+    let later = few_bytes (last_after frame_format last (texts_of front)) parts back others in
+    let sum = sum_by-cons (length {A = ℕ}) part parts in
+    let whole = ap (λ (l : List Frame). length (spelled l)) are ∙ spelled-append front back in
+    omega (arith, here, later, sum, whole)
+
+all_bytes : (last : Option ℕ) (parts : List (List ℕ)) (frames : List Frame) → BeginWithCut last parts frames → All IsBytes parts → All IsOfBytes frames
+all_bytes last [] frames begin bytes = subst (All IsOfBytes) (sym begin) (All-nil IsOfBytes)
+all_bytes last (part ∷ parts) frames (inl none) bytes = subst (All IsOfBytes) (sym none) (All-nil IsOfBytes)
+all_bytes last (part ∷ parts) frames (inr (inl (rest, begins))) bytes = read_bytes last part frames rest begins (All-head IsBytes part parts bytes)
+all_bytes last (part ∷ parts) frames (inr (inr (front, back, are, begins, others))) bytes =
+    subst (All IsOfBytes) (sym are)
+    (All-append IsOfBytes front back (read_bytes last part front [] begins (All-head IsBytes part parts bytes))
+    (all_bytes (last_after frame_format last (texts_of front)) parts back others (All-tail IsBytes part parts bytes)))
+
+are_cut : (parts : List (List ℕ)) (frames : List Frame) → BeginWithCut None parts frames → StandFrom 16 frames → sum_by length parts ≤ 2 ^ 30
+    → All IsBytes parts → AreCut frames
+are_cut parts frames begin stand short bytes =
+    let spans = spans_are frames in
+    let few = few_bytes None parts frames begin in
+    record { few = omega (arith, spans, few, short); apart = stand_apart 16 frames stand; bytes = all_bytes None parts frames begin bytes }
+
+views_stand : (texts : List FrameText) (frames : List Frame) → texts_of frames ≡ texts → map placed_frame frames ≡ placed frame_bytes 16 texts → StandFrom 16 frames
+views_stand texts frames said stand = stand ∙ ap (placed frame_bytes 16) (sym said)
+
+pub all_cut : (parts : List (List ℕ)) (frames : List Frame) → ArePartFrames parts frames → sum_by length parts ≤ 2 ^ 30 → All IsBytes parts → AreCut frames
+all_cut parts frames are short bytes =
+    are_cut parts frames (all_begin parts frames are) (views_stand are.texts frames are.views.said are.views.stand) short bytes
+
+stand_before : (parts : List (List ℕ)) (found : PartFault) (frames : List Frame) → AreFramesBeforePart parts found frames → StandFrom 16 frames
+stand_before parts found frames before =
+    views_stand (before.first.units ++ frames_before before.first.part found.fault before.first.first) frames before.views.said before.views.stand
+
+pub before_cut : (parts : List (List ℕ)) (found : PartFault) (frames : List Frame) → AreFramesBeforePart parts found frames → sum_by length parts ≤ 2 ^ 30
+    → All IsBytes parts → AreCut frames
+before_cut parts found frames before short bytes =
+    are_cut parts frames (some_begin parts found frames before) (stand_before parts found frames before) short bytes
 
 -- ---- without a fault they are whole frames
 
@@ -175,15 +359,18 @@ shown_by_cut frames stand sound = record {
   are_whole = are_whole 16 frames sound;
 }
 
--- ---- a fault of the frames is the first of the capture
+-- ---- a fault of the frames is the first of the parts
 
 content_fails : (before : Before) (bytes : List ℕ) (base : ℕ) (front : List Frame) (frame : Frame) (behind : List Frame) (rest : List ℕ)
     (fault : Fault) → AreSound front → Splits frame_format before bytes (texts_of (front ++ frame ∷ behind)) rest
     → StandFrom base (front ++ frame ∷ behind) → HasContentFault frame fault
-    → (distance : ℕ) × FirstFailure whole_format before bytes fault.kind distance × (fault.place ≡ base + distance)
+    → (distance : ℕ) × FirstFailure whole_format before bytes fault.kind distance × (fault.place ≡ base + distance) × (distance < length bytes)
 content_fails before bytes base [] frame behind rest fault sound splits stand (within, fails, at) =
     let tail = Splits-tail frame_format before bytes (frame_text frame) (texts_of behind) rest splits in
-    let here = (stands_first base frame behind stand).0 in (
+    let here = (stands_first base frame behind stand).0 in
+    let held = fault_held frame fault (within, fails, at) in
+    let inside = held.1 in
+    let long = ap length tail.0 ∙ length-append (frame_bytes (frame_text frame)) (spelling_of frame_format (texts_of behind) ++ rest) in (
       within,
       record {
         before = [];
@@ -194,6 +381,7 @@ content_fails before bytes base [] frame behind rest fault sound splits stand (w
         stands = omega arith;
       },
       omega (arith, at, here),
+      omega (arith, at, inside, long, length-frame_bytes (frame_text frame)),
     )
 content_fails before bytes base (f ∷ front) frame behind rest fault sound splits stand fails =
     let good = All-head IsGood f front sound in
@@ -203,20 +391,225 @@ content_fails before bytes base (f ∷ front) frame behind rest fault sound spli
     let middle = spelling_of frame_format (texts_of others) ++ rest in
     let later = content_fails (in_version before.version (Some f.sequence)) middle (base + length (frame_bytes text)) front frame behind rest fault
     (All-tail IsGood f front sound) tail.2 (stands_first base f others stand).1 fails in
-    let place = later.2 in (
+    let place = later.2 in
+    let inside = later.3 in
+    let long = ap length tail.0 ∙ length-append (frame_bytes text) middle in (
       length (frame_bytes text) + later.0,
       FirstFailure-cons whole_format before bytes middle (whole_of f good.0.0 good.1.0) fault.kind later.0
           (may_stand_whole before f good tail.1) tail.0 later.1,
       omega (arith, place),
+      omega (arith, inside, long),
     )
 
-first_in_cut : (capture : List ℕ) (frames : List Frame) (rest : List ℕ) (fault : Fault) → BeginsWithCut capture frames rest
-    → IsFirstIn frames fault → HasFirstFault capture fault
-first_in_cut capture frames rest fault begins first =
-    let splits = subst (λ (t : List Frame). Splits frame_format (in_version begins.version None) begins.bytes (texts_of t) rest) first.are begins.splits in
-    let stand = subst (StandFrom 16) first.are begins.stand in
-    let failure = content_fails (in_version begins.version None) begins.bytes 16 first.before first.frame first.behind rest fault first.sound splits stand first.fails in
-    in_frames begins.version begins.bytes failure.0 begins.joined failure.1 failure.2
+-- where the first fault of some frames and then others stands
+fails_where : (front back : List Frame) (fault : Fault) (before : List Frame) (frame : Frame) (behind : List Frame) → front ++ back ≡ before ++ frame ∷ behind
+    → AreSound before → HasContentFault frame fault → IsFirstIn front fault ⊎ (AreSound front × IsFirstIn back fault)
+fails_where [] back fault before frame behind are sound fails =
+    inr (All-nil IsGood, record { before = before; frame = frame; behind = behind; are = are; sound = sound; fails = fails })
+fails_where (f ∷ front) back fault [] frame behind are sound fails =
+    let one = first_same f frame (front ++ back) behind are in
+    inl (record {
+      before = [];
+      frame = f;
+      behind = front;
+      are = refl;
+      sound = sound;
+      fails = subst (λ (g : Frame). HasContentFault g fault) (sym one.0) fails;
+    })
+fails_where (f ∷ front) back fault (g ∷ before) frame behind are sound fails =
+    let one = first_same f g (front ++ back) (before ++ frame ∷ behind) are in
+    let good = subst IsGood (sym one.0) (All-head IsGood g before sound) in
+    elim (fails_where front back fault before frame behind one.1 (All-tail IsGood g before sound) fails) [
+      | inl here ↦ inl (record {
+        before = f ∷ here.before;
+        frame = here.frame;
+        behind = here.behind;
+        are = ap (λ (l : List Frame). f ∷ l) here.are;
+        sound = All-cons IsGood f here.before good here.sound;
+        fails = here.fails;
+      })
+      | inr later ↦ inr (All-cons IsGood f front good later.0, later.1)
+    ]
+
+-- the same sequence is the last, whether frames are judged by their headers or whole
+state_wholes : (state : Before) (frames : List Frame) (sound : AreSound frames)
+    → state_after whole_format state (wholes_by frames sound) ≡ state_after frame_format state (texts_of frames)
+unfolding wholes_by
+state_wholes state [] sound = refl
+state_wholes state (f ∷ frames) sound = state_wholes (in_version state.version (Some f.sequence)) frames (All-tail IsGood f frames sound)
+
+last_wholes : (last : Option ℕ) (frames : List Frame) (sound : AreSound frames)
+    → last_after whole_format last (wholes_by frames sound) ≡ last_after frame_format last (texts_of frames)
+last_wholes last frames sound = ap (λ (s : Before). s.last) (state_wholes (in_version Two last) frames sound)
+
+-- a fault is the first of the parts, and stands in one of them, where `base` bytes of frames stand before the parts
+record IsFoundIn (last : Option ℕ) (base : ℕ) (parts : List (List ℕ)) (fault : Fault) : Type 0 where
+  pub found : PartFault
+  pub first : IsFirstPartFault whole_format last parts found
+  pub front : List (List ℕ)
+  pub part : List ℕ
+  pub behind : List (List ℕ)
+  pub are : parts ≡ front ++ part ∷ behind
+  pub number : found.part ≡ length front + 1
+  pub kind : found.fault.kind ≡ fault.kind
+  pub least : 16 ≤ found.fault.place
+  pub within : found.fault.place < length part
+  pub place : fault.place + 16 ≡ base + length (joined front) + found.fault.place
+
+joined-cons : (part : List ℕ) (parts : List (List ℕ)) → length (joined (part ∷ parts)) ≡ length (drop 16 part) + length (joined parts)
+joined-cons part parts =
+    let one = length-append (file_header Two) (flat_map (λ (p : List ℕ). drop 16 p) (part ∷ parts)) in
+    let other = length-append (file_header Two) (flat_map (λ (p : List ℕ). drop 16 p) parts) in
+    let cons = ap length (flat_map-cons (λ (p : List ℕ). drop 16 p) part parts) ∙ length-append (drop 16 part) (flat_map (λ (p : List ℕ). drop 16 p) parts) in
+    omega (arith, one, other, cons)
+
+found_here : (last : Option ℕ) (base : ℕ) (part : List ℕ) (parts : List (List ℕ)) (frames : List Frame) (rest : List ℕ) (fault : Fault)
+    → BeginsWithCut last part frames rest → StandFrom (base + 16) frames → IsFirstIn frames fault → IsFoundIn last base (part ∷ parts) fault
+found_here last base part parts frames rest fault begins stand first =
+    let state = in_version begins.version last in
+    let splits = subst (λ (t : List Frame). Splits frame_format state begins.bytes (texts_of t) rest) first.are begins.splits in
+    let stands = subst (StandFrom (base + 16)) first.are stand in
+    let failure = content_fails state begins.bytes (base + 16) first.before first.frame first.behind rest fault first.sound splits stands first.fails in
+    let here : Fault = record { kind = fault.kind; place = 16 + failure.0 } in
+    let place = failure.2 in
+    let inside = failure.3 in
+    let long = ap length begins.joined ∙ length-append (file_header begins.version) begins.bytes ∙ ap (λ (n : ℕ). n + length begins.bytes) (length-file_header begins.version) in
+    let none = length-append (file_header Two) [] ∙ ap (λ (n : ℕ). n + 0) (length-file_header Two) in
+    record {
+      found = record { part = 1; fault = here };
+      first = first_here whole_format last part parts here (in_frames begins.version begins.bytes failure.0 begins.joined failure.1 refl);
+      front = [];
+      part = part;
+      behind = parts;
+      are = refl;
+      number = refl;
+      kind = refl;
+      least = omega arith;
+      within = omega (arith, inside, long);
+      place = omega (arith, place, none);
+    }
+
+no_first : (frames : List Frame) (fault : Fault) → frames ≡ [] → IsFirstIn frames fault → ⊥
+no_first frames fault none first =
+    let empty = ap length none in
+    let some = ap length first.are ∙ length-append first.before (first.frame ∷ first.behind) in
+    omega (arith, empty, some)
+
+found_in : (last : Option ℕ) (base : ℕ) (parts : List (List ℕ)) (frames : List Frame) (fault : Fault) → BeginWithCut last parts frames
+    → StandFrom (base + 16) frames → IsFirstIn frames fault → IsFoundIn last base parts fault
+found_in last base [] frames fault begin stand first = absurd (no_first frames fault begin first)
+found_in last base (part ∷ parts) frames fault (inl none) stand first = absurd (no_first frames fault none first)
+found_in last base (part ∷ parts) frames fault (inr (inl (rest, begins))) stand first =
+    found_here last base part parts frames rest fault begins stand first
+found_in last base (part ∷ parts) frames fault (inr (inr (front, back, are, begins, others))) stand first =
+    let stands = stand_parted (base + 16) front back (subst (StandFrom (base + 16)) are stand) in
+    elim (fails_where front back fault first.before first.frame first.behind (sym are ∙ first.are) first.sound first.fails) [
+      | inl here ↦ found_here last base part parts front [] fault begins stands.0 here
+      | inr behind ↦
+          let size = length (spelled front) in
+          let there = subst (λ (n : ℕ). StandFrom n back) (omega arith) stands.1 in
+          let later = found_in (last_after frame_format last (texts_of front)) (base + size) parts back fault others there behind.1 in
+          let whole = whole_splits (in_version begins.version last) begins.bytes front behind.0 [] begins.splits in
+          let same = last_wholes last front behind.0 in
+          let long = read_length last part front [] begins in
+          let number = later.number in
+          let place = later.place in
+          let joins = joined-cons part later.front in
+          record {
+            found = record { part = suc later.found.part; fault = later.found.fault };
+            first = first_later whole_format whole_wide last part (wholes_by front behind.0) parts later.found
+                (begins.version, begins.bytes, begins.joined, whole)
+                (subst (λ (s : Option ℕ). IsFirstPartFault whole_format s parts later.found) (sym same) later.first);
+            front = part ∷ later.front;
+            part = later.part;
+            behind = later.behind;
+            are = ap (λ (l : List (List ℕ)). part ∷ l) later.are;
+            number = omega (arith, number);
+            kind = later.kind;
+            least = later.least;
+            within = later.within;
+            place = omega (arith, place, joins, long, length-drop 16 part);
+          }
+    ]
+
+first_of_parts : (parts : List (List ℕ)) (frames : List Frame) → BeginWithCut None parts frames → StandFrom 16 frames → (fault : Fault)
+    → IsFirstIn frames fault → IsFirstOfParts parts fault
+first_of_parts parts frames begin stand fault first =
+    let is = found_in None 0 parts frames fault begin stand first in
+    let place = is.place in (
+      is.found,
+      is.first,
+      record {
+        front = is.front;
+        part = is.part;
+        behind = is.behind;
+        are = is.are;
+        number = is.number;
+        kind = is.kind;
+        least = is.least;
+        within = is.within;
+        place = omega (arith, place);
+      },
+    )
+
+pub first_of_all : (parts : List (List ℕ)) (frames : List Frame) → ArePartFrames parts frames → (fault : Fault) → IsFirstIn frames fault
+    → IsFirstOfParts parts fault
+first_of_all parts frames are fault first =
+    first_of_parts parts frames (all_begin parts frames are) (views_stand are.texts frames are.views.said are.views.stand) fault first
+
+pub first_before : (parts : List (List ℕ)) (found : PartFault) (frames : List Frame) → AreFramesBeforePart parts found frames → (fault : Fault)
+    → IsFirstIn frames fault → IsFirstOfParts parts fault
+first_before parts found frames before fault first =
+    first_of_parts parts frames (some_begin parts found frames before) (stand_before parts found frames before) fault first
+
+-- ---- without a fault the parts are whole
+
+-- whole parts, and the last sequence in them
+record AreWhole (last : Option ℕ) (parts : List (List ℕ)) (frames : List Frame) : Type 0 where
+  pub units : List WholeFrame
+  pub are : AreParts whole_format last parts units
+  pub last_is : last_after whole_format last units ≡ last_after frame_format last (texts_of frames)
+
+whole_parts : (last : Option ℕ) (parts : List (List ℕ)) (frames : List Frame) (texts : List FrameText) → AreParts frame_format last parts texts
+    → texts_of frames ≡ texts → AreSound frames → AreWhole last parts frames
+whole_parts last [] frames texts are said sound =
+    record { units = []; are = refl; last_is = ap (last_after frame_format last) (sym (said ∙ are)) }
+whole_parts last (part ∷ parts) frames texts (first, others, all, is, are) said sound =
+    let two = parted frames first others (said ∙ all) in
+    let both = all_parts IsGood two.front two.back (subst AreSound two.are sound) in
+    let here = wholes_by two.front both.0 in
+    let splits = subst (λ (t : List FrameText). Splits frame_format (in_version is.0 last) is.1 t []) (sym two.said) is.3 in
+    let same = last_wholes last two.front both.0 ∙ ap (last_after frame_format last) two.said in
+    let later = whole_parts (last_after frame_format last first) parts two.back others are two.said_behind both.1 in
+    record {
+      units = here ++ later.units;
+      are = (
+        here,
+        later.units,
+        refl,
+        (is.0, is.1, is.2, whole_splits (in_version is.0 last) is.1 two.front both.0 [] splits),
+        subst (λ (s : Option ℕ). AreParts whole_format s parts later.units) (sym same) later.are,
+      );
+      last_is = last_after-append whole_format whole_wide last here later.units ∙ ap (λ (s : Option ℕ). last_after whole_format s later.units) same
+          ∙ later.last_is ∙ ap (last_after frame_format (last_after frame_format last first)) two.said_behind
+          ∙ sym (last_after-append frame_format frames_wide last first others) ∙ ap (last_after frame_format last) (sym (said ∙ all));
+    }
+
+-- and the whole frames are those of the joined capture
+pub whole_of_parts : (parts : List (List ℕ)) (frames : List Frame) → ArePartFrames parts frames → AreSound frames
+    → AreReadable parts × ((wholes : List WholeFrame) × IsInGrammar (joined parts) wholes × Show frames (wholes_of wholes))
+whole_of_parts parts frames are sound =
+    let whole = whole_parts None parts frames are.texts are.whole are.views.said sound in
+    let stand = views_stand are.texts frames are.views.said are.views.stand in
+    let is = parts_joined frame_format frames_wide parts are.texts are.whole in
+    let splits = subst (λ (t : List FrameText). Splits frame_format (in_version is.0 None) is.1 t []) (sym are.views.said) is.3 in (
+      (whole.units, whole.are),
+      (
+        wholes_by frames sound,
+        (is.0, is.1, is.2, whole_splits (in_version is.0 None) is.1 frames sound [] splits),
+        shown_by_cut frames stand sound,
+      ),
+    )
 
 -- ---- and without one, so is that at which they are cut off
 
@@ -245,105 +638,49 @@ header_fails before bytes (f ∷ frames) rest kind within sound splits fails =
     (FirstFailure-cons whole_format before bytes middle (whole_of f good.0.0 good.1.0) kind (length spelled + within)
     (may_stand_whole before f good tail.1) tail.0 later)
 
--- ---- what `cut` gives
-
--- all frames, behind which nothing stands
-all_begin : (capture : List ℕ) (frames : List Frame) → AreFrames capture frames → BeginsWithCut capture frames []
-all_begin capture frames are = record {
-  version = are.whole.0;
-  bytes = are.whole.1;
-  joined = are.whole.2;
-  splits = subst (λ (t : List FrameText). Splits frame_format (in_version are.whole.0 None) are.whole.1 t []) (sym are.views.said) are.whole.3;
-  stand = are.views.stand ∙ ap (placed frame_bytes 16) (sym are.views.said);
-}
-
--- or those before a fault
-none_said : (frames : List Frame) → texts_of frames ≡ [] → frames ≡ []
-none_said [] said = refl
-none_said (f ∷ frames) said = let wrong = ap length said in absurd (omega (arith, wrong))
-
-no_frames_cut : AreCut []
-no_frames_cut = record {
-  few = omega arith;
-  apart = λ i j d less within. absurd (omega (arith, within));
-  bytes = All-nil IsOfBytes;
-}
-
--- the frames before a fault of a frame's header
-begins_before : (version : Version) (capture : List ℕ) (frames : List Frame) (bytes : List ℕ) (texts : List FrameText) (rest : List ℕ)
-    → capture ≡ file_header version ++ bytes → Splits frame_format (in_version version None) bytes texts rest → AreViewsOf texts frames → BeginsWithCut capture frames rest
-begins_before version capture frames bytes texts rest joined splits views = record {
-  version = version;
-  bytes = bytes;
-  joined = joined;
-  splits = subst (λ (t : List FrameText). Splits frame_format (in_version version None) bytes t rest) (sym views.said) splits;
-  stand = views.stand ∙ ap (placed frame_bytes 16) (sym views.said);
-}
-
-cut_by : (capture : List ℕ) (fault : Fault) (frames : List Frame) (first : IsFirstFault frame_format capture fault)
-    → AreViewsOf (frames_before capture fault first) frames → length capture ≤ 2 ^ 30 → IsBytes capture → AreCut frames
-cut_by capture fault frames (in_header fails) views short bytes = subst AreCut (sym (none_said frames views.said)) no_frames_cut
-cut_by capture fault frames (in_frames version behind distance joined fails place) views short bytes =
-    begins_cut capture frames fails.rest (begins_before version capture frames behind fails.before fails.rest joined fails.splits views) short bytes
-
-pub before_cut : (capture : List ℕ) (fault : Fault) (frames : List Frame) → AreFramesBefore capture fault frames → length capture ≤ 2 ^ 30
-    → IsBytes capture → AreCut frames
-before_cut capture fault frames before short bytes = cut_by capture fault frames before.first before.views short bytes
-
--- a fault of the frames before it is the first of the capture
-earlier_by : (capture : List ℕ) (fault other : Fault) (frames : List Frame) (first : IsFirstFault frame_format capture fault)
-    → AreViewsOf (frames_before capture fault first) frames → IsFirstIn frames other → HasFirstFault capture other
-earlier_by capture fault other frames (in_header fails) views found =
-    let none = ap length (none_said frames views.said) in
-    let some = ap length found.are ∙ length-append found.before (found.frame ∷ found.behind) in
-    absurd (omega (arith, none, some))
-earlier_by capture fault other frames (in_frames version behind distance joined fails place) views found =
-    first_in_cut capture frames fails.rest other (begins_before version capture frames behind fails.before fails.rest joined fails.splits views) found
-
-none_earlier : (capture : List ℕ) (fault : Fault) (frames : List Frame) (first : IsFirstFault frame_format capture fault)
-    → AreViewsOf (frames_before capture fault first) frames → AreSound frames → HasFirstFault capture fault
-none_earlier capture fault frames (in_header fails) views sound = in_header fails
-none_earlier capture fault frames (in_frames version behind distance joined fails place) views sound =
-    let splits = subst (λ (t : List FrameText). Splits frame_format (in_version version None) behind t fails.rest) (sym views.said) fails.splits in
-    let failing = subst (λ (t : List FrameText). frame_format.Fails (state_after frame_format (in_version version None) t) fails.rest fault.kind fails.within)
-    (sym views.said) fails.fails in
-    let whole = header_fails (in_version version None) behind frames fails.rest fault.kind fails.within sound splits failing in
-    let same = ap (λ (t : List FrameText). length (spelling_of frame_format t)) views.said in
+-- the fault at which frames of a part are cut off is the first of the part
+none_earlier : (last : Option ℕ) (part : List ℕ) (fault : Fault) (frames : List Frame) (first : IsFirstFaultBehind frame_format last part fault)
+    → texts_of frames ≡ frames_before part fault first → AreSound frames → IsFirstFaultBehind whole_format last part fault
+none_earlier last part fault frames (in_header fails) said sound = in_header fails
+none_earlier last part fault frames (in_frames version bytes distance joined fails place) said sound =
+    let state = in_version version last in
+    let splits = subst (λ (t : List FrameText). Splits frame_format state bytes t fails.rest) (sym said) fails.splits in
+    let failing = subst (λ (t : List FrameText). frame_format.Fails (state_after frame_format state t) fails.rest fault.kind fails.within) (sym said) fails.fails in
+    let whole = header_fails state bytes frames fails.rest fault.kind fails.within sound splits failing in
+    let same = ap (λ (t : List FrameText). length (spelling_of frame_format t)) said in
     let stands = fails.stands in
-    in_frames version behind (length (spelling_of frame_format (texts_of frames)) + fails.within) joined whole (omega (arith, place, same, stands))
+    in_frames version bytes (length (spelling_of frame_format (texts_of frames)) + fails.within) joined whole (omega (arith, place, same, stands))
 
--- and where they have none it is
-pub cut_off_first : (capture : List ℕ) (fault : Fault) (frames : List Frame) → AreFramesBefore capture fault frames → AreSound frames
-    → HasFirstFault capture fault
-cut_off_first capture fault frames before sound = none_earlier capture fault frames before.first before.views sound
+-- and of the parts
+pub cut_off_first : (parts : List (List ℕ)) (found : PartFault) (frames : List Frame) → AreFramesBeforePart parts found frames → AreSound frames
+    → HasFirstPartFault parts found
+cut_off_first parts found frames before sound =
+    let first = before.first in
+    let two = parted frames first.units (frames_before first.part found.fault first.first) before.views.said in
+    let both = all_parts IsGood two.front two.back (subst AreSound two.are sound) in
+    let whole = whole_parts None first.front two.front first.units first.whole two.said both.0 in
+    let here = none_earlier (last_after frame_format None first.units) first.part found.fault two.back first.first two.said_behind both.1 in
+    record {
+      front = first.front;
+      part = first.part;
+      behind = first.behind;
+      are = first.are;
+      number = first.number;
+      units = whole.units;
+      whole = whole.are;
+      first = subst (λ (s : Option ℕ). IsFirstFaultBehind whole_format s first.part found.fault)
+          (sym (whole.last_is ∙ ap (last_after frame_format None) two.said)) here;
+    }
 
--- ---- what workers find of them
+-- ---- good frames
 
-pub all_cut : (capture : List ℕ) (frames : List Frame) → AreFrames capture frames → length capture ≤ 2 ^ 30 → IsBytes capture → AreCut frames
-all_cut capture frames are short bytes = begins_cut capture frames [] (all_begin capture frames are) short bytes
+pub good_cut : (frames : List Frame) → AreCut frames → AreSound frames → AreGoodFrames frames
+good_cut frames cut sound = record { few = cut.few; good = sound; apart = cut.apart }
 
+-- the frames of a capture, which is a single part
 pub good_frames : (capture : List ℕ) (frames : List Frame) → AreFrames capture frames → length capture ≤ 2 ^ 30 → IsBytes capture → AreSound frames
     → AreGoodFrames frames
 good_frames capture frames are short bytes sound =
-    let cut = all_cut capture frames are short bytes in
-    record { few = cut.few; good = sound; apart = cut.apart }
-
--- the whole frames of a capture that is cut to its end, and has no fault
-pub whole_capture : (capture : List ℕ) (frames : List Frame) → AreFrames capture frames → AreSound frames
-    → (wholes : List WholeFrame) × IsInGrammar capture wholes × Show frames (wholes_of wholes)
-whole_capture capture frames are sound =
-    let begins = all_begin capture frames are in (
-      wholes_by frames sound,
-      (begins.version, begins.bytes, begins.joined, whole_splits (in_version begins.version None) begins.bytes frames sound [] begins.splits),
-      shown_by_cut frames begins.stand sound,
-    )
-
-pub error_of_all : (capture : List ℕ) (frames : List Frame) → AreFrames capture frames → (error : AuditError) → IsFirstError frames error
-    → IsMalformed capture error
-error_of_all capture frames are Memory first = first
-error_of_all capture frames are (Malformed fault) first = first_in_cut capture frames [] fault (all_begin capture frames are) first
-
-pub error_before : (capture : List ℕ) (fault : Fault) (frames : List Frame) → AreFramesBefore capture fault frames → (error : AuditError)
-    → IsFirstError frames error → IsMalformed capture error
-error_before capture fault frames before Memory first = first
-error_before capture fault frames before (Malformed other) first = earlier_by capture fault other frames before.first before.views first
+    let parts : ArePartFrames (capture ∷ []) frames = record { texts = are.texts; whole = one_part frame_format capture are.texts are.whole; views = are.views } in
+    let sum = sum_by-cons (length {A = ℕ}) capture [] in
+    good_cut frames (all_cut (capture ∷ []) frames parts (omega (arith, sum, short)) (All-cons IsBytes capture [] bytes (All-nil IsBytes))) sound

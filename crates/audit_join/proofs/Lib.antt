@@ -3,6 +3,8 @@ pub mod RunLaws
 pub mod JobLists
 pub mod JobLaws
 pub mod CutLaws
+pub mod PlaceLaws
+pub mod CaptureLaws
 pub mod FaultLaws
 pub mod ShareLaws
 pub mod HandleJobs

@@ -1,6 +1,6 @@
 -- Frames in runs, which workers share as jobs: the jobs are as the board asks, and what is said of them is said of the frames.
-use Rattle.std.proofs.Common.{◌≡◌, ℕ, zero, suc, ◌<◌, ◌≤◌, List, [], ◌∷◌, ◌++◌, length, get_or, Option, Some, None, refl, sym, ap, subst, ◌∙◌, append_assoc, length-append, arith}
-use Rattle.std.specs.Prelude.{All, AllPairs, IfOk, IfSome, Result, Ok, Err, Vec, slice_get}
+use Rattle.std.proofs.Common.{◌≡◌, ℕ, zero, suc, ◌<◌, ◌≤◌, List, [], ◌∷◌, ◌++◌, length, Option, Some, None, refl, sym, ap, subst, ◌∙◌, append_assoc, length-append, arith}
+use Rattle.std.specs.Prelude.{All, AllPairs, IfSome, slice_get}
 use Rattle.std.specs.List.{AllZip, sum_by}
 use Rattle.std.proofs.lemmas.List.Elements.{All-append, All-cons, All-head, All-tail, All-nil, All-weaker}
 use Rattle.std.proofs.lemmas.List.Sums.{sum_by-append}
@@ -12,14 +12,13 @@ use Rattle.summary_law.specs.Fits.{all_parts, pairs_parts}
 use Rattle.claim_board.specs.declared.job.Job.{Job}
 use Rattle.claim_board.specs.Board.{AreJobs, EndsBefore}
 use Rattle.claim_board.specs.Orders.{AreFaultless, IsLeastFault}
-use Rattle.claim_board.specs.Results.{AreInOrder}
 use Rattle.claim_board.specs.Running.{AreWorkJobs, no_place}
 use Rattle.claim_board.specs.Work.{IsStop}
 use Rattle.claim_board.specs.declared.run.Stop.{Stop}
 use Rattle.claim_board.specs.declared.run.Stop.TheVariants.{Least, Memory as NoMemory}
 use Rattle.capture_frame.specs.Lookup.{span_of, StandApart}
 use Rattle.audit_findings.proofs.FrameLaws.{first_same}
-use Rattle.audit_join.specs.Jobs.{AreSound, HasFirstAt, IsFaultOf, IsJobOf, IsOfBytes, AreCut, AreJobRuns, run_at}
+use Rattle.audit_join.specs.Jobs.{AreSound, HasFirstAt, IsFaultOf, IsJobOf, IsOfBytes, AreCut, AreJobRuns}
 use Rattle.audit_join.specs.Runs.{all_frames, AreRuns}
 use Rattle.audit_join.specs.Judged.{IsLeastOf}
 use Rattle.audit_join.proofs.FaultLaws.{fault_held}

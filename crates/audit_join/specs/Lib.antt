@@ -3,3 +3,4 @@ pub mod Runs
 pub mod Jobs
 pub mod Judged
 pub mod Processes
+pub mod Parts

@@ -1,32 +1,93 @@
-//! From a capture to its findings.
+//! From a capture, or from its parts, to its findings.
 
-ghost use Rattle.std.specs.Prelude.{◌≤◌, List, length, map, IfErr, IfOk};
-ghost use Rattle.capture_frame.specs.Units.{Placed};
+ghost use Rattle.std.specs.Prelude.{◌<◌, ◌≤◌, ◌^◌, List, length, map, IfErr, IfOk};
+ghost use Rattle.std.specs.List.{sum_by};
+ghost use Rattle.capture_frame.specs.declared.fault.Fault.{Fault};
 ghost use Rattle.transaction_view.specs.Grammar.{WholeFrame};
-ghost use Rattle.audit_findings.specs.Frames.{AreGoodFrames, Show};
+ghost use Rattle.capture_frame.specs.Units.{Placed};
+ghost use Rattle.audit_findings.specs.Frames.{Show};
 ghost use Rattle.event_core.specs.Events.{wholes_of};
 ghost use Rattle.audit_findings.specs.Findings.{FindingsText};
 ghost use Rattle.audit_findings.specs.Handles.{AreListedHandles};
 ghost use Rattle.audit_findings.specs.Kept.{Tell};
 ghost use Rattle.audit_findings.specs.Summary.{SumsPiece};
 ghost use Rattle.audit_join.specs.Audit.{IsAudited, IsMalformed};
+ghost use Rattle.audit_join.specs.Jobs.{AreCut, AreSound, IsFirstIn};
+ghost use Rattle.audit_join.specs.Parts.{AreAudited, AreMalformed, IsFirstOfParts};
 ghost use Rattle.audit_join.specs.declared.limits.TheConstants.{CAPTURE_LIMIT};
 
 use crate::audit_error::AuditError;
 use crate::handle_work::HandleWork;
 use crate::judging::judge;
 use crate::limits::CAPTURE_LIMIT;
+use crate::part_bytes::take_bytes;
+use crate::part_places::part_of;
+use crate::parts_error::PartsError;
 use crate::piece::Piece;
 use crate::shares::sum_shares;
 use audit_findings::{Findings, OfProcess, PieceSummary};
-use capture_frame::{Cut, Frame, cut};
+use capture_frame::{Frame, PartCut, cut_parts};
 use claim_board::{Gate, NoGate, Workers, run_all};
 use handle_ledger::HeldRow;
 use std::alloc::{AllocError, Global};
 use std::thread::Threads;
 
-/// The findings of a capture, or its first fault. The frames are shared among so many workers, a
-/// piece at a time.
+/// The findings of a capture that is read in parts, in order, or their first fault. The frames of
+/// all parts are one list, which is shared among so many workers, a piece at a time.
+pub fn audit_parts<'c, T: Threads + Sync, G: Gate + Sync>(
+    rt: &T,
+    alloc: Global,
+    parts: &[&'c [u8]],
+    workers: Workers,
+    piece: Piece,
+    gate: &G,
+) -> Result<Findings<'c>, PartsError>
+    requires few { length parts.now < 2 ^ 32 }
+    requires limit { sum_by length (map (λ part. part.now) parts.now) ≤ CAPTURE_LIMIT }
+    ensures found { IfOk result (λ found. AreAudited (map (λ part. part.now) parts.now) found) }
+    ensures malformed { IfErr result (AreMalformed (map (λ part. part.now) parts.now)) }
+{
+    take_bytes(parts);
+    match cut_parts(alloc, parts) {
+        Ok(frames) => {
+            judge_parts(rt, alloc, parts, frames.as_slice(), workers, piece, gate)?;
+            Ok(findings_of(rt, alloc, frames, workers)?)
+        }
+        Err(PartCut::Memory) => Err(PartsError::Memory),
+        Err(PartCut::Bad { found, before }) => {
+            // A fault of the frames before it comes first.
+            judge_parts(rt, alloc, parts, before.as_slice(), workers, piece, gate)?;
+            Err(PartsError::Malformed(found))
+        }
+    }
+}
+
+/// Judges frames of parts; the error is the first fault of the parts.
+fn judge_parts<T: Threads + Sync, G: Gate + Sync>(
+    rt: &T,
+    alloc: Global,
+    parts: &[&[u8]],
+    frames: &[Frame<'_>],
+    workers: Workers,
+    piece: Piece,
+    gate: &G,
+) -> Result<(), PartsError>
+    requires few { length parts.now < 2 ^ 32 }
+    requires cut { AreCut frames.now }
+    requires first { (fault : Fault) → IsFirstIn frames.now fault →
+        IsFirstOfParts (map (λ part. part.now) parts.now) fault }
+    ensures sound { IfOk result (λ _. AreSound frames.now) }
+    ensures malformed { IfErr result (AreMalformed (map (λ part. part.now) parts.now)) }
+{
+    match judge(rt, alloc, frames, workers, piece, gate) {
+        Ok(()) => Ok(()),
+        Err(AuditError::Memory) => Err(PartsError::Memory),
+        Err(AuditError::Malformed(fault)) => Err(PartsError::Malformed(part_of(parts, fault))),
+    }
+}
+
+/// The findings of a capture, which is a single part, or its first fault. The frames are shared
+/// among so many workers, a piece at a time.
 pub fn audit<'c, T: Threads + Sync, G: Gate + Sync>(
     rt: &T,
     alloc: Global,
@@ -39,18 +100,7 @@ pub fn audit<'c, T: Threads + Sync, G: Gate + Sync>(
     ensures found { IfOk result (λ found. IsAudited capture.now found) }
     ensures malformed { IfErr result (IsMalformed capture.now) }
 {
-    match cut(alloc, capture) {
-        Ok(frames) => {
-            judge(rt, alloc, frames.as_slice(), workers, piece, gate)?;
-            Ok(findings_of(rt, alloc, frames, workers)?)
-        }
-        Err(Cut::Memory) => Err(AuditError::Memory),
-        Err(Cut::Bad { fault, before }) => {
-            // A fault of the frames before it comes first.
-            judge(rt, alloc, before.as_slice(), workers, piece, gate)?;
-            Err(AuditError::Malformed(fault))
-        }
-    }
+    Ok(audit_parts(rt, alloc, &[capture], workers, piece, gate)?)
 }
 
 /// The same by one worker.
@@ -75,7 +125,8 @@ fn findings_of<'c, T: Threads + Sync>(
     frames: Vec<Frame<'c>>,
     workers: Workers,
 ) -> Result<Findings<'c>, AllocError>
-    requires good { AreGoodFrames frames.items }
+    requires cut { AreCut frames.items }
+    requires sound { AreSound frames.items }
     requires shown { (wholes : List WholeFrame) × Show frames.items (wholes_of wholes) }
     ensures { IfOk result (λ found. (wholes : List WholeFrame) →
         Show frames.entry.items (wholes_of wholes) →
@@ -88,7 +139,7 @@ fn findings_of<'c, T: Threads + Sync>(
 }
 
 /// The rows of handles of each process. What deliveries hold that are never freed is known only
-/// when all frames are summed, so it is read from them a second time, by workers that take a
+/// when all frames are summed. So it is read from them a second time, by workers that take a
 /// process at a time.
 fn look_again<'c, T: Threads + Sync>(
     rt: &T,
@@ -97,8 +148,9 @@ fn look_again<'c, T: Threads + Sync>(
     whole: &PieceSummary<'c>,
     workers: Workers,
 ) -> Result<Vec<Vec<OfProcess<HeldRow>>>, AllocError>
+    requires cut { AreCut frames.now }
+    requires sound { AreSound frames.now }
     requires sums { SumsPiece whole.now frames.now }
-    requires good { AreGoodFrames frames.now }
     ensures { IfOk result (λ lists. (wholes : List (Placed WholeFrame)) → Show frames.now wholes →
         AreListedHandles wholes (map (λ list. list.items) lists.items)) }
 {

@@ -1,8 +1,8 @@
 //! What a worker does with a process.
 
-ghost use Rattle.std.specs.Prelude.{◌≡◌};
-ghost use Rattle.audit_findings.specs.Frames.{AreGoodFrames};
-ghost use Rattle.audit_findings.specs.Summary.{SumsPiece};
+ghost use Rattle.std.specs.Prelude.{◌≤◌, ◌^◌};
+ghost use Rattle.audit_findings.specs.Summary.{process_count};
+ghost use Rattle.audit_join.specs.Jobs.{AreCut, AreSound};
 
 use audit_findings::{OfProcess, PieceSummary};
 use capture_frame::Frame;
@@ -15,19 +15,20 @@ use std::alloc::Global;
 pub(crate) struct HandleWork<'f, 'c> {
     pub whole: &'f PieceSummary<'c>,
     pub frames: &'f [Frame<'c>],
-    ghost sums: { SumsPiece whole.now frames.now },
-    ghost good: { AreGoodFrames frames.now },
+    ghost cut: { AreCut frames.now },
+    ghost sound: { ∥ AreSound frames.now ∥₁ },
+    ghost few: { process_count whole.now ≤ 2 ^ 32 },
 }
 
 impl<'f, 'c> Work for HandleWork<'f, 'c> {
-    ghost use Rattle.audit_findings.specs.Summary.{AreHandlesAt, process_count};
+    ghost use Rattle.audit_findings.specs.Summary.{GivesHandlesAt, process_count};
     ghost use Rattle.audit_join.specs.Processes.{process_jobs};
 
     type Out = Vec<OfProcess<HeldRow>>;
 
     ghost listed = { λ me. process_jobs (process_count me.whole.now) };
 
-    ghost gives = { λ me i rows. AreHandlesAt me.frames.now i rows.items };
+    ghost gives = { λ me i rows. GivesHandlesAt me.whole.now me.frames.now i rows.items };
 
     fn jobs(&self) -> u64 {
         self.whole.process_count() as u64

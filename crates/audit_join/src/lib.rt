@@ -7,6 +7,9 @@ mod handle_work;
 mod judging;
 pub mod laws;
 mod limits;
+mod part_bytes;
+mod part_places;
+mod parts_error;
 mod piece;
 mod piece_work;
 mod plan;
@@ -19,7 +22,8 @@ pub use audit_findings::{
     OnewayCounts, OnewayRow, OpenAndStray, PieceSummary, ProcessSections, RecordCounts, References,
     Refused, Rows, Sections, Served, SortCounts,
 };
-pub use audits::{audit, audit_one};
+pub use audits::{audit, audit_one, audit_parts};
 pub use limits::CAPTURE_LIMIT;
+pub use parts_error::PartsError;
 pub use piece::Piece;
 pub use plan::Plan;

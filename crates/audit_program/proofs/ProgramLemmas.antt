@@ -6,13 +6,13 @@ use Rattle.audit_streams.specs.declared.run_error.RunError.{RunError}
 use Rattle.audit_streams.specs.declared.run_error.RunError.TheVariants.{Memory, TooLarge, Read, Write, Open}
 use Rattle.audit_run.specs.Run.{given, none_given}
 use Rattle.audit_run.specs.declared.answers.Request.{Request}
-use Rattle.audit_program.specs.Program.{Ask, Leaves, RunsOnFile}
+use Rattle.audit_program.specs.Program.{Ask, Leaves, RunsOnFiles}
 
-pub failed_on_file : (words : List Text) (asked : Request) (old new : Option (List ℕ)) (error : RunError) → Ask words asked
-    → RunsOnFile asked old new (Err error) → Leaves words old new (Run error)
-failed_on_file words asked old new Memory ask (given capture gives writes) = writes
-failed_on_file words asked old new Memory ask (none_given error gives is keeps) = keeps
-failed_on_file words asked old new TooLarge ask runs = (asked, ask, runs)
-failed_on_file words asked old new Read ask runs = (asked, ask, runs)
-failed_on_file words asked old new Write ask runs = (asked, ask, runs)
-failed_on_file words asked old new Open ask runs = (asked, ask, runs)
+pub failed_on_files : (words : List Text) (asked : Request) (old new : Option (List ℕ)) (error : RunError) → Ask words asked
+    → RunsOnFiles asked old new (Err error) → Leaves words old new (Run error)
+failed_on_files words asked old new Memory ask (given capture gives writes) = writes
+failed_on_files words asked old new Memory ask (none_given error gives is keeps) = keeps
+failed_on_files words asked old new TooLarge ask runs = (asked, ask, runs)
+failed_on_files words asked old new Read ask runs = (asked, ask, runs)
+failed_on_files words asked old new Write ask runs = (asked, ask, runs)
+failed_on_files words asked old new Open ask runs = (asked, ask, runs)

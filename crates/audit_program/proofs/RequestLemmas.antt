@@ -1,11 +1,12 @@
 -- Lemmas on what the rows of a parse ask for.
-use Rattle.std.proofs.Common.{◌≡◌, ℕ, ◌<◌, ◌≤◌, ◌^◌, List, Option, Some, None, IfSome, IfNone, codes, arith, refl, sym, ◌∙◌, option_map, ◌⊎◌, inl, inr}
+use Rattle.std.proofs.Common.{◌≡◌, ℕ, ◌<◌, ◌≤◌, ◌^◌, List, length, map, Option, Some, None, IfSome, IfNone, codes, arith, ap, refl, sym, ◌∙◌, option_map, ◌⊎◌, inl, inr}
+use Rattle.std.proofs.lemmas.List.{length-map}
 use Rattle.std.specs.Str.Parse.{ParsesUnsigned, ExplainsUnsignedError, HasUnsignedDigitsIfOk, IsNumeral, digits_value, without_leading_plus}
 use Rattle.std.specs.declared.num.ParseIntError.{ParseIntError}
 use Rattle.std.specs.declared.result.Result.{Result}
 use Rattle.std.specs.Borrow.{Bor}
-use Rattle.clap.specs.Words.{ReadsOne, Row, Text, first_of, one_of}
-use Rattle.audit_program.specs.CommandLine.{AsksFirstFault, AsksReport, HasNumbers, ReadsNumber}
+use Rattle.clap.specs.Words.{ReadsOne, Row, Text, all_of, one_of}
+use Rattle.audit_program.specs.CommandLine.{AsksReport, HasNumbers, NamesFiles, ReadsNumber}
 use Rattle.audit_run.specs.declared.answers.Question.{Question}
 use Rattle.audit_run.specs.declared.answers.Question.TheVariants.{Report, FirstFault}
 use Rattle.audit_run.specs.declared.answers.Request.{Request}
@@ -43,14 +44,31 @@ module _ (name : Text) (rows : List Row) where
       λ n reads. let bad : Some reads.0 ≡ None = sym reads.1 ∙ sym is_text in absurd (cc)
   number_large (Some t) None is_text none value = λ n reads. not_read t n reads is_text (value t refl).1.0
 
--- what `get_str` gives
-pub file_read : (r : Option (Bor Text)) (o : Option Text) → option_map (λ s. s.now) r ≡ o → IfSome r (λ s. o ≡ Some s.now)
-file_read None o is = tt
-file_read (Some s) o is = sym is
+-- what `get_strs` gives: files that the rows name, or too many
+pub files_read : (rows : List Row) (o : Option (Bor (List (Bor Text)))) (files : Bor (List (Bor Text)))
+    → option_map (λ s. map (λ v. v.now) s.now) o ≡ all_of (codes "files") rows → o ≡ Some files → length files.now ≤ 256
+    → NamesFiles rows (map (λ v. v.now) files.now)
+files_read rows o files is some most =
+    let long = length-map files.now (λ (v : Bor Text). v.now) in
+    let named : all_of (codes "files") rows ≡ Some (map (λ v. v.now) files.now) = sym is ∙ ap (option_map (λ s. map (λ v. v.now) s.now)) some in
+    (named, omega (arith, long, most))
 
-pub file_missing : (r : Option (Bor Text)) (o : Option Text) → option_map (λ s. s.now) r ≡ o → IfNone r (o ≡ None)
-file_missing None o is = sym is
-file_missing (Some s) o is = tt
+pub files_missing : (rows : List Row) (o : Option (Bor (List (Bor Text))))
+    → option_map (λ s. map (λ v. v.now) s.now) o ≡ all_of (codes "files") rows → o ≡ None → (files : List Text) → ¬ NamesFiles rows files
+files_missing rows o is none files names =
+    let missing : all_of (codes "files") rows ≡ None = sym is ∙ ap (option_map (λ s. map (λ v. v.now) s.now)) none in
+    let bad : Some files ≡ None = sym names.0 ∙ missing in absurd (cc)
+
+pub files_too_many : (rows : List Row) (o : Option (Bor (List (Bor Text)))) (files : Bor (List (Bor Text)))
+    → option_map (λ s. map (λ v. v.now) s.now) o ≡ all_of (codes "files") rows → o ≡ Some files → (length files.now ≤ 256 → ⊥)
+    → (others : List Text) → ¬ NamesFiles rows others
+files_too_many rows o files is some many others names =
+    let named : all_of (codes "files") rows ≡ Some (map (λ v. v.now) files.now) = sym is ∙ ap (option_map (λ s. map (λ v. v.now) s.now)) some in
+    let both : Some others ≡ Some (map (λ v. v.now) files.now) = sym names.0 ∙ named in
+    let same : others ≡ map (λ v. v.now) files.now = cc in
+    let long = ap length same ∙ length-map files.now (λ (v : Bor Text). v.now) in
+    let most = names.1 in
+    many (omega (arith, long, most))
 
 -- a report wants its two numbers and its file, and the first fault its file
 module _ (rows : List Row) where

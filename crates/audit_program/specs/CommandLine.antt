@@ -1,8 +1,9 @@
 -- The command as clap reads it, and what its subcommands ask for.
-use Rattle.std.specs.Prelude.{◌≡◌, ℕ, List, [], ◌∷◌, ◌⊎◌, Option, Some, None, true, codes}
+use Rattle.std.specs.Prelude.{◌≡◌, ℕ, ◌≤◌, List, [], ◌∷◌, ◌⊎◌, length, map, Option, Some, None, true, codes}
 use Rattle.std.specs.Str.Parse.{IsNumeral, digits_value, without_leading_plus}
-use Rattle.clap.specs.Words.{App, Row, Rule, Text, fault_of, first_of, new_app, new_rule, one_of, subcommand_of, with_rule, with_subcommand}
-use Rattle.clap.specs.declared.builder.action.ArgAction.TheVariants.{Set}
+use Rattle.clap.specs.Words.{App, Row, Rule, Text, all_of, fault_of, new_app, new_rule, one_of, subcommand_of, with_rule, with_subcommand}
+use Rattle.clap.specs.Lexer.{usize_max}
+use Rattle.clap.specs.declared.builder.action.ArgAction.TheVariants.{Set, Append}
 use Rattle.clap.specs.declared.builder.value_parser.ValueParser.TheVariants.{Unsigned}
 use Rattle.audit_run.specs.declared.answers.Question.{Question}
 use Rattle.audit_run.specs.declared.answers.Question.TheVariants.{Report, FirstFault}
@@ -17,16 +18,20 @@ number_rule name most default = record (new_rule name) {
   defaults = default ∷ [];
 }
 
--- the file, which has to be given
-abbrev pub file_rule : Rule
-file_rule = record (new_rule (codes "file")) { action = Some Set; required = true }
+-- the files, of which one has to be given
+abbrev pub files_rule : Rule
+files_rule = record (new_rule (codes "files")) {
+  action = Some Append;
+  range = Some (record { start_inclusive = 1; end_inclusive = usize_max });
+  required = true;
+}
 
 abbrev pub report_app : App
 report_app = with_rule (with_rule (with_rule (new_app (codes "report"))
-    (number_rule (codes "workers") 64 (codes "4"))) (number_rule (codes "piece") 65536 (codes "256"))) file_rule
+    (number_rule (codes "workers") 64 (codes "4"))) (number_rule (codes "piece") 65536 (codes "256"))) files_rule
 
 abbrev pub first_fault_app : App
-first_fault_app = with_rule (new_app (codes "first-fault")) file_rule
+first_fault_app = with_rule (new_app (codes "first-fault")) files_rule
 
 -- the whole command
 abbrev pub audit_app : App
@@ -38,9 +43,13 @@ ReadsNumber name rows n =
     (text : Text) × (one_of name rows ≡ Some text) × IsNumeral 10 (without_leading_plus text) ×
     (n ≡ digits_value 10 (without_leading_plus text))
 
--- the file that the rows name
-abbrev pub NamesFile : List Row → Request → Type 0
-NamesFile rows request = first_of (codes "file") rows ≡ Some request.file.now
+-- the files that the rows name are these, in order, and there are at most 256
+abbrev pub NamesFiles : List Row → List Text → Type 0
+NamesFiles rows files = (all_of (codes "files") rows ≡ Some files) × (length files ≤ 256)
+
+-- the names of the files of a request
+abbrev pub files_of : Request → List Text
+files_of request = map (λ file. file.now) request.files.now
 
 -- the report, by the numbers of the two options
 abbrev pub HasNumbers : List Row → Question → Type 0
@@ -50,11 +59,11 @@ HasNumbers rows FirstFault = ⊥
 
 -- what the rows of the subcommand `report` ask for
 abbrev pub AsksReport : List Row → Request → Type 0
-AsksReport rows request = HasNumbers rows request.question × NamesFile rows request
+AsksReport rows request = HasNumbers rows request.question × NamesFiles rows (files_of request)
 
 -- what the rows of the subcommand `first-fault` ask for
 abbrev pub AsksFirstFault : List Row → Request → Type 0
-AsksFirstFault rows request = (request.question ≡ FirstFault) × NamesFile rows request
+AsksFirstFault rows request = (request.question ≡ FirstFault) × NamesFiles rows (files_of request)
 
 -- what the subcommand that was met asks for, by its name and its rows
 abbrev pub AsksFor : Option (Text × List Row) → Request → Type 0

@@ -1,6 +1,6 @@
 -- What the program does with the words of a command line: what it leaves on standard output and on standard error, and
 -- the status that the process ends with (docs/REPORT.md).
-use Rattle.std.specs.Prelude.{◌≡◌, ℕ, List, map, string_bytes, Option, Result, Ok, Err}
+use Rattle.std.specs.Prelude.{◌≡◌, ℕ, List, length, map, string_bytes, Option, Result, Ok, Err}
 use Rattle.std.specs.IoError.{error_kind}
 use Rattle.std.specs.Vec.Iter.{into_iter_items}
 use Rattle.std.specs.declared.io.Error.{Error}
@@ -12,7 +12,8 @@ use Rattle.audit_streams.specs.declared.run_error.RunError.{RunError}
 use Rattle.audit_streams.specs.declared.run_error.RunError.TheVariants.{Memory}
 use Rattle.audit_streams.specs.KnownBytes.{AppendsPrefix}
 use Rattle.audit_run.specs.Question.{GoesWithStatus, IsAnswer}
-use Rattle.audit_run.specs.Run.{FileGives, Runs}
+use Rattle.audit_run.specs.PartRuns.{FilesGive}
+use Rattle.audit_run.specs.Run.{Runs}
 use Rattle.audit_run.specs.declared.answers.Request.{Request}
 use Rattle.audit_streams.specs.declared.failure.Failure.{Failure}
 use Rattle.audit_streams.specs.declared.failure.Failure.TheVariants.{Usage, Run}
@@ -28,19 +29,21 @@ Ask words asked = AreTaken words × WordsAskFor words asked
 abbrev pub AskForNothing : List Text → Type 0
 AskForNothing words = (asked : Request) → ¬ Ask words asked
 
--- what comes of the file of a request, of which nobody knows beforehand what it has
-abbrev pub RunsOnFile : Request → Option (List ℕ) → Option (List ℕ) → Result ℕ RunError → Type 0
-RunsOnFile asked old new result = Runs FileGives (IsAnswer asked.question) GoesWithStatus old new result
+-- what comes of the files of a request, of which nobody knows beforehand what they have
+abbrev pub RunsOnFiles : Request → Option (List ℕ) → Option (List ℕ) → Result ℕ RunError → Type 0
+RunsOnFiles asked old new result =
+    Runs (FilesGive (length asked.files.now)) (IsAnswer asked.question) GoesWithStatus old new result
 
--- the words ask for something, and the whole answer to it was written, about some capture within the limit
+-- the words ask for something, and the whole answer to it was written, about some parts, one of each file, that are
+-- together within the limit
 abbrev pub AnswersWords : List Text → Option (List ℕ) → Option (List ℕ) → ℕ → Type 0
-AnswersWords words old new status = (asked : Request) × Ask words asked × RunsOnFile asked old new (Ok status)
+AnswersWords words old new status = (asked : Request) × Ask words asked × RunsOnFiles asked old new (Ok status)
 
 -- what a failure leaves on standard output: nothing more, but for a failed write the beginning of an answer
 abbrev pub Leaves : List Text → Option (List ℕ) → Option (List ℕ) → Failure → Type 0
 Leaves words old new Usage = AskForNothing words × Keeps old new
 Leaves words old new (Run Memory) = Keeps old new
-Leaves words old new (Run error) = (asked : Request) × Ask words asked × RunsOnFile asked old new (Err error)
+Leaves words old new (Run error) = (asked : Request) × Ask words asked × RunsOnFiles asked old new (Err error)
 
 -- how the program ends on the words of a command line: what standard output, then standard error, held before and hold
 -- then, and the status. With an answer standard error stays; with a failure it grows by what could be written of the

@@ -2,8 +2,8 @@
 ghost use Rattle.std.specs.Prelude.{map, string_bytes, IfErr, IfOk};
 ghost use Rattle.audit_program.specs.Program.{AnswersWords, Leaves};
 
-use crate::command_line::parse;
-use audit_run::answer_file;
+use crate::command_line::{matches_of, request_of};
+use audit_run::answer_files;
 use audit_streams::Failure;
 use std::alloc::Global;
 use std::fs::Files;
@@ -22,7 +22,10 @@ pub(crate) fn answer_words<T: Files + Threads + Sync, W: Write>(
     ensures failed { IfErr result
         (Leaves (map string_bytes words.now) (W.contents out.old) (W.contents out.new)) }
 {
-    let request = parse(alloc, words)?;
-    let status = answer_file(rt, alloc, request, out)?;
+    let matches = matches_of(alloc, words)?;
+    let Some(request) = request_of(&matches) else {
+        return Err(Failure::Usage);
+    };
+    let status = answer_files(rt, alloc, request, out)?;
     Ok(status)
 }

@@ -1,7 +1,7 @@
 //! The words of the command line, and what they ask for.
-ghost use Rattle.std.specs.Prelude.{◌≡◌, ◌≢◌, ◌≤◌, ◌^◌, ◌↔◌, ℕ, OnOk, IfOk, IfSome, IfNone, IsErrOf, codes, false, map, string_bytes, Some, None};
-ghost use Rattle.clap.specs.Words.{app_of, first_of, found_of, kind_of, rows_of, rule_of, subcommand_of, subcommand_rows_of};
-ghost use Rattle.audit_program.specs.CommandLine.{AreTaken, AsksFirstFault, AsksFor, AsksReport, ReadsNumber, WordsAskFor, audit_app, file_rule, number_rule};
+ghost use Rattle.std.specs.Prelude.{◌≡◌, ◌≢◌, ◌≤◌, ◌^◌, ◌↔◌, ℕ, List, OnOk, IfOk, IfSome, IfNone, IsErrOf, codes, false, map, string_bytes};
+ghost use Rattle.clap.specs.Words.{Text, app_of, found_of, kind_of, rows_of, rule_of, subcommand_of, subcommand_rows_of};
+ghost use Rattle.audit_program.specs.CommandLine.{AreTaken, AsksFirstFault, AsksFor, AsksReport, NamesFiles, ReadsNumber, audit_app, files_rule, number_rule};
 ghost use Rattle.audit_run.specs.declared.answers.Request.{Request};
 
 use audit_run::{Piece, Question, Request, RunError, Workers};
@@ -9,6 +9,9 @@ use audit_streams::Failure;
 use clap::error::ErrorKind;
 use clap::{Arg, ArgAction, ArgMatches, Command, Error, value_parser};
 use std::alloc::{AllocError, Global};
+
+/// The most parts that a capture may have.
+const MOST_FILES: usize = 256;
 
 /// Why a command line asks for nothing.
 #[derive(Clone, Copy, Debug, PartialEq, Eq)]
@@ -53,13 +56,15 @@ fn piece<'a>(alloc: Global) -> Arg<'a>
         .default_value("256")
 }
 
-fn file<'a>(alloc: Global) -> Arg<'a>
-    ensures rule { rule_of result ≡ file_rule }
+// The parts of the capture, in order.
+fn files<'a>(alloc: Global) -> Arg<'a>
+    ensures rule { rule_of result ≡ files_rule }
     ensures local { result.global ≡ false }
 {
-    Arg::new(alloc, "file")
+    Arg::new(alloc, "files")
         .required(true)
-        .action(ArgAction::Set)
+        .action(ArgAction::Append)
+        .num_args(1..)
 }
 
 fn command<'a>(alloc: Global) -> Result<Command<'a>, AllocError>
@@ -68,8 +73,8 @@ fn command<'a>(alloc: Global) -> Result<Command<'a>, AllocError>
     let report = Command::new(alloc, "report")
         .arg(workers(alloc))?
         .arg(piece(alloc))?
-        .arg(file(alloc))?;
-    let first_fault = Command::new(alloc, "first-fault").arg(file(alloc))?;
+        .arg(files(alloc))?;
+    let first_fault = Command::new(alloc, "first-fault").arg(files(alloc))?;
     Command::new(alloc, "binder_audit")
         .subcommand(report)?
         .subcommand(first_fault)
@@ -84,37 +89,43 @@ fn number_of(matches: &ArgMatches<'_>, name: &str) -> Option<u64>
     matches.get_one(name)
 }
 
-fn file_of<'a>(matches: &ArgMatches<'a>) -> Option<&'a str>
-    ensures some { IfSome result
-        (λ name. first_of (codes "file") (rows_of (found_of matches.now)) ≡ Some name.now) }
-    ensures none { IfNone result (first_of (codes "file") (rows_of (found_of matches.now)) ≡ None) }
+fn files_of<'m, 'a>(matches: &'m ArgMatches<'a>) -> Option<&'m [&'a str]>
+    ensures some { IfSome result (λ files.
+        NamesFiles (rows_of (found_of matches.now)) (map (λ file. file.now) files.now)) }
+    ensures none { IfNone result
+        ((files : List Text) → ¬ NamesFiles (rows_of (found_of matches.now)) files) }
 {
-    matches.get_str("file")
+    let files = matches.get_strs("files")?;
+    if MOST_FILES < files.len() {
+        return None;
+    }
+    Some(files)
 }
 
-fn report_of<'a>(matches: &ArgMatches<'a>) -> Option<Request<'a>>
+fn report_of<'m>(matches: &'m ArgMatches<'_>) -> Option<Request<'m>>
     ensures some { IfSome result (AsksReport (rows_of (found_of matches.now))) }
     ensures none { IfNone result
         ((request : Request) → ¬ AsksReport (rows_of (found_of matches.now)) request) }
 {
     let workers = Workers::new(number_of(matches, "workers")?)?;
     let piece = Piece::new(number_of(matches, "piece")?)?;
-    let file = file_of(matches)?;
+    let files = files_of(matches)?;
     let question = Question::Report { workers, piece };
-    Some(Request { question, file })
+    Some(Request { question, files })
 }
 
-fn first_fault_of<'a>(matches: &ArgMatches<'a>) -> Option<Request<'a>>
+fn first_fault_of<'m>(matches: &'m ArgMatches<'_>) -> Option<Request<'m>>
     ensures some { IfSome result (AsksFirstFault (rows_of (found_of matches.now))) }
     ensures none { IfNone result
         ((request : Request) → ¬ AsksFirstFault (rows_of (found_of matches.now)) request) }
 {
-    let file = file_of(matches)?;
+    let files = files_of(matches)?;
     let question = Question::FirstFault;
-    Some(Request { question, file })
+    Some(Request { question, files })
 }
 
-fn request_of<'a>(matches: &ArgMatches<'a>) -> Option<Request<'a>>
+/// What the words ask for, of which these are the matches.
+pub(crate) fn request_of<'m>(matches: &'m ArgMatches<'_>) -> Option<Request<'m>>
     ensures some { IfSome result (AsksFor (subcommand_rows_of matches.now)) }
     ensures none { IfNone result
         ((request : Request) → ¬ AsksFor (subcommand_rows_of matches.now) request) }
@@ -138,7 +149,11 @@ fn refusal(error: &Error) -> WordsError
     }
 }
 
-fn matches_of<'a>(alloc: Global, words: &'a [String]) -> Result<ArgMatches<'a>, WordsError>
+/// Reads the words, of which the first is the program's own name.
+pub(crate) fn matches_of<'a>(
+    alloc: Global,
+    words: &'a [String],
+) -> Result<ArgMatches<'a>, WordsError>
     ensures taken { OnOk result (AreTaken (map string_bytes words.now)) }
     ensures rows { IfOk result (λ matches.
         subcommand_rows_of matches ≡ subcommand_of audit_app (map string_bytes words.now)) }
@@ -150,19 +165,5 @@ fn matches_of<'a>(alloc: Global, words: &'a [String]) -> Result<ArgMatches<'a>, 
     match command.try_get_matches_from(words) {
         Ok(matches) => Ok(matches),
         Err(error) => Err(refusal(&error)),
-    }
-}
-
-/// Reads the words, of which the first is the program's own name.
-pub(crate) fn parse(alloc: Global, words: &[String]) -> Result<Request<'_>, WordsError>
-    ensures taken { OnOk result (AreTaken (map string_bytes words.now)) }
-    ensures asked { IfOk result (WordsAskFor (map string_bytes words.now)) }
-    ensures usage { IsErrOf result WordsError.Usage → AreTaken (map string_bytes words.now) →
-        (request : Request) → ¬ WordsAskFor (map string_bytes words.now) request }
-{
-    let matches = matches_of(alloc, words)?;
-    match request_of(&matches) {
-        Some(request) => Ok(request),
-        None => Err(WordsError::Usage),
     }
 }

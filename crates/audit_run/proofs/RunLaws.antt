@@ -1,38 +1,99 @@
 -- What a run rests on: what came of a failed write, and what is said besides of the same text.
-use Rattle.std.proofs.Common.{◌≡◌, ℕ, List, Option, Result, Err, sym, subst}
-use Rattle.capture_frame.specs.declared.fault.Fault.{Fault}
+use Rattle.std.proofs.Common.{◌≡◌, ℕ, ◌<◌, List, length, map, Bor, Option, Result, Ok, Err, sym, ap, subst, ◌∙◌, arith}
+use Rattle.std.specs.List.{AllZip}
+use Rattle.std.proofs.lemmas.List.{length-map}
+use Rattle.capture_frame.specs.declared.fault.PartFault.{PartFault}
+use Rattle.report_text.specs.Fault.{part_fault_line}
+use Rattle.std.proofs.lemmas.Slice.Zip.{AllZip-long}
 use Rattle.audit_streams.specs.declared.run_error.RunError.{RunError}
 use Rattle.audit_streams.specs.declared.run_error.RunError.TheVariants.{Memory, TooLarge, Read, Write, Open}
 use Rattle.audit_streams.specs.KnownBytes.{AppendsPrefix}
-use Rattle.audit_run.specs.Run.{Breaks, FileGives, IsAnswered, ReaderGives, Runs, given, none_given}
-use Rattle.report_text.specs.Fault.{fault_line}
+use Rattle.audit_streams.specs.Parts.{IsAllOf}
+use Rattle.audit_run.specs.PartRuns.{FilesGive, IsOpeningFault, ReadersGive}
+use Rattle.audit_run.specs.Run.{Breaks, IsAnswered, Runs, given, none_given}
 
--- what a reader gives is what a file gives that was opened
-file_gives : (had : Option (List ℕ)) (error : RunError) → ReaderGives had (Err error) → FileGives (Err error)
-file_gives had Memory gives = gives
-file_gives had TooLarge gives = tt
-file_gives had Read gives = gives
-file_gives had Write gives = gives
-file_gives had Open gives = absurd gives
+-- what readers give is what files give that were opened
+files_give : (files : ℕ) (had : List (Option (List ℕ))) (error : RunError) → ReadersGive had (Err error) → FilesGive files (Err error)
+files_give files had Memory gives = gives
+files_give files had TooLarge gives = tt
+files_give files had Read gives = gives
+files_give files had Write gives = gives
+files_give files had Open gives = absurd gives
 
-pub run_on_file : {A : Type 0} (had : Option (List ℕ)) (IsOn : List ℕ → List ℕ → Type 0) (GoesWith : List ℕ → A → Type 0)
-    (old new : Option (List ℕ)) (result : Result A RunError) → Runs (ReaderGives had) IsOn GoesWith old new result
-    → Runs FileGives IsOn GoesWith old new result
-run_on_file had IsOn GoesWith old new result (given capture gives writes) = given capture gives.1 writes
-run_on_file had IsOn GoesWith old new result (none_given error gives is keeps) =
-    none_given error (file_gives had error gives) is keeps
+pub run_on_files : {A : Type 0} (files : ℕ) (had : List (Option (List ℕ))) (IsOn : List (List ℕ) → List ℕ → Type 0)
+    (GoesWith : List (List ℕ) → A → Type 0) (old new : Option (List ℕ)) (result : Result A RunError) → length had ≡ files
+    → Runs (ReadersGive had) IsOn GoesWith old new result → Runs (FilesGive files) IsOn GoesWith old new result
+run_on_files files had IsOn GoesWith old new result many (given parts gives writes) =
+    given parts (AllZip-long IsAllOf had parts gives.0 ∙ many, gives.1) writes
+run_on_files files had IsOn GoesWith old new result many (none_given error gives is keeps) =
+    none_given error (files_give files had error gives) is keeps
 
--- an answer of another kind to the same text
-pub answered_by : {A B : Type 0} (IsOn : List ℕ → List ℕ → Type 0) (GoesWith : List ℕ → A → Type 0)
-    (GoesWithOther : List ℕ → B → Type 0) (capture : List ℕ) (old new : Option (List ℕ)) (answer : A) (other : B)
-    → IsAnswered IsOn GoesWith capture old new answer → (GoesWith capture answer → GoesWithOther capture other)
-    → IsAnswered IsOn GoesWithOther capture old new other
-answered_by IsOn GoesWith GoesWithOther capture old new answer other answered goes =
-    record { text = answered.text; right = answered.right; written = answered.written; goes = goes answered.goes }
+pub opening_gives : (files : ℕ) (error : RunError) → IsOpeningFault error → FilesGive files (Err error)
+opening_gives files Memory fault = tt
+opening_gives files TooLarge fault = absurd fault
+opening_gives files Read fault = absurd fault
+opening_gives files Write fault = absurd fault
+opening_gives files Open fault = tt
+
+-- a slice for each reader
+pub few_slices : {R : Type 0} (remaining : R → Option (List ℕ)) (readers : List R) (parts : List (List ℕ)) (slices : List (Bor (List ℕ))) (most : ℕ)
+    → AllZip IsAllOf (map remaining readers) parts → map (λ (slice : Bor (List ℕ)). slice.now) slices ≡ parts → length readers < most
+    → length slices < most
+few_slices remaining readers parts slices most read same few =
+    let many = AllZip-long IsAllOf (map remaining readers) parts read ∙ length-map readers remaining in
+    let one_each = sym (length-map slices (λ (slice : Bor (List ℕ)). slice.now)) ∙ ap length same in
+    omega (arith, many, one_each, few)
+
+-- the line of a fault of so many slices
+pub line_of_slices : (slices : List (Bor (List ℕ))) (found : PartFault)
+    → part_fault_line (length slices) found ≡ part_fault_line (length (map (λ (slice : Bor (List ℕ)). slice.now) slices)) found
+line_of_slices slices found =
+    ap (λ (n : ℕ). part_fault_line n found) (sym (length-map slices (λ (slice : Bor (List ℕ)). slice.now)))
+
+-- an answer of another kind to the same text, of what was read in another form
+pub answered_by : {C D A B : Type 0} (IsOn : C → List ℕ → Type 0) (IsOnOther : D → List ℕ → Type 0) (GoesWith : C → A → Type 0)
+    (GoesWithOther : D → B → Type 0) (read : C) (form : D) (old new : Option (List ℕ)) (answer : A) (other : B)
+    → ((text : List ℕ) → IsOn read text → IsOnOther form text) → (GoesWith read answer → GoesWithOther form other)
+    → IsAnswered IsOn GoesWith read old new answer → IsAnswered IsOnOther GoesWithOther form old new other
+answered_by IsOn IsOnOther GoesWith GoesWithOther read form old new answer other texts goes answered =
+    record { text = answered.text; right = texts answered.text answered.right; written = answered.written; goes = goes answered.goes }
+
+-- and what stands written without one
+pub broken_by : {C D : Type 0} (IsOn : C → List ℕ → Type 0) (IsOnOther : D → List ℕ → Type 0) (read : C) (form : D)
+    (old new : Option (List ℕ)) (error : RunError) → ((text : List ℕ) → IsOn read text → IsOnOther form text)
+    → Breaks IsOn read old new error → Breaks IsOnOther form old new error
+broken_by IsOn IsOnOther read form old new Memory texts breaks = breaks
+broken_by IsOn IsOnOther read form old new TooLarge texts breaks = breaks
+broken_by IsOn IsOnOther read form old new Read texts breaks = breaks
+broken_by IsOn IsOnOther read form old new Write texts breaks =
+    record { text = breaks.text; right = texts breaks.text breaks.right; begun = breaks.begun }
+broken_by IsOn IsOnOther read form old new Open texts breaks = breaks
+
+-- another answer to the same run
+pub runs_to : {C A B : Type 0} (Gives : Result C RunError → Type 0) (IsOn : C → List ℕ → Type 0) (GoesWith : C → A → Type 0)
+    (GoesWithOther : C → B → Type 0) (old new : Option (List ℕ)) (answer : A) (other : B)
+    → ((read : C) → GoesWith read answer → GoesWithOther read other) → Runs Gives IsOn GoesWith old new (Ok answer)
+    → Runs Gives IsOn GoesWithOther old new (Ok other)
+runs_to Gives IsOn GoesWith GoesWithOther old new answer other goes (given read gives answered) =
+    given read gives (answered_by IsOn IsOn GoesWith GoesWithOther read read old new answer other (λ text right. right) (goes read) answered)
+runs_to Gives IsOn GoesWith GoesWithOther old new answer other goes (none_given error gives is keeps) = absurd (cc)
+
+abbrev error_of : (A : Type 0) → RunError → Result A RunError
+error_of A error = Err error
+
+same_error : (A : Type 0) (error other : RunError) → error_of A error ≡ error_of A other → error ≡ other
+same_error A error other is = cc
+
+-- and the same want of one
+pub runs_out : {C A B : Type 0} (Gives : Result C RunError → Type 0) (IsOn : C → List ℕ → Type 0) (GoesWith : C → A → Type 0)
+    (GoesWithOther : C → B → Type 0) (old new : Option (List ℕ)) (error : RunError) → Runs Gives IsOn GoesWith old new (Err error)
+    → Runs Gives IsOn GoesWithOther old new (Err error)
+runs_out Gives IsOn GoesWith GoesWithOther old new error (given read gives breaks) = given read gives breaks
+runs_out {C} {A} {B} Gives IsOn GoesWith GoesWithOther old new error (none_given other gives is keeps) =
+    none_given other gives (ap (error_of B) (same_error A error other is)) keeps
 
 -- a line that names the first fault and could not be written
-pub line_begun : (IsOn : List ℕ → List ℕ → Type 0) (capture : List ℕ) (fault : Fault) (error : RunError) (old new : Option (List ℕ))
-    → IsOn capture (fault_line fault) → error ≡ Write → AppendsPrefix old new (fault_line fault)
-    → Breaks IsOn capture old new error
-line_begun IsOn capture fault error old new right is begun =
-    subst (Breaks IsOn capture old new) (sym is) (record { text = fault_line fault; right = right; begun = begun })
+pub line_begun : {C : Type 0} (IsOn : C → List ℕ → Type 0) (read : C) (line : List ℕ) (error : RunError) (old new : Option (List ℕ))
+    → IsOn read line → error ≡ Write → AppendsPrefix old new line → Breaks IsOn read old new error
+line_begun IsOn read line error old new right is begun =
+    subst (Breaks IsOn read old new) (sym is) (record { text = line; right = right; begun = begun })

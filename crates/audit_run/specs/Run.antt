@@ -21,12 +21,6 @@ ReaderGives had (Err Read) = ⊤
 ReaderGives had (Err Write) = ⊥
 ReaderGives had (Err Open) = ⊥
 
--- what a file gives, which is opened first: some capture within the limit, or none
-abbrev pub FileGives : Result (List ℕ) RunError → Type 0
-FileGives (Ok capture) = length capture ≤ CAPTURE_LIMIT
-FileGives (Err Write) = ⊥
-FileGives (Err _) = ⊤
-
 -- a text on what was read was written whole, and what is answered goes with what was read
 pub record IsAnswered {C A : Type 0} (IsOn : C → List ℕ → Type 0) (GoesWith : C → A → Type 0) (capture : C)
     (old new : Option (List ℕ)) (answer : A) : Type 0 where

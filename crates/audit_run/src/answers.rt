@@ -1,11 +1,10 @@
-//! The answer to a question about a capture: one at hand, one that a reader gives, or that of a
-//! file.
-ghost use Rattle.std.specs.Prelude.{◌≤◌, length, IsOkUnless, None};
-ghost use Rattle.audit_join.specs.declared.limits.TheConstants.{CAPTURE_LIMIT};
+//! The answer to a question about a capture: about what readers give, or about files.
+ghost use Rattle.std.specs.Prelude.{◌≡◌, ◌<◌, ◌^◌, length, map, vec_len, IfErr, IfOk};
+ghost use Rattle.audit_run.specs.PartRuns.{FilesGive, IsOpeningFault, ReadersGive};
 ghost use Rattle.audit_run.specs.Question.{GoesWithStatus, IsAnswer};
-ghost use Rattle.audit_run.specs.Run.{FileGives, ReaderGives, Runs, Writes};
+ghost use Rattle.audit_run.specs.Run.{Runs};
 
-use crate::runs::{Written, read_within, write_first_fault, write_report};
+use crate::part_runs::{PartsWritten, run_first_fault_parts, run_parts};
 use audit_join::Piece;
 use audit_streams::RunError;
 use claim_board::{NoGate, Workers};
@@ -24,69 +23,63 @@ pub enum Question {
     FirstFault,
 }
 
-/// What is asked, and the name of the file that has the capture.
+/// What is asked, and the names of the files that have the parts of the capture, in order.
 #[derive(Clone, Copy, Debug, PartialEq)]
 pub struct Request<'a> {
     pub question: Question,
-    pub file: &'a str,
+    pub files: &'a [&'a str],
 }
 
-/// Opens the file that the request names, and answers about what it gives. Its clause can tell of
-/// that only that it is some capture within the limit.
-pub fn answer_file<T: Files + Threads + Sync, W: Write>(
+/// Opens the files that the request names, all before the first is read, and answers about what
+/// they give. Its clause can tell of that only that it is some parts within the limit.
+pub fn answer_files<T: Files + Threads + Sync, W: Write>(
     rt: &T,
     alloc: Global,
     request: Request<'_>,
     out: &mut W,
 ) -> Result<u8, RunError>
-    ensures { Runs FileGives (IsAnswer request.entry.question) GoesWithStatus
-        (W.contents out.old) (W.contents out.new) result }
+    requires { length request.files.now < 2 ^ 32 }
+    ensures { Runs (FilesGive (length request.entry.files.now)) (IsAnswer request.entry.question)
+        GoesWithStatus (W.contents out.old) (W.contents out.new) result }
 {
-    let mut reader = open(rt, request.file)?;
-    answer(rt, alloc, request.question, &mut reader, out)
+    let readers = open_files(rt, alloc, request.files)?;
+    answer(rt, alloc, request.question, readers, out)
 }
 
-fn open<T: Files>(rt: &T, file: &str) -> Result<T::File, RunError>
-    ensures { IsOkUnless result RunError.Open }
+/// Opens each of these files, in order. Memory for them all is taken first.
+fn open_files<T: Files>(rt: &T, alloc: Global, files: &[&str]) -> Result<Vec<T::File>, RunError>
+    ensures each { IfOk result (λ opened. vec_len opened ≡ length files.now) }
+    ensures faults { IfErr result IsOpeningFault }
 {
-    fs::open(rt, file).map_err(|_| RunError::Open)
+    let mut opened = Vec::with_capacity(alloc, files.len()).map_err(|_| RunError::Memory)?;
+    for file in files {
+        let reader = fs::open(rt, file).map_err(|_| RunError::Open)?;
+        opened.push(reader).map_err(|_| RunError::Memory)?;
+    }
+    Ok(opened)
 }
 
-/// Answers about the capture that the reader gives.
-pub fn answer<T: Threads + Sync, R: Read, W: Write>(
+/// Answers about the parts that the readers give. The answer is the status that goes with what was
+/// written.
+pub fn answer<T: Threads + Sync, R: Read + Drop, W: Write>(
     rt: &T,
     alloc: Global,
     question: Question,
-    reader: &mut R,
+    readers: Vec<R>,
     out: &mut W,
 ) -> Result<u8, RunError>
-    ensures { Runs (ReaderGives (R.remaining reader.old)) (IsAnswer question) GoesWithStatus
-        (W.contents out.old) (W.contents out.new) result }
-{
-    let capture = read_within(alloc, reader)?;
-    write_answer(rt, alloc, question, capture.as_slice(), out)
-}
-
-/// Answers about a capture at hand. The answer is the status that goes with what was written.
-pub fn write_answer<T: Threads + Sync, W: Write>(
-    rt: &T,
-    alloc: Global,
-    question: Question,
-    capture: &[u8],
-    out: &mut W,
-) -> Result<u8, RunError>
-    requires { length capture.now ≤ CAPTURE_LIMIT }
-    ensures { Writes (IsAnswer question) GoesWithStatus capture.now
+    requires { vec_len readers < 2 ^ 32 }
+    ensures { Runs (ReadersGive (map R.remaining readers.items)) (IsAnswer question) GoesWithStatus
         (W.contents out.old) (W.contents out.new) result }
 {
     match question {
         Question::Report { workers, piece } => {
-            match write_report(rt, alloc, capture, out, workers, piece, &NoGate)? {
-                Written::Report => Ok(0),
-                Written::Malformed(_) => Ok(2),
+            match run_parts(rt, alloc, readers, out, workers, piece, &NoGate)? {
+                PartsWritten::Report => Ok(0),
+                PartsWritten::Malformed(_) => Ok(2),
             }
         }
-        Question::FirstFault => match write_first_fault(capture, out)? {
+        Question::FirstFault => match run_first_fault_parts(alloc, readers, out)? {
             None => Ok(0),
             Some(_) => Ok(2),
         },

@@ -1,12 +1,14 @@
 //! From the bytes of a capture of Android Binder traffic to the text on it, over any reader and any
-//! writer.
+//! writer; also of a capture that several readers give in parts.
 #![tactic(auto)]
 
 mod answers;
+mod part_runs;
 mod runs;
 
-pub use crate::answers::{Question, Request, answer, answer_file, write_answer};
+pub use crate::answers::{Question, Request, answer, answer_files};
+pub use crate::part_runs::{PartsWritten, run_first_fault_parts, run_parts};
 pub use crate::runs::{Written, run, run_first_fault, run_gated, write_first_fault};
 pub use audit_join::{CAPTURE_LIMIT, Piece};
-pub use audit_streams::{RunError, read_capture, write_text};
+pub use audit_streams::{RunError, read_capture, read_parts, write_text};
 pub use claim_board::{Gate, NoGate, Workers};

@@ -16,5 +16,5 @@ status_of (Run Open) = 4
 
 -- what standard error says of a failure, as a line with its line feed
 abbrev pub line_of : Failure → List ℕ
-line_of Usage = codes "usage: binder_audit report [--workers N] [--piece N] FILE or first-fault FILE" ++ 10 ∷ []
+line_of Usage = codes "usage: binder_audit report [--workers N] [--piece N] FILE... or first-fault FILE..." ++ 10 ∷ []
 line_of (Run error) = error_line error

@@ -1,3 +1,4 @@
 pub mod Failure
 pub mod KnownBytes
+pub mod Parts
 pub mod RunError

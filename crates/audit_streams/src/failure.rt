@@ -34,7 +34,7 @@ impl Failure {
     {
         match self {
             Failure::Usage => {
-                "usage: binder_audit report [--workers N] [--piece N] FILE or first-fault FILE\n"
+                "usage: binder_audit report [--workers N] [--piece N] FILE... or first-fault FILE...\n"
             }
             Failure::Run(error) => error.line(),
         }

@@ -3,11 +3,13 @@
 #![tactic(auto)]
 
 mod failure;
+mod parts;
 mod reading;
 mod run_error;
 mod writing;
 
 pub use crate::failure::Failure;
+pub use crate::parts::read_parts;
 pub use crate::reading::read_capture;
 pub use crate::run_error::RunError;
 pub use crate::writing::write_text;

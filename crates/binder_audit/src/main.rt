@@ -4,8 +4,8 @@
 use audit_program::ended;
 pub use audit_program::program;
 pub use audit_run::{
-    CAPTURE_LIMIT, Gate, NoGate, Piece, RunError, Workers, Written, read_capture, run,
-    run_first_fault, run_gated,
+    CAPTURE_LIMIT, Gate, NoGate, PartsWritten, Piece, RunError, Workers, Written, read_capture,
+    read_parts, run, run_first_fault, run_first_fault_parts, run_gated, run_parts,
 };
 use std::env;
 use std::process::ExitCode;

@@ -7,3 +7,4 @@ pub mod CallEvents
 pub mod OneText
 mod SomeText
 pub mod Vectors
+pub mod PartText

@@ -19,7 +19,7 @@ use Rattle.report_text.specs.Calls.{calls_row}
 use Rattle.report_text.specs.Codes.{codes_row}
 use Rattle.report_text.specs.Deaths.{deaths_row}
 use Rattle.report_text.specs.EventRow.{kind_row}
-use Rattle.report_text.specs.Fault.{fault_line, no_fault_line}
+use Rattle.report_text.specs.Fault.{fault_line, no_fault_line, part_fault_line}
 use Rattle.report_text.specs.Flags.{flags_row}
 use Rattle.report_text.specs.Handles.{handles_row}
 use Rattle.report_text.specs.Line.{hex_number}
@@ -170,6 +170,11 @@ done_row = refl
 direction_line : fault_line (record { kind = RecordDirection; place = 84 }) ≡ codes "malformed RecordDirection at 84\n"
 unfolding fault_line
 direction_line = rw eighty_four_said refl
+
+second_part_line : part_fault_line 2 (record { part = 2; fault = record { kind = RecordDirection; place = 84 } })
+    ≡ codes "malformed RecordDirection at 84 in part 2\n"
+unfolding part_fault_line
+second_part_line = rw (eighty_four_said, decimal_digit 2 (omega arith)) refl
 
 good_line : no_fault_line ≡ codes "no malformed record\n"
 good_line = refl

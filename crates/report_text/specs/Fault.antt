@@ -1,7 +1,8 @@
 -- The line that names a first fault, and the one that says that there is none (docs/ENVELOPE.md).
-use Rattle.std.specs.Prelude.{ℕ, List, ◌++◌, codes}
+use Rattle.std.specs.Prelude.{ℕ, suc, zero, List, ◌++◌, codes}
 use Rattle.std.specs.Fmt.{decimal}
 use Rattle.capture_frame.specs.declared.fault.Fault.{Fault}
+use Rattle.capture_frame.specs.declared.fault.PartFault.{PartFault}
 use Rattle.capture_frame.specs.declared.fault.FaultKind.{FaultKind}
 use Rattle.capture_frame.specs.declared.fault.FaultKind.TheVariants.{HeaderShort, HeaderMagic, HeaderProtocol, HeaderReserved, FrameShort, FrameSequence, FrameDirection, FrameReserved, FrameLength, RecordShort, RecordDirection, RecordSize, AttachShort, AttachRecord, AttachSize}
 use Rattle.report_text.specs.Line.{ended}
@@ -24,9 +25,19 @@ fault_name AttachShort = codes "AttachShort"
 fault_name AttachRecord = codes "AttachRecord"
 fault_name AttachSize = codes "AttachSize"
 
+-- what is wrong, and where
+abbrev pub fault_words : Fault → List ℕ
+fault_words fault = codes "malformed " ++ fault_name fault.kind ++ codes " at " ++ decimal fault.place
+
 -- the one line that names a first fault
 unfoldable pub fault_line : Fault → List ℕ
-fault_line fault = ended (codes "malformed " ++ fault_name fault.kind ++ codes " at " ++ decimal fault.place)
+fault_line fault = ended (fault_words fault)
+
+-- the one line that names the first fault of so many parts: of one part that of a capture, and of more with the part
+-- that it stands in
+unfoldable pub part_fault_line : ℕ → PartFault → List ℕ
+part_fault_line (suc zero) found = fault_line found.fault
+part_fault_line parts found = ended (fault_words found.fault ++ codes " in part " ++ decimal found.part)
 
 -- the one line that says that there is none
 abbrev pub no_fault_line : List ℕ

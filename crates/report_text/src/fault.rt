@@ -1,22 +1,47 @@
 //! The line that names a fault.
 
 ghost use Rattle.std.specs.Prelude.{◌≡◌, ◌≤◌, length};
-ghost use Rattle.report_text.specs.Fault.{fault_name, fault_line};
+ghost use Rattle.arrayvec.specs.ArrayString.{array_string_len};
+ghost use Rattle.report_text.specs.Fault.{fault_name, fault_line, fault_words, part_fault_line};
 
-use crate::line::{Row, push_decimal};
-use capture_frame::{Fault, FaultKind};
+use crate::line::{Row, push_counted, push_decimal};
+use capture_frame::{Fault, FaultKind, PartFault};
 
 /// The line that names a fault, with its line feed.
 pub fn fault_text(fault: Fault) -> Row
     ensures line { result.bytes ≡ fault_line fault }
     ensures short { length result.bytes ≤ 256 }
 {
+    let mut line = row_of(fault);
+    line.push_str("\n");
+    line
+}
+
+/// The line that names the first fault of so many parts, with its line feed. Of a single part it is
+/// that of a capture; of more it says which part the place is in, and the first one is 1.
+pub fn part_fault_text(found: PartFault, parts: usize) -> Row
+    ensures line { result.bytes ≡ part_fault_line parts found }
+    ensures short { length result.bytes ≤ 256 }
+{
+    if parts == 1 {
+        return fault_text(found.fault);
+    }
+    let mut line = row_of(found.fault);
+    push_counted(&mut line, " in part ", u64::from(found.part));
+    line.push_str("\n");
+    line
+}
+
+/// What is wrong, and where.
+fn row_of(fault: Fault) -> Row
+    ensures words { result.bytes ≡ fault_words fault }
+    ensures short { array_string_len result ≤ 49 }
+{
     let mut line = Row::new();
     line.push_str("malformed ");
     line.push_str(kind_name(fault.kind));
     line.push_str(" at ");
     push_decimal(&mut line, fault.place);
-    line.push_str("\n");
     line
 }
 

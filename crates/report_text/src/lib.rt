@@ -29,6 +29,6 @@ mod served;
 mod strays;
 mod whole_rows;
 
-pub use fault::fault_text;
+pub use fault::{fault_text, part_fault_text};
 pub use line::Row;
 pub use report::{rows, text};

@@ -53,7 +53,10 @@ fn seen<T: Threads + Sync>(
     mut reader: Drip<'_>,
     mut sink: Sink<'_>,
 ) -> Seen {
-    let outcome = answer(rt, alloc, question, &mut reader, &mut sink);
+    let outcome = match vec![in alloc; &mut reader] {
+        Ok(readers) => answer(rt, alloc, question, readers, &mut sink),
+        Err(_) => Err(RunError::Memory),
+    };
     let counts = [reader.reads, sink.writes, sink.taken as u64, sink.flushes];
     (outcome, counts)
 }

@@ -1,17 +1,26 @@
-use Rattle.std.proofs.Common.{refl}
+use Rattle.std.proofs.Common.{[], ◌∷◌}
 use Rattle.std.proofs.lemmas.Result.{err_from_is_err_and}
-use Rattle.report_text.specs.Answers.{IsTextOf, malformed}
-use Rattle.audit_run.proofs.RunLaws.{line_begun}
+use Rattle.report_text.specs.Answers.{IsTextOf}
+use Rattle.report_text.specs.PartAnswers.{IsTextOfParts}
+use Rattle.report_text.proofs.PartText.{text_of_capture}
+use Rattle.audit_run.specs.PartRuns.{GoWithWritten}
+use Rattle.audit_run.specs.Run.{GoesWithWritten}
+use Rattle.audit_run.proofs.CaptureRuns.{faulty_capture, readable_capture}
+use Rattle.audit_run.proofs.RunLaws.{answered_by, broken_by}
 use Rattle.audit_run.proofs.runs.write_report.Goals as goal
 
-pub returns-in_err-write_fault-in-Malformed : goal.returns-in_err-write_fault-in-Malformed
-returns-in_err-write_fault-in-Malformed g c =
-    let error = err_from_is_err_and c.from_residual-in_err-write_fault-in-Malformed.result c.from_residual-in_err-write_fault-in-Malformed.ensures.1 in
-    let unwritten = c.in_err-write_fault-in-Malformed.ensures in
-    rw (error.1, error.2) (line_begun IsTextOf c.args.capture.now c.in-Malformed.fault _ _ _
-    (malformed _ (rw c.in-Malformed.is at c.in-Err.ensures.malformed) refl) unwritten.fault unwritten.err)
+pub returns-in_err-write_parts : goal.returns-in_err-write_parts
+returns-in_err-write_parts g c =
+    let error = err_from_is_err_and c.from_residual.result c.from_residual.ensures.1 in
+    rw (error.1, error.2) (broken_by IsTextOfParts IsTextOf (c.args.capture.now ∷ []) c.args.capture.now _ _ _ (text_of_capture c.args.capture.now)
+    c.in_err-write_parts.ensures)
 
-pub returns-in_ok-write_fault-in-Malformed : goal.returns-in_ok-write_fault-in-Malformed
-returns-in_ok-write_fault-in-Malformed g c =
-    let first = rw c.in-Malformed.is at c.in-Err.ensures.malformed in
-    record { text = _; right = malformed _ first refl; written = c.in_ok-write_fault-in-Malformed.ensures.ok; goes = first }
+pub returns-in-Report : goal.returns-in-Report
+returns-in-Report g c =
+    answered_by IsTextOfParts IsTextOf GoWithWritten GoesWithWritten (c.args.capture.now ∷ []) c.args.capture.now _ _ _ _
+    (text_of_capture c.args.capture.now) (readable_capture c.args.capture.now) (rw c.in-Report.is at c.in_ok-write_parts.ensures)
+
+pub returns-in-Malformed : goal.returns-in-Malformed
+returns-in-Malformed g c =
+    answered_by IsTextOfParts IsTextOf GoWithWritten GoesWithWritten (c.args.capture.now ∷ []) c.args.capture.now _ _ _ _
+    (text_of_capture c.args.capture.now) (faulty_capture c.args.capture.now c.in-Malformed.found) (rw c.in-Malformed.is at c.in_ok-write_parts.ensures)

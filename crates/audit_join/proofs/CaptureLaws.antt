@@ -1,0 +1,28 @@
+-- A capture is a single part.
+use Rattle.std.proofs.Common.{ℕ, List, [], ◌∷◌, subst}
+use Rattle.capture_frame.specs.Parts.{joined}
+use Rattle.capture_frame.proofs.CaptureLaws.{capture_one_reading}
+use Rattle.capture_frame.proofs.PartLaws.{of_one_part, parts_joined, fault_of_one_part}
+use Rattle.transaction_view.specs.Grammar.{WholeFrame, whole_format}
+use Rattle.transaction_view.proofs.GrammarLaws.{whole_decided, whole_wide}
+use Rattle.audit_findings.specs.Kept.{KeptFindings, Tell}
+use Rattle.audit_join.specs.declared.parts_error.PartsError.{PartsError}
+use Rattle.audit_join.specs.declared.parts_error.PartsError.TheVariants.{Memory, Malformed}
+use Rattle.audit_join.specs.Audit.{IsAudited, IsMalformed}
+use Rattle.audit_join.specs.Parts.{AreAudited, AreMalformed, error_of_capture}
+
+-- the findings of its joined capture are its own
+pub capture_found : (capture : List ℕ) (found : KeptFindings) → AreAudited (capture ∷ []) found → IsAudited capture found
+capture_found capture found (readable, (wholes, said, is, tell)) =
+    let same = capture_one_reading whole_format whole_decided (joined (capture ∷ [])) wholes readable.0 is
+    (parts_joined whole_format whole_wide (capture ∷ []) readable.0 readable.1) in (
+      readable.0,
+      said,
+      of_one_part whole_format capture readable.0 readable.1,
+      subst (λ (them : List WholeFrame). Tell them said found.frames found.sections) same tell,
+    )
+
+-- and so is the first fault
+pub capture_malformed : (capture : List ℕ) (error : PartsError) → AreMalformed (capture ∷ []) error → IsMalformed capture (error_of_capture error)
+capture_malformed capture Memory first = first
+capture_malformed capture (Malformed found) first = (fault_of_one_part whole_format capture found first).1

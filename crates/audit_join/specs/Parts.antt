@@ -1,0 +1,44 @@
+-- What an audit of a capture that is read in parts answers.
+use Rattle.std.specs.Prelude.{◌≡◌, ℕ, ◌+◌, ◌<◌, ◌≤◌, List, ◌∷◌, ◌++◌, length, ⊤}
+use Rattle.capture_frame.specs.declared.fault.Fault.{Fault}
+use Rattle.capture_frame.specs.declared.fault.PartFault.{PartFault}
+use Rattle.capture_frame.specs.Envelope.{file_header_length}
+use Rattle.capture_frame.specs.Parts.{joined}
+use Rattle.transaction_view.specs.Grammar.{AreReadable, HasFirstPartFault}
+use Rattle.audit_findings.specs.Kept.{KeptFindings}
+use Rattle.audit_join.specs.declared.audit_error.AuditError.{AuditError}
+use Rattle.audit_join.specs.declared.audit_error.AuditError.TheVariants as audit_error
+use Rattle.audit_join.specs.declared.parts_error.PartsError.{PartsError}
+use Rattle.audit_join.specs.declared.parts_error.PartsError.TheVariants.{Memory, Malformed}
+use Rattle.audit_join.specs.Audit.{IsAudited}
+
+-- the parts are in the grammar, and the findings are those of their joined capture
+abbrev pub AreAudited : List (List ℕ) → KeptFindings → Type 0
+AreAudited parts found = AreReadable parts × IsAudited (joined parts) found
+
+-- a fault is the first of the parts; of want of memory nothing is said
+abbrev pub AreMalformed : List (List ℕ) → PartsError → Type 0
+AreMalformed parts Memory = ⊤
+AreMalformed parts (Malformed found) = HasFirstPartFault parts found
+
+-- the same error of a single part, which is a capture
+abbrev pub error_of_capture : PartsError → AuditError
+error_of_capture Memory = audit_error.Memory
+error_of_capture (Malformed found) = audit_error.Malformed found.fault
+
+-- a fault of the joined capture is this one of a part: it is of the same kind, and stands behind the part's file header,
+-- in whose place the joined capture has the parts before it
+pub record IsFaultOfPart (parts : List (List ℕ)) (fault : Fault) (found : PartFault) : Type 0 where
+  pub front : List (List ℕ)
+  pub part : List ℕ
+  pub behind : List (List ℕ)
+  pub are : parts ≡ front ++ part ∷ behind
+  pub number : found.part ≡ length front + 1
+  pub kind : found.fault.kind ≡ fault.kind
+  pub least : file_header_length ≤ found.fault.place
+  pub within : found.fault.place < length part
+  pub place : fault.place + file_header_length ≡ length (joined front) + found.fault.place
+
+-- a fault of the joined capture is one of a part, and the first of the parts
+abbrev pub IsFirstOfParts : List (List ℕ) → Fault → Type 0
+IsFirstOfParts parts fault = (found : PartFault) × HasFirstPartFault parts found × IsFaultOfPart parts fault found

@@ -1,0 +1,34 @@
+//! In which part a place of the joined capture is.
+
+ghost use Rattle.std.specs.Prelude.{◌≡◌, ◌<◌, ◌^◌, length, map};
+ghost use Rattle.capture_frame.specs.declared.fault.PartFault.{PartFault};
+ghost use Rattle.audit_join.specs.Parts.{IsFaultOfPart};
+
+use capture_frame::{Fault, PartFault};
+
+/// The length of a file header, which the joined capture has of no part.
+const FILE_HEADER: u64 = 16;
+
+/// A fault of the joined capture, as one of the part that it stands in.
+pub(crate) fn part_of(parts: &[&[u8]], fault: Fault) -> PartFault
+    requires few { length parts.now < 2 ^ 32 }
+    requires there { (found : PartFault) × IsFaultOfPart (map (λ part. part.now) parts.now) fault found }
+    ensures { (found : PartFault) →
+        IsFaultOfPart (map (λ part. part.now) parts.now) fault found → result ≡ found }
+{
+    let mut place = fault.place;
+    let mut number = 0;
+    for part in parts {
+        number += 1;
+        let length = part.len() as u64;
+        if place < length {
+            let kind = fault.kind;
+            return PartFault {
+                part: number,
+                fault: Fault { kind, place },
+            };
+        }
+        place -= length.saturating_sub(FILE_HEADER);
+    }
+    unreachable!()
+}

@@ -1,0 +1,27 @@
+use Rattle.std.proofs.Common.{◌≡◌, ◌<◌, ◌^◌, length, map, arith, rules}
+use Rattle.std.proofs.KnownBytes.{Keeps-refl}
+use Rattle.std.proofs.lemmas.Result.{err_from_is_err_and}
+use Rattle.audit_run.specs.Run.{given, none_given}
+use Rattle.audit_run.proofs.RunLaws.{few_slices}
+use Rattle.audit_run.proofs.part_runs.run_parts.Goals as goal
+
+pub returns-in_err-parts : goal.returns-in_err-parts
+returns-in_err-parts g c =
+    let error = err_from_is_err_and c.from_residual.result c.from_residual.ensures.1 in
+    none_given _ c.in_err-parts.ensures.none (rw (← error.2) error.1) (Keeps-refl _)
+
+pub returns-in_err-slices : goal.returns-in_err-slices
+returns-in_err-slices g c =
+    let error = err_from_is_err_and c.from_residual-in_err-slices.result c.from_residual-in_err-slices.ensures.1 in
+    given _ c.in_ok-parts.ensures.parts (rw (error.1, error.2, c.in_err-slices.ensures.memory) (Keeps-refl _))
+
+pub write_parts-requires-clause-few : goal.write_parts-requires-clause-few
+write_parts-requires-clause-few g c κs within =
+    let slices : map (λ slice. slice.now) c.as_slice-2.result.now ≡ map (λ part. part.items) c.in_ok-parts.parts.items = search rules in
+    let few : length c.args.readers.items < 2 ^ 32 = (let many = c.args.readers.ok in let fits = c.requires in omega (arith, many.0, fits)) in
+    few_slices g.R.Read.remaining c.args.readers.items _ c.as_slice-2.result.now _ c.in_ok-parts.ensures.parts.0 slices few
+
+pub returns : goal.returns
+returns g c =
+    let slices : map (λ slice. slice.now) c.as_slice-2.result.now ≡ map (λ part. part.items) c.in_ok-parts.parts.items = search rules in
+    given _ c.in_ok-parts.ensures.parts (rw slices at c.write_parts.ensures)

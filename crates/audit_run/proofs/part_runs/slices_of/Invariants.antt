@@ -1,0 +1,6 @@
+use Rattle.std.proofs.Common.{◌≡◌, map, take}
+use Rattle.audit_run.proofs.part_runs.slices_of.Given as goal
+
+-- the slices so far are the first parts
+abbrev pub invariant-loop-part : goal.invariant-loop-part
+invariant-loop-part l = map (λ slice. slice.now) l.slices.items ≡ map (λ part. part.items) (take l.part-index l.fn.parts)

@@ -1,0 +1,197 @@
+//! From the bytes of several readers, the parts of a capture, to the bytes of a writer.
+
+ghost use Rattle.std.specs.Prelude.{◌≡◌, ◌<◌, ◌≤◌, ◌^◌, List, length, map, vec_len, IfOk, IfErr, OnOk, OnErr, IsOkUnless, string_bytes};
+ghost use Rattle.std.specs.Io.KnownBytes.{Appends};
+ghost use Rattle.capture_frame.specs.Parts.{joined};
+ghost use Rattle.transaction_view.specs.Grammar.{WholeFrame, AreReadable};
+ghost use Rattle.audit_findings.specs.Findings.{FindingsText};
+ghost use Rattle.audit_findings.specs.Kept.{Tell};
+ghost use Rattle.audit_join.specs.Parts.{AreMalformed};
+ghost use Rattle.audit_join.specs.declared.limits.TheConstants.{CAPTURE_LIMIT};
+ghost use Rattle.report_text.specs.Fault.{part_fault_line};
+ghost use Rattle.report_text.specs.PartAnswers.{IsTextOfParts, IsLineOnParts};
+ghost use Rattle.report_text.specs.Text.{IsReportOn, report_text};
+ghost use Rattle.audit_streams.specs.KnownBytes.{AppendsPrefix};
+ghost use Rattle.audit_streams.specs.Parts.{bytes_of};
+ghost use Rattle.audit_run.specs.PartRuns.{GoWithFault, GoWithWritten, ReadersGive};
+ghost use Rattle.audit_run.specs.Run.{Runs, Writes};
+
+use audit_findings::Findings;
+use audit_join::{CAPTURE_LIMIT, PartsError, Piece, audit_parts};
+use audit_streams::{RunError, read_parts, write_text};
+use capture_frame::PartFault;
+use claim_board::{Gate, Workers};
+use report_text::{part_fault_text, text};
+use std::alloc::{AllocError, Global};
+use std::io::{Read, Write};
+use std::thread::Threads;
+use transaction_view::first_fault_parts;
+
+/// What was written of parts.
+#[derive(Clone, Copy, Debug, PartialEq, Eq)]
+pub enum PartsWritten {
+    /// The report.
+    Report,
+    /// The line that names the first malformed unit, and its part where there are several.
+    Malformed(PartFault),
+}
+
+/// Reads the parts of a capture in order, each to its end, and writes the report on the joined
+/// capture, or the line that names the first fault. So many workers share the frames of all parts,
+/// a piece at a time, and the gate is told of each piece that is begun and ended.
+pub fn run_parts<T: Threads + Sync, R: Read + Drop, W: Write, G: Gate + Sync>(
+    rt: &T,
+    alloc: Global,
+    readers: Vec<R>,
+    writer: &mut W,
+    workers: Workers,
+    piece: Piece,
+    gate: &G,
+) -> Result<PartsWritten, RunError>
+    requires { vec_len readers < 2 ^ 32 }
+
+    // What is written is the definitions' text of what was read, and nothing else.
+    ensures { Runs (ReadersGive (map R.remaining readers.items)) IsTextOfParts GoWithWritten
+        (W.contents writer.old) (W.contents writer.new) result }
+{
+    let parts = read_within(alloc, readers)?;
+    let slices = slices_of(alloc, parts.as_slice())?;
+    write_parts(rt, alloc, slices.as_slice(), writer, workers, piece, gate)
+}
+
+/// Reads the parts of a capture in order, each to its end, and writes the line that names the first
+/// fault, or that there is none. Reading alone takes memory.
+pub fn run_first_fault_parts<R: Read + Drop, W: Write>(
+    alloc: Global,
+    readers: Vec<R>,
+    writer: &mut W,
+) -> Result<Option<PartFault>, RunError>
+    requires { vec_len readers < 2 ^ 32 }
+    ensures { Runs (ReadersGive (map R.remaining readers.items)) IsLineOnParts GoWithFault
+        (W.contents writer.old) (W.contents writer.new) result }
+{
+    let parts = read_within(alloc, readers)?;
+    let slices = slices_of(alloc, parts.as_slice())?;
+    write_first_fault_parts(slices.as_slice(), writer)
+}
+
+/// Reads the parts whole, all together within the limit.
+fn read_within<R: Read + Drop>(alloc: Global, readers: Vec<R>) -> Result<Vec<Vec<u8>>, RunError>
+    ensures parts { IfOk result (λ parts.
+        ReadersGive (map R.remaining readers.items) (Ok (map (λ part. part.items) parts.items))) }
+    ensures none { IfErr result
+        (λ error. ReadersGive (map R.remaining readers.items) (Err error)) }
+{
+    read_parts(alloc, readers, CAPTURE_LIMIT)
+}
+
+/// The bytes of each part.
+fn slices_of<'p>(alloc: Global, parts: &'p [Vec<u8>]) -> Result<Vec<&'p [u8]>, RunError>
+    ensures slices { IfOk result (λ slices.
+        map (λ slice. slice.now) slices.items ≡ map (λ part. part.items) parts.now) }
+    ensures memory { IsOkUnless result RunError.Memory }
+{
+    let mut slices = Vec::new(alloc);
+    for part in parts {
+        slices.push(part.as_slice()).map_err(|_| RunError::Memory)?;
+    }
+    Ok(slices)
+}
+
+/// Writes the report on parts, or the line that names their first fault.
+pub(crate) fn write_parts<T: Threads + Sync, W: Write, G: Gate + Sync>(
+    rt: &T,
+    alloc: Global,
+    parts: &[&[u8]],
+    writer: &mut W,
+    workers: Workers,
+    piece: Piece,
+    gate: &G,
+) -> Result<PartsWritten, RunError>
+    requires few { length parts.now < 2 ^ 32 }
+    requires limit { bytes_of (map (λ part. part.now) parts.now) ≤ CAPTURE_LIMIT }
+    ensures { Writes IsTextOfParts GoWithWritten (map (λ part. part.now) parts.now)
+        (W.contents writer.old) (W.contents writer.new) result }
+{
+    match report_on(rt, alloc, parts, workers, piece, gate) {
+        Ok(text) => {
+            write_text(writer, text.as_bytes())?;
+            Ok(PartsWritten::Report)
+        }
+        Err(error) => match error {
+            PartsError::Memory => Err(RunError::Memory),
+            PartsError::Malformed(found) => {
+                write_fault(writer, found, parts.len())?;
+                Ok(PartsWritten::Malformed(found))
+            }
+        },
+    }
+}
+
+/// The report on parts.
+fn report_on<T: Threads + Sync, G: Gate + Sync>(
+    rt: &T,
+    alloc: Global,
+    parts: &[&[u8]],
+    workers: Workers,
+    piece: Piece,
+    gate: &G,
+) -> Result<String, PartsError>
+    requires few { length parts.now < 2 ^ 32 }
+    requires limit { bytes_of (map (λ part. part.now) parts.now) ≤ CAPTURE_LIMIT }
+    ensures readable { OnOk result (AreReadable (map (λ part. part.now) parts.now)) }
+    ensures report { IfOk result (λ text.
+        IsReportOn (joined (map (λ part. part.now) parts.now)) (string_bytes text)) }
+    ensures malformed { IfErr result (AreMalformed (map (λ part. part.now) parts.now)) }
+{
+    let found = audit_parts(rt, alloc, parts, workers, piece, gate)?;
+    Ok(report_of(rt, alloc, found)?)
+}
+
+/// The report of findings, which end here: they are large, and dear to prove where other values
+/// are dropped beside them.
+fn report_of<T: Threads + Sync>(
+    rt: &T,
+    alloc: Global,
+    found: Findings<'_>,
+) -> Result<String, AllocError>
+    ensures { IfOk result (λ text. (wholes : List WholeFrame) (said : FindingsText)
+        → Tell wholes said found.entry.frames found.entry.sections
+        → string_bytes text ≡ report_text said) }
+{
+    text(rt, alloc, &found)
+}
+
+/// Writes the line that names the first fault of parts, or that there is none. It takes no memory.
+pub(crate) fn write_first_fault_parts<W: Write>(
+    parts: &[&[u8]],
+    writer: &mut W,
+) -> Result<Option<PartFault>, RunError>
+    requires { length parts.now < 2 ^ 32 }
+    ensures written { Writes IsLineOnParts GoWithFault (map (λ part. part.now) parts.now)
+        (W.contents writer.old) (W.contents writer.new) result }
+    ensures fault { IsOkUnless result RunError.Write }
+{
+    match first_fault_parts(parts) {
+        Some(found) => {
+            write_fault(writer, found, parts.len())?;
+            Ok(Some(found))
+        }
+        None => {
+            write_text(writer, b"no malformed record\n")?;
+            Ok(None)
+        }
+    }
+}
+
+/// Writes the line that names a fault of so many parts.
+fn write_fault<W: Write>(writer: &mut W, found: PartFault, parts: usize) -> Result<(), RunError>
+    ensures ok { OnOk result (Appends (W.contents writer.old) (W.contents writer.new)
+        (part_fault_line parts found)) }
+    ensures err { OnErr result (AppendsPrefix (W.contents writer.old) (W.contents writer.new)
+        (part_fault_line parts found)) }
+    ensures fault { IsOkUnless result RunError.Write }
+{
+    let line = part_fault_text(found, parts);
+    write_text(writer, line.as_str().as_bytes())
+}

@@ -1,0 +1,166 @@
+-- Parts have one text, which of a single part is that of the capture.
+use Rattle.std.proofs.Common.{◌≡◌, ◌≢◌, inl, inr, ℕ, zero, suc, ◌<◌, List, [], ◌∷◌, ◌++◌, length, None, refl, sym, ap, subst, ◌∙◌, arith}
+use Rattle.std.specs.Prelude.{All, codes, drop}
+use Rattle.std.specs.Fmt.{decimal}
+use Rattle.std.specs.List.{flat_map}
+use Rattle.std.proofs.lemmas.List.Concat.{flat_map-cons}
+use Rattle.std.proofs.lemmas.List.Elements.{All-head, All-tail}
+use Rattle.capture_frame.specs.declared.fault.Fault.{Fault}
+use Rattle.capture_frame.specs.declared.fault.PartFault.{PartFault}
+use Rattle.capture_frame.specs.declared.version.Version.TheVariants.{Two}
+use Rattle.capture_frame.specs.Envelope.{file_header}
+use Rattle.capture_frame.specs.FirstFault.{IsCapture}
+use Rattle.capture_frame.specs.Parts.{joined}
+use Rattle.capture_frame.specs.Units.{IsBytes}
+use Rattle.capture_frame.proofs.CaptureLaws.{capture_one_reading}
+use Rattle.capture_frame.proofs.NumberLaws.{IsBytes-drop}
+use Rattle.capture_frame.proofs.PartLaws.{parts_outcome, parts_one_fault, parts_never_both, parts_joined, one_part, of_one_part, one_part_fails, fault_of_one_part}
+use Rattle.transaction_view.specs.Grammar.{WholeFrame, AreReadable, HasFirstPartFault, IsReadable, HasFirstFault, whole_format}
+use Rattle.transaction_view.proofs.GrammarLaws.{whole_decided, whole_wide}
+use Rattle.event_core.specs.Events.{wholes_of}
+use Rattle.audit_findings.specs.Findings.{AreFindings}
+use Rattle.audit_findings.proofs.SomeFindings.{some_findings}
+use Rattle.report_text.specs.Answers.{IsTextOf, IsLineOn}
+use Rattle.report_text.specs.Answers as answers
+use Rattle.report_text.specs.PartAnswers.{IsTextOfParts, report, malformed, IsLineOnParts, none, named}
+use Rattle.report_text.specs.Fault.{fault_line, fault_words, part_fault_line, no_fault_line}
+use Rattle.report_text.specs.Text.{IsReportOn, report_text}
+use Rattle.report_text.proofs.OneText.{one_report}
+
+-- ---- one text
+
+readable_or_faulty : (parts : List (List ℕ)) (found : PartFault) → AreReadable parts → HasFirstPartFault parts found → ⊥
+readable_or_faulty parts found readable faulty = parts_never_both whole_format whole_wide whole_decided None parts readable.0 found readable.1 faulty
+
+one_fault : (parts : List (List ℕ)) (found other : PartFault) → HasFirstPartFault parts found → HasFirstPartFault parts other
+    → part_fault_line (length parts) found ≡ part_fault_line (length parts) other
+one_fault parts found other a b =
+    ap (part_fault_line (length parts)) (parts_one_fault whole_format whole_wide whole_decided None parts found other a b)
+
+one_text : (parts : List (List ℕ)) (text other : List ℕ) → IsTextOfParts parts text → IsTextOfParts parts other → text ≡ other
+one_text parts text other (report good a) (report also b) = one_report (joined parts) text other a b
+one_text parts text other (report good a) (malformed found faulty is) = absurd (readable_or_faulty parts found good faulty)
+one_text parts text other (malformed found faulty is) (report good b) = absurd (readable_or_faulty parts found good faulty)
+one_text parts text other (malformed found faulty is) (malformed also faulty_too is_too) = is ∙ one_fault parts found also faulty faulty_too ∙ sym is_too
+
+one_line : (parts : List (List ℕ)) (text other : List ℕ) → IsLineOnParts parts text → IsLineOnParts parts other → text ≡ other
+one_line parts text other (none good is) (none also is_too) = is ∙ sym is_too
+one_line parts text other (none good is) (named found faulty is_too) = absurd (readable_or_faulty parts found good faulty)
+one_line parts text other (named found faulty is) (none good is_too) = absurd (readable_or_faulty parts found good faulty)
+one_line parts text other (named found faulty is) (named also faulty_too is_too) = is ∙ one_fault parts found also faulty faulty_too ∙ sym is_too
+
+-- ---- some text
+
+bytes_cons : (b : ℕ) (bytes : List ℕ) → b < 256 → IsBytes bytes → IsBytes (b ∷ bytes)
+bytes_cons b bytes small h zero = small
+bytes_cons b bytes small h (suc i) = h i
+
+bytes_none : IsBytes []
+bytes_none i = omega arith
+
+bytes_append : (front back : List ℕ) → IsBytes front → IsBytes back → IsBytes (front ++ back)
+bytes_append [] back a b = b
+bytes_append (x ∷ front) back a b = bytes_cons x (front ++ back) (a zero) (bytes_append front back (λ i. a (suc i)) b)
+
+abbrev AreSmall : List ℕ → Type 0
+AreSmall [] = Unit {0}
+AreSmall (b ∷ bytes) = (b < 256) × AreSmall bytes
+
+small_bytes : (bytes : List ℕ) → AreSmall bytes → IsBytes bytes
+small_bytes [] small = bytes_none
+small_bytes (b ∷ bytes) small = bytes_cons b bytes small.0 (small_bytes bytes small.1)
+
+header_bytes : IsBytes (file_header Two)
+header_bytes = small_bytes (file_header Two) (omega arith, (omega arith, (omega arith, (omega arith, (omega arith, (omega arith, (omega arith, (omega arith, (omega arith, (omega arith, (omega arith, (omega arith, (omega arith, (omega arith, (omega arith, (omega arith, tt))))))))))))))))
+
+behind_bytes : (parts : List (List ℕ)) → All IsBytes parts → IsBytes (flat_map (λ part. drop 16 part) parts)
+behind_bytes [] bytes = bytes_none
+behind_bytes (part ∷ parts) bytes =
+    rw flat_map-cons
+    (bytes_append (drop 16 part) (flat_map (λ part. drop 16 part) parts) (IsBytes-drop 16 part (All-head IsBytes part parts bytes))
+    (behind_bytes parts (All-tail IsBytes part parts bytes)))
+
+joined_bytes : (parts : List (List ℕ)) → All IsBytes parts → IsBytes (joined parts)
+joined_bytes parts bytes = bytes_append (file_header Two) (flat_map (λ part. drop 16 part) parts) header_bytes (behind_bytes parts bytes)
+
+some_text : (parts : List (List ℕ)) → All IsBytes parts → (text : List ℕ) × IsTextOfParts parts text
+some_text parts bytes = elim (parts_outcome whole_format whole_wide whole_decided None parts bytes) [
+  | inl readable ↦
+      let whole = parts_joined whole_format whole_wide parts readable.0 readable.1 in
+      let found = some_findings (joined parts) readable.0 (joined_bytes parts bytes) whole in
+      (report_text found.0, report readable (readable.0, found.0, whole, found.1, refl))
+  | inr faulty ↦ (part_fault_line (length parts) faulty.0, malformed faulty.0 faulty.1 refl)
+]
+
+some_line : (parts : List (List ℕ)) → All IsBytes parts → (line : List ℕ) × IsLineOnParts parts line
+some_line parts bytes = elim (parts_outcome whole_format whole_wide whole_decided None parts bytes) [
+  | inl readable ↦ (no_fault_line, none readable refl)
+  | inr faulty ↦ (part_fault_line (length parts) faulty.0, named faulty.0 faulty.1 refl)
+]
+
+pub exactly_one_text : (parts : List (List ℕ)) → All IsBytes parts
+    → (text : List ℕ) × IsTextOfParts parts text × ((other : List ℕ) → IsTextOfParts parts other → text ≡ other)
+exactly_one_text parts bytes =
+    let found = some_text parts bytes in (found.0, found.1, λ other is. one_text parts found.0 other found.1 is)
+
+pub exactly_one_line : (parts : List (List ℕ)) → All IsBytes parts
+    → (line : List ℕ) × IsLineOnParts parts line × ((other : List ℕ) → IsLineOnParts parts other → line ≡ other)
+exactly_one_line parts bytes =
+    let found = some_line parts bytes in (found.0, found.1, λ other is. one_line parts found.0 other found.1 is)
+
+-- ---- of a single part
+
+pub one_line_said : (found : PartFault) → part_fault_line 1 found ≡ fault_line found.fault
+unfolding part_fault_line
+one_line_said found = refl
+
+pub many_lines_said : (parts : ℕ) (found : PartFault) → parts ≢ 1
+    → part_fault_line parts found ≡ (fault_words found.fault ++ codes " in part " ++ decimal found.part) ++ codes "\n"
+unfolding part_fault_line
+many_lines_said zero found many = refl
+many_lines_said (suc zero) found many = absurd (many refl)
+many_lines_said (suc (suc parts)) found many = refl
+
+readable_capture : (capture : List ℕ) → AreReadable (capture ∷ []) → IsReadable capture
+readable_capture capture readable = (readable.0, of_one_part whole_format capture readable.0 readable.1)
+
+readable_part : (capture : List ℕ) → IsReadable capture → AreReadable (capture ∷ [])
+readable_part capture readable = (readable.0, one_part whole_format capture readable.0 readable.1)
+
+-- whole frames of a capture are those of the joined one
+joined_frames : (capture : List ℕ) (readable : IsReadable capture) → IsCapture whole_format (joined (capture ∷ [])) readable.0
+joined_frames capture readable = parts_joined whole_format whole_wide (capture ∷ []) readable.0 (one_part whole_format capture readable.0 readable.1)
+
+report_of_capture : (capture text : List ℕ) → IsReadable capture → IsReportOn (joined (capture ∷ [])) text → IsReportOn capture text
+report_of_capture capture text readable a =
+    let same = capture_one_reading whole_format whole_decided (joined (capture ∷ [])) a.0 readable.0 a.2 (joined_frames capture readable) in
+    (readable.0, a.1, readable.1, subst (λ (wholes : List WholeFrame). AreFindings (wholes_of wholes) a.1) same a.3, a.4)
+
+report_of_part : (capture text : List ℕ) → IsReportOn capture text → IsReportOn (joined (capture ∷ [])) text
+report_of_part capture text a = (a.0, a.1, joined_frames capture (a.0, a.2), a.3, a.4)
+
+fault_of_capture : (capture : List ℕ) (found : PartFault) → HasFirstPartFault (capture ∷ []) found → HasFirstFault capture found.fault
+fault_of_capture capture found faulty = (fault_of_one_part whole_format capture found faulty).1
+
+fault_of_part : (capture : List ℕ) (fault : Fault) → HasFirstFault capture fault → HasFirstPartFault (capture ∷ []) (record { part = 1; fault = fault })
+fault_of_part capture fault faulty = one_part_fails whole_format capture (record { part = 1; fault = fault }) refl faulty
+
+pub text_of_capture : (capture text : List ℕ) → IsTextOfParts (capture ∷ []) text → IsTextOf capture text
+text_of_capture capture text (report readable a) = answers.report (report_of_capture capture text (readable_capture capture readable) a)
+text_of_capture capture text (malformed found faulty is) =
+    answers.malformed found.fault (fault_of_capture capture found faulty) (is ∙ one_line_said found)
+
+pub text_of_part : (capture text : List ℕ) → IsTextOf capture text → IsTextOfParts (capture ∷ []) text
+text_of_part capture text (answers.report a) = report (readable_part capture (a.0, a.2)) (report_of_part capture text a)
+text_of_part capture text (answers.malformed fault faulty is) =
+    malformed (record { part = 1; fault = fault }) (fault_of_part capture fault faulty) (is ∙ sym (one_line_said (record { part = 1; fault = fault })))
+
+pub line_of_capture : (capture line : List ℕ) → IsLineOnParts (capture ∷ []) line → IsLineOn capture line
+line_of_capture capture line (none readable is) = answers.none (readable_capture capture readable) is
+line_of_capture capture line (named found faulty is) =
+    answers.named found.fault (fault_of_capture capture found faulty) (is ∙ one_line_said found)
+
+pub line_of_part : (capture line : List ℕ) → IsLineOn capture line → IsLineOnParts (capture ∷ []) line
+line_of_part capture line (answers.none readable is) = none (readable_part capture readable) is
+line_of_part capture line (answers.named fault faulty is) =
+    named (record { part = 1; fault = fault }) (fault_of_part capture fault faulty) (is ∙ sym (one_line_said (record { part = 1; fault = fault })))
