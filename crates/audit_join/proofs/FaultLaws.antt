@@ -24,7 +24,7 @@ abbrev IsGood : Frame → Type 0
 IsGood frame = HasGoodContent (frame_text frame)
 
 -- no good frame has a fault
-good_or_bad : (frame found : Frame) (fault : Fault) → frame ≡ found → IsGood frame → HasContentFault found fault → ⊥
+pub good_or_bad : (frame found : Frame) (fault : Fault) → frame ≡ found → IsGood frame → HasContentFault found fault → ⊥
 good_or_bad frame found fault same good fails = (content_one_of found).never_both fault (subst IsGood same good) fails
 
 -- two first faults of one list of frames are one

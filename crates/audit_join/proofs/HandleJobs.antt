@@ -1,7 +1,9 @@
 -- The jobs that processes are, and what they give together.
-use Rattle.std.proofs.Common.{◌≡◌, ℕ, zero, suc, ◌+◌, ◌^◌, ◌<◌, ◌≤◌, Bool, not, List, [], ◌∷◌, length, map, Some, Vec, Global, refl, sym, ap, ◌∙◌, arith}
+use Rattle.std.proofs.Common.{◌≡◌, ℕ, zero, suc, ◌+◌, ◌^◌, ◌<◌, ◌≤◌, Bool, not, List, [], ◌∷◌, length, map, Some, Vec, Global, refl, sym, ap, ◌∙◌, arith, get_or}
 use Rattle.std.specs.Prelude.{All, filter, IfSome, slice_get, slice_index_or}
 use Rattle.std.specs.List.{AllZip, range_with_len}
+use Rattle.std.proofs.Math.Logic.{∥∥₁_elim, ∥∥₁_map}
+use Rattle.std.specs.Coded.{le_prop}
 use Rattle.std.proofs.lemmas.List.{length-map}
 use Rattle.std.proofs.lemmas.List.Elements.{All-cons, All-nil}
 use Rattle.std.proofs.lemmas.List.FromFn.{get_or-map-range_with_len, length-map-range_with_len}
@@ -28,17 +30,22 @@ use Rattle.audit_findings.proofs.HandleRows.{ListOfRows, lists_of}
 use Rattle.audit_findings.specs.Frames.{AreGoodFrames, Show}
 use Rattle.audit_findings.specs.Handles.{AreHandlesOf, AreListedHandles}
 use Rattle.audit_findings.specs.InTurn.{AreRowsOf}
-use Rattle.audit_findings.specs.Summary.{AreHandlesAt, SumsPiece, process_count}
+use Rattle.audit_findings.specs.Summary.{GivesHandlesAt, SumsPiece, process_count}
 use Rattle.audit_findings.specs.declared.in_turn.OfProcess.{OfProcess}
 use Rattle.audit_findings.specs.declared.piece_summary.PieceSummary.{PieceSummary}
+use Rattle.capture_frame.specs.Envelope.{frame_text}
+use Rattle.transaction_view.specs.FirstFault.{HasGoodContent}
+use Rattle.audit_join.proofs.FaultLaws.{good_or_bad}
+use Rattle.audit_join.proofs.JobLists.{Judged, good, bad, judged}
+use Rattle.audit_join.specs.Jobs.{AreCut, AreSound}
 use Rattle.audit_join.specs.Processes.{process_job, process_jobs}
 
 -- ---- how many processes there are
 
 few_firsts : {K : Type 0} (eq : K → K → Bool) (keys : List K) → length (firsts eq keys) ≤ length keys
 few_firsts eq [] = omega arith
-few_firsts eq (k ∷ keys) =
-    let test = λ other. not (eq other k) in
+few_firsts {K} eq (k ∷ keys) =
+    let test : K → Bool = λ other. not (eq other k) in
     let rest = few_firsts eq keys in
     let long = length-filter test (firsts eq keys) in
     let few = count_by-le-length test (firsts eq keys) in
@@ -54,13 +61,29 @@ entries_of : (summary : PieceSummary) (frames : List Frame) (wholes : List (Plac
 entries_of summary frames wholes sums show = are_of_processes summary.ledgers.processes.entries.entries wholes (sums wholes show).processes
 
 pub few_processes : (summary : PieceSummary) (frames : List Frame) → SumsPiece summary frames → AreGoodFrames frames → process_count summary ≤ 2 ^ 32
-few_processes summary frames sums good =
-    let shown = good_shown frames good.good in
-    let few = (few_frames frames shown.0 good shown.1).0 in
+few_processes summary frames sums fits =
+    let shown = good_shown frames fits.good in
+    let few = (few_frames frames shown.0 fits shown.1).0 in
     let number = process_number summary.ledgers.processes.entries.entries shown.0 (entries_of summary frames shown.0 sums shown.1) in
     let firsts_few = few_firsts same_process (map process_of_whole shown.0) in
     let long = length-map shown.0 process_of_whole in
     omega (arith, few, number, firsts_few, long)
+
+-- ---- frames of which it is merely told that they are sound
+
+-- such a frame has no fault, and what it has instead can be found again
+sound_here : (frame : Frame) → Judged frame → ∥ HasGoodContent (frame_text frame) ∥₁ → HasGoodContent (frame_text frame)
+sound_here frame (good whole) told = whole
+sound_here frame (bad fault fails) told =
+    let never : 1 ≤ 0 = ∥∥₁_elim told le_prop (λ whole. absurd (good_or_bad frame frame fault refl whole fails)) in
+    absurd (omega (arith, never))
+
+pub sound_again : (frames : List Frame) → AreCut frames → ∥ AreSound frames ∥₁ → AreGoodFrames frames
+sound_again frames cut told = record {
+  few = cut.few;
+  good = λ i d within. sound_here (get_or frames i d) (judged (get_or frames i d) (cut.bytes i d within)) (∥∥₁_map told (λ sound. sound i d within));
+  apart = cut.apart;
+}
 
 -- ---- as jobs
 
@@ -107,11 +130,11 @@ listed AreOf (p ∷ processes) (l ∷ lists) long each =
 
 -- the lists of all processes
 pub all_listed : (summary : PieceSummary) (frames : List Frame) (lists : List ListOfRows) → SumsPiece summary frames
-    → AreInOrder (λ i (list : ListOfRows). AreHandlesAt frames i list.items) (length (process_jobs (process_count summary))) lists
+    → AreInOrder (λ i (list : ListOfRows). GivesHandlesAt summary frames i list.items) (length (process_jobs (process_count summary))) lists
     → (wholes : List (Placed WholeFrame)) → Show frames wholes → AreListedHandles wholes (lists_of lists)
 all_listed summary frames lists sums are wholes show =
     let number = process_number summary.ledgers.processes.entries.entries wholes (entries_of summary frames wholes sums show) in
     let count = are.count in
     let long = jobs_long (process_count summary) in
     listed (AreHandlesOf (events_of_wholes wholes)) (processes_of wholes) lists (omega (arith, number, count, long))
-    (λ i list is d. are.each i list is wholes d show)
+    (λ i list is d. are.each i list is sums wholes d show)

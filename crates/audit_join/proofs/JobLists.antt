@@ -18,7 +18,7 @@ use Rattle.claim_board.specs.declared.job.Job.{Job}
 use Rattle.audit_join.specs.Jobs.{AreCut, IsFaultOf, IsJobOf, IsOfBytes, AreJobRuns}
 
 -- the content of a frame is good, or has a first fault
-data Judged (frame : Frame) : Type 0 where
+pub data Judged (frame : Frame) : Type 0 where
   good : HasGoodContent (frame_text frame) → Judged frame
   bad : (fault : Fault) → HasContentFault frame fault → Judged frame
 
@@ -40,7 +40,7 @@ by_records frame bytes (read records reads) =
 by_records frame bytes (failed kind distance failure) =
     at_fault frame kind (32 + distance) (in_records distance failure refl)
 
-judged : (frame : Frame) → IsOfBytes frame → Judged frame
+pub judged : (frame : Frame) → IsOfBytes frame → Judged frame
 judged frame bytes =
     by_records frame bytes.1
     (outcome (format_of (frame_text frame)) (records_decided (protocol_of frame.direction)) tt frame.commands.now

@@ -2,7 +2,7 @@ use Rattle.std.proofs.Common.{List, sym, subst}
 use Rattle.capture_frame.specs.declared.frame.Frame.{Frame}
 use Rattle.audit_join.specs.Jobs.{AreCut, AreSound, IsFirstIn}
 use Rattle.audit_join.proofs.PlaceLaws.{bytes_of}
-use Rattle.audit_join.proofs.CutLaws.{all_cut, before_cut, good_cut, whole_of_parts, first_of_all, first_before, cut_off_first}
+use Rattle.audit_join.proofs.CutLaws.{all_cut, before_cut, whole_of_parts, first_of_all, first_before, cut_off_first}
 use Rattle.audit_join.proofs.audits.audit_parts.Goals as goal
 
 pub judge_parts-requires-clause-cut : goal.judge_parts-requires-clause-cut
@@ -14,10 +14,12 @@ judge_parts-requires-clause-first g c κs within fault first =
     first_of_all (bytes_of c.args.parts.now) c.in-Ok.frames.items c.in-Ok.ensures fault
     (subst (λ (t : List Frame). IsFirstIn t fault) c.as_slice.ensures.value first)
 
-pub findings_of-requires-clause-good : goal.findings_of-requires-clause-good
-findings_of-requires-clause-good g c κs within =
-    good_cut c.in-Ok.frames.items (all_cut (bytes_of c.args.parts.now) c.in-Ok.frames.items c.in-Ok.ensures c.requires.limit c.take_bytes.ensures)
-    (subst AreSound c.as_slice.ensures.value c.in_ok-judge_parts-in-Ok.ensures.sound)
+pub findings_of-requires-clause-cut : goal.findings_of-requires-clause-cut
+findings_of-requires-clause-cut g c κs within =
+    all_cut (bytes_of c.args.parts.now) c.in-Ok.frames.items c.in-Ok.ensures c.requires.limit c.take_bytes.ensures
+
+pub findings_of-requires-clause-sound : goal.findings_of-requires-clause-sound
+findings_of-requires-clause-sound g c κs within = subst AreSound c.as_slice.ensures.value c.in_ok-judge_parts-in-Ok.ensures.sound
 
 pub findings_of-requires-clause-shown : goal.findings_of-requires-clause-shown
 findings_of-requires-clause-shown g c κs within =

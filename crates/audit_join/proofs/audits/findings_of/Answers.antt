@@ -1,17 +1,38 @@
-use Rattle.std.proofs.Common.{subst}
+use Rattle.std.proofs.Common.{List, sym, subst}
+use Rattle.capture_frame.specs.declared.frame.Frame.{Frame}
 use Rattle.event_core.specs.Events.{wholes_of}
+use Rattle.audit_findings.proofs.HandleRows.{ListOfRows, lists_of}
+use Rattle.audit_findings.specs.Frames.{AreGoodFrames, Show}
+use Rattle.audit_findings.specs.Handles.{AreListedHandles}
 use Rattle.audit_findings.specs.Summary.{SumsPiece}
+use Rattle.audit_join.specs.Jobs.{AreSound}
+use Rattle.audit_join.proofs.CutLaws.{good_cut}
 use Rattle.audit_join.proofs.audits.findings_of.Goals as goal
 
-pub look_again-requires : goal.look_again-requires
-look_again-requires g c =
+pub sum_shares-requires-after_bounds : goal.sum_shares-requires-after_bounds
+sum_shares-requires-after_bounds g c κs within =
+    subst AreGoodFrames (sym c.as_slice.ensures.value) (good_cut c.args.frames.items c.requires.cut c.requires.sound)
+
+pub look_again-requires-clause-sound : goal.look_again-requires-clause-sound
+look_again-requires-clause-sound g c κs within = subst AreSound (sym c.as_slice-2.ensures.value) c.requires.sound
+
+pub new-requires : goal.new-requires
+new-requires g c =
+    let frames = c.args.frames.items in
     let sums = subst (SumsPiece c.in_ok-whole.whole) c.as_slice.ensures.value c.in_ok-whole.ensures in
     let shown = c.requires.shown in
-    let said = c.in_ok-sections.ensures c.args.frames.items (wholes_of shown.0) sums c.requires.good shown.1 in
+    let wholes = wholes_of shown.0 in
+    let listed = c.in_ok-handles.ensures wholes (subst (λ (fs : List Frame). Show fs wholes) (sym c.as_slice-2.ensures.value) shown.1) in
+    let said = c.in_ok-sections.ensures frames wholes sums (good_cut frames c.requires.cut c.requires.sound) shown.1
+    (subst (λ (lists : List ListOfRows). AreListedHandles wholes (lists_of lists)) (sym c.as_slice-3.ensures.value) listed) in
     (shown.0, said.0, record { show = shown.1; are = said.1; keep = said.2 })
 
 pub returns : goal.returns
-returns g c wholes show =
+returns g c units show =
+    let frames = c.args.frames.items in
     let sums = subst (SumsPiece c.in_ok-whole.whole) c.as_slice.ensures.value c.in_ok-whole.ensures in
-    let said = c.in_ok-sections.ensures c.args.frames.items (wholes_of wholes) sums c.requires.good show in
-    (said.0, rw c.look_again.ensures (record { show = show; are = said.1; keep = said.2 }))
+    let wholes = wholes_of units in
+    let listed = c.in_ok-handles.ensures wholes (subst (λ (fs : List Frame). Show fs wholes) (sym c.as_slice-2.ensures.value) show) in
+    let said = c.in_ok-sections.ensures frames wholes sums (good_cut frames c.requires.cut c.requires.sound) show
+    (subst (λ (lists : List ListOfRows). AreListedHandles wholes (lists_of lists)) (sym c.as_slice-3.ensures.value) listed) in
+    (said.0, rw c.new.ensures (record { show = show; are = said.1; keep = said.2 }))
