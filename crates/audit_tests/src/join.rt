@@ -2,6 +2,7 @@
 
 mod built;
 mod captures;
+mod handle_lists;
 mod lookup;
 mod one_pass;
 mod pieces;
@@ -22,7 +23,7 @@ use audit_join::{
 };
 use capture_frame::{Fault, FaultKind, Frame, Process};
 use captures::{RETURN_IN_A_WRITE, within_limit};
-use handle_ledger::HandleRow;
+use handle_ledger::{HandleRow, HeldRow};
 use object_view::{BadObject, Cause};
 use std::process::Abort;
 use std::test::Fail;
@@ -86,15 +87,19 @@ const COUNTS: RecordCounts = RecordCounts {
 };
 
 /// The handle that process 100 took a reference to.
-const HANDLES: &[OfProcess<HandleRow>] = &[OfProcess {
+const HANDLES: &[OfProcess<HeldRow>] = &[OfProcess {
     process: Process {
         device: 0,
         number: 100,
     },
-    row: HandleRow {
-        handle: 1,
-        strong: Count { sum: 1, low: 0 },
-        weak: Count { sum: 0, low: 0 },
+    row: HeldRow {
+        taken: HandleRow {
+            handle: 1,
+            strong: Count { sum: 1, low: 0 },
+            weak: Count { sum: 0, low: 0 },
+        },
+        held_strong: 0,
+        held_weak: 0,
     },
 }];
 

@@ -123,12 +123,12 @@ const MANY_START: &str = "BINDER AUDIT 2\n\
     strays 0\n\
     refused 0\n\
     handles 65537 unbalanced 65537\n\
-    \x20\x200 7 100000 1 0 0 0\n\
-    \x20\x200 7 100001 1 0 0 0\n";
+    \x20\x200 7 100000 1 0 0 0 0 0\n\
+    \x20\x200 7 100001 1 0 0 0 0 0\n";
 
 /// How it ends, from the last row but one.
-const MANY_END: &str = "  0 7 165535 1 0 0 0\n\
-    \x20\x200 7 165536 1 0 0 0\n\
+const MANY_END: &str = "  0 7 165535 1 0 0 0 0 0\n\
+    \x20\x200 7 165536 1 0 0 0 0 0\n\
     nodes 0 unbalanced 0\n\
     buffers 0 leaked 0\n\
     frees 0 stray 0\n\
@@ -139,8 +139,8 @@ const MANY_END: &str = "  0 7 165535 1 0 0 0\n\
     objects binder 0 weak_binder 0 handle 0 weak_handle 0 fd 0 fda 0 ptr 0 bad 0\n\
     flags 0\n";
 
-/// How many bytes the rows between have, of 21 each.
-const MANY_BETWEEN: usize = 65_533 * 21;
+/// How many bytes the rows between have, of 25 each.
+const MANY_BETWEEN: usize = 65_533 * 25;
 
 #[test]
 fn tells_more_rows_than_it_holds(rt: HostRuntime) -> Result<(), Fail> {

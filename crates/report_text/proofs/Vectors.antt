@@ -155,8 +155,11 @@ address_number : hex_number 0x70a0 ≡ codes "0x70a0"
 unfolding digits
 address_number = refl
 
-negative_row : handles_row (of_process (numbered 100) (record { handle = 2; strong = record { sum = pos 0; low = negsuc 1 }; weak = record { sum = pos 1; low = pos 0 } }))
-    ≡ codes "  1 100 2 0 -2 1 0"
+negative_row : handles_row (of_process (numbered 100) (record {
+  taken = record { handle = 2; strong = record { sum = pos 0; low = negsuc 1 }; weak = record { sum = pos 1; low = pos 0 } };
+  held_strong = 0;
+  held_weak = 2;
+})) ≡ codes "  1 100 2 0 -2 1 0 0 2"
 negative_row = rw (hundred_said, zero_said, one_said, two_said) refl
 
 dead_row : deaths_row (record send { kind = BrDeadBinder; payload = 1 ∷ replicate 7 0 }) ≡ codes "  48 1 100 0x1 unacknowledged"
@@ -221,8 +224,15 @@ unfolding most digits
 widest_objects = refl
 
 -- the least number is `negsuc` of one less than its amount
-widest_handle : handles_row (of_process (numbered 4294967295) (record { handle = 0; strong = record { sum = negsuc 0; low = negsuc 9223372036854775807 }; weak = record { sum = pos 9223372036854775807; low = pos 0 } }))
-    ≡ codes "  1 4294967295 0 -1 -9223372036854775808 9223372036854775807 0"
+widest_handle : handles_row (of_process (numbered 4294967295) (record {
+  taken = record {
+    handle = 0;
+    strong = record { sum = negsuc 0; low = negsuc 9223372036854775807 };
+    weak = record { sum = pos 9223372036854775807; low = pos 0 };
+  };
+  held_strong = 18446744073709551615;
+  held_weak = 1;
+})) ≡ codes "  1 4294967295 0 -1 -9223372036854775808 9223372036854775807 0 18446744073709551615 1"
 unfolding digits
 widest_handle = refl
 

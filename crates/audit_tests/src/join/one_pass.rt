@@ -7,6 +7,7 @@ ghost use Rattle.audit_findings.specs.Summary.{SumsPiece};
 ghost use Rattle.audit_join.specs.Audit.{IsAudited, IsMalformed};
 ghost use Rattle.audit_join.specs.declared.limits.TheConstants.{CAPTURE_LIMIT};
 
+use super::handle_lists::handle_lists;
 use audit_join::{AuditError, CAPTURE_LIMIT, Findings, PieceSummary};
 use capture_frame::{Frame, Frames};
 use std::alloc::{AllocError, Global};
@@ -28,7 +29,8 @@ pub fn one_pass<'c>(alloc: Global, capture: &'c [u8]) -> Result<Findings<'c>, Au
         }
         take_frame(&mut frames, &mut summary, frame)?;
     }
-    let sections = summary.sections()?;
+    let handles = handle_lists(alloc, frames.as_slice(), &summary)?;
+    let sections = summary.sections(handles.as_slice())?;
     Ok(Findings::new(frames, sections))
 }
 

@@ -6,6 +6,7 @@ ghost use Rattle.audit_findings.specs.Frames.{AreGoodFrames, Show};
 ghost use Rattle.event_core.specs.Events.{wholes_of};
 ghost use Rattle.audit_findings.specs.Summary.{SumsPiece};
 
+use super::handle_lists::handle_lists;
 use audit_join::{Findings, PieceSummary};
 use capture_frame::Frame;
 use std::alloc::{AllocError, Global};
@@ -45,7 +46,8 @@ pub(crate) fn found_in_pieces<'c>(
 {
     let pieces = frames.len().div_ceil(piece);
     let summary = joined_in_pieces(alloc, frames, pieces, piece)?;
-    let sections = summary.sections()?;
+    let handles = handle_lists(alloc, frames, &summary)?;
+    let sections = summary.sections(handles.as_slice())?;
     let mut all = Vec::new(alloc);
     all.extend_from_slice(frames)?;
     Ok(Findings::new(all, sections))

@@ -1,11 +1,11 @@
 //! The sections are the same however the frames are split and joined.
 
-ghost use Rattle.std.specs.Prelude.{◌≤◌, List, length};
-ghost use Rattle.capture_frame.specs.declared.frame.Frame.{Frame};
+ghost use Rattle.std.specs.Prelude.{◌≤◌, length};
 ghost use Rattle.audit_findings.specs.Frames.{AreGoodFrames};
 ghost use Rattle.audit_findings.specs.Summary.{SumsPiece};
 
 use super::captures::eight_frames;
+use super::handle_lists::handle_lists;
 use super::{expect_sections, frames_of};
 use audit_join::{PieceSummary, audit_one};
 use capture_frame::Frame;
@@ -15,10 +15,17 @@ use std::test::Fail;
 use test_kit::{in_three_from_the_back, in_three_from_the_front, in_two};
 
 /// The summary gives the sections of the eight frames.
-fn expect_summary(rt: &impl Abort, summary: PieceSummary<'_>) -> Result<(), AllocError>
-    requires { (frames : List Frame) × SumsPiece summary frames × AreGoodFrames frames }
+fn expect_summary<'c>(
+    rt: &impl Abort,
+    alloc: Global,
+    frames: &[Frame<'c>],
+    summary: PieceSummary<'c>,
+) -> Result<(), AllocError>
+    requires good { AreGoodFrames frames.now }
+    requires sums { SumsPiece summary frames.now }
 {
-    let sections = summary.sections()?;
+    let handles = handle_lists(alloc, frames, &summary)?;
+    let sections = summary.sections(handles.as_slice())?;
     expect_sections(rt, &sections);
     Ok(())
 }
@@ -33,12 +40,14 @@ fn expect_parts(
     requires good { AreGoodFrames frames.now }
     requires within { end ≤ length frames.now }
 {
-    expect_summary(rt, in_two(alloc, frames, end)?)?;
+    expect_summary(rt, alloc, frames, in_two(alloc, frames, end)?)?;
     for first_end in 0..end + 1 {
-        expect_summary(rt, in_three_from_the_front(alloc, frames, first_end, end)?)?;
+        let summary = in_three_from_the_front(alloc, frames, first_end, end)?;
+        expect_summary(rt, alloc, frames, summary)?;
     }
     for second_end in end..frames.len() + 1 {
-        expect_summary(rt, in_three_from_the_back(alloc, frames, end, second_end)?)?;
+        let summary = in_three_from_the_back(alloc, frames, end, second_end)?;
+        expect_summary(rt, alloc, frames, summary)?;
     }
     Ok(())
 }

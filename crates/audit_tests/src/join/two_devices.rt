@@ -34,8 +34,8 @@ const CASES: &[(&[OnDevice], &str)] = &[
         HANDLES,
         "frames 2 records 2 opaque 0 missing 0\n\
         handles 2 unbalanced 2\n\
-        \x20\x201 100 5 1 0 0 0\n\
-        \x20\x200 100 5 -1 -1 0 0\n",
+        \x20\x201 100 5 1 0 0 0 0 0\n\
+        \x20\x200 100 5 -1 -1 0 0 0 0\n",
     ),
     // a node that is raised on one device and acknowledged on another
     (

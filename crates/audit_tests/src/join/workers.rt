@@ -14,7 +14,7 @@ use crate::meeting::{Meeting, RELEASE_FIRST};
 use audit_join::{AuditError, Findings, OfProcess, Piece, audit, audit_one};
 use capture_frame::{Fault, FaultKind, Frame, Process};
 use claim_board::{NoGate, Workers};
-use handle_ledger::HandleRow;
+use handle_ledger::{HandleRow, HeldRow};
 use std::alloc::{AllocError, Global};
 use std::process::Abort;
 use std::test::Fail;
@@ -276,15 +276,19 @@ fn more_workers_than_pieces(rt: HostRuntime) -> Result<(), Fail> {
 }
 
 /// The handle that is let go before it is taken.
-const HANDLES: &[OfProcess<HandleRow>] = &[OfProcess {
+const HANDLES: &[OfProcess<HeldRow>] = &[OfProcess {
     process: Process {
         device: 0,
         number: 100,
     },
-    row: HandleRow {
-        handle: 3,
-        strong: Count { sum: 0, low: -1 },
-        weak: Count { sum: 0, low: 0 },
+    row: HeldRow {
+        taken: HandleRow {
+            handle: 3,
+            strong: Count { sum: 0, low: -1 },
+            weak: Count { sum: 0, low: 0 },
+        },
+        held_strong: 0,
+        held_weak: 0,
     },
 }];
 
