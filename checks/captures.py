@@ -742,6 +742,13 @@ CAPTURES = {
     "version-2.cap": changed(ACQUIRES, (7, b"2")),
     # version 2 without frames
     "version-2-empty.cap": HEADER_2,
+    # A call in one file, its reply in the next, which may be of the other version.
+    "first-part.cap": CALL_AND_REPLY[:116],
+    "second-part.cap": HEADER + CALL_AND_REPLY[116:],
+    "second-part-of-version-2.cap": HEADER_2 + CALL_AND_REPLY[116:],
+    # Two files between which three frames are missing.
+    "sequence-5.cap": HEADER + write(5, 1, 1),
+    "sequence-9-of-version-2.cap": HEADER_2 + write(9, 1, 1),
     # one handle of one process on two devices
     "handle-of-two-devices.cap": TWO_DEVICES,
     # the same bytes in version 1, where no device stands

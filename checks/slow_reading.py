@@ -1,9 +1,9 @@
 #!/usr/bin/env python3
 """A slow second reading of a capture, by the rules of the pages and nothing cleverer.
 
-    checks/slow_reading.py FILE                 what `report` writes of the capture
-    checks/slow_reading.py --first-fault FILE   what `first-fault` writes
-    checks/slow_reading.py --check FOLDER       compares the answers of the cases with its own
+    checks/slow_reading.py FILE...                 what `report` writes of the capture
+    checks/slow_reading.py --first-fault FILE...   what `first-fault` writes
+    checks/slow_reading.py --check FOLDER          compares the answers of the cases with its own
 
 Each of its rules stands in docs/ENVELOPE.md, docs/COMMANDS.md or docs/REPORT.md, and it shares no
 code with the auditor. It puts what belongs together into one list, goes through the lists and
@@ -102,6 +102,10 @@ ERROR_REPLIES = "BR_DEAD_REPLY", "BR_FAILED_REPLY", "BR_FROZEN_REPLY"
 
 class Fault(Exception):
     """The first fault of a capture: its kind and its place."""
+
+
+class PartFault(Exception):
+    """The first fault of parts: the part's number, from 1, the kind, and the place in that part."""
 
 
 class Process(NamedTuple):
@@ -286,15 +290,32 @@ def events_of(frame):
             for record in records]
 
 
-def read_capture(capture):
-    """The frames and the events of a capture without a fault."""
-    version = version_of(capture)
-    frames, events, place = [], [], 16
-    while place < len(capture):
-        frame = read_frame(capture, version, place, frames)
-        frames.append(frame)
-        events += events_of(frame)
+def read_part(part, frames, base):
+    """The frames and the events of a part, which stands behind these frames. So many bytes are
+    added to their places, and not to that of a fault."""
+    version, place = version_of(part), 16
+    more, events = [], []
+    while place < len(part):
+        frame = read_frame(part, version, place, frames + more)
+        events_of(frame)
+        placed = frame._replace(place=base + place)
+        more.append(placed)
+        events += events_of(placed)
         place += 32 + len(frame.commands) + len(frame.attachments)
+    return more, events
+
+
+def read_parts(parts):
+    """The frames and the events of parts without a fault, at their places in the joined capture."""
+    frames, events, base = [], [], 0
+    for number, part in enumerate(parts, 1):
+        try:
+            more, told = read_part(part, frames, base)
+        except Fault as fault:
+            raise PartFault(number, *fault.args) from None
+        frames += more
+        events += told
+        base += len(part) - 16
     return frames, events
 
 
@@ -761,14 +782,20 @@ def report_of(frames, events):
     ]
 
 
-def reading(capture, first_fault=False):
-    """The status and the lines that the auditor answers to a capture with."""
+def reading_of_parts(parts, first_fault=False):
+    """The status and the lines that the auditor answers to a capture of these parts with."""
     try:
-        frames, events = read_capture(capture)
-    except Fault as fault:
-        kind, place = fault.args
-        return 2, [f"malformed {kind} at {place}"]
+        frames, events = read_parts(parts)
+    except PartFault as fault:
+        part, kind, place = fault.args
+        where = f" in part {part}" if len(parts) > 1 else ""
+        return 2, [f"malformed {kind} at {place}{where}"]
     return 0, ["no malformed record"] if first_fault else report_of(frames, events)
+
+
+def reading(capture, first_fault=False):
+    """The same of a capture, which is a single part."""
+    return reading_of_parts([capture], first_fault)
 
 
 def cases(folder):
@@ -783,15 +810,15 @@ def differences(folder):
     for line, answer in cases(folder):
         words = line.split("\t")
         if answer[0] in ("status 0", "status 2"):
-            [name] = [word for word in words if word.endswith(".cap")]
-            capture = (folder / "data" / name).read_bytes()
-            status, lines = reading(capture, words[0] == "first-fault")
+            names = [word for word in words if word.endswith(".cap")]
+            parts = [(folder / "data" / name).read_bytes() for name in names]
+            status, lines = reading_of_parts(parts, words[0] == "first-fault")
             if answer != [f"status {status}", *lines]:
                 yield line
 
 
-def print_reading(file, first_fault):
-    status, lines = reading(pathlib.Path(file).read_bytes(), first_fault)
+def print_reading(files, first_fault):
+    status, lines = reading_of_parts([pathlib.Path(file).read_bytes() for file in files], first_fault)
     print("\n".join(lines))
     return status
 
@@ -803,10 +830,10 @@ def main(words):
             for line in lines:
                 print(f"{folder}/stdout: {line}: not the answer of {sys.argv[0]}")
             return 1 if lines else 0
-        case ["--first-fault", file]:
-            return print_reading(file, first_fault=True)
-        case [file] if not file.startswith("-"):
-            return print_reading(file, first_fault=False)
+        case ["--first-fault", _, *_]:
+            return print_reading(words[1:], first_fault=True)
+        case [file, *_] if not file.startswith("-"):
+            return print_reading(words, first_fault=False)
     print(__doc__, file=sys.stderr)
     return 64
 
