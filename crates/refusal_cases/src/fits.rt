@@ -18,7 +18,7 @@ pub(crate) fn is_short<T: Copy>(items: &[T]) -> bool
 }
 
 /// Whether there are at most 2^32 items, and no weight is above `MOST_WEIGHT`.
-pub(crate) fn is_weighted(items: &[(u32, u64)]) -> bool
+pub(crate) fn is_weighted<K: Copy>(items: &[(K, u64)]) -> bool
     ensures { OnTrue result (AreWeighted items.now) }
 {
     if items.len() > MOST_ITEMS {

@@ -11,11 +11,13 @@ use event_core::{
     death_step, handle_step, node_step, request_step,
 };
 use handle_ledger::{HandleLedger, NodeLedger};
+use object_view::{Objects, held_step};
 use pending_ledger::{Buffers, Pending, Requests};
 use std::alloc::{AllocError, Global};
 use std::io::Write;
 use summary_law::Tally;
 use test_kit::is_placed;
+use transaction_view::Entry;
 
 /// The items that some events are.
 macro_rules! items {
@@ -94,6 +96,53 @@ pub(crate) fn handles<W: Write>(
     let ledger: HandleLedger = summed(alloc, items.as_slice(), way)?;
     let rows = ledger.rows()?;
     told::handles(rows.as_slice(), out)
+}
+
+/// The references that the objects of the events' attachments carry, each with the weight 0.
+fn held_items(
+    alloc: Global,
+    events: &[Event<'_>],
+) -> Result<Vec<((u32, bool), u64)>, AllocError> {
+    let mut items = Vec::new(alloc);
+    for event in events {
+        if let Some(entry) = event.entry {
+            push_held(entry, &mut items)?;
+        }
+    }
+    Ok(items)
+}
+
+fn push_held(
+    entry: Entry<'_>,
+    items: &mut Vec<((u32, bool), u64)>,
+) -> Result<(), AllocError> {
+    let mut objects = Objects::of(entry);
+    for _ in 0..entry.offsets.len() {
+        if let Some(Ok(object)) = objects.next_object()
+            && let Some(held) = held_step(object)
+        {
+            items.push((held, 0))?;
+        }
+    }
+    Ok(())
+}
+
+pub(crate) fn held<W: Write>(
+    alloc: Global,
+    capture: &[u8],
+    way: Way,
+    out: &mut W,
+) -> Result<(), NoAnswer> {
+    let events = events_of_process(alloc, capture)?;
+    let items = handle_items(alloc, events.as_slice())?;
+    let held = held_items(alloc, events.as_slice())?;
+    if !is_short(items.as_slice()) || !is_weighted(held.as_slice()) {
+        return Err(NoAnswer::Unfit);
+    }
+    let ledger: HandleLedger = summed(alloc, items.as_slice(), way)?;
+    let tally: Tally<(u32, bool)> = summed(alloc, held.as_slice(), way)?;
+    let rows = ledger.rows_held(&tally)?;
+    told::held(rows.as_slice(), out)
 }
 
 pub(crate) fn nodes<W: Write>(

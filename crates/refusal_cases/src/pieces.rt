@@ -1,7 +1,6 @@
 //! The frames of a capture in runs, and their summaries.
 
-ghost use Rattle.std.specs.Prelude.{List, IfOk, OnOk};
-ghost use Rattle.capture_frame.specs.declared.frame.Frame.{Frame};
+ghost use Rattle.std.specs.Prelude.{IfOk, OnOk};
 ghost use Rattle.audit_findings.specs.Frames.{AreGoodFrames};
 ghost use Rattle.audit_findings.specs.Summary.{SumsPiece};
 ghost use Rattle.audit_join.specs.Jobs.{AreSound};
@@ -13,7 +12,7 @@ use crate::told;
 use audit_findings::PieceSummary;
 use audit_join::{CAPTURE_LIMIT, Piece, Plan};
 use capture_frame::Frame;
-use std::alloc::Global;
+use std::alloc::{AllocError, Global};
 use std::io::Write;
 use transaction_view::check_frame;
 
@@ -52,11 +51,22 @@ fn good_frames<'c>(alloc: Global, capture: &'c [u8]) -> Result<Vec<Frame<'c>>, N
     Ok(frames)
 }
 
-/// Prints the sections of a summary.
-fn tell<W: Write>(summary: PieceSummary<'_>, out: &mut W) -> Result<(), NoAnswer>
-    requires { (frames : List Frame) × SumsPiece summary frames × AreGoodFrames frames }
+/// Prints the sections of a summary of these frames.
+fn tell<'c, W: Write>(
+    alloc: Global,
+    frames: &[Frame<'c>],
+    summary: PieceSummary<'c>,
+    out: &mut W,
+) -> Result<(), NoAnswer>
+    requires good { AreGoodFrames frames.now }
+    requires sums { SumsPiece summary frames.now }
 {
-    let sections = summary.sections()?;
+    let mut handles = Vec::new(alloc);
+    for number in 0..summary.process_count() {
+        let rows = summary.handles(frames, number)?;
+        handles.push(rows).map_err(AllocError::from)?;
+    }
+    let sections = summary.sections(handles.as_slice())?;
     told::sections(&sections, out)
 }
 
@@ -68,5 +78,5 @@ pub(crate) fn summed<W: Write>(
 ) -> Result<(), NoAnswer> {
     let frames = good_frames(alloc, capture)?;
     let summary = sums::summed(alloc, frames.as_slice(), way)?;
-    tell(summary, out)
+    tell(alloc, frames.as_slice(), summary, out)
 }

@@ -81,6 +81,8 @@ fn of_lists<W: Write>(
         "Tally: join, rows" => ledgers::tally(alloc, bytes, Way::Join, out),
         "HandleLedger: add, rows" => ledgers::handles(alloc, bytes, Way::Add, out),
         "HandleLedger: join, rows" => ledgers::handles(alloc, bytes, Way::Join, out),
+        "HandleLedger: add, rows_held" => ledgers::held(alloc, bytes, Way::Add, out),
+        "HandleLedger: join, rows_held" => ledgers::held(alloc, bytes, Way::Join, out),
         "NodeLedger: add, rows" => ledgers::nodes(alloc, bytes, Way::Add, out),
         "NodeLedger: join, rows" => ledgers::nodes(alloc, bytes, Way::Join, out),
         "Buffers: add, outstanding, strays" => ledgers::buffers(alloc, bytes, Way::Add, out),

@@ -5,7 +5,7 @@ use audit_findings::{CodeRow, Sections};
 use call_stacks::{CallFindings, Opener, RefusedSend};
 use capture_frame::{Fault, Frame, PartFault};
 use event_core::Event;
-use handle_ledger::{HandleRow, NodeRow};
+use handle_ledger::{HandleRow, HeldRow, NodeRow};
 use std::io::Write;
 
 /// Prints a line: what the numbers are, and the numbers.
@@ -42,6 +42,26 @@ pub(crate) fn handles<W: Write>(rows: &[HandleRow], out: &mut W) -> Result<(), N
     for row in rows {
         let (strong, weak) = (row.strong.sum.unsigned_abs(), row.weak.sum.unsigned_abs());
         line(out, "handle", &[row.handle as u64, strong, weak])?;
+    }
+    Ok(())
+}
+
+/// Prints each handle, by how much its raises and its lowers differ, and how often it is held.
+pub(crate) fn held<W: Write>(rows: &[HeldRow], out: &mut W) -> Result<(), NoAnswer> {
+    for row in rows {
+        let taken = row.taken;
+        let (strong, weak) = (
+            taken.strong.sum.unsigned_abs(),
+            taken.weak.sum.unsigned_abs(),
+        );
+        let numbers = [
+            taken.handle as u64,
+            strong,
+            weak,
+            row.held_strong,
+            row.held_weak,
+        ];
+        line(out, "held", &numbers)?;
     }
     Ok(())
 }
