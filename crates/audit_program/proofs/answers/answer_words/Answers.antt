@@ -1,6 +1,5 @@
-use Rattle.std.proofs.Common.{map, string_bytes, subst}
+use Rattle.std.proofs.Common.{map, string_bytes}
 use Rattle.std.proofs.lemmas.Result.{err_from_is_err_and}
-use Rattle.audit_program.specs.CommandLine.{AsksFor}
 use Rattle.audit_program.proofs.ProgramLemmas.{failed_on_files}
 use Rattle.audit_program.proofs.answers.answer_words.Goals as goal
 
