@@ -703,17 +703,27 @@ fn expect_line<T: Threads + Sync + Abort>(
 }
 
 /// Named in each part, also before another fault.
-fn expect_named<T: Threads + Sync + Abort>(
-    rt: &T,
-    alloc: Global,
-    bad: &Bad,
-) -> Result<(), Fail> {
+fn expect_named<T: Threads + Sync + Abort>(rt: &T, alloc: Global, bad: &Bad) -> Result<(), Fail> {
     let (part, kind, place, words) = *bad;
     let (second, third) = ((2, kind, place), (3, kind, place));
     expect_line(rt, alloc, &[part], (1, kind, place), words, b"\n")?;
     expect_line(rt, alloc, &[GOOD, part], second, words, b" in part 2\n")?;
-    expect_line(rt, alloc, &[HEADER, GOOD, part], third, words, b" in part 3\n")?;
-    expect_line(rt, alloc, &[GOOD, part, SHORT], second, words, b" in part 2\n")
+    expect_line(
+        rt,
+        alloc,
+        &[HEADER, GOOD, part],
+        third,
+        words,
+        b" in part 3\n",
+    )?;
+    expect_line(
+        rt,
+        alloc,
+        &[GOOD, part, SHORT],
+        second,
+        words,
+        b" in part 2\n",
+    )
 }
 
 #[test]
@@ -780,8 +790,20 @@ const READINGS: &[Reading] = &[
     (&[], 0, 0, None, 0),
     // One more: the part is read no further, and none behind it is.
     (&[b"hello", b"more"], 0, 8, Some(RunError::TooLarge), 10),
-    (&[b"hello", b"more", b"x"], 0, 8, Some(RunError::TooLarge), 10),
-    (&[b"hello", b"more", b"x"], 0, 9, Some(RunError::TooLarge), 12),
+    (
+        &[b"hello", b"more", b"x"],
+        0,
+        8,
+        Some(RunError::TooLarge),
+        10,
+    ),
+    (
+        &[b"hello", b"more", b"x"],
+        0,
+        9,
+        Some(RunError::TooLarge),
+        12,
+    ),
     (&[b"hello", b"", b"x"], 0, 5, Some(RunError::TooLarge), 8),
     (&[b"hello", b""], 0, 4, Some(RunError::TooLarge), 5),
     // A read can fail anywhere, and none comes behind it.
