@@ -21,14 +21,14 @@ use std::thread::Threads;
 
 /// Gives its bytes, one a read. The reads of all parts are counted together, and one may fail.
 #[derive(Drop)]
-struct Part<'a> {
+struct Part<'a, 'r> {
     rest: &'a [u8],
-    reads: &'a AtomicU64,
+    reads: &'r AtomicU64,
     /// The number of the read that fails, from 1; 0 for none.
     fails_at: u64,
 }
 
-impl<'a> Read for Part<'a> {
+impl<'a, 'r> Read for Part<'a, 'r> {
     fn read(&mut self, buf: &mut [u8]) -> io::Result<usize> {
         let before = self.reads.fetch_add(1, Ordering::SeqCst);
         if before.saturating_add(1) == self.fails_at {
@@ -48,15 +48,15 @@ impl<'a> Read for Part<'a> {
     }
 }
 
-type Readers<'a> = Result<Vec<Part<'a>>, AllocError>;
+type Readers<'a, 'r> = Result<Vec<Part<'a, 'r>>, AllocError>;
 
 /// A reader for each part.
-fn readers_of<'a>(
+fn readers_of<'a, 'r>(
     alloc: Global,
     parts: &[&'a [u8]],
-    reads: &'a AtomicU64,
+    reads: &'r AtomicU64,
     fails_at: u64,
-) -> Readers<'a> {
+) -> Readers<'a, 'r> {
     let mut readers = Vec::new(alloc);
     for part in parts {
         readers.push(Part {
@@ -82,7 +82,7 @@ fn reads_of(parts: &[&[u8]]) -> u64 {
 fn ran<T: Threads + Sync + Abort, G: Gate + Sync>(
     rt: &T,
     alloc: Global,
-    readers: Readers<'_>,
+    readers: Readers<'_, '_>,
     sink: &mut Sink<'_>,
     shares: (Workers, Piece),
     gate: &G,
@@ -97,7 +97,7 @@ fn ran<T: Threads + Sync + Abort, G: Gate + Sync>(
 fn ran_first_fault<T: Abort>(
     rt: &T,
     alloc: Global,
-    readers: Readers<'_>,
+    readers: Readers<'_, '_>,
     sink: &mut Sink<'_>,
 ) -> Result<Option<PartFault>, RunError> {
     let Ok(readers) = readers else {
@@ -133,22 +133,32 @@ fn expect_by<T: Threads + Sync + Abort, G: Gate + Sync>(
     expect_whole(rt, parts, reads.load(Ordering::SeqCst), &sink, due.1);
 }
 
-/// What is written about the first fault, which has the same line.
-fn first_fault_of(due: Due<'_>) -> (Option<PartFault>, &[u8]) {
-    match due.0 {
-        PartsWritten::Report => (None, b"no malformed record\n"),
-        PartsWritten::Malformed(found) => (Some(found), due.1),
-    }
-}
-
-fn expect_first_fault<T: Abort>(rt: &T, alloc: Global, parts: &[&[u8]], due: Due<'_>) {
-    let (found, line) = first_fault_of(due);
+/// The same where the first fault alone is asked for.
+fn expect_first_fault<T: Abort>(
+    rt: &T,
+    alloc: Global,
+    parts: &[&[u8]],
+    found: Option<PartFault>,
+    line: &[u8],
+) {
     let reads = AtomicU64::new(0);
     let mut sink = Sink::new(line);
     let readers = readers_of(alloc, parts, &reads, 0);
     let answer = ran_first_fault(rt, alloc, readers, &mut sink);
     assert_eq!(rt; answer, Ok(found));
     expect_whole(rt, parts, reads.load(Ordering::SeqCst), &sink, line);
+}
+
+/// It has the line of the other answer, but for that of no fault.
+fn expect_line_alone<T: Abort>(rt: &T, alloc: Global, parts: &[&[u8]], due: Due<'_>) {
+    match due.0 {
+        PartsWritten::Report => {
+            expect_first_fault(rt, alloc, parts, None, b"no malformed record\n");
+        }
+        PartsWritten::Malformed(found) => {
+            expect_first_fault(rt, alloc, parts, Some(found), due.1);
+        }
+    }
 }
 
 fn shares(workers: u64, piece: u64) -> Result<(Workers, Piece), &'static str> {
@@ -169,7 +179,7 @@ fn expect_parts<T: Threads + Sync + Abort>(
             expect_by(rt, alloc, parts, shares(workers, piece)?, &NoGate, due);
         }
     }
-    expect_first_fault(rt, alloc, parts, due);
+    expect_line_alone(rt, alloc, parts, due);
     Ok(())
 }
 
