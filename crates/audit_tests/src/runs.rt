@@ -3,4 +3,5 @@
 mod devices;
 mod gate;
 mod memory;
+mod parts;
 mod read_sizes;

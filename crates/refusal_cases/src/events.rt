@@ -29,7 +29,7 @@ pub(crate) fn cut_all<W: Write>(
 }
 
 /// A part of one frame, a write with the sequence 0 on device 1.
-const FIRST_PART: &[u8] = b"BNDRCAP2\x08\0\0\0\0\0\0\0\
+pub(crate) const FIRST_PART: &[u8] = b"BNDRCAP2\x08\0\0\0\0\0\0\0\
     \0\0\0\0\0\0\0\0\x64\0\0\0\x65\0\0\0\x01\0\0\0\0\0\0\0\0\0\0\0\x01\0\0\0";
 
 /// Prints the frames of three parts, of which the capture is the second and the third one has no

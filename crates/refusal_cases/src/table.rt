@@ -75,6 +75,7 @@ fn of_lists<W: Write>(
 ) -> Result<(), NoAnswer> {
     by_name! { name, out;
         "read_capture" => runs::read(alloc, bytes, out),
+        "read_parts" => runs::read_all_parts(alloc, bytes, out),
         "cut" => events::cut_all(alloc, bytes, out),
         "cut_parts" => events::cut_all_parts(alloc, bytes, out),
         "Tally: add, rows" => ledgers::tally(alloc, bytes, Way::Add, out),
@@ -117,6 +118,8 @@ fn of_frames<T: Threads + Sync, W: Write>(
         "PieceSummary: join, sections" => pieces::summed(alloc, bytes, Way::Join, out),
         "audit by 1" => runs::audited(rt, alloc, bytes, one, out),
         "audit by 4" => runs::audited(rt, alloc, bytes, four, out),
+        "audit_parts by 1" => runs::audited_parts(rt, alloc, bytes, one, out),
+        "audit_parts by 4" => runs::audited_parts(rt, alloc, bytes, four, out),
         "audit_one" => runs::audited_by_one(rt, alloc, bytes, out),
     }
 }
@@ -138,7 +141,9 @@ fn of_captures<T: Files + Threads + Sync, W: Write, E: Write>(
         "run by 1" => runs::ran(rt, alloc, bytes, one, out),
         "run by 4" => runs::ran(rt, alloc, bytes, four, out),
         "run_gated by 1" => runs::ran_gated(rt, alloc, bytes, one, out),
+        "run_parts by 1" => runs::ran_parts(rt, alloc, bytes, one, out),
         "run_first_fault" => runs::ran_first_fault(alloc, bytes, out),
+        "run_first_fault_parts" => runs::ran_first_fault_parts(alloc, bytes, out),
         "program" => runs::programmed(rt, alloc, bytes, out, err),
     }
 }

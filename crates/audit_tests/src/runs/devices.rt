@@ -10,7 +10,7 @@ use std::test::Fail;
 use std::thread::Threads;
 
 /// A call and its reply.
-const CAPTURE: &[u8] = b"BNDRCAP1\x08\0\0\0\0\0\0\0\
+pub(super) const CAPTURE: &[u8] = b"BNDRCAP1\x08\0\0\0\0\0\0\0\
 \x01\0\0\0\0\0\0\0\x64\0\0\0\x65\0\0\0\x01\0\0\0\x44\0\0\0\0\0\0\0\0\0\0\0\
 \0\x63\x40\x40\x01\0\0\0\0\0\0\0\0\0\0\0\0\0\0\0\x02\0\0\0\0\0\0\0\
 \0\0\0\0\0\0\0\0\0\0\0\0\0\0\0\0\0\0\0\0\0\0\0\0\0\0\0\0\0\0\0\0\0\0\0\0\0\0\0\0\
@@ -19,7 +19,7 @@ const CAPTURE: &[u8] = b"BNDRCAP1\x08\0\0\0\0\0\0\0\
 \0\0\0\0\0\0\0\0\0\0\0\0\0\0\0\0\0\0\0\0\0\0\0\0\0\0\0\0\0\0\0\0\
 \0\x70\0\0\0\0\0\0\0\0\0\0\0\0\0\0";
 
-const REPORT: &[u8] = b"BINDER AUDIT 2\n\
+pub(super) const REPORT: &[u8] = b"BINDER AUDIT 2\n\
 frames 2 records 4 opaque 0 missing 0\n\
 codes 4\n  0x00007206 BR_TRANSACTION_COMPLETE 1\n  0x0000720c BR_NOOP 1\n  \
 0x40406300 BC_TRANSACTION 1\n  0x80407203 BR_REPLY 1\n\
@@ -46,6 +46,21 @@ const READS: u64 = 225;
 /// What was answered; and how many reads, writes, bytes of the text and flushes there were.
 type Seen = (Result<u8, RunError>, [u64; 4]);
 
+/// The answer about one part.
+fn answer_about<T: Threads + Sync>(
+    rt: &T,
+    alloc: Global,
+    question: Question,
+    reader: &mut Drip<'_>,
+    sink: &mut Sink<'_>,
+) -> Result<u8, RunError> {
+    let mut readers = Vec::new(alloc);
+    if readers.push(reader).is_err() {
+        return Err(RunError::Memory);
+    }
+    answer(rt, alloc, question, readers, sink)
+}
+
 fn seen<T: Threads + Sync>(
     rt: &T,
     alloc: Global,
@@ -53,10 +68,7 @@ fn seen<T: Threads + Sync>(
     mut reader: Drip<'_>,
     mut sink: Sink<'_>,
 ) -> Seen {
-    let outcome = match vec![in alloc; &mut reader] {
-        Ok(readers) => answer(rt, alloc, question, readers, &mut sink),
-        Err(_) => Err(RunError::Memory),
-    };
+    let outcome = answer_about(rt, alloc, question, &mut reader, &mut sink);
     let counts = [reader.reads, sink.writes, sink.taken as u64, sink.flushes];
     (outcome, counts)
 }
