@@ -208,6 +208,56 @@ def attachments_of_all_kinds():
             + frame(2, 2, 100, 101, returned, entries[1]))
 
 
+def of_handle(sort, handle):
+    """An object of this sort that carries the handle."""
+    return changed(SORTS[sort], (8, u32(handle)))
+
+
+# A oneway delivery with a HANDLE of 7 to process 100, and what the process does next.
+HELD = HEADER + attached(1, 100, (of_handle(2, 7), offsets(0)))
+TAKEN = write(2, 100, 101, record(BC_ACQUIRE, u32(7)))
+FREED = write(3, 100, 102, record(BC_FREE_BUFFER, u64(0x9000)))
+
+
+def held_references():
+    """Deliveries of each kind to three processes on two devices: a SEC_CTX one with a WEAK_HANDLE and
+    a HANDLE of 5, and a reply with two HANDLEs of 9, both kept; one that is freed, of an address that
+    is delivered again and kept, with 5 in it; one without an entry. Process 200 keeps a HANDLE of 5
+    too, and so does 100 on device 1, where a good object stands behind a bad one and counts as none.
+    A sent transaction has a HANDLE of 6, and a BINDER lies beside."""
+    def kept(kind, buffer, *objects, flags=0):
+        body, listed = b"".join(objects), offsets(*places_of(objects))
+        return transaction(kind, flags=flags, sizes=(len(body), len(listed)), buffer=buffer), (
+            body, listed)
+
+    def of(sequence, process, *deliveries, device=0, make=read):
+        records = [it for it, _ in deliveries]
+        entries = [entry(place, *both) for place, (_, both) in zip(places_of(records), deliveries)]
+        direction = 2 if make is read else 1
+        return frame(direction, sequence, process, 101, records, entries, device)
+    strong, weak = of_handle(2, 5), of_handle(3, 5)
+    return HEADER_2 + of(
+        1, 100, kept(BR_TRANSACTION_SEC_CTX, 0x8000, weak, strong),
+        kept(BR_TRANSACTION, 0x9000, of_handle(2, 7), flags=1),
+    ) + write(
+        2, 100, 101, *each_long(BC_FREE_BUFFER, 0x9000),
+    ) + of(
+        3, 100, kept(BR_TRANSACTION, 0x9000, SORTS[0], strong, flags=1),
+        kept(BR_REPLY, 0xA000, of_handle(2, 9), of_handle(2, 9)),
+    ) + read(
+        4, 100, 101, transaction(BR_REPLY, buffer=0xB000),
+    ) + of(
+        5, 200, kept(BR_REPLY, 0x9000, strong),
+    ) + read(
+        6, 100, 101, transaction(BR_TRANSACTION, sizes=(72, 24), buffer=0x9000), entries=[
+            entry(0, 2 * strong + of_handle(2, 3), offsets(0, 20, 48))], device=1,
+    ) + of(
+        7, 100, kept(BC_TRANSACTION, 0, of_handle(2, 6)), make=write,
+    ) + write(
+        8, 100, 101, record(BC_ACQUIRE, u32(9)), record(BC_INCREFS, u32(4)),
+    )
+
+
 def flags_of_all_kinds():
     sent, returned = of_all_kinds(flags=0xFFFFFFFF)
     return HEADER + write(1, 200, 201, *sent) + read(2, 100, 101, *returned)
@@ -943,6 +993,12 @@ CAPTURES = {
         entry(68, b"", b"")]),
     # a body that begins with no sort
     "unknown-sort.cap": changed(DELIVERY, (128, b"\x00")),
+    # a reference that the delivery holds and the process takes too; then the buffer is freed; freed alone
+    "held-and-taken.cap": HELD + TAKEN,
+    "held-taken-and-freed.cap": HELD + TAKEN + FREED,
+    "held-and-freed.cap": HELD + FREED,
+    # by deliveries of each kind
+    "held-references.cap": held_references(),
     # a different number of each sort
     "each-sort.cap": each_sort(),
     # the second object begins within the first; the third is good and is not read

@@ -1,3 +1,4 @@
 pub mod CaptureLaws
+pub mod HandleLists
 pub mod ListedThere
 pub mod Spacing

@@ -46,6 +46,21 @@ const READS: u64 = 225;
 /// What was answered; and how many reads, writes, bytes of the text and flushes there were.
 type Seen = (Result<u8, RunError>, [u64; 4]);
 
+/// The answer about one part.
+fn answer_about<T: Threads + Sync>(
+    rt: &T,
+    alloc: Global,
+    question: Question,
+    reader: &mut Drip<'_>,
+    sink: &mut Sink<'_>,
+) -> Result<u8, RunError> {
+    let mut readers = Vec::new(alloc);
+    if readers.push(reader).is_err() {
+        return Err(RunError::Memory);
+    }
+    answer(rt, alloc, question, readers, sink)
+}
+
 fn seen<T: Threads + Sync>(
     rt: &T,
     alloc: Global,
@@ -53,10 +68,7 @@ fn seen<T: Threads + Sync>(
     mut reader: Drip<'_>,
     mut sink: Sink<'_>,
 ) -> Seen {
-    let outcome = match vec![in alloc; &mut reader] {
-        Ok(readers) => answer(rt, alloc, question, readers, &mut sink),
-        Err(_) => Err(RunError::Memory),
-    };
+    let outcome = answer_about(rt, alloc, question, &mut reader, &mut sink);
     let counts = [reader.reads, sink.writes, sink.taken as u64, sink.flushes];
     (outcome, counts)
 }
