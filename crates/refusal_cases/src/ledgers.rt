@@ -99,10 +99,7 @@ pub(crate) fn handles<W: Write>(
 }
 
 /// The references that the objects of the events' attachments carry, each with the weight 0.
-fn held_items(
-    alloc: Global,
-    events: &[Event<'_>],
-) -> Result<Vec<((u32, bool), u64)>, AllocError> {
+fn held_items(alloc: Global, events: &[Event<'_>]) -> Result<Vec<((u32, bool), u64)>, AllocError> {
     let mut items = Vec::new(alloc);
     for event in events {
         if let Some(entry) = event.entry {
@@ -112,10 +109,7 @@ fn held_items(
     Ok(items)
 }
 
-fn push_held(
-    entry: Entry<'_>,
-    items: &mut Vec<((u32, bool), u64)>,
-) -> Result<(), AllocError> {
+fn push_held(entry: Entry<'_>, items: &mut Vec<((u32, bool), u64)>) -> Result<(), AllocError> {
     let mut objects = Objects::of(entry);
     for _ in 0..entry.offsets.len() {
         if let Some(Ok(object)) = objects.next_object()

@@ -33,7 +33,7 @@ pub(crate) fn read<W: Write>(alloc: Global, bytes: &[u8], out: &mut W) -> Result
 fn readers_of(alloc: Global, capture: &[u8]) -> Result<Vec<&[u8]>, AllocError>
     ensures { IfOk result (λ readers. vec_len readers ≡ 3) }
 {
-    vec![in alloc; FIRST_PART, capture, &FIRST_PART[..16]]
+    Ok(vec![in alloc; FIRST_PART, capture, &FIRST_PART[..16]]?)
 }
 
 /// Prints the bytes of each part that is read.
@@ -111,10 +111,7 @@ pub(crate) fn audited_parts<T: Threads + Sync, W: Write>(
     }
     let parts = [FIRST_PART, capture, &FIRST_PART[..16]];
     let piece = Piece::new(1).unwrap();
-    tell_of_parts(
-        audit_parts(rt, alloc, &parts, workers, piece, &NoGate),
-        out,
-    )
+    tell_of_parts(audit_parts(rt, alloc, &parts, workers, piece, &NoGate), out)
 }
 
 pub(crate) fn audited_by_one<T: Threads + Sync, W: Write>(

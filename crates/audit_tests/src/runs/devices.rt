@@ -1,10 +1,12 @@
 //! What an answer comes to where a device fails, read by read, write by write and at the flush: a
 //! failed call is the last one, and before it the text was written byte for byte.
 
+ghost use Rattle.std.specs.Prelude.{◌≡◌, IfOk, vec_len};
+
 use crate::devices::{Drip, Sink};
 use audit_run::{Piece, Question, RunError, Workers, answer};
-use std::alloc::Global;
-use std::io::ErrorKind;
+use std::alloc::{AllocError, Global};
+use std::io::{ErrorKind, Read};
 use std::process::Abort;
 use std::test::Fail;
 use std::thread::Threads;
@@ -46,19 +48,13 @@ const READS: u64 = 225;
 /// What was answered; and how many reads, writes, bytes of the text and flushes there were.
 type Seen = (Result<u8, RunError>, [u64; 4]);
 
-/// The answer about one part.
-fn answer_about<T: Threads + Sync>(
-    rt: &T,
-    alloc: Global,
-    question: Question,
-    reader: &mut Drip<'_>,
-    sink: &mut Sink<'_>,
-) -> Result<u8, RunError> {
+/// The reader of a capture that is a single part.
+fn alone<R: Read + Drop>(alloc: Global, reader: R) -> Result<Vec<R>, AllocError>
+    ensures { IfOk result (λ readers. vec_len readers ≡ 1) }
+{
     let mut readers = Vec::new(alloc);
-    if readers.push(reader).is_err() {
-        return Err(RunError::Memory);
-    }
-    answer(rt, alloc, question, readers, sink)
+    readers.push(reader)?;
+    Ok(readers)
 }
 
 fn seen<T: Threads + Sync>(
@@ -68,7 +64,10 @@ fn seen<T: Threads + Sync>(
     mut reader: Drip<'_>,
     mut sink: Sink<'_>,
 ) -> Seen {
-    let outcome = answer_about(rt, alloc, question, &mut reader, &mut sink);
+    let outcome = match alone(alloc, &mut reader) {
+        Ok(readers) => answer(rt, alloc, question, readers, &mut sink),
+        Err(_) => Err(RunError::Memory),
+    };
     let counts = [reader.reads, sink.writes, sink.taken as u64, sink.flushes];
     (outcome, counts)
 }

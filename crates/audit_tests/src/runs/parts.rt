@@ -939,11 +939,22 @@ fn two_pieces_of_one_part_meet(rt: HostRuntime) -> Result<(), Fail> {
     Ok(())
 }
 
+/// The same, where each frame is in a part of its own.
+fn expect_parts_meet<T: Threads + Sync + Abort>(
+    rt: &T,
+    alloc: Global,
+    capture: &[u8],
+    at: usize,
+    shares: (Workers, Piece),
+) -> Result<(), AllocError> {
+    let (first, rest) = capture.split_at(at.min(capture.len()));
+    let second = part_of(alloc, HEADER, rest)?;
+    expect_meeting(rt, alloc, &[first, second.as_slice()], shares);
+    Ok(())
+}
+
 #[test]
 fn two_parts_meet(rt: HostRuntime) -> Result<(), Fail> {
-    let (first, rest) = RELEASE_FIRST.split_at(RELEASE_FIRST.len().min(56));
-    let second = part_of(rt.alloc(), HEADER, rest)?;
-    let shares = shares(2, 1)?;
-    expect_meeting(&rt, rt.alloc(), &[first, second.as_slice()], shares);
+    expect_parts_meet(&rt, rt.alloc(), RELEASE_FIRST, 56, shares(2, 1)?)?;
     Ok(())
 }
