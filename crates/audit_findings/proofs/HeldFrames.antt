@@ -61,16 +61,16 @@ at_most_one start base e entries (p ∷ places) rise =
     let with_e = sum_by-cons (found_bytes start base (e ∷ entries)) p places in
     let without = sum_by-cons (found_bytes start (base + length (entry_bytes e)) entries) p places in
     elim (cases_eq (start + e.offset) p) [
-  | inl same ↦
-      let here = found_here start p base e entries same in
-      let above = All-weaker (λ q. p < q) (λ q. start + e.offset < q) (λ q less. omega (arith, less, same)) places (pairs_head (λ a b. a < b) p places rise) in
-      let more = none_behind start base e entries places above in
-      omega (arith, here, more, with_e, without)
-  | inr other ↦
-      let one = found_other start p base e entries other in
-      let more = at_most_one start base e entries places (pairs_tail (λ a b. a < b) p places rise) in
-      omega (arith, one, more, with_e, without)
-]
+      | inl same ↦
+          let here = found_here start p base e entries same in
+          let above = All-weaker (λ q. p < q) (λ q. start + e.offset < q) (λ q less. omega (arith, less, same)) places (pairs_head (λ a b. a < b) p places rise) in
+          let more = none_behind start base e entries places above in
+          omega (arith, here, more, with_e, without)
+      | inr other ↦
+          let one = found_other start p base e entries other in
+          let more = at_most_one start base e entries places (pairs_tail (λ a b. a < b) p places rise) in
+          omega (arith, one, more, with_e, without)
+    ]
 
 none_found : (start base : ℕ) (places : List ℕ) → sum_by (found_bytes start base []) places ≡ 0
 none_found start base [] = refl
