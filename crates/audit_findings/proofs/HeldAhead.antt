@@ -1,9 +1,7 @@
 -- The frame of the first place that is left, among whole frames that views show.
 use Rattle.std.proofs.Common.{◌≡◌, ℕ, suc, ◌+◌, ◌-◌, ◌*◌, ◌^◌, ◌<◌, ◌≤◌, inl, inr, Bool, true, leb, List, [], ◌∷◌, ◌++◌, length, map, take, drop, All, Option, Some, None, refl, sym, ap, ap₂, subst, ◌∙◌, append_assoc, length-append, arith, get_or}
 use Rattle.std.proofs.Math.Seq.{drop-append-add, get_or-append_seam, split_at}
-use Rattle.std.specs.List.Sorted.{IsNonDecreasingBy, IsPartitionedBy}
-use Rattle.std.proofs.lemmas.Bool.{cases_lt, leb-false, leb-true}
-use Rattle.std.proofs.lemmas.List.Sorted.{IsPartitionedBy-leb}
+use Rattle.std.proofs.lemmas.Bool.{cases_lt}
 use Rattle.std.specs.Prelude.{AllPairs, filter, slice_get, slice_index_or}
 use Rattle.std.specs.Option.{unwrap_or}
 use Rattle.std.specs.List.{sum_by}
@@ -13,7 +11,7 @@ use Rattle.std.proofs.lemmas.List.Elements.{All-append, All-cons, All-contains, 
 use Rattle.std.proofs.lemmas.List.Sums.{sum_by-append, sum_by-cons}
 use Rattle.capture_frame.specs.declared.frame.Frame.{Frame}
 use Rattle.capture_frame.specs.Envelope.{FrameText, frame_text, placed_frame}
-use Rattle.capture_frame.specs.Lookup.{Holds, StandApart, span_of}
+use Rattle.capture_frame.specs.Lookup.{Holds, IsSplitAt, StandApart, span_of}
 use Rattle.capture_frame.specs.Units.{Placed}
 use Rattle.event_core.specs.Events.{EventText, events_of_whole, events_of_wholes, placed_text}
 use Rattle.handle_ledger.specs.Held.{Held}
@@ -22,7 +20,7 @@ use Rattle.transaction_view.specs.FirstFault.{HasGoodContent}
 use Rattle.transaction_view.specs.Grammar.{WholeFrame}
 use Rattle.audit_findings.specs.Frames.{AreGoodFrames, IsWhole, Show}
 use Rattle.audit_findings.specs.Held.{AreHeldBy}
-use Rattle.audit_findings.specs.HeldCounts.{AreBegun, AreChosen, AreOfFrame, CountsAt, CountsFrame, CountsHeld, GrowsBy, HasRoom, Rise}
+use Rattle.audit_findings.specs.HeldCounts.{AreChosen, AreOfFrame, CountsAt, CountsFrame, CountsHeld, GrowsBy, HasRoom, Rise}
 use Rattle.audit_findings.specs.Kept.{places_of}
 use Rattle.audit_findings.proofs.EventSizes.{few_frames}
 use Rattle.audit_findings.proofs.FrameLaws.{events-append, first_same, none_shown, shown_first, whole_events}
@@ -103,42 +101,25 @@ view_of frames before w behind show =
 
 -- ---- the last of the frames that have begun
 
--- each of frames that stand apart begins behind those before it
-begin_in_order : (frames : List Frame) → AllPairs StandApart frames → IsNonDecreasingBy (λ (f : Frame). f.place) frames
-begin_in_order frames apart i j d upto within = elim (cases_lt i j) [
-  | inl below ↦ let far = apart i j d below within in omega (arith, far)
-  | inr above ↦
-      let same : i ≡ j = omega (arith, upto, above) in
-      ap_le (λ n. (slice_index_or frames n d).place) same
-]
-  where
-    ap_le : (f : ℕ → ℕ) → i ≡ j → f i ≤ f j
-    ap_le f same = let equal = ap f same in omega (arith, equal)
-
--- so those that begin at a place or before it are the first ones
-pub begun_first : (frames : List Frame) (place : ℕ) → AllPairs StandApart frames → IsPartitionedBy (λ (f : Frame). leb f.place place) frames
-begun_first frames place apart = IsPartitionedBy-leb (λ (f : Frame). f.place) frames place (begin_in_order frames apart)
-
--- the one that holds the place is the last of these
+-- the one that holds the place is the last that has begun
 last_begun : (earlier : List Frame) (frame : Frame) (later : List Frame) (place count : ℕ) → AllPairs StandApart (earlier ++ frame ∷ later)
-    → Holds place frame → AreBegun (earlier ++ frame ∷ later) place count → count ≡ length earlier + 1
+    → Holds place frame → IsSplitAt (earlier ++ frame ∷ later) place count → count ≡ length earlier + 1
 last_begun earlier frame later place count apart holds begun =
     let frames = earlier ++ frame ∷ later in
     let from = holds.0 in
     let to = holds.1 in
-    let bound = begun.0 in
+    let bound = begun.within in
     let long = length-append earlier (frame ∷ later) in
     let here : get_or frames (length earlier) frame ≡ frame = get_or-append_seam earlier frame later frame in
     elim (cases_lt count (length earlier + 1)) [
       | inl few ↦
-          let late = begun.1.1 (length earlier) frame (omega (arith, few)) (omega (arith, long)) in
-          let wrong = leb-false frame.place place (ap (λ (f : Frame). leb f.place place) (sym here) ∙ late) in
-          absurd (omega (arith, from, wrong))
+          let late = begun.behind (length earlier) frame (omega (arith, few)) (omega (arith, long)) in
+          let there = ap (λ (f : Frame). f.place) here in
+          absurd (omega (arith, from, late, there))
       | inr enough ↦ elim (cases_lt (length earlier + 1) count) [
         | inl many ↦
             let next = length earlier + 1 in
-            let early = begun.1.0 next frame (omega arith) many in
-            let begins = leb-true (get_or frames next frame).place place early in
+            let begins = begun.before next frame many in
             let far = apart (length earlier) next frame (omega arith) (omega (arith, many, bound)) in
             let far_here = subst (λ (f : Frame). StandApart f (get_or frames next frame)) here far in
             absurd (omega (arith, to, begins, far_here))
@@ -412,14 +393,14 @@ rise_part choice (e ∷ events) later rise =
 
 module _ (frames : List Frame) (good : AreGoodFrames frames) (wholes : List (Placed WholeFrame)) (choice : EventText → Bool) (show : Show frames wholes)
     (ahead : List Frame) (apart : AllPairs StandApart ahead) (place : ℕ) (rest : List ℕ) (tally : Tally Held)
-    (s : Stands wholes choice ahead (place ∷ rest) tally) (count : ℕ) (begun : AreBegun ahead place count) where
+    (s : Stands wholes choice ahead (place ∷ rest) tally) (count : ℕ) (begun : IsSplitAt ahead place count) where
   next : NextFrame ahead choice s.ahead place
   next = next_frame ahead s.ahead s.show_ahead choice place rest s.left_is
 
   counted : count ≡ length next.view.earlier + 1
   counted =
       last_begun next.view.earlier next.view.frame next.view.later place count (subst (AllPairs StandApart) next.view.are apart) next.holds
-      (subst (λ fs. AreBegun fs place count) next.view.are begun)
+      (subst (λ fs. IsSplitAt fs place count) next.view.are begun)
 
   -- a frame is there
   pub some_begun : count ≡ 0 → ⊥

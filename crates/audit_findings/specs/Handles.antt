@@ -40,7 +40,7 @@ AreHandleFindings wholes said =
 abbrev pub AreListedHandles : List (Placed WholeFrame) → List (List (OfProcess HeldRow)) → Type 0
 AreListedHandles wholes lists = AllZip (AreRowsOf (AreHandlesOf (events_of_wholes wholes))) (processes_of wholes) lists
 
--- whatever process of the frames that these views show the summary is of, the rows are its
+-- the summary may be of any process of the frames that these views show: the rows are that process's
 abbrev pub GivesHandles : ProcessSummary → List Frame → List HeldRow → Type 0
 GivesHandles summary frames rows =
     (wholes : List (Placed WholeFrame)) (process : Process) → Show frames wholes

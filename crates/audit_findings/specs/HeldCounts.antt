@@ -1,7 +1,6 @@
 -- What a tally of held references comes to while it is made.
-use Rattle.std.specs.Prelude.{◌≡◌, ℕ, ◌+◌, ◌≤◌, ◌<◌, ◌^◌, Bool, List, [], ◌++◌, length, leb, filter, true, false, AllPairs, Option}
+use Rattle.std.specs.Prelude.{◌≡◌, ℕ, ◌+◌, ◌≤◌, ◌<◌, ◌^◌, Bool, List, [], ◌++◌, length, filter, AllPairs, Option}
 use Rattle.std.specs.List.{filter_map}
-use Rattle.std.specs.List.Sorted.{IsPartitionPoint}
 use Rattle.capture_frame.specs.Envelope.{frame_text, placed_frame}
 use Rattle.capture_frame.specs.Units.{Placed}
 use Rattle.capture_frame.specs.declared.frame.Frame.{Frame}
@@ -27,24 +26,24 @@ CountsHeld tally held = TallySums held_cmp tally (unweighed held)
 abbrev pub HasRoom : Tally Held → ℕ → Type 0
 HasRoom tally n = (held : List Held) × CountsHeld tally held × (length held + n ≤ 2 ^ 32)
 
--- whatever the old tally counts, the new one counts with these behind it, where there is room for so many
+-- the new tally counts what the old one counts, and then these references, where there is room for n more
 abbrev pub CountsMore : Tally Held → ℕ → List Held → Tally Held → Type 0
 CountsMore old n more new =
     (held : List Held) → CountsHeld old held → length held + n ≤ 2 ^ 32 → CountsHeld new (held ++ more)
 
--- the new tally counts at most n more
+-- the new tally counts at most n references more than the old one, where there is room for so many
 abbrev pub GrowsBy : Tally Held → ℕ → Tally Held → Type 0
 GrowsBy old n new =
     (before : List Held) → CountsHeld old before → length before + n ≤ 2 ^ 32
     → (held : List Held) × CountsHeld new held × (length held ≤ length before + n)
 
--- the references of an attachment's good objects are counted besides
+-- the new tally counts besides the references among an attachment's objects before the first bad one
 abbrev pub CountsObjects : Tally Held → (body list : List ℕ) → Tally Held → Type 0
 CountsObjects old body list new =
     (objects : List ObjectText) × (bad : Option BadObject) × AreObjects body list objects bad
     × CountsMore old (length list) (filter_map held_in objects) new
 
--- the references of these events are counted besides, of which there are at most n
+-- the new tally counts besides the references that these events hold, of which there are at most n
 abbrev pub CountsEvents : Tally Held → ℕ → List EventText → Tally Held → Type 0
 CountsEvents old n events new =
     (more : List Held) × AreHeldBy events more × (length more ≤ n) × CountsMore old n more new
@@ -55,7 +54,7 @@ AreOfFrame frame events =
     (records : List RecordText) × (entries : List EntryText) × HasRecords (frame_text frame) records
     × HasEntries (frame_text frame) entries × (events ≡ events_of (placed_frame frame) records entries)
 
--- the numbers rise
+-- each number is below all later ones
 abbrev pub Rise : List ℕ → Type 0
 Rise numbers = AllPairs (λ a b. a < b) numbers
 
@@ -63,8 +62,8 @@ Rise numbers = AllPairs (λ a b. a < b) numbers
 abbrev pub AreChosen : (EventText → Bool) → List EventText → List ℕ → List ℕ → Type 0
 AreChosen choice events others places = places ≡ places_of (filter choice events) ++ others
 
--- however events of the frame are chosen: where the places are those of the chosen ones and then others, all rising,
--- the others are left, and what the chosen ones hold is counted besides
+-- However events of the frame are chosen: where the places are those of the chosen ones and then others, which stand
+-- behind all events of the frame and rise, the others are left, and what the chosen ones hold is counted besides.
 abbrev pub CountsFrame : Tally Held → Frame → List ℕ → Tally Held → List ℕ → Type 0
 CountsFrame old frame places new left =
     (events : List EventText) (choice : EventText → Bool) (others : List ℕ) → AreOfFrame frame events
@@ -77,9 +76,3 @@ CountsAt frames places tally =
     (wholes : List (Placed WholeFrame)) (choice : EventText → Bool) → Show frames wholes
     → AreChosen choice (events_of_wholes wholes) [] places
     → (held : List Held) × AreHeldBy (filter choice (events_of_wholes wholes)) held × CountsHeld tally held
-
--- so many of these frames begin at the place or before it, and the others behind it
-abbrev pub AreBegun : List Frame → ℕ → ℕ → Type 0
-AreBegun frames place count =
-    (count ≤ length frames)
-    × IsPartitionPoint (λ frame. leb frame.place place ≡ true) (λ frame. leb frame.place place ≡ false) frames count

@@ -1,15 +1,14 @@
 //! The references that deliveries hold.
 
-ghost use Rattle.std.specs.Prelude.{◌≡◌, ◌≢◌, ◌≤◌, [], ◌∷◌, ℕ, List, drop, length, leb, AllPairs, IfOk, IfSome, IfNone, OnOk};
+ghost use Rattle.std.specs.Prelude.{◌≡◌, ◌≢◌, ◌≤◌, [], ◌∷◌, ℕ, List, drop, length, IfOk, IfSome, IfNone, OnOk};
 ghost use Rattle.capture_frame.specs.Envelope.{frame_text};
-ghost use Rattle.capture_frame.specs.Lookup.{StandApart};
 ghost use Rattle.event_core.specs.Reading.{event_text};
 ghost use Rattle.transaction_view.specs.FirstFault.{HasGoodContent};
 ghost use Rattle.audit_findings.specs.Frames.{AreGoodFrames};
-ghost use Rattle.audit_findings.specs.HeldCounts.{AreBegun, CountsAt, CountsEvents, CountsFrame, CountsObjects, GrowsBy, HasRoom};
+ghost use Rattle.audit_findings.specs.HeldCounts.{CountsAt, CountsEvents, CountsFrame, CountsObjects, GrowsBy, HasRoom};
 ghost use Rattle.audit_findings.specs.Ledgers.{offset_bytes_of};
 
-use capture_frame::Frame;
+use capture_frame::{Frame, count_begun};
 use event_core::{Event, Events};
 use object_view::{Objects, held_step};
 use std::alloc::{AllocError, Global};
@@ -51,18 +50,6 @@ fn without_first<'f, 'c>(frames: &'f [Frame<'c>], count: usize) -> &'f [Frame<'c
 {
     let (_, others) = frames.split_at(count);
     others
-}
-
-/// How many of these frames begin at a place of the capture or before it.
-fn count_begun(frames: &[Frame<'_>], place: u64) -> usize
-    requires { AllPairs StandApart frames.now }
-    ensures { AreBegun frames.entry.now place result }
-{
-    frames.partition_point(
-        |frame: &Frame<'_>| -> bool
-            ensures { result ≡ leb frame.now.place place }
-        { frame.place <= place },
-    )
 }
 
 /// Adds what those deliveries of a frame hold that stand at the first of these places. The places

@@ -15,7 +15,7 @@ use Rattle.capture_frame.specs.declared.version.Version.{Version}
 use Rattle.capture_frame.specs.declared.version.Version.TheVariants.{Two}
 use Rattle.capture_frame.specs.Cut.{AreFrames, ArePartFrames, AreFramesBeforePart, frames_before}
 use Rattle.capture_frame.specs.Envelope.{FrameText, Before, in_version, file_header, frame_text, placed_frame, frame_bytes}
-use Rattle.capture_frame.specs.FirstFault.{IsFirstFaultBehind, frame_format, in_header, in_frames}
+use Rattle.capture_frame.specs.FirstFault.{IsFirstFaultIn, frame_format, in_header, in_frames}
 use Rattle.capture_frame.specs.Parts.{AreParts, IsFirstPartFault, last_after, joined}
 use Rattle.capture_frame.specs.Units.{Placed, placed, placed_at, spelling_of, Splits, FirstFailure, IsBytes, state_after}
 use Rattle.capture_frame.proofs.CutLaws.{frames_wide}
@@ -195,7 +195,7 @@ parts_begin last (part ∷ parts) frames texts (first, others, all, is, are) sai
 
 -- or those before a fault
 stopped_begin : (last behind_it : Option ℕ) (part : List ℕ) (behind : List (List ℕ)) (fault : Fault) → behind_it ≡ last
-    → (first : IsFirstFaultBehind frame_format behind_it part fault) → (frames : List Frame) → texts_of frames ≡ frames_before part fault first
+    → (first : IsFirstFaultIn frame_format behind_it part fault) → (frames : List Frame) → texts_of frames ≡ frames_before part fault first
     → BeginWithCut last (part ∷ behind) frames
 stopped_begin last behind_it part behind fault is (in_header fails) frames said = inl (none_said frames said)
 stopped_begin last behind_it part behind fault is (in_frames version bytes distance joined fails place) frames said =
@@ -212,7 +212,7 @@ stopped_begin last behind_it part behind fault is (in_frames version bytes dista
 
 before_begin : (last behind_it : Option ℕ) (front : List (List ℕ)) (part : List ℕ) (behind : List (List ℕ)) (units : List FrameText) (fault : Fault)
     → AreParts frame_format last front units → behind_it ≡ last_after frame_format last units
-    → (first : IsFirstFaultBehind frame_format behind_it part fault) → (frames : List Frame) → texts_of frames ≡ units ++ frames_before part fault first
+    → (first : IsFirstFaultIn frame_format behind_it part fault) → (frames : List Frame) → texts_of frames ≡ units ++ frames_before part fault first
     → BeginWithCut last (front ++ part ∷ behind) frames
 before_begin last behind_it [] part behind units fault whole is first frames said =
     stopped_begin last behind_it part behind fault (is ∙ ap (last_after frame_format last) whole) first frames
@@ -639,8 +639,8 @@ header_fails before bytes (f ∷ frames) rest kind within sound splits fails =
     (may_stand_whole before f good tail.1) tail.0 later)
 
 -- the fault at which frames of a part are cut off is the first of the part
-none_earlier : (last : Option ℕ) (part : List ℕ) (fault : Fault) (frames : List Frame) (first : IsFirstFaultBehind frame_format last part fault)
-    → texts_of frames ≡ frames_before part fault first → AreSound frames → IsFirstFaultBehind whole_format last part fault
+none_earlier : (last : Option ℕ) (part : List ℕ) (fault : Fault) (frames : List Frame) (first : IsFirstFaultIn frame_format last part fault)
+    → texts_of frames ≡ frames_before part fault first → AreSound frames → IsFirstFaultIn whole_format last part fault
 none_earlier last part fault frames (in_header fails) said sound = in_header fails
 none_earlier last part fault frames (in_frames version bytes distance joined fails place) said sound =
     let state = in_version version last in
@@ -668,7 +668,7 @@ cut_off_first parts found frames before sound =
       number = first.number;
       units = whole.units;
       whole = whole.are;
-      first = subst (λ (s : Option ℕ). IsFirstFaultBehind whole_format s first.part found.fault)
+      first = subst (λ (s : Option ℕ). IsFirstFaultIn whole_format s first.part found.fault)
           (sym (whole.last_is ∙ ap (last_after frame_format None) two.said)) here;
     }
 

@@ -24,7 +24,7 @@ pub run_on_files : {A : Type 0} (files : ℕ) (had : List (Option (List ℕ))) (
     (GoesWith : List (List ℕ) → A → Type 0) (old new : Option (List ℕ)) (result : Result A RunError) → length had ≡ files
     → Runs (ReadersGive had) IsOn GoesWith old new result → Runs (FilesGive files) IsOn GoesWith old new result
 run_on_files files had IsOn GoesWith old new result many (given parts gives writes) =
-    given parts (AllZip-long IsAllOf had parts gives.0 ∙ many, gives.1) writes
+    given parts (AllZip-long IsAllOf had parts gives.0.0 ∙ many, gives.0.1, gives.1) writes
 run_on_files files had IsOn GoesWith old new result many (none_given error gives is keeps) =
     none_given error (files_give files had error gives) is keeps
 

@@ -1,5 +1,6 @@
 -- What a run about parts comes to: what reading gave, and which answers go with it.
-use Rattle.std.specs.Prelude.{◌≡◌, ℕ, ◌≤◌, List, length, Option, Some, None, Result, Ok, Err, ⊤}
+use Rattle.std.specs.Prelude.{◌≡◌, ℕ, ◌≤◌, List, length, All, Option, Some, None, Result, Ok, Err, ⊤}
+use Rattle.capture_frame.specs.Units.{IsBytes}
 use Rattle.capture_frame.specs.declared.fault.PartFault.{PartFault}
 use Rattle.transaction_view.specs.Grammar.{AreReadable, HasFirstPartFault}
 use Rattle.audit_join.specs.declared.limits.TheConstants.{CAPTURE_LIMIT}
@@ -9,19 +10,19 @@ use Rattle.audit_streams.specs.declared.run_error.RunError.TheVariants.{Memory, 
 use Rattle.audit_run.specs.declared.part_runs.PartsWritten.{PartsWritten}
 use Rattle.audit_run.specs.declared.part_runs.PartsWritten.TheVariants.{Report, Malformed}
 
--- what readers give that had these bytes, each where they are known: a part from each, all together within the limit; or
--- no parts, of which TooLarge comes only where all bytes are known and pass it, or some are not
+-- what readers give that had these bytes, each where they are known: a part from each, of bytes, all together within the
+-- limit; or no parts, of which TooLarge comes only where all bytes are known and pass it, or some are not
 abbrev pub ReadersGive : List (Option (List ℕ)) → Result (List (List ℕ)) RunError → Type 0
-ReadersGive had (Ok parts) = AreRead CAPTURE_LIMIT had parts
+ReadersGive had (Ok parts) = AreRead CAPTURE_LIMIT had parts × All IsBytes parts
 ReadersGive had (Err Memory) = ⊤
 ReadersGive had (Err TooLarge) = ArePastLimit CAPTURE_LIMIT had
 ReadersGive had (Err Read) = ⊤
 ReadersGive had (Err Write) = ⊥
 ReadersGive had (Err Open) = ⊥
 
--- what so many files give, which are opened first: a part from each, all together within the limit, or none
+-- what so many files give, which are opened first: a part from each, of bytes, all together within the limit, or none
 abbrev pub FilesGive : ℕ → Result (List (List ℕ)) RunError → Type 0
-FilesGive files (Ok parts) = (length parts ≡ files) × (bytes_of parts ≤ CAPTURE_LIMIT)
+FilesGive files (Ok parts) = (length parts ≡ files) × (bytes_of parts ≤ CAPTURE_LIMIT) × All IsBytes parts
 FilesGive files (Err Write) = ⊥
 FilesGive files (Err _) = ⊤
 

@@ -2,6 +2,7 @@
 -- a file or a pipe has, nor what a terminal holds; of such a reader or writer the clauses on its bytes say nothing.
 use Rattle.std.specs.Prelude.{◌≡◌, ℕ, ◌≤◌, ◌<◌, List, length, Option, Some, None, IfSome, Result, Ok, Err, ⊤}
 use Rattle.std.specs.Io.KnownBytes.{Appends, Keeps}
+use Rattle.capture_frame.specs.Units.{IsBytes}
 use Rattle.capture_frame.specs.declared.fault.Fault.{Fault}
 use Rattle.transaction_view.specs.Grammar.{IsReadable, HasFirstFault}
 use Rattle.audit_join.specs.declared.limits.TheConstants.{CAPTURE_LIMIT}
@@ -11,10 +12,11 @@ use Rattle.audit_streams.specs.declared.run_error.RunError.TheVariants.{Memory, 
 use Rattle.audit_run.specs.declared.runs.Written.{Written}
 use Rattle.audit_run.specs.declared.runs.Written.TheVariants.{Report, Malformed}
 
--- what a reader gives that had these bytes, where they are known: all of them, and within the limit; or no capture, of
--- which TooLarge comes only where they pass the limit
+-- what a reader gives that had these bytes, where they are known: all of them, within the limit, and in any case some
+-- bytes; or no capture, of which TooLarge comes only where they pass the limit
 abbrev pub ReaderGives : Option (List ℕ) → Result (List ℕ) RunError → Type 0
-ReaderGives had (Ok capture) = IfSome had (λ bytes. capture ≡ bytes) × (length capture ≤ CAPTURE_LIMIT)
+ReaderGives had (Ok capture) =
+    IfSome had (λ bytes. capture ≡ bytes) × (length capture ≤ CAPTURE_LIMIT) × IsBytes capture
 ReaderGives had (Err Memory) = ⊤
 ReaderGives had (Err TooLarge) = IfSome had (λ bytes. CAPTURE_LIMIT < length bytes)
 ReaderGives had (Err Read) = ⊤

@@ -60,7 +60,8 @@ pub fn run_parts<T: Threads + Sync, R: Read + Drop, W: Write, G: Gate + Sync>(
 }
 
 /// Reads the parts of a capture in order, each to its end, and writes the line that names the first
-/// fault, or that there is none. Reading alone takes memory.
+/// fault, or that there is none. Finding it takes no memory beyond what the parts and their list
+/// take.
 pub fn run_first_fault_parts<R: Read + Drop, W: Write>(
     alloc: Global,
     readers: Vec<R>,

@@ -6,7 +6,7 @@ use Rattle.capture_frame.specs.declared.fault.FaultKind.{FaultKind}
 use Rattle.capture_frame.specs.Units.{Format, Reads, FirstFailure}
 use Rattle.capture_frame.specs.declared.version.Version.{Version}
 use Rattle.capture_frame.specs.Envelope.{Before, in_version, file_header}
-use Rattle.capture_frame.specs.FirstFault.{HeaderFails, IsPart, IsFirstFaultBehind, IsCapture, IsFirstFault, in_header, in_frames}
+use Rattle.capture_frame.specs.FirstFault.{HeaderFails, IsPart, IsFirstFaultIn, IsCapture, IsFirstFault, in_header, in_frames}
 use Rattle.capture_frame.specs.Units.{IsBytes}
 use Rattle.capture_frame.proofs.NumberLaws.{IsBytes-drop}
 use Rattle.capture_frame.proofs.FaultLaws.{same_fault}
@@ -16,7 +16,7 @@ use Rattle.capture_frame.proofs.HeaderLaws.{header_judged, header_one_failure, h
 
 behind_header : {U : Type 0} (format : Format Before U FaultKind) (last : Option ℕ) (version : Version) (part bytes : List ℕ)
     → part ≡ file_header version ++ bytes → Outcome format (in_version version last) bytes
-    → ((frames : List U) × IsPart format last part frames) ⊎ ((fault : Fault) × IsFirstFaultBehind format last part fault)
+    → ((frames : List U) × IsPart format last part frames) ⊎ ((fault : Fault) × IsFirstFaultIn format last part fault)
 behind_header format last version part bytes parts (read frames reads) = inl (frames, (version, bytes, parts, reads))
 behind_header format last version part bytes parts (failed kind place failure) =
     let fault : Fault = record { kind = kind; place = 16 + place } in
@@ -24,7 +24,7 @@ behind_header format last version part bytes parts (failed kind place failure) =
 
 -- a part is read, or has a first fault
 pub part_outcome : {U : Type 0} (format : Format Before U FaultKind) (decided : IsDecided format) (last : Option ℕ) (part : List ℕ) → IsBytes part
-    → ((frames : List U) × IsPart format last part frames) ⊎ ((fault : Fault) × IsFirstFaultBehind format last part fault)
+    → ((frames : List U) × IsPart format last part frames) ⊎ ((fault : Fault) × IsFirstFaultIn format last part fault)
 part_outcome format decided last part h = elim (header_judged part h) [
   | inl good ↦ behind_header format last good.0 part (drop 16 part) good.1
       (outcome format decided (in_version good.0 last) (drop 16 part) (IsBytes-drop 16 part h))
@@ -40,7 +40,7 @@ behind_any P last part version other bytes others parts parts_too said =
 
 -- one first fault
 pub part_one_fault : {U : Type 0} (format : Format Before U FaultKind) (decided : IsDecided format) (last : Option ℕ) (part : List ℕ) (a b : Fault)
-    → IsFirstFaultBehind format last part a → IsFirstFaultBehind format last part b → a ≡ b
+    → IsFirstFaultIn format last part a → IsFirstFaultIn format last part b → a ≡ b
 part_one_fault format decided last part a b (in_header x) (in_header y) =
     let same = header_one_failure part a.kind b.kind a.place b.place x y in same_fault a b same.0 same.1
 part_one_fault format decided last part a b (in_header x) (in_frames version bytes place parts failure at) =
@@ -54,7 +54,7 @@ part_one_fault format decided last part a b (in_frames version bytes place parts
 
 -- never both
 pub part_never_both : {U : Type 0} (format : Format Before U FaultKind) (decided : IsDecided format) (last : Option ℕ) (part : List ℕ) (frames : List U)
-    (fault : Fault) → IsPart format last part frames → IsFirstFaultBehind format last part fault → ⊥
+    (fault : Fault) → IsPart format last part frames → IsFirstFaultIn format last part fault → ⊥
 part_never_both format decided last part frames fault (version, bytes, parts, reads) (in_header x) =
     header_never_both version bytes fault.kind fault.place (subst (λ (t : List ℕ). HeaderFails t fault.kind fault.place) parts x)
 part_never_both format decided last part frames fault (version, bytes, parts, reads) (in_frames other others place parts_too failure at) =

@@ -6,8 +6,8 @@ use Rattle.std.proofs.lemmas.List.Concat.{flat_map-cons}
 use Rattle.capture_frame.specs.declared.fault.Fault.{Fault}
 use Rattle.capture_frame.specs.declared.frame.Frame.{Frame}
 use Rattle.capture_frame.specs.declared.version.Version.{Version}
-use Rattle.capture_frame.specs.declared.version.Version.TheVariants.{One, Two}
-use Rattle.capture_frame.specs.Units.{Placed, placed_at, placed, state_after}
+use Rattle.capture_frame.specs.declared.version.Version.TheVariants.{Two}
+use Rattle.capture_frame.specs.Units.{Placed, placed_at, placed}
 use Rattle.capture_frame.specs.Envelope.{FrameText, MayStand, Before, in_version, file_header, frame_text, placed_frame, frame_bytes}
 use Rattle.capture_frame.specs.Parts.{last_after}
 use Rattle.capture_frame.specs.FirstFault.{HeaderFails, frame_format, in_header, in_frames}

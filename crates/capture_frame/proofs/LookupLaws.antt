@@ -1,52 +1,36 @@
 -- Which of some frames that stand apart holds a place.
-use Rattle.std.proofs.Common.{◌≡◌, ℕ, ◌+◌, ◌-◌, ◌<◌, ◌≤◌, inl, inr, List, length, Option, Some, None, refl, sym, ap, ◌∙◌, arith}
+use Rattle.std.proofs.Common.{◌≡◌, ℕ, ◌+◌, ◌-◌, ◌<◌, ◌≤◌, inl, inr, true, false, leb, List, length, Option, Some, None, refl, sym, ap, ◌∙◌, arith}
 use Rattle.std.specs.Prelude.{AllPairs, Contains, IsSome, slice_index_or}
-use Rattle.std.proofs.lemmas.Bool.{cases_eq, cases_lt}
+use Rattle.std.specs.List.Sorted.{IsNonDecreasingBy, IsPartitionedBy, IsPartitionPoint}
+use Rattle.std.proofs.lemmas.Bool.{cases_eq, cases_lt, leb-false, leb-true}
 use Rattle.std.proofs.lemmas.List.{get_or_default}
+use Rattle.std.proofs.lemmas.List.Sorted.{IsPartitionedBy-leb}
 use Rattle.std.proofs.lemmas.List.Elements.{All-contains}
 use Rattle.capture_frame.specs.declared.frame.Frame.{Frame}
 use Rattle.capture_frame.specs.Lookup.{span_of, StandApart, Holds, IsFrameAt, IsSplitAt}
 
--- ---- halving
+-- ---- the frames that have begun
 
--- the first `low` frames begin at the place or before it, and those from `high` on behind it
-pub record IsSplitBetween (frames : List Frame) (place low high : ℕ) : Type 0 where
-  pub ordered : low ≤ high
-  pub within : high ≤ length frames
-  pub before : (i : ℕ) (d : Frame) → i < low → (slice_index_or frames i d).place ≤ place
-  pub behind : (i : ℕ) (d : Frame) → high ≤ i → i < length frames → place < (slice_index_or frames i d).place
-
--- earlier frames begin before later ones
-no_later : (frames : List Frame) → AllPairs StandApart frames → (i j : ℕ) (d : Frame) → i ≤ j → j < length frames
-    → (slice_index_or frames i d).place ≤ (slice_index_or frames j d).place
-no_later frames apart i j d less within = elim (cases_eq i j) [
-  | inl same ↦ (let alike = ap (λ (n : ℕ). (slice_index_or frames n d).place) same in omega (arith, alike))
-  | inr other ↦ (let far = apart i j d (omega (arith, less, other)) within in omega (arith, far))
+-- each of frames that stand apart begins behind those before it
+begin_in_order : (frames : List Frame) → AllPairs StandApart frames → IsNonDecreasingBy (λ (f : Frame). f.place) frames
+begin_in_order frames apart i j d upto within = elim (cases_lt i j) [
+  | inl below ↦ let far = apart i j d below within in omega (arith, far)
+  | inr above ↦
+      let same : i ≡ j = omega (arith, upto, above) in
+      let equal = ap (λ n. (slice_index_or frames n d).place) same in
+      omega (arith, equal)
 ]
 
-pub split_above : (frames : List Frame) (place low high middle : ℕ) (d : Frame) → AllPairs StandApart frames → IsSplitBetween frames place low high
-    → low ≤ middle → middle < high → (slice_index_or frames middle d).place ≤ place → IsSplitBetween frames place (middle + 1) high
-split_above frames place low high middle d apart split from to there = record {
-  ordered = omega (arith, to);
-  within = split.within;
-  before = λ i e less.
-      let bound = split.within in
-      let early = no_later frames apart i middle e (omega (arith, less)) (omega (arith, to, bound)) in
-      let alike = ap (λ (f : Frame). f.place) (get_or_default frames middle e d (omega (arith, to, bound))) in
-      omega (arith, early, alike, there);
-  behind = split.behind;
-}
+-- so those that begin at a place or before it are the first ones
+pub begun_first : (frames : List Frame) (place : ℕ) → AllPairs StandApart frames → IsPartitionedBy (λ (f : Frame). leb f.place place) frames
+begun_first frames place apart = IsPartitionedBy-leb (λ (f : Frame). f.place) frames place (begin_in_order frames apart)
 
-pub split_below : (frames : List Frame) (place low high middle : ℕ) (d : Frame) → AllPairs StandApart frames → IsSplitBetween frames place low high
-    → low ≤ middle → middle < high → place < (slice_index_or frames middle d).place → IsSplitBetween frames place low middle
-split_below frames place low high middle d apart split from to there = record {
-  ordered = from;
-  within = let bound = split.within in omega (arith, to, bound);
-  before = split.before;
-  behind = λ i e from_there within.
-      let late = no_later frames apart middle i e from_there within in
-      let alike = ap (λ (f : Frame). f.place) (get_or_default frames middle e d (omega (arith, from_there, within))) in
-      omega (arith, late, alike, there);
+pub split_at_point : (frames : List Frame) (place n : ℕ) → n ≤ length frames
+    → IsPartitionPoint (λ (f : Frame). leb f.place place ≡ true) (λ (f : Frame). leb f.place place ≡ false) frames n → IsSplitAt frames place n
+split_at_point frames place n within point = record {
+  within = within;
+  before = λ i d less. leb-true (slice_index_or frames i d).place place (point.0 i d (omega arith) less);
+  behind = λ i d from there. leb-false (slice_index_or frames i d).place place (point.1 i d from there);
 }
 
 -- ---- the frame that holds a place

@@ -1,11 +1,10 @@
 -- The frames of several parts, one part after another.
-use Rattle.std.proofs.Common.{◌≡◌, ℕ, ◌+◌, ◌-◌, ◌<◌, ◌≤◌, List, [], ◌∷◌, ◌++◌, length, take, drop, map, Bor, Option, Some, None, get_or, refl, sym, ap, ap₂, subst, ◌∙◌, append_assoc, length-append, length-take, arith}
+use Rattle.std.proofs.Common.{◌≡◌, ℕ, ◌+◌, ◌-◌, ◌<◌, ◌≤◌, List, [], ◌∷◌, ◌++◌, length, take, drop, map, Bor, Option, None, get_or, refl, sym, ap, ap₂, subst, ◌∙◌, length-append, length-take, arith}
 use Rattle.std.specs.List.{flat_map, sum_by}
 use Rattle.std.proofs.lemmas.List.{take_more, map-append, at_drop_more, take-append-drop, length-map}
 use Rattle.std.proofs.lemmas.List.Concat.{flat_map-cons, flat_map-append}
 use Rattle.std.proofs.lemmas.List.Sums.{sum_by-append, sum_by-cons, sum_by_push}
 use Rattle.capture_frame.specs.declared.fault.Fault.{Fault}
-use Rattle.capture_frame.specs.declared.fault.PartFault.{PartFault}
 use Rattle.capture_frame.specs.declared.frame.Frame.{Frame}
 use Rattle.capture_frame.specs.Units.{Placed, placed_at, placed}
 use Rattle.capture_frame.specs.Envelope.{FrameText, file_header, frame_text, placed_frame, frame_bytes}

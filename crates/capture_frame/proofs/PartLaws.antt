@@ -1,6 +1,6 @@
 -- What holds of parts under every format of frames that are judged in one way: they are read in one way, or have one
 -- first fault, and never both.
-use Rattle.std.proofs.Common.{◌≡◌, ℕ, ◌+◌, ◌⊎◌, inl, inr, suc, List, [], ◌∷◌, ◌++◌, length, drop, Option, Some, None, refl, sym, ap, ap₂, subst, ◌∙◌, append_assoc, append-nil, arith}
+use Rattle.std.proofs.Common.{◌≡◌, ℕ, ◌+◌, ◌⊎◌, inl, inr, suc, List, [], ◌∷◌, ◌++◌, length, drop, Option, None, refl, sym, ap, ap₂, subst, ◌∙◌, append_assoc, append-nil, arith}
 use Rattle.std.specs.Prelude.{All}
 use Rattle.std.specs.List.{flat_map}
 use Rattle.std.proofs.lemmas.List.{drop_at}
@@ -9,11 +9,11 @@ use Rattle.std.proofs.lemmas.List.Concat.{flat_map-cons, flat_map-append}
 use Rattle.capture_frame.specs.declared.fault.Fault.{Fault}
 use Rattle.capture_frame.specs.declared.fault.FaultKind.{FaultKind}
 use Rattle.capture_frame.specs.declared.fault.PartFault.{PartFault}
-use Rattle.capture_frame.specs.Units.{Format, AllStand, Splits, Reads, IsBytes, state_after, spelling_of}
+use Rattle.capture_frame.specs.Units.{Format, AllStand, Reads, IsBytes, state_after, spelling_of}
 use Rattle.capture_frame.specs.declared.version.Version.{Version}
 use Rattle.capture_frame.specs.declared.version.Version.TheVariants.{Two}
 use Rattle.capture_frame.specs.Envelope.{Before, in_version, file_header}
-use Rattle.capture_frame.specs.FirstFault.{IsPart, IsFirstFaultBehind, IsCapture, IsFirstFault}
+use Rattle.capture_frame.specs.FirstFault.{IsPart, IsFirstFaultIn, IsCapture, IsFirstFault}
 use Rattle.capture_frame.specs.Parts.{AreParts, IsFirstPartFault, last_after, joined}
 use Rattle.capture_frame.proofs.UnitLaws.{IsDecided}
 use Rattle.capture_frame.proofs.HeaderLaws.{length-file_header}
@@ -52,7 +52,7 @@ last_after-append format wide last us vs =
 -- ---- parts are read, or have a first fault
 
 pub first_here : {U : Type 0} (format : Format Before U FaultKind) (before : Option ℕ) (part : List ℕ) (parts : List (List ℕ)) (fault : Fault)
-    → IsFirstFaultBehind format before part fault → IsFirstPartFault format before (part ∷ parts) (record { part = 1; fault = fault })
+    → IsFirstFaultIn format before part fault → IsFirstPartFault format before (part ∷ parts) (record { part = 1; fault = fault })
 first_here format before part parts fault first = record {
   front = [];
   part = part;
@@ -75,7 +75,7 @@ first_later format wide before part units parts found is later = record {
   number = let number = later.number in omega (arith, number);
   units = units ++ later.units;
   whole = (units, later.units, refl, is, later.whole);
-  first = subst (λ (s : Option ℕ). IsFirstFaultBehind format s later.part found.fault) (sym (last_after-append format wide before units later.units)) later.first;
+  first = subst (λ (s : Option ℕ). IsFirstFaultIn format s later.part found.fault) (sym (last_after-append format wide before units later.units)) later.first;
 }
 
 abbrev PartsOutcome : {U : Type 0} → Format Before U FaultKind → Option ℕ → List (List ℕ) → Type 0
@@ -112,17 +112,17 @@ parts_one_reading {U} format decided before (part ∷ parts) us vs (first, other
 
 never : {U : Type 0} (format : Format Before U FaultKind) (wide : IsWide format) (decided : IsDecided format) (before : Option ℕ) (front : List (List ℕ)) (part : List ℕ)
     (behind : List (List ℕ)) (us units : List U) (fault : Fault) → AreParts format before (front ++ part ∷ behind) us → AreParts format before front units
-    → IsFirstFaultBehind format (last_after format before units) part fault → ⊥
+    → IsFirstFaultIn format (last_after format before units) part fault → ⊥
 never {U} format wide decided before [] part behind us units fault (first, others, all, is, are) whole fails =
     part_never_both format decided before part first fault is
-    (subst (λ (u : List U). IsFirstFaultBehind format (last_after format before u) part fault) whole fails)
+    (subst (λ (u : List U). IsFirstFaultIn format (last_after format before u) part fault) whole fails)
 never {U} format wide decided before (p ∷ front) part behind us units fault (first, others, all, is, are) (first_too, others_too, all_too, is_too, whole) fails =
     let same = part_one_reading format decided before p first_too first is_too is in
     let state = ap (last_after format before) all_too ∙ last_after-append format wide before first_too others_too
     ∙ ap (λ (u : List U). last_after format (last_after format before u) others_too) same in
     never format wide decided (last_after format before first) front part behind others others_too fault are
     (subst (λ (u : List U). AreParts format (last_after format before u) front others_too) same whole)
-    (subst (λ (s : Option ℕ). IsFirstFaultBehind format s part fault) state fails)
+    (subst (λ (s : Option ℕ). IsFirstFaultIn format s part fault) state fails)
 
 pub parts_never_both : {U : Type 0} (format : Format Before U FaultKind) (wide : IsWide format) (decided : IsDecided format) (before : Option ℕ) (parts : List (List ℕ))
     (us : List U) (found : PartFault) → AreParts format before parts us → IsFirstPartFault format before parts found → ⊥
@@ -135,22 +135,22 @@ parts_never_both {U} format wide decided before parts us found are first =
 same_parts : {U : Type 0} (format : Format Before U FaultKind) (wide : IsWide format) (decided : IsDecided format) (before : Option ℕ) (front front_too : List (List ℕ))
     (part part_too : List ℕ) (behind behind_too : List (List ℕ)) (us vs : List U) (fault fault_too : Fault)
     → front ++ part ∷ behind ≡ front_too ++ part_too ∷ behind_too
-    → AreParts format before front us → IsFirstFaultBehind format (last_after format before us) part fault
-    → AreParts format before front_too vs → IsFirstFaultBehind format (last_after format before vs) part_too fault_too
+    → AreParts format before front us → IsFirstFaultIn format (last_after format before us) part fault
+    → AreParts format before front_too vs → IsFirstFaultIn format (last_after format before vs) part_too fault_too
     → (fault ≡ fault_too) × (length front ≡ length front_too)
 same_parts {U} format wide decided before [] [] part part_too behind behind_too us vs fault fault_too e a fails b fails_too =
     let here : part_too ≡ part = cc in
-    let first = subst (λ (u : List U). IsFirstFaultBehind format (last_after format before u) part fault) a fails in
-    let other = subst (λ (p : List ℕ). IsFirstFaultBehind format before p fault_too) here
-    (subst (λ (u : List U). IsFirstFaultBehind format (last_after format before u) part_too fault_too) b fails_too) in
+    let first = subst (λ (u : List U). IsFirstFaultIn format (last_after format before u) part fault) a fails in
+    let other = subst (λ (p : List ℕ). IsFirstFaultIn format before p fault_too) here
+    (subst (λ (u : List U). IsFirstFaultIn format (last_after format before u) part_too fault_too) b fails_too) in
     (part_one_fault format decided before part fault fault_too first other, refl)
 same_parts {U} format wide decided before [] (q ∷ front_too) part part_too behind behind_too us vs fault fault_too e a fails b fails_too =
     let here : q ≡ part = cc in
-    let first = subst (λ (u : List U). IsFirstFaultBehind format (last_after format before u) part fault) a fails in
+    let first = subst (λ (u : List U). IsFirstFaultIn format (last_after format before u) part fault) a fails in
     absurd (part_never_both format decided before part b.0 fault (subst (λ (p : List ℕ). IsPart format before p b.0) here b.3) first)
 same_parts {U} format wide decided before (p ∷ front) [] part part_too behind behind_too us vs fault fault_too e a fails b fails_too =
     let here : p ≡ part_too = cc in
-    let first = subst (λ (u : List U). IsFirstFaultBehind format (last_after format before u) part_too fault_too) b fails_too in
+    let first = subst (λ (u : List U). IsFirstFaultIn format (last_after format before u) part_too fault_too) b fails_too in
     absurd (part_never_both format decided before part_too a.0 fault_too (subst (λ (q : List ℕ). IsPart format before q a.0) here a.3) first)
 same_parts {U} format wide decided before (p ∷ front) (q ∷ front_too) part part_too behind behind_too us vs fault fault_too e
     (first, others, all, is, whole) fails (first_too, others_too, all_too, is_too, whole_too) fails_too =
@@ -161,9 +161,9 @@ same_parts {U} format wide decided before (p ∷ front) (q ∷ front_too) part p
     let state_too = ap (last_after format before) all_too ∙ last_after-append format wide before first_too others_too
     ∙ ap (λ (u : List U). last_after format (last_after format before u) others_too) same in
     let later = same_parts format wide decided (last_after format before first) front front_too part part_too behind behind_too others others_too fault fault_too rest whole
-    (subst (λ (s : Option ℕ). IsFirstFaultBehind format s part fault) state fails)
+    (subst (λ (s : Option ℕ). IsFirstFaultIn format s part fault) state fails)
     (subst (λ (u : List U). AreParts format (last_after format before u) front_too others_too) same whole_too)
-    (subst (λ (s : Option ℕ). IsFirstFaultBehind format s part_too fault_too) state_too fails_too) in
+    (subst (λ (s : Option ℕ). IsFirstFaultIn format s part_too fault_too) state_too fails_too) in
     (later.0, ap suc later.1)
 
 same_part_fault : (a b : PartFault) → a.fault ≡ b.fault → a.part ≡ b.part → a ≡ b
@@ -194,13 +194,13 @@ pub fault_of_one_part : {U : Type 0} (format : Format Before U FaultKind) (captu
 fault_of_one_part {U} format capture found first = by_front first.front first.part first.behind first.are first.number first.whole first.first
   where
     by_front : (front : List (List ℕ)) (part : List ℕ) (behind : List (List ℕ)) → capture ∷ [] ≡ front ++ part ∷ behind → found.part ≡ length front + 1
-        → AreParts format None front first.units → IsFirstFaultBehind format (last_after format None first.units) part found.fault
+        → AreParts format None front first.units → IsFirstFaultIn format (last_after format None first.units) part found.fault
         → (found.part ≡ 1) × IsFirstFault format capture found.fault
     by_front [] part behind are number whole fails =
         let same : part ≡ capture = cc in (
           number,
-          subst (λ (p : List ℕ). IsFirstFaultBehind format None p found.fault) same
-              (subst (λ (u : List U). IsFirstFaultBehind format (last_after format None u) part found.fault) whole fails),
+          subst (λ (p : List ℕ). IsFirstFaultIn format None p found.fault) same
+              (subst (λ (u : List U). IsFirstFaultIn format (last_after format None u) part found.fault) whole fails),
         )
     by_front (p ∷ []) part behind are number whole fails = absurd (cc)
     by_front (p ∷ q ∷ front) part behind are number whole fails = absurd (cc)

@@ -11,7 +11,7 @@ use Rattle.capture_frame.specs.declared.fault.PartFault.{PartFault}
 use Rattle.capture_frame.specs.declared.frame.Frame.{Frame}
 use Rattle.capture_frame.specs.Units.{placed}
 use Rattle.capture_frame.specs.Envelope.{FrameText, file_header_length, frame_text, placed_frame, frame_bytes}
-use Rattle.capture_frame.specs.FirstFault.{frame_format, IsCapture, IsFirstFault, IsPart, IsFirstFaultBehind, in_header, in_frames}
+use Rattle.capture_frame.specs.FirstFault.{frame_format, IsCapture, IsFirstFault, IsPart, IsFirstFaultIn, in_header, in_frames}
 use Rattle.capture_frame.specs.Parts.{AreParts, IsFirstPartFault, last_after}
 
 -- the views say these frames, the first of them at this place and each behind the one before it
@@ -31,7 +31,7 @@ pub record AreFrames (capture : List ℕ) (frames : List Frame) : Type 0 where
 
 -- the frames of a part before its first fault: none before one of the file header
 abbrev pub frames_before : {last : Option ℕ} (part : List ℕ) (fault : Fault)
-    → IsFirstFaultBehind frame_format last part fault → List FrameText
+    → IsFirstFaultIn frame_format last part fault → List FrameText
 frames_before part fault (in_header fails) = []
 frames_before part fault (in_frames version bytes distance joined fails place_is) = fails.before
 
@@ -76,7 +76,7 @@ pub record IsPushedBefore (part : List ℕ) (base : ℕ) (before : Option ℕ) (
     (fault : Fault) : Type 0 where
   pub more : List Frame
   pub added : new ≡ old ++ more
-  pub first : IsFirstFaultBehind frame_format before part fault
+  pub first : IsFirstFaultIn frame_format before part fault
   pub views : AreViewsFrom (base + file_header_length) (frames_before part fault first) more
 
 -- what is said where not all frames of a part were added: nothing of want of memory

@@ -58,12 +58,12 @@ IsPart format last part units = (version : Version) × (bytes : List ℕ) × (pa
 
 -- the first fault of a part, as far as the format judges, at its place in the part: that of its file header, or behind
 -- a good one that of its frames
-pub data IsFirstFaultBehind {U : Type 0} (format : Format Before U FaultKind) (last : Option ℕ) (part : List ℕ)
+pub data IsFirstFaultIn {U : Type 0} (format : Format Before U FaultKind) (last : Option ℕ) (part : List ℕ)
     (fault : Fault) : Type 0 where
-  in_header : HeaderFails part fault.kind fault.place → IsFirstFaultBehind format last part fault
+  in_header : HeaderFails part fault.kind fault.place → IsFirstFaultIn format last part fault
   in_frames : (version : Version) (bytes : List ℕ) (distance : ℕ) → part ≡ file_header version ++ bytes
       → FirstFailure format (in_version version last) bytes fault.kind distance
-      → fault.place ≡ 16 + distance → IsFirstFaultBehind format last part fault
+      → fault.place ≡ 16 + distance → IsFirstFaultIn format last part fault
 
 -- the capture is a file header, and then these frames: a part behind no frame
 abbrev pub IsCapture : {U : Type 0} → Format Before U FaultKind → List ℕ → List U → Type 0
@@ -71,4 +71,4 @@ IsCapture format capture units = IsPart format None capture units
 
 -- the first fault of a capture, as far as the format judges
 abbrev pub IsFirstFault : {U : Type 0} → Format Before U FaultKind → List ℕ → Fault → Type 0
-IsFirstFault format capture fault = IsFirstFaultBehind format None capture fault
+IsFirstFault format capture fault = IsFirstFaultIn format None capture fault

@@ -6,7 +6,7 @@ use Rattle.capture_frame.specs.declared.fault.PartFault.{PartFault}
 use Rattle.capture_frame.specs.declared.version.Version.TheVariants.{Two}
 use Rattle.capture_frame.specs.Units.{Format, state_after}
 use Rattle.capture_frame.specs.Envelope.{Before, in_version, file_header, file_header_length}
-use Rattle.capture_frame.specs.FirstFault.{IsPart, IsFirstFaultBehind}
+use Rattle.capture_frame.specs.FirstFault.{IsPart, IsFirstFaultIn}
 
 -- the sequence of the last of these frames, or where there is none, of the frame before them; it is the same in both
 -- versions, and taken here in version 2
@@ -32,7 +32,7 @@ pub record IsFirstPartFault {U : Type 0} (format : Format Before U FaultKind) (l
   pub number : found.part ≡ length front + 1
   pub units : List U
   pub whole : AreParts format last front units
-  pub first : IsFirstFaultBehind format (last_after format last units) part found.fault
+  pub first : IsFirstFaultIn format (last_after format last units) part found.fault
 
 -- the joined capture, of version 2: one file header, and then what stands behind the file header of each part
 abbrev pub joined : List (List ℕ) → List ℕ

@@ -1,6 +1,6 @@
 //! Which of the frames of a capture holds a place.
 
-ghost use Rattle.std.specs.Prelude.{◌≡◌, ◌+◌, length, AllPairs};
+ghost use Rattle.std.specs.Prelude.{◌≡◌, ◌+◌, leb, length, AllPairs};
 ghost use Rattle.capture_frame.specs.Lookup.{span_of, StandApart, IsFrameAt, IsSplitAt};
 
 use crate::frame::Frame;
@@ -11,7 +11,7 @@ pub fn frame_at<'c>(frames: &[Frame<'c>], place: u64) -> Option<Frame<'c>>
     requires { AllPairs StandApart frames.now }
     ensures { IsFrameAt frames.entry.now place result }
 {
-    let count = count_up_to(frames, place);
+    let count = count_begun(frames, place);
     if count == 0 {
         return None;
     }
@@ -23,22 +23,17 @@ pub fn frame_at<'c>(frames: &[Frame<'c>], place: u64) -> Option<Frame<'c>>
     }
 }
 
-/// How many of these frames begin at a place of the capture or before it.
-fn count_up_to(frames: &[Frame<'_>], place: u64) -> usize
+/// How many of these frames, each of which ends before every later one begins, begin at a place of
+/// the capture or before it.
+pub fn count_begun(frames: &[Frame<'_>], place: u64) -> usize
     requires { AllPairs StandApart frames.now }
     ensures { IsSplitAt frames.entry.now place result }
 {
-    let mut low = 0;
-    let mut high = frames.len();
-    while low < high {
-        let middle = low + (high - low) / 2;
-        if frames[middle].place <= place {
-            low = middle + 1;
-        } else {
-            high = middle;
-        }
-    }
-    low
+    frames.partition_point(
+        |frame: &Frame<'_>| -> bool
+            ensures { result ≡ leb frame.now.place place }
+        { frame.place <= place },
+    )
 }
 
 /// Where the frame ends in the capture.

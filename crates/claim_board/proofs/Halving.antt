@@ -1,5 +1,7 @@
 -- Two halves of a crew, and what they did, put together.
-use Rattle.std.proofs.Common.{◌≡◌, ◌≢◌, ℕ, ◌-◌, ◌/◌, ◌<◌, true, false, List, [], ◌∷◌, ◌++◌, map, length, take, drop, sym, refl, ap, ◌∙◌, subst, arith, append_assoc, length-take, length-drop, All}
+use Rattle.std.proofs.Common.{◌≡◌, ◌≢◌, ℕ, ◌-◌, ◌/◌, ◌<◌, true, false, List, [], ◌∷◌, ◌++◌, map, length, take, drop, sym, refl, ap, ◌∙◌, subst, arith, append_assoc, length-take, length-drop, All, Result, Ok, Err}
+use Rattle.std.specs.Prelude.{IfOk}
+use Rattle.std.specs.declared.vec.Vec.{Vec}
 use mathlib.Core.List.{map-append}
 use Rattle.std.proofs.lemmas.List.{take-append-drop}
 use Rattle.std.proofs.lemmas.List.Elements.{All-append, All-take, All-drop}
@@ -11,8 +13,8 @@ use Rattle.claim_board.specs.declared.job.JobState.TheVariants.{Untouched, Held,
 use Rattle.claim_board.specs.declared.view.ClaimedJob.{ClaimedJob}
 use Rattle.claim_board.specs.declared.view.SeatWorker.{SeatWorker}
 use Rattle.claim_board.specs.declared.view.View.{View}
-use Rattle.claim_board.specs.Steps.{left_view, right_view, joined_view}
-use Rattle.claim_board.specs.Work.{with_done, done_jobs, AreResults, IsSameCrew, IsFresh, MayShare, StandsForSame, HaveStopped}
+use Rattle.claim_board.specs.Steps.{IsSeatAt, left_view, right_view, joined_view}
+use Rattle.claim_board.specs.Work.{with_done, done_jobs, AreAllResults, AreResults, IsOneList, IsSameCrew, IsFresh, MayShare, StandsForSame, HaveStopped}
 
 with_done-append : (i : ℕ) (s : JobState) (a b : List ℕ) → with_done i s (a ++ b) ≡ a ++ with_done i s b
 with_done-append i Untouched a b = refl
@@ -26,7 +28,7 @@ pub done_jobs-append : (a b : List ClaimedJob) → done_jobs (a ++ b) ≡ done_j
 done_jobs-append [] b = sym (mathlib.Core.List.append-nil (done_jobs b))
 done_jobs-append (c ∷ cs) b = ap (λ l. with_done c.job c.state l) (done_jobs-append cs b) ∙ with_done-append c.job c.state (done_jobs b) (done_jobs cs)
 
-pub results_joined : {X : Type 0} (gives : ℕ → X → Type 0) (v w : View) (a b : List (ℕ × X)) → AreResults gives v.claimed a → AreResults gives w.claimed b
+results_joined : {X : Type 0} (gives : ℕ → X → Type 0) (v w : View) (a b : List (ℕ × X)) → AreResults gives v.claimed a → AreResults gives w.claimed b
     → AreResults gives (joined_view v w).claimed (a ++ b)
 results_joined gives v w a b r q = record {
   jobs = map-append (λ (p : ℕ × _). p.0) a b
@@ -34,7 +36,7 @@ results_joined gives v w a b r q = record {
   given = All-append (λ p. gives p.0 p.1) a b r.given q.given;
 }
 
-pub have_stopped_joined : (v w : View) → HaveStopped v → HaveStopped w → HaveStopped (joined_view v w)
+have_stopped_joined : (v w : View) → HaveStopped v → HaveStopped w → HaveStopped (joined_view v w)
 have_stopped_joined v w a b = All-append (λ (m : SeatWorker). m.stopped ≡ true) v.crew w.crew a b
 
 pub crew_joined : (v l r : View) → IsSameCrew (left_view v) l → IsSameCrew (right_view v) r → IsSameCrew v (joined_view l r)
@@ -55,26 +57,60 @@ pub crew_stays : (v w : View) → IsSameCrew v w → length w.crew ≡ length v.
 crew_stays v w s = sym (length_of w.crew) ∙ (ap (λ l. length l) s.crew ∙ length_of v.crew)
 
 module _ (v l0 r0 l r u : View) (cut : l0 ≡ left_view v) (other : r0 ≡ right_view v) (a : IsSameCrew l0 l) (b : IsSameCrew r0 r) where
-  pub crew_again : u ≡ joined_view l r → IsSameCrew v u
+  crew_again : u ≡ joined_view l r → IsSameCrew v u
   crew_again is = subst (λ x. IsSameCrew v x) (sym is) (crew_joined v l r (subst (λ x. IsSameCrew x l) cut a) (subst (λ x. IsSameCrew x r) other b))
 
-  pub left_some : 1 < length v.crew → 0 < length l.crew
+  left_some : 1 < length v.crew → 0 < length l.crew
   left_some more =
       let s = crew_stays l0 l a in
       let e : length l0.crew ≡ length (take (length v.crew / 2) v.crew) = ap (λ x. length x.crew) cut in
       let t = length-take (length v.crew / 2) v.crew in
       omega arith
 
--- after the split, both halves' steps and the join the seat stands for the same workers
-pub same_again : (old cut other l r new : Seat (Unit {0}) View)
-    → (cut.table_id ≡ old.table_id) × (cut.id ≡ old.id) × (cut.me ≡ (left_view old.me.0, old.me.1)) × (other.table_id ≡ old.table_id)
+-- the seat was cut from the old one with half of its workers, and the other one has the others
+abbrev pub IsCut : Seat (Unit {0}) View → Seat (Unit {0}) View → Seat (Unit {0}) View → Type 0
+IsCut old cut other =
+    (cut.table_id ≡ old.table_id) × (cut.id ≡ old.id) × (cut.me ≡ (left_view old.me.0, old.me.1)) × (other.table_id ≡ old.table_id)
     × (other.me ≡ (right_view old.me.0, []))
-    → StandsForSame cut l → StandsForSame other r
-    → (new.table_id ≡ l.table_id) × (new.id ≡ l.id) × (new.me ≡ (joined_view l.me.0 r.me.0, l.me.1)) → StandsForSame old new
+
+-- the seat is the left one, which the right one joined
+abbrev pub IsJoin : Seat (Unit {0}) View → Seat (Unit {0}) View → Seat (Unit {0}) View → Type 0
+IsJoin l r new = (new.table_id ≡ l.table_id) × (new.id ≡ l.id) × (new.me ≡ (joined_view l.me.0 r.me.0, l.me.1))
+
+-- after the split, both halves' steps and the join the seat stands for the same workers
+pub same_again : (old cut other l r new : Seat (Unit {0}) View) → IsCut old cut other → StandsForSame cut l → StandsForSame other r → IsJoin l r new
+    → StandsForSame old new
 same_again old cut other l r new s low high j = (
   (j.0 ∙ (low.0.0 ∙ s.0), j.1 ∙ (low.0.1 ∙ s.1), ap (λ x. x.1) j.2 ∙ (low.0.2 ∙ ap (λ x. x.1) s.2)),
   crew_again old.me.0 cut.me.0 other.me.0 l.me.0 r.me.0 new.me.0 (ap (λ x. x.0) s.2) (ap (λ x. x.0) s.4) low.1 high.1 (ap (λ x. x.0) j.2),
 )
+
+-- and the join may be made
+pub may_join : (table : TableId) (old cut other l r : Seat (Unit {0}) View) → IsSeatAt table old → 1 < length old.me.0.crew → IsCut old cut other
+    → StandsForSame cut l → StandsForSame other r
+    → (l.table_id ≡ table) × (r.table_id ≡ table) × (r.me.1 ≡ []) × (0 < length l.me.0.crew)
+may_join table old cut other l r place more s low high = (
+  low.0.0 ∙ (s.0 ∙ place.1),
+  high.0.0 ∙ (s.3 ∙ place.1),
+  high.0.2 ∙ ap (λ x. x.1) s.4,
+  left_some old.me.0 cut.me.0 other.me.0 l.me.0 r.me.0 old.me.0 (ap (λ x. x.0) s.2) (ap (λ x. x.0) s.4) low.1 high.1 more,
+)
+
+-- so the list of both has the results of the workers of both halves
+pub both_joined : {X A E : Type 0} (gives : ℕ → X → Type 0) (l r new : Seat (Unit {0}) View) (front back result : Result (Vec (ℕ × X) A) E)
+    → IsJoin l r new → IfOk front (λ list. AreAllResults gives l.me.0 list.items) → IfOk back (λ list. AreAllResults gives r.me.0 list.items)
+    → IfOk result (λ all. IsOneList front back all) → IfOk result (λ all. AreAllResults gives new.me.0 all.items)
+both_joined gives l r new front back (Err e) j low high one = tt
+both_joined gives l r new (Err e) back (Ok all) j low high one = absurd one
+both_joined gives l r new (Ok a) (Err e) (Ok all) j low high one = absurd one
+both_joined gives l r new (Ok a) (Ok b) (Ok all) j low high one =
+    let v = l.me.0 in
+    let w = r.me.0 in
+    let is : new.me.0 ≡ joined_view v w = ap (λ x. x.0) j.2 in (
+      subst HaveStopped (sym is) (have_stopped_joined v w low.0 high.0),
+      subst (λ x. AreResults gives x.claimed all.items) (sym is)
+          (subst (AreResults gives (joined_view v w).claimed) (sym one) (results_joined gives v w a.items b.items low.1 high.1)),
+    )
 
 fresh_part : (v u : View) (crew : List SeatWorker) → u ≡ record v { crew = crew } → v.claimed ≡ [] → All (λ m. m.stopped ≡ false) crew → IsFresh u
 fresh_part v u crew e none some = record {
@@ -83,27 +119,27 @@ fresh_part v u crew e none some = record {
 }
 
 -- each half of a seat whose workers have made no step may share the jobs in its turn
-module _ (table : TableId) (jobs : List Job) (n : ℕ) (old half : Seat (Unit {0}) View) (m : MayShare table jobs n old) (more : n ≢ 1)
-    (same : half.table_id ≡ old.table_id) where
-  abbrev v : View
-  v = old.me.0
-
-  pub front_may_share : half.me.0 ≡ left_view old.me.0 → MayShare table jobs (n / 2) half
-  front_may_share e = record {
-    place = (m.place.0, same ∙ m.place.1);
-    over = ap (λ x. x.jobs) e ∙ m.over;
-    fresh = fresh_part v half.me.0 (take (length v.crew / 2) v.crew) e m.fresh.claimed
-        (All-take (λ m. m.stopped ≡ false) (length v.crew / 2) v.crew m.fresh.crew);
-    crew = ap (λ x. length x.crew) e ∙ (let t = length-take (length v.crew / 2) v.crew in let c = m.crew in omega arith);
-    at_least_one = let k = m.at_least_one in omega arith;
-  }
-
-  pub back_may_share : half.me.0 ≡ right_view old.me.0 → MayShare table jobs (n - n / 2) half
-  back_may_share e = record {
-    place = (m.place.0, same ∙ m.place.1);
-    over = ap (λ x. x.jobs) e ∙ m.over;
-    fresh = fresh_part v half.me.0 (drop (length v.crew / 2) v.crew) e m.fresh.claimed
-        (All-drop (λ m. m.stopped ≡ false) (length v.crew / 2) v.crew m.fresh.crew);
-    crew = ap (λ x. length x.crew) e ∙ (let t = length-drop (length v.crew / 2) v.crew in let c = m.crew in omega arith);
-    at_least_one = let k = m.at_least_one in omega arith;
-  }
+pub halves_may_share : (table : TableId) (jobs : List Job) (n : ℕ) (old cut other : Seat (Unit {0}) View) → MayShare table jobs n old → n ≢ 1
+    → IsCut old cut other → MayShare table jobs (n / 2) cut × MayShare table jobs (n - n / 2) other
+halves_may_share table jobs n old cut other m more s =
+    let v = old.me.0 in
+    let half = length v.crew / 2 in
+    let low : cut.me.0 ≡ left_view v = ap (λ x. x.0) s.2 in
+    let high : other.me.0 ≡ right_view v = ap (λ x. x.0) s.4 in
+    let whole = m.crew in
+    let some = m.at_least_one in (
+      record {
+        place = (m.place.0, s.0 ∙ m.place.1);
+        over = ap (λ x. x.jobs) low ∙ m.over;
+        fresh = fresh_part v cut.me.0 (take half v.crew) low m.fresh.claimed (All-take (λ m. m.stopped ≡ false) half v.crew m.fresh.crew);
+        crew = ap (λ x. length x.crew) low ∙ (let t = length-take half v.crew in omega (arith, whole, t));
+        at_least_one = omega (arith, some, more);
+      },
+      record {
+        place = (m.place.0, s.3 ∙ m.place.1);
+        over = ap (λ x. x.jobs) high ∙ m.over;
+        fresh = fresh_part v other.me.0 (drop half v.crew) high m.fresh.claimed (All-drop (λ m. m.stopped ≡ false) half v.crew m.fresh.crew);
+        crew = ap (λ x. length x.crew) high ∙ (let t = length-drop half v.crew in omega (arith, whole, t));
+        at_least_one = omega (arith, some, more);
+      },
+    )

@@ -1,5 +1,6 @@
 -- What the jobs of a work answer, and what its workers give together.
-use Rattle.std.specs.Prelude.{◌≡◌, ℕ, ◌+◌, ◌≤◌, List, [], ◌∷◌, ◌++◌, map, length, Some, None, Result, MatchResult, true, false, All}
+use Rattle.std.specs.Prelude.{◌≡◌, ℕ, ◌+◌, ◌≤◌, List, [], ◌∷◌, ◌++◌, map, length, Some, None, Result, Ok, MatchResult, true, false, All}
+use Rattle.std.specs.declared.vec.Vec.{Vec}
 use mathlib.Core.Option.{some}
 use lib.ListN.{get_elem?}
 use Rattle.atomic_table.specs.Seated.{TableId}
@@ -71,6 +72,11 @@ HaveStopped v = All (λ m. m.stopped ≡ true) v.crew
 -- all workers of the view have stopped, and the list has the results of its jobs
 abbrev pub AreAllResults : {X : Type 0} → (ℕ → X → Type 0) → View → List (ℕ × X) → Type 0
 AreAllResults gives v list = HaveStopped v × AreResults gives v.claimed list
+
+-- the list is the one and then the other, which are both there
+abbrev pub IsOneList : {X A E : Type 0} → Result (Vec X A) E → Result (Vec X A) E → Vec X A → Type 0
+IsOneList (Ok front) (Ok back) all = all.items ≡ front.items ++ back.items
+IsOneList _ _ all = ⊥
 
 -- The seat stands at the table for this many workers, at least one, over these jobs, and none of them has made a step.
 pub record MayShare (table : TableId) (jobs : List Job) (workers : ℕ) (seat : Seat (Unit {0}) View) : Type 0 where

@@ -1,7 +1,7 @@
 //! Workers that share the jobs, each in a thread.
 
 ghost use Rattle.std.specs.Prelude.{◌≡◌, IfOk};
-ghost use Rattle.claim_board.specs.Work.{AreAllResults, MayShare, StandsForSame};
+ghost use Rattle.claim_board.specs.Work.{AreAllResults, IsOneList, MayShare, StandsForSame};
 ghost use denote.Param.Send.{IsSend, IsSync};
 
 use crate::seat::{BoardTable, HalfCrews, JobList, WholeCrew, WorkerSeat};
@@ -38,6 +38,16 @@ where
     let high = workers - low;
     let (front, back) = share_halves(rt, alloc, table, work, gate, low, high, seat, &mut other);
     table.join_seat::<WholeCrew>(seat, other);
+    one_list(front, back)
+}
+
+// The results of both halves, where both are there.
+fn one_list<T: Drop>(
+    front: Result<Vec<T>, AllocError>,
+    back: Result<Vec<T>, AllocError>,
+) -> Result<Vec<T>, AllocError>
+    ensures { IfOk result (λ all. IsOneList front back all) }
+{
     let mut all = front?;
     let mut rest = back?;
     all.append(&mut rest)?;

@@ -21,7 +21,7 @@ Held = ℕ × Bool
 abbrev pub held_cmp : Held → Held → Ordering
 held_cmp one other = ordering_then (nat_cmp one.0 other.0) (bool_cmp one.1 other.1)
 
--- how many references to the handle are held, weak ones or strong ones; their weights say nothing
+-- how many references to the handle are held: of the weak ones, or of the strong ones; their weights are passed over
 abbrev pub held_count : List (Held × ℕ) → ℕ → Bool → ℕ
 held_count held handle weak = count_of held_cmp (handle, weak) held
 
@@ -46,29 +46,29 @@ AreHeldRows read things held rows =
     AreRows nat_cmp (λ (row : HeldRow). row.taken.handle) (is_named_or_held read things held)
     (IsHeldRow read things held) rows
 
--- what is so of whatever items the ledger sums and whatever held references the tally
+-- it is so of all items that the ledger may have summed and all held references that the tally may have summed
 abbrev pub OfSums : HandleLedger → Tally Held → (List HandleItem → List (Held × ℕ) → Type 0) → Type 0
 OfSums ledger tally IsSo =
     (items : List HandleItem) (held : List (Held × ℕ)) → HandleLedgerSums ledger items
     → TallySums held_cmp tally held → IsSo items held
 
--- the rows of whatever items the ledger sums, with whatever held references the tally sums
+-- these are the rows of the items and the held references that were summed
 abbrev pub GivesHeldRows : HandleLedger → Tally Held → List HeldRow → Type 0
 GivesHeldRows ledger tally rows =
     OfSums ledger tally (λ items held. AreHeldRows (λ item. Some item) items held rows)
 
--- the row of what the process took of its handle itself
+-- the row has the counts of its handle over the items that were summed
 abbrev pub GivesHandleRow : HandleLedger → HandleRow → Type 0
 GivesHandleRow ledger row =
     (items : List HandleItem) → HandleLedgerSums ledger items → IsHandleRow (λ item. Some item) items row
 
--- the row of its handle
+-- the row has besides how many of the held references that were summed are to its handle
 abbrev pub GivesHeldRow : HandleLedger → Tally Held → HeldRow → Type 0
 GivesHeldRow ledger tally row = OfSums ledger tally (λ items held. IsHeldRow (λ item. Some item) items held row)
 
--- the handles that an item names or to which a reference is held
-abbrev pub GivesHandles : HandleLedger → Tally Held → BTreeSet ℕ → Type 0
-GivesHandles ledger tally handles =
+-- the set has the handles that an item names or to which a reference is held, and no other
+abbrev pub HasHandles : HandleLedger → Tally Held → BTreeSet ℕ → Type 0
+HasHandles ledger tally handles =
     OfSums ledger tally
     (λ items held. (handle : ℕ) →
     contains nat_cmp handles handle ≡ is_named_or_held (λ item. Some item) items held handle)

@@ -1,6 +1,6 @@
 //! The rows of handles, with the references that deliveries hold.
 
-ghost use Rattle.handle_ledger.specs.Held.{GivesHandleRow, GivesHandles, GivesHeldRow, GivesHeldRows};
+ghost use Rattle.handle_ledger.specs.Held.{GivesHandleRow, HasHandles, GivesHeldRow, GivesHeldRows};
 ghost use Rattle.std.specs.BTreeSet.{contains};
 ghost use Rattle.std.specs.List.{list_any};
 ghost use Rattle.std.specs.Map.{keys_of};
@@ -31,7 +31,7 @@ impl HandleLedger {
 
     /// The handles that have a row.
     fn named_or_held(&self, held: &Tally<(u32, bool)>) -> Result<BTreeSet<u32>, AllocError>
-        ensures { IfOk result (λ handles. GivesHandles self.now held.now handles) }
+        ensures { IfOk result (λ handles. HasHandles self.now held.now handles) }
     {
         let mut handles = self.named()?;
         let rows = held.rows()?;

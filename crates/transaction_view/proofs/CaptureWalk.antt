@@ -6,7 +6,7 @@ use Rattle.capture_frame.specs.declared.frame.Frame.{Frame}
 use Rattle.capture_frame.specs.Units.{state_after}
 use Rattle.capture_frame.specs.declared.version.Version.{Version}
 use Rattle.capture_frame.specs.Envelope.{in_version, file_header, frame_bytes, frame_text}
-use Rattle.capture_frame.specs.FirstFault.{IsPart, IsFirstFaultBehind, in_frames}
+use Rattle.capture_frame.specs.FirstFault.{IsPart, IsFirstFaultIn, in_frames}
 use Rattle.capture_frame.specs.Readers.{at}
 use Rattle.capture_frame.specs.Reading.{Reading, behind_header, frame_source, frames_after, Steps}
 use Rattle.capture_frame.proofs.UnitLaws.{walk_fails}
@@ -83,14 +83,14 @@ frames_end part before reading done stands new steps = (
 
 first_in_frames : (part : List ℕ) (before : Option ℕ) (reading : Reading) (done : List WholeFrame) (stands : StandsBehind part before reading done) (fault : Fault) (within : ℕ)
     → WholeFrameFails (state_after whole_format (in_version stands.version before) done) (drop stands.frames.offset (drop 16 part)) fault.kind within
-    → fault.place ≡ 16 + stands.frames.offset + within → IsFirstFaultBehind whole_format before part fault
+    → fault.place ≡ 16 + stands.frames.offset + within → IsFirstFaultIn whole_format before part fault
 first_in_frames part before reading done stands fault within fails place =
     in_frames stands.version (drop 16 part) (stands.frames.offset + within) (whole_part stands.version part stands.header)
     (walk_fails whole_format (in_version stands.version before) (drop 16 part) done stands.frames.offset fault.kind within stands.frames.walks fails) (omega arith)
 
 -- a fault of a frame's header is the first of the part
 pub header_fails : (part : List ℕ) (before : Option ℕ) (reading : Reading) (done : List WholeFrame) (stands : StandsBehind part before reading done) (fault : Fault)
-    (new : Reading) → Steps reading (Err fault) new → IsFirstFaultBehind whole_format before part fault
+    (new : Reading) → Steps reading (Err fault) new → IsFirstFaultIn whole_format before part fault
 header_fails part before reading done stands fault new steps =
     let s = steps_from part before reading done stands (Err fault) new steps in
     let place = s.1 in
@@ -99,7 +99,7 @@ header_fails part before reading done stands fault new steps =
 -- and so is a fault of a frame's content
 pub content_fails : (part : List ℕ) (before : Option ℕ) (reading : Reading) (done : List WholeFrame) (stands : StandsBehind part before reading done) (found : Frame)
     (new : Reading) (fault : Fault) → Steps reading (Ok (Some found)) new → HasContentFault found fault
-    → IsFirstFaultBehind whole_format before part fault
+    → IsFirstFaultIn whole_format before part fault
 content_fails part before reading done stands found new fault steps fails =
     let s = steps_from part before reading done stands (Ok (Some found)) new steps in
     let place = fails.2 in

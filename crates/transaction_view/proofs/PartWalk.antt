@@ -3,7 +3,7 @@ use Rattle.std.proofs.Common.{◌≡◌, ℕ, ◌+◌, ◌<◌, List, [], ◌∷
 use Rattle.std.proofs.lemmas.List.{take_more, map-append, at_drop_more, take-append-drop, length-map}
 use Rattle.capture_frame.specs.declared.fault.Fault.{Fault}
 use Rattle.capture_frame.specs.Parts.{last_after, AreParts}
-use Rattle.capture_frame.specs.FirstFault.{IsPart, IsFirstFaultBehind}
+use Rattle.capture_frame.specs.FirstFault.{IsPart, IsFirstFaultIn}
 use Rattle.capture_frame.proofs.PartLaws.{parts_next, last_after-append}
 use Rattle.transaction_view.specs.Grammar.{WholeFrame, whole_format, HasFirstPartFault}
 use Rattle.transaction_view.proofs.GrammarLaws.{whole_wide}
@@ -36,7 +36,7 @@ checked_next parts i before last d frames within checked is last_is =
 
 -- the next part has the first fault
 pub checked_fails : (parts : List (Bor (List ℕ))) (i : ℕ) (before : Option ℕ) (d : Bor (List ℕ)) (fault : Fault) (number : ℕ) → i < length parts
-    → AreChecked parts i before → IsFirstFaultBehind whole_format before (get_or parts i d).now fault → number ≡ i
+    → AreChecked parts i before → IsFirstFaultIn whole_format before (get_or parts i d).now fault → number ≡ i
     → HasFirstPartFault (texts_of parts) (record { part = number + 1; fault = fault })
 checked_fails parts i before d fault number within checked fails is =
     let many : length (texts_of (take i parts)) ≡ i = omega (arith, length-map (take i parts) (λ (part : Bor (List ℕ)). part.now), length-take i parts, within) in
@@ -49,5 +49,5 @@ checked_fails parts i before d fault number within checked fails is =
       number = omega (arith, many, is);
       units = checked.done;
       whole = checked.whole;
-      first = subst (λ (s : Option ℕ). IsFirstFaultBehind whole_format s (get_or parts i d).now fault) checked.before_is fails;
+      first = subst (λ (s : Option ℕ). IsFirstFaultIn whole_format s (get_or parts i d).now fault) checked.before_is fails;
     }

@@ -5,7 +5,7 @@ ghost use Rattle.capture_frame.specs.declared.fault.Fault.{Fault};
 ghost use Rattle.capture_frame.specs.declared.fault.PartFault.{PartFault};
 ghost use Rattle.capture_frame.specs.Parts.{last_after};
 ghost use Rattle.capture_frame.specs.Envelope.{frame_text};
-ghost use Rattle.capture_frame.specs.FirstFault.{IsPart, IsFirstFaultBehind};
+ghost use Rattle.capture_frame.specs.FirstFault.{IsPart, IsFirstFaultIn};
 ghost use Rattle.record_view.specs.Records.{HasReadableRecords};
 ghost use Rattle.transaction_view.specs.Attachments.{HasReadableEntries};
 ghost use Rattle.transaction_view.specs.FirstFault.{HasGoodContent, HasContentFault};
@@ -84,7 +84,7 @@ fn check_part(part: &[u8], before: Option<u64>) -> Result<Option<u64>, Fault>
     ensures { MatchResult result
         (λ last. (frames : List WholeFrame) × IsPart whole_format before part.now frames
         × (last ≡ last_after whole_format before frames))
-        (IsFirstFaultBehind whole_format before part.now) }
+        (IsFirstFaultIn whole_format before part.now) }
 {
     let mut frames = Frames::after(part, 0, before)?;
     let mut last = before;

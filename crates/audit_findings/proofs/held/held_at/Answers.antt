@@ -15,7 +15,7 @@ count_begun-count-requires c = apart_ahead c.args.frames.now c.loop-first.ahead.
 
 pub offset_bounds-ahead-count : goal.offset_bounds-ahead-count
 offset_bounds-ahead-count c =
-    let within = c.count_begun-count.ensures.0 in
+    let within = c.count_begun-count.ensures.within in
     let few = few_ahead c.args.frames.now c.loop-first.ahead.now c.requires c.loop-first.held c.loop-first.invariant.0 (c.count_begun-count.result - 1)
     (omega (arith, within)) in
     omega (arith, few)
@@ -25,19 +25,19 @@ add_frame-requires-clause-good c =
     let none = c.if-count-eq0.false in
     rw c.index-ahead-count.is
     (good_there c.args.frames.now c.loop-first.ahead.now c.requires c.loop-first.held c.loop-first.invariant.0 c.count_begun-count.result (omega (arith, none))
-    c.count_begun-count.ensures.0 _)
+    c.count_begun-count.ensures.within _)
 
 pub add_frame-requires-clause-room : goal.add_frame-requires-clause-room
 add_frame-requires-clause-room c =
     let none = c.if-count-eq0.false in
     rw c.index-ahead-count.is
     (room_there c.args.frames.now c.loop-first.ahead.now c.requires c.loop-first.held c.loop-first.invariant.0 c.count_begun-count.result (omega (arith, none))
-    c.count_begun-count.ensures.0 _)
+    c.count_begun-count.ensures.within _)
 
 pub loop-first-smaller : goal.loop-first-smaller
 loop-first-smaller c =
     let none = c.if-count-eq0.false in
-    let within = c.count_begun-count.ensures.0 in
+    let within = c.count_begun-count.ensures.within in
     let ahead = c.loop-first.ahead.now in
     let long = ap length c.without_first-ahead.ensures ∙ length-drop c.count_begun-count.result ahead in
     let fewer : length c.without_first-ahead.result.now < length ahead = omega (arith, none, within, long) in
@@ -53,7 +53,7 @@ loop-first-preserved c =
     let apart = apart_ahead c.args.frames.now ahead c.requires c.loop-first.held i.0 in
     let begins = begins_with c.loop-first.rest.now c.in-Some.first.now (rw c.in-Some.is at c.first.ensures.value) in (
       subst (λ fs. HasPassed c.args.frames.now fs c.add_frame.new.held) (sym c.without_first-ahead.ensures)
-          (passed_further c.args.frames.now ahead c.requires c.loop-first.held i.0 count (omega (arith, none)) begun.0 c.index-ahead-count.result c.add_frame.new.held
+          (passed_further c.args.frames.now ahead c.requires c.loop-first.held i.0 count (omega (arith, none)) begun.within c.index-ahead-count.result c.add_frame.new.held
           (rw c.index-ahead-count.is at c.in_ok-rest.ensures.grows)),
       λ wholes choice show chosen.
           let stands = subst (λ left. Stands wholes choice ahead left c.loop-first.held) begins.1 (i.1 wholes choice show chosen) in

@@ -19,7 +19,7 @@ pub write_first_fault_parts-requires : goal.write_first_fault_parts-requires
 write_first_fault_parts-requires g c =
     let slices : map (λ slice. slice.now) c.as_slice-2.result.now ≡ map (λ part. part.items) c.in_ok-parts.parts.items = search rules in
     let few : length c.args.readers.items < 2 ^ 32 = (let many = c.args.readers.ok in let fits = c.requires in omega (arith, many.0, fits)) in
-    few_slices g.R.Read.remaining c.args.readers.items _ c.as_slice-2.result.now _ c.in_ok-parts.ensures.parts.0 slices few
+    few_slices g.R.Read.remaining c.args.readers.items _ c.as_slice-2.result.now _ c.in_ok-parts.ensures.parts.0.0 slices few
 
 pub returns : goal.returns
 returns g c =

@@ -5,13 +5,13 @@ use Rattle.capture_frame.proofs.lookup.frame_at.Goals as goal
 
 pub returns-then-count-eq0 : goal.returns-then-count-eq0
 returns-then-count-eq0 c =
-    none_before c.args.frames.now c.args.place (subst (IsSplitAt c.args.frames.now c.args.place) c.if-count-eq0.true c.count_up_to-count.ensures)
+    none_before c.args.frames.now c.args.place (subst (IsSplitAt c.args.frames.now c.args.place) c.if-count-eq0.true c.count_begun-count.ensures)
 
 pub returns-then-place-end_of : goal.returns-then-place-end_of
 returns-then-place-end_of c =
     let frames = c.args.frames.now in
-    let count = c.count_up_to-count.result in
-    let split = c.count_up_to-count.ensures in
+    let count = c.count_begun-count.result in
+    let split = c.count_begun-count.ensures in
     let ends = c.if-place-end_of.true in
     let to = c.end_of.ensures in
     let some = c.if-count-eq0.false in
@@ -23,8 +23,8 @@ returns-then-place-end_of c =
 pub returns-else-place-end_of : goal.returns-else-place-end_of
 returns-else-place-end_of c =
     let frames = c.args.frames.now in
-    let count = c.count_up_to-count.result in
-    let split = c.count_up_to-count.ensures in
+    let count = c.count_begun-count.result in
+    let split = c.count_begun-count.ensures in
     let ended = c.if-place-end_of.false in
     let to = c.end_of.ensures in
     let some = c.if-count-eq0.false in

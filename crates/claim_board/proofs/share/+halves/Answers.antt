@@ -1,9 +1,7 @@
-use Rattle.std.proofs.Common.{rules, ◌<◌, ◌-◌, ◌/◌, ◌∙◌, ap, arith, subst, sym, length}
-use Rattle.std.proofs.lemmas.Result.{IfOk-at_ok}
-use Rattle.claim_board.specs.Steps.{joined_view}
-use Rattle.claim_board.specs.Work.{HaveStopped, AreResults, AreAllResults, MayShare}
+use Rattle.std.proofs.Common.{rules, ◌<◌, arith, subst, length}
+use Rattle.claim_board.specs.Work.{MayShare}
 use Rattle.claim_board.proofs.Seats.{splits_allowed, joins_allowed}
-use Rattle.claim_board.proofs.Halving.{left_some, results_joined, have_stopped_joined, same_again, front_may_share, back_may_share}
+use Rattle.claim_board.proofs.Halving.{both_joined, halves_may_share, may_join, same_again}
 use Rattle.claim_board.proofs.share.+halves.Goals as goal
 
 pub share-work_alone-requires : goal.share-work_alone-requires
@@ -20,51 +18,18 @@ share-split_seat-other-requires g t c =
 
 pub share-share_halves-front-requires : goal.share-share_halves-front-requires
 share-share_halves-front-requires g t c κs within =
-    let table = c.args.table.now.table_id in
-    let jobs = g.W.Work.listed c.args.work.now in
-    let n = c.args.workers in
     let s = c.split_seat-other in
-    let several = c.if-workers-eq1.false in
-    let low : MayShare table jobs (n / 2) s.new.seat
-    = front_may_share table jobs n c.args.seat.now s.new.seat c.requires several s.ensures.0 (ap (λ x. x.0) s.ensures.2) in
-    let high : MayShare table jobs (n - n / 2) s.result
-    = back_may_share table jobs n c.args.seat.now s.result c.requires several s.ensures.3 (ap (λ x. x.0) s.ensures.4) in
+    let halves = halves_may_share _ _ _ _ s.new.seat s.result c.requires c.if-workers-eq1.false s.ensures in
     search rules
 
 pub share-join_seat-requires : goal.share-join_seat-requires
 share-join_seat-requires g t c =
     let m = c.requires in
-    let s = c.split_seat-other.ensures in
-    let d = c.share_halves-front.ensures in
+    let s = c.split_seat-other in
+    let d = c.share_halves-front in
     let more : 1 < length c.args.seat.now.me.0.crew = let n = m.crew in let k = m.at_least_one in let e = c.if-workers-eq1.false in omega arith in
-    let some = left_some c.args.seat.now.me.0 _ _ _ _ c.args.seat.now.me.0 (ap (λ x. x.0) s.2) (ap (λ x. x.0) s.4) d.low_same.1 d.high_same.1 more in (
-      d.low_same.0.0 ∙ (s.0 ∙ m.place.1),
-      d.high_same.0.0 ∙ (s.3 ∙ m.place.1),
-      d.high_same.0.2 ∙ ap (λ x. x.1) s.4,
-      (let b = m.place.0.0 in omega arith),
-      joins_allowed _ _ _ _ _ _ some,
-    )
-
-pub share-returns-in_err-all-clause-same : goal.share-returns-in_err-all-clause-same
-share-returns-in_err-all-clause-same g t c =
-    let s = c.split_seat-other in
-    let d = c.share_halves-front in
-    let j = c.join_seat in
-    same_again c.args.seat.now s.new.seat s.result d.new.seat d.new.other j.new.seat s.ensures d.ensures.low_same d.ensures.high_same j.ensures
-
-pub share-returns-in_err-rest-clause-same : goal.share-returns-in_err-rest-clause-same
-share-returns-in_err-rest-clause-same g t c =
-    let s = c.split_seat-other in
-    let d = c.share_halves-front in
-    let j = c.join_seat in
-    same_again c.args.seat.now s.new.seat s.result d.new.seat d.new.other j.new.seat s.ensures d.ensures.low_same d.ensures.high_same j.ensures
-
-pub share-returns-in_err-append-clause-same : goal.share-returns-in_err-append-clause-same
-share-returns-in_err-append-clause-same g t c =
-    let s = c.split_seat-other in
-    let d = c.share_halves-front in
-    let j = c.join_seat in
-    same_again c.args.seat.now s.new.seat s.result d.new.seat d.new.other j.new.seat s.ensures d.ensures.low_same d.ensures.high_same j.ensures
+    let may = may_join _ c.args.seat.now s.new.seat s.result d.new.seat d.new.other m.place more s.ensures d.ensures.low_same d.ensures.high_same in
+    (may.0, may.1, may.2, (let b = m.place.0.0 in omega arith), joins_allowed _ _ _ _ _ _ may.3)
 
 pub share-returns-clause-same : goal.share-returns-clause-same
 share-returns-clause-same g t c =
@@ -77,12 +42,5 @@ pub share-returns-clause-done : goal.share-returns-clause-done
 share-returns-clause-done g t c =
     let gives = g.W.Work.gives c.args.work.now in
     let d = c.share_halves-front in
-    let l = d.new.seat.me.0 in
-    let r = d.new.other.me.0 in
-    let a = IfOk-at_ok (λ v. AreAllResults gives l v.items) c.in_ok-all.was d.ensures.low_done in
-    let b = IfOk-at_ok (λ v. AreAllResults gives r v.items) c.in_ok-rest.was d.ensures.high_done in
-    let e = ap (λ x. x.0) c.join_seat.ensures.2 in
-    let joined = results_joined gives l r _ _ a.1 b.1 in (
-      subst HaveStopped (sym e) (have_stopped_joined l r a.0 b.0),
-      subst (λ x. AreResults gives x.claimed c.append.new.self.items) (sym e) (subst (λ x. AreResults gives (joined_view l r).claimed x) (search rules) joined),
-    )
+    let j = c.join_seat in
+    both_joined gives d.new.seat d.new.other j.new.seat _ _ _ j.ensures d.ensures.low_done d.ensures.high_done c.one_list.ensures
