@@ -1,8 +1,9 @@
 //! From the bytes of several readers, the parts of a capture, to the bytes of a writer.
 
-ghost use Rattle.std.specs.Prelude.{◌≡◌, ◌<◌, ◌≤◌, ◌^◌, List, length, map, vec_len, IfOk, IfErr, OnOk, OnErr, IsOkUnless, string_bytes};
+ghost use Rattle.std.specs.Prelude.{◌≡◌, ◌<◌, ◌≤◌, ◌^◌, List, length, map, vec_len, All, IfOk, IfErr, OnOk, OnErr, IsOkUnless, string_bytes};
 ghost use Rattle.std.specs.Io.KnownBytes.{Appends};
 ghost use Rattle.capture_frame.specs.Parts.{joined};
+ghost use Rattle.capture_frame.specs.Units.{IsBytes};
 ghost use Rattle.transaction_view.specs.Grammar.{WholeFrame, AreReadable};
 ghost use Rattle.audit_findings.specs.Findings.{FindingsText};
 ghost use Rattle.audit_findings.specs.Kept.{Tell};
@@ -12,7 +13,7 @@ ghost use Rattle.report_text.specs.Fault.{part_fault_line};
 ghost use Rattle.report_text.specs.PartAnswers.{IsTextOfParts, IsLineOnParts};
 ghost use Rattle.report_text.specs.Text.{IsReportOn, report_text};
 ghost use Rattle.audit_streams.specs.KnownBytes.{AppendsPrefix};
-ghost use Rattle.audit_streams.specs.Parts.{bytes_of};
+ghost use Rattle.audit_streams.specs.Parts.{AreRead, bytes_of};
 ghost use Rattle.audit_run.specs.PartRuns.{GoWithFault, GoWithWritten, ReadersGive};
 ghost use Rattle.audit_run.specs.Run.{Runs, Writes};
 
@@ -78,8 +79,8 @@ pub fn run_first_fault_parts<R: Read + Drop, W: Write>(
 
 /// Reads the parts whole, all together within the limit.
 fn read_within<R: Read + Drop>(alloc: Global, readers: Vec<R>) -> Result<Vec<Vec<u8>>, RunError>
-    ensures parts { IfOk result (λ parts.
-        ReadersGive (map R.remaining readers.items) (Ok (map (λ part. part.items) parts.items))) }
+    ensures parts { IfOk result (λ parts. AreRead CAPTURE_LIMIT (map R.remaining readers.items)
+        (map (λ part. part.items) parts.items)) }
     ensures none { IfErr result
         (λ error. ReadersGive (map R.remaining readers.items) (Err error)) }
 {
@@ -90,13 +91,25 @@ fn read_within<R: Read + Drop>(alloc: Global, readers: Vec<R>) -> Result<Vec<Vec
 fn slices_of<'p>(alloc: Global, parts: &'p [Vec<u8>]) -> Result<Vec<&'p [u8]>, RunError>
     ensures slices { IfOk result (λ slices.
         map (λ slice. slice.now) slices.items ≡ map (λ part. part.items) parts.now) }
+    ensures bytes { IfOk result (λ slices. All IsBytes (map (λ slice. slice.now) slices.items)) }
     ensures memory { IsOkUnless result RunError.Memory }
 {
     let mut slices = Vec::new(alloc);
     for part in parts {
-        slices.push(part.as_slice()).map_err(|_| RunError::Memory)?;
+        slices
+            .push(as_bytes(part.as_slice()))
+            .map_err(|_| RunError::Memory)?;
     }
     Ok(slices)
+}
+
+/// The same slice. Of the elements of a `Vec` no clause says that they are bytes, of those of a slice
+/// this one does.
+pub(crate) fn as_bytes(slice: &[u8]) -> &[u8]
+    ensures same { result.now ≡ slice.now }
+    ensures bytes { IsBytes slice.now }
+{
+    slice
 }
 
 /// Writes the report on parts, or the line that names their first fault.

@@ -1,11 +1,11 @@
 //! From the bytes of a reader, which are a capture, to the bytes of a writer.
 
-ghost use Rattle.std.specs.Prelude.{◌≤◌, length, IfOk, IfErr, IsOkUnless};
+ghost use Rattle.std.specs.Prelude.{◌≡◌, ◌≤◌, length, vec_len, IfOk, IfErr, IfSome, IsOkUnless};
 ghost use Rattle.audit_run.specs.Run.{GoesWithFault, GoesWithWritten, ReaderGives, Runs, Writes};
 ghost use Rattle.report_text.specs.Answers.{IsTextOf, IsLineOn};
 ghost use Rattle.audit_join.specs.declared.limits.TheConstants.{CAPTURE_LIMIT};
 
-use crate::part_runs::{PartsWritten, write_first_fault_parts, write_parts};
+use crate::part_runs::{PartsWritten, as_bytes, write_first_fault_parts, write_parts};
 use audit_join::{CAPTURE_LIMIT, Piece};
 use audit_streams::{RunError, read_capture};
 use capture_frame::Fault;
@@ -55,13 +55,22 @@ pub fn run_gated<T: Threads + Sync, R: Read, W: Write, G: Gate + Sync>(
         (W.contents writer.old) (W.contents writer.new) result }
 {
     let capture = read_within(alloc, reader)?;
-    write_report(rt, alloc, capture.as_slice(), writer, workers, piece, gate)
+    write_report(
+        rt,
+        alloc,
+        as_bytes(capture.as_slice()),
+        writer,
+        workers,
+        piece,
+        gate,
+    )
 }
 
 /// Reads a capture whole, within the limit.
 fn read_within<R: Read>(alloc: Global, reader: &mut R) -> Result<Vec<u8>, RunError>
-    ensures capture { IfOk result
-        (λ capture. ReaderGives (R.remaining reader.old) (Ok capture.items)) }
+    ensures known { IfOk result
+        (λ capture. IfSome (R.remaining reader.old) (λ known. capture.items ≡ known)) }
+    ensures within { IfOk result (λ capture. vec_len capture ≤ CAPTURE_LIMIT) }
     ensures none { IfErr result (λ error. ReaderGives (R.remaining reader.old) (Err error)) }
 {
     read_capture(alloc, reader, CAPTURE_LIMIT)
@@ -98,7 +107,7 @@ pub fn run_first_fault<R: Read, W: Write>(
         (W.contents writer.old) (W.contents writer.new) result }
 {
     let capture = read_within(alloc, reader)?;
-    write_first_fault(capture.as_slice(), writer)
+    write_first_fault(as_bytes(capture.as_slice()), writer)
 }
 
 /// Writes the line that names a capture's first fault, or that there is none. It takes no memory.

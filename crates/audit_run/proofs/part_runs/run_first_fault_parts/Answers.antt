@@ -1,4 +1,5 @@
-use Rattle.std.proofs.Common.{◌≡◌, ◌<◌, ◌^◌, length, map, arith, rules}
+use Rattle.std.proofs.Common.{◌≡◌, ◌<◌, ◌^◌, length, map, refl, arith, rules}
+use Rattle.audit_streams.specs.declared.run_error.RunError.TheVariants.{Memory}
 use Rattle.std.proofs.KnownBytes.{Keeps-refl}
 use Rattle.std.proofs.lemmas.Result.{err_from_is_err_and}
 use Rattle.audit_run.specs.Run.{given, none_given}
@@ -13,15 +14,15 @@ returns-in_err-parts g c =
 pub returns-in_err-slices : goal.returns-in_err-slices
 returns-in_err-slices g c =
     let error = err_from_is_err_and c.from_residual-in_err-slices.result c.from_residual-in_err-slices.ensures.1 in
-    given _ c.in_ok-parts.ensures.parts (rw (error.1, error.2, c.in_err-slices.ensures.memory) (Keeps-refl _))
+    none_given Memory tt (rw (error.1, error.2, c.in_err-slices.ensures.memory) refl) (Keeps-refl _)
 
 pub write_first_fault_parts-requires : goal.write_first_fault_parts-requires
 write_first_fault_parts-requires g c =
     let slices : map (λ slice. slice.now) c.as_slice-2.result.now ≡ map (λ part. part.items) c.in_ok-parts.parts.items = search rules in
     let few : length c.args.readers.items < 2 ^ 32 = (let many = c.args.readers.ok in let fits = c.requires in omega (arith, many.0, fits)) in
-    few_slices g.R.Read.remaining c.args.readers.items _ c.as_slice-2.result.now _ c.in_ok-parts.ensures.parts.0.0 slices few
+    few_slices g.R.Read.remaining c.args.readers.items _ c.as_slice-2.result.now _ c.in_ok-parts.ensures.parts.0 slices few
 
 pub returns : goal.returns
 returns g c =
     let slices : map (λ slice. slice.now) c.as_slice-2.result.now ≡ map (λ part. part.items) c.in_ok-parts.parts.items = search rules in
-    given _ c.in_ok-parts.ensures.parts (rw slices at c.write_first_fault_parts.ensures.written)
+    given _ (c.in_ok-parts.ensures.parts, rw (c.in_ok-slices.ensures.slices, c.as_slice.ensures.value) at c.in_ok-slices.ensures.bytes) (rw slices at c.write_first_fault_parts.ensures.written)

@@ -1,6 +1,9 @@
-use Rattle.std.proofs.Common.{◌≡◌, map, take}
+use Rattle.std.proofs.Common.{◌≡◌, All, map, take}
+use Rattle.capture_frame.specs.Units.{IsBytes}
 use Rattle.audit_run.proofs.part_runs.slices_of.Given as goal
 
--- the slices so far are the first parts
+-- the slices so far are the first parts, and have bytes
 abbrev pub invariant-loop-part : goal.invariant-loop-part
-invariant-loop-part l = map (λ slice. slice.now) l.slices.items ≡ map (λ part. part.items) (take l.part-index l.fn.parts)
+invariant-loop-part l =
+    (map (λ slice. slice.now) l.slices.items ≡ map (λ part. part.items) (take l.part-index l.fn.parts))
+    × All (λ slice. IsBytes slice.now) l.slices.items

@@ -1,3 +1,4 @@
+use Rattle.std.proofs.Common.{◌≡◌, ◌∙◌, arith}
 use Rattle.std.proofs.KnownBytes.{Keeps-refl}
 use Rattle.std.proofs.lemmas.Result.{err_from_is_err_and}
 use Rattle.audit_run.specs.Run.{given, none_given}
@@ -10,5 +11,9 @@ returns-in_err-capture g c =
 
 pub returns : goal.returns
 returns g c =
-    given c.in_ok-capture.capture.items c.in_ok-capture.ensures.capture
-    (rw c.as_slice.ensures.value at c.write_first_fault.ensures.written)
+    let capture = c.in_ok-capture in
+    let within = capture.ensures.within in
+    let long = capture.capture.ok.0 in
+    let value = c.as_slice.ensures.value in
+    let same : c.as_bytes.result.now ≡ capture.capture.items = c.as_bytes.ensures.same ∙ value in
+    given capture.capture.items (capture.ensures.known, omega (arith, within, long), rw value at c.as_bytes.ensures.bytes) (rw same at c.write_first_fault.ensures.written)
