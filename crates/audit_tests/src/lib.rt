@@ -7,6 +7,8 @@ mod board;
 #[cfg(test)]
 mod devices;
 #[cfg(test)]
+mod expected;
+#[cfg(test)]
 mod join;
 #[cfg(test)]
 mod lines;

@@ -1,5 +1,6 @@
 //! Lines as docs/REPORT.md and docs/ENVELOPE.md spell them, and more rows than are held at a time.
 
+use crate::expected::told;
 use audit_findings::Findings;
 use audit_join::{CAPTURE_LIMIT, audit_one};
 use capture_frame::{Fault, FaultKind};
@@ -147,19 +148,9 @@ fn tells_more_rows_than_it_holds(rt: HostRuntime) -> Result<(), Fail> {
     let capture = many_handles(rt.alloc())?;
     assert!(rt; capture.len() <= CAPTURE_LIMIT);
     let found = audit_one(&rt, rt.alloc(), capture.as_slice())?;
-    check_ends(&rt, rt.alloc(), found, MANY_START, MANY_END);
+    let told = told(&rt, rt.alloc(), found)?;
+    assert!(rt; has_ends(told.as_str(), MANY_START, MANY_END));
     Ok(())
-}
-
-fn check_ends<R: Abort + Threads + Sync>(
-    rt: &R,
-    alloc: Global,
-    found: Findings<'_>,
-    start: &str,
-    end: &str,
-) {
-    let told = text(rt, alloc, &found);
-    assert!(rt; told.is_ok_and(|told| has_ends(told.as_str(), start, end)));
 }
 
 // Whether the text has that start, that end, and as many bytes between them as the other rows.
@@ -230,7 +221,8 @@ fn check_report<R: Abort + Threads + Sync>(
     report: &str,
 ) -> Result<(), Fail> {
     assert!(rt; capture.len() <= CAPTURE_LIMIT);
-    check_found(rt, alloc, audit_one(rt, alloc, capture)?, report)
+    let found = audit_one(rt, alloc, capture)?;
+    check_found(rt, alloc, found, report).map_err(Fail::from)
 }
 
 /// The findings end here: they are large, and dear to prove where a test may end beside them.
@@ -239,7 +231,7 @@ fn check_found<R: Abort + Threads + Sync>(
     alloc: Global,
     found: Findings<'_>,
     report: &str,
-) -> Result<(), Fail> {
+) -> Result<(), AllocError> {
     check_rows_and_text(rt, alloc, &found, report)
 }
 
@@ -248,7 +240,7 @@ fn check_rows_and_text<R: Abort + Threads + Sync>(
     alloc: Global,
     found: &Findings<'_>,
     report: &str,
-) -> Result<(), Fail> {
+) -> Result<(), AllocError> {
     check_rows(rt, alloc, found, report)?;
     check_text(rt, alloc, found, report)
 }
@@ -258,7 +250,7 @@ fn check_rows<R: Abort + Threads + Sync>(
     alloc: Global,
     found: &Findings<'_>,
     report: &str,
-) -> Result<(), Fail> {
+) -> Result<(), AllocError> {
     let rows = rows(rt, alloc, found)?;
     check_lines(rt, rows.as_slice(), report);
     Ok(())
@@ -269,7 +261,7 @@ fn check_text<R: Abort + Threads + Sync>(
     alloc: Global,
     found: &Findings<'_>,
     report: &str,
-) -> Result<(), Fail> {
+) -> Result<(), AllocError> {
     let text = text(rt, alloc, found)?;
     check_same(rt, text.as_str(), report);
     Ok(())

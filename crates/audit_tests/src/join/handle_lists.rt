@@ -1,13 +1,15 @@
-//! The rows of handles of all processes, by no worker.
+//! The rows of handles of all processes, by no worker, and the sections with them.
 
 ghost use Rattle.std.specs.Prelude.{List, map, IfOk};
 ghost use Rattle.capture_frame.specs.Units.{Placed};
 ghost use Rattle.transaction_view.specs.Grammar.{WholeFrame};
 ghost use Rattle.audit_findings.specs.Frames.{AreGoodFrames, Show};
+ghost use Rattle.audit_findings.specs.Findings.{AreFindings, FindingsText};
 ghost use Rattle.audit_findings.specs.Handles.{AreListedHandles};
+ghost use Rattle.audit_findings.specs.Kept.{Keep};
 ghost use Rattle.audit_findings.specs.Summary.{SumsPiece};
 
-use audit_join::{OfProcess, PieceSummary};
+use audit_join::{OfProcess, PieceSummary, Sections};
 use capture_frame::Frame;
 use handle_ledger::HeldRow;
 use std::alloc::{AllocError, Global};
@@ -28,4 +30,20 @@ pub(crate) fn handle_lists<'c>(
         lists.push(whole.handles(frames, number)?)?;
     }
     Ok(lists)
+}
+
+/// The sections of these frames. Their summary ends here.
+pub(crate) fn sections_of<'c>(
+    alloc: Global,
+    frames: &[Frame<'c>],
+    whole: PieceSummary<'c>,
+) -> Result<Sections, AllocError>
+    requires good { AreGoodFrames frames.now }
+    requires sums { SumsPiece whole frames.now }
+    ensures { IfOk result (λ sections. (wholes : List (Placed WholeFrame)) → Show frames.now wholes →
+        (said : FindingsText) × AreFindings wholes said × Keep sections said) }
+{
+    let handles = handle_lists(alloc, frames, &whole)?;
+    let sections = whole.sections(handles.as_slice())?;
+    Ok(sections)
 }

@@ -5,6 +5,7 @@ ghost use Rattle.audit_findings.specs.Lookup.{HasRecordIn};
 
 use super::captures::eight_frames;
 use super::expect_sections;
+use crate::expected::{Expected, expect};
 use audit_join::{Findings, audit_one};
 use binder_code::Kind;
 use std::process::Abort;
@@ -91,15 +92,23 @@ fn expect_frames(rt: &impl Abort, found: &Findings<'_>) {
     }
 }
 
-/// The findings end here: they are large, and dear to prove where a test may end beside them.
-fn expect_found(rt: &impl Abort, found: Findings<'_>) {
-    expect_sections(rt, found.sections());
-    expect_frames(rt, &found);
-    expect_flagged(rt, &found);
+/// The findings are those of the eight frames, and find those.
+#[derive(Clone, Copy)]
+struct Found<'r, R> {
+    rt: &'r R,
+}
+
+impl<'r, R: Abort> Expected for Found<'r, R> {
+    fn hold(&self, found: &Findings<'_>) {
+        expect_sections(self.rt, found.sections());
+        expect_frames(self.rt, found);
+        expect_flagged(self.rt, found);
+    }
 }
 
 #[test]
 fn finds_frames_and_records(rt: HostRuntime) -> Result<(), Fail> {
-    expect_found(&rt, audit_one(&rt, rt.alloc(), eight_frames(&rt))?);
+    let found = audit_one(&rt, rt.alloc(), eight_frames(&rt))?;
+    expect(found, &Found { rt: &rt });
     Ok(())
 }

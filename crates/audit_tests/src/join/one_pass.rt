@@ -7,7 +7,7 @@ ghost use Rattle.audit_findings.specs.Summary.{SumsPiece};
 ghost use Rattle.audit_join.specs.Audit.{IsAudited, IsMalformed};
 ghost use Rattle.audit_join.specs.declared.limits.TheConstants.{CAPTURE_LIMIT};
 
-use super::handle_lists::handle_lists;
+use super::handle_lists::sections_of;
 use audit_join::{AuditError, CAPTURE_LIMIT, Findings, PieceSummary};
 use capture_frame::{Frame, Frames};
 use std::alloc::{AllocError, Global};
@@ -29,8 +29,7 @@ pub fn one_pass<'c>(alloc: Global, capture: &'c [u8]) -> Result<Findings<'c>, Au
         }
         take_frame(&mut frames, &mut summary, frame)?;
     }
-    let handles = handle_lists(alloc, frames.as_slice(), &summary)?;
-    let sections = summary.sections(handles.as_slice())?;
+    let sections = sections_of(alloc, frames.as_slice(), summary)?;
     Ok(Findings::new(frames, sections))
 }
 

@@ -6,7 +6,7 @@ ghost use Rattle.audit_findings.specs.Frames.{AreGoodFrames, Show};
 ghost use Rattle.event_core.specs.Events.{wholes_of};
 ghost use Rattle.audit_findings.specs.Summary.{SumsPiece};
 
-use super::handle_lists::handle_lists;
+use super::handle_lists::sections_of;
 use audit_join::{Findings, PieceSummary};
 use capture_frame::Frame;
 use std::alloc::{AllocError, Global};
@@ -46,8 +46,7 @@ pub(crate) fn found_in_pieces<'c>(
 {
     let pieces = frames.len().div_ceil(piece);
     let summary = joined_in_pieces(alloc, frames, pieces, piece)?;
-    let handles = handle_lists(alloc, frames, &summary)?;
-    let sections = summary.sections(handles.as_slice())?;
+    let sections = sections_of(alloc, frames, summary)?;
     let mut all = Vec::new(alloc);
     all.extend_from_slice(frames)?;
     Ok(Findings::new(all, sections))

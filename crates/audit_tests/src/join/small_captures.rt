@@ -19,6 +19,7 @@ use super::captures::within_limit;
 use super::frames_of;
 use super::pieces::found_in_pieces;
 use super::workers::shares;
+use crate::expected::told;
 use audit_join::{AuditError, Findings, Piece, audit, audit_one};
 use capture_frame::Frame;
 use claim_board::{NoGate, Workers};
@@ -357,10 +358,16 @@ const CAPTURES: &[&[Shape]] = &[
 /// The most frames that one of them has.
 const MOST_FRAMES: u64 = 4;
 
-// The findings tell this. They end here, where no other value of a size is dropped.
-fn expect_told<T: Threads + Sync + Abort>(rt: &T, alloc: Global, found: Findings<'_>, due: &str) {
-    let told = text(rt, alloc, &found);
-    assert!(rt; told.is_ok_and(|told| told.as_str() == due));
+// The findings tell this.
+fn expect_told<T: Threads + Sync + Abort>(
+    rt: &T,
+    alloc: Global,
+    found: Findings<'_>,
+    due: &str,
+) -> Result<(), AllocError> {
+    let told = told(rt, alloc, found)?;
+    assert_eq!(rt; told.as_str(), due);
+    Ok(())
 }
 
 // Two workers give this of the capture, in such pieces.
@@ -374,13 +381,8 @@ fn expect_by<T: Threads + Sync + Abort>(
     requires { length capture.now ≤ CAPTURE_LIMIT }
 {
     let (workers, piece) = shares;
-    expect_told(
-        rt,
-        alloc,
-        audit(rt, alloc, capture, workers, piece, &NoGate)?,
-        due,
-    );
-    Ok(())
+    let found = audit(rt, alloc, capture, workers, piece, &NoGate)?;
+    expect_told(rt, alloc, found, due).map_err(AuditError::from)
 }
 
 // They do in every piece up to its frames.
@@ -409,7 +411,8 @@ fn expect_joined<T: Threads + Sync + Abort>(
     requires shown { (wholes : List WholeFrame) × Show frames.now (wholes_of wholes) }
 {
     for piece in 1..MOST_FRAMES as usize + 1 {
-        expect_told(rt, alloc, found_in_pieces(alloc, frames, piece)?, due);
+        let found = found_in_pieces(alloc, frames, piece)?;
+        expect_told(rt, alloc, found, due)?;
     }
     Ok(())
 }

@@ -5,7 +5,7 @@ ghost use Rattle.audit_findings.specs.Frames.{AreGoodFrames};
 ghost use Rattle.audit_findings.specs.Summary.{SumsPiece};
 
 use super::captures::eight_frames;
-use super::handle_lists::handle_lists;
+use super::handle_lists::sections_of;
 use super::{expect_sections, frames_of};
 use audit_join::{PieceSummary, audit_one};
 use capture_frame::Frame;
@@ -24,8 +24,7 @@ fn expect_summary<'c>(
     requires good { AreGoodFrames frames.now }
     requires sums { SumsPiece summary frames.now }
 {
-    let handles = handle_lists(alloc, frames, &summary)?;
-    let sections = summary.sections(handles.as_slice())?;
+    let sections = sections_of(alloc, frames, summary)?;
     expect_sections(rt, &sections);
     Ok(())
 }

@@ -12,10 +12,10 @@ use super::built::{
 };
 use super::captures::within_limit;
 use super::workers::{expect_fault, shares};
+use crate::expected::told;
 use audit_join::{Findings, Piece, audit};
 use capture_frame::FaultKind;
 use claim_board::{NoGate, Workers};
-use report_text::text;
 use std::alloc::{AllocError, Global};
 use std::process::Abort;
 use std::test::Fail;
@@ -409,25 +409,16 @@ fn expect_lines(rt: &impl Abort, told: &str, due: &str) {
     expect_line(rt, None, due.next());
 }
 
-fn expect_text<T: Threads + Sync + Abort>(
-    rt: &T,
-    alloc: Global,
-    found: &Findings<'_>,
-    due: &str,
-) -> Result<(), AllocError> {
-    let told = text(rt, alloc, found)?;
-    expect_lines(rt, told.as_str(), due);
-    Ok(())
-}
-
-/// The findings end here: they are large, and dear to prove where a test may end beside them.
+// The findings tell these lines, beside those of code words and of sections without a row.
 fn expect_told<T: Threads + Sync + Abort>(
     rt: &T,
     alloc: Global,
     found: Findings<'_>,
     due: &str,
 ) -> Result<(), AllocError> {
-    expect_text(rt, alloc, &found, due)
+    let told = told(rt, alloc, found)?;
+    expect_lines(rt, told.as_str(), due);
+    Ok(())
 }
 
 // So many workers tell it, in pieces of so many frames.

@@ -10,6 +10,7 @@ use super::captures::{eight_frames, within_limit};
 use super::one_pass::one_pass;
 use super::pieces::found_in_pieces;
 use super::{expect_sections, frames_of};
+use crate::expected::{Expected, expect};
 use crate::meeting::{Meeting, RELEASE_FIRST};
 use audit_join::{AuditError, Findings, OfProcess, Piece, audit, audit_one};
 use capture_frame::{Fault, FaultKind, Frame, Process};
@@ -32,11 +33,17 @@ pub(crate) fn shares(workers: u64, piece: u64) -> Result<(Workers, Piece), &'sta
     Ok((workers, piece))
 }
 
-/// These are the findings of the eight frames. They end here: they are large, and dear to prove
-/// where a test may end beside them.
-fn expect_findings(rt: &impl Abort, found: Findings<'_>) {
-    assert_eq!(rt; found.frames().len(), 8);
-    expect_sections(rt, found.sections());
+/// The findings are those of the eight frames.
+#[derive(Clone, Copy)]
+struct OfEight<'r, R> {
+    rt: &'r R,
+}
+
+impl<'r, R: Abort> Expected for OfEight<'r, R> {
+    fn hold(&self, found: &Findings<'_>) {
+        assert_eq!(self.rt; found.frames().len(), 8);
+        expect_sections(self.rt, found.sections());
+    }
 }
 
 // They are, however the frames are shared.
@@ -49,7 +56,8 @@ fn expect_eight<T: Threads + Sync + Abort>(
     requires { length capture.now ≤ CAPTURE_LIMIT }
 {
     let (workers, piece) = shares;
-    expect_findings(rt, audit(rt, alloc, capture, workers, piece, &NoGate)?);
+    let found = audit(rt, alloc, capture, workers, piece, &NoGate)?;
+    expect(found, &OfEight { rt });
     Ok(())
 }
 
@@ -80,7 +88,7 @@ fn expect_eight_joined(
     requires shown { (wholes : List WholeFrame) × Show frames.now (wholes_of wholes) }
     requires some { 1 ≤ piece }
 {
-    expect_findings(rt, found_in_pieces(alloc, frames, piece)?);
+    expect(found_in_pieces(alloc, frames, piece)?, &OfEight { rt });
     Ok(())
 }
 
@@ -114,18 +122,18 @@ fn expect_audit_one<T: Threads + Sync + Abort>(
 ) -> Result<(), AuditError>
     requires { length capture.now ≤ CAPTURE_LIMIT }
 {
-    expect_findings(rt, audit_one(rt, alloc, capture)?);
+    expect(audit_one(rt, alloc, capture)?, &OfEight { rt });
     Ok(())
 }
 
 fn expect_one_pass(rt: &impl Abort, alloc: Global, capture: &[u8]) -> Result<(), AuditError>
     requires { length capture.now ≤ CAPTURE_LIMIT }
 {
-    expect_findings(rt, one_pass(alloc, capture)?);
+    expect(one_pass(alloc, capture)?, &OfEight { rt });
     Ok(())
 }
 
-/// One pass gives what `audit_one` gives. Two findings in one function are dear to prove.
+/// One pass gives what `audit_one` gives.
 #[test]
 fn one_pass_gives_the_same(rt: HostRuntime) -> Result<(), Fail> {
     let capture = eight_frames(&rt);
@@ -248,6 +256,20 @@ fn header_and_record(rt: HostRuntime) -> Result<(), Fail> {
     Ok(())
 }
 
+/// The findings are those of so many frames, of a record each.
+#[derive(Clone, Copy)]
+struct OfFrames<'r, R> {
+    rt: &'r R,
+    count: usize,
+}
+
+impl<'r, R: Abort> Expected for OfFrames<'r, R> {
+    fn hold(&self, found: &Findings<'_>) {
+        assert_eq!(self.rt; found.frames().len(), self.count);
+        assert_eq!(self.rt; found.sections().events.records, self.count as u64);
+    }
+}
+
 // 64 workers find so many frames, of a record each.
 fn expect_frames<T: Threads + Sync + Abort>(
     rt: &T,
@@ -259,8 +281,7 @@ fn expect_frames<T: Threads + Sync + Abort>(
 {
     let (workers, piece) = shares(64, 1)?;
     let found = audit(rt, alloc, capture, workers, piece, &NoGate)?;
-    assert_eq!(rt; found.frames().len(), count);
-    assert_eq!(rt; found.sections().events.records, count as u64);
+    expect(found, &OfFrames { rt, count });
     Ok(())
 }
 
@@ -292,6 +313,20 @@ const HANDLES: &[OfProcess<HeldRow>] = &[OfProcess {
     },
 }];
 
+/// The findings have the rows of handles of these processes.
+#[derive(Clone, Copy)]
+struct HasHandles<'r, R> {
+    rt: &'r R,
+    handles: &'static [OfProcess<HeldRow>],
+}
+
+impl<'r, R: Abort> Expected for HasHandles<'r, R> {
+    fn hold(&self, found: &Findings<'_>) {
+        let rows = found.sections().processes.handles.rows.as_slice();
+        assert_eq!(self.rt; rows, self.handles);
+    }
+}
+
 /// Two pieces are under way at one time.
 #[test]
 fn two_pieces_meet(rt: HostRuntime) -> Result<(), Fail> {
@@ -299,7 +334,8 @@ fn two_pieces_meet(rt: HostRuntime) -> Result<(), Fail> {
     let (workers, piece) = shares(2, 1)?;
     let capture = within_limit(&rt, RELEASE_FIRST);
     let found = audit(&rt, rt.alloc(), capture, workers, piece, &gate)?;
-    assert_eq!(rt; found.sections().processes.handles.rows.as_slice(), HANDLES);
+    let handles = HANDLES;
+    expect(found, &HasHandles { rt: &rt, handles });
     assert!(rt; gate.was_held());
     Ok(())
 }

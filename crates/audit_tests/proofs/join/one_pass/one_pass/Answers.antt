@@ -2,9 +2,7 @@ use Rattle.std.proofs.Common.{List, None, [], ◌∷◌, ◌++◌, sym, subst}
 use Rattle.std.proofs.lemmas.Result.{err_from_is_err_and}
 use Rattle.capture_frame.specs.declared.frame.Frame.{Frame}
 use Rattle.transaction_view.proofs.CaptureWalk.{whole_of, stands_at_start, stands_behind_next, left_falls, header_fails, content_fails, frames_end}
-use Rattle.audit_findings.proofs.HandleRows.{ListOfRows, lists_of}
 use Rattle.audit_findings.specs.Frames.{AreGoodFrames, Show}
-use Rattle.audit_findings.specs.Handles.{AreListedHandles}
 use Rattle.event_core.specs.Events.{wholes_of}
 use Rattle.audit_findings.specs.Summary.{SumsPiece}
 use Rattle.audit_tests.proofs.CaptureLaws.{shown_at_start, shown_next, shown_are_good, within_limit}
@@ -71,41 +69,27 @@ loop-summary-preserved c =
       subst (SumsPiece c.take_frame.new.summary) all (c.in_ok-take_frame.ensures.summary c.loop-summary.frames.items done.3 fits),
     )
 
-pub handle_lists-requires-clause-good : goal.handle_lists-requires-clause-good
-handle_lists-requires-clause-good c =
+pub sections_of-requires-clause-good : goal.sections_of-requires-clause-good
+sections_of-requires-clause-good c =
     let done = c.loop-summary.invariant in
     let short = within_limit c.args.capture.now c.loop-summary.reader done.0 done.1 c.requires in
     subst AreGoodFrames (sym c.as_slice.ensures.value) (shown_are_good c.loop-summary.frames.items done.0 done.2 short)
 
-pub handle_lists-requires-clause-sums : goal.handle_lists-requires-clause-sums
-handle_lists-requires-clause-sums c = subst (SumsPiece c.loop-summary.summary) (sym c.as_slice.ensures.value) c.loop-summary.invariant.3
-
-pub sections-requires : goal.sections-requires
-sections-requires c =
-    let done = c.loop-summary.invariant in
-    let short = within_limit c.args.capture.now c.loop-summary.reader done.0 done.1 c.requires in
-    (c.loop-summary.frames.items, done.3, shown_are_good c.loop-summary.frames.items done.0 done.2 short)
+pub sections_of-requires-clause-sums : goal.sections_of-requires-clause-sums
+sections_of-requires-clause-sums c = subst (SumsPiece c.loop-summary.summary) (sym c.as_slice.ensures.value) c.loop-summary.invariant.3
 
 pub new-requires-2 : goal.new-requires-2
 new-requires-2 c =
     let done = c.loop-summary.invariant in
-    let short = within_limit c.args.capture.now c.loop-summary.reader done.0 done.1 c.requires in
-    let frames = c.loop-summary.frames.items in
     let wholes = wholes_of done.0 in
-    let listed = c.in_ok-handles.ensures wholes (subst (λ (fs : List Frame). Show fs wholes) (sym c.as_slice.ensures.value) done.2) in
-    let said = c.in_ok-sections.ensures frames wholes done.3 (shown_are_good frames done.0 done.2 short) done.2
-    (subst (λ (lists : List ListOfRows). AreListedHandles wholes (lists_of lists)) (sym c.as_slice-2.ensures.value) listed) in
+    let said = c.in_ok-sections.ensures wholes (subst (λ (fs : List Frame). Show fs wholes) (sym c.as_slice.ensures.value) done.2) in
     (done.0, said.0, record { show = done.2; are = said.1; keep = said.2 })
 
 pub returns-clause-found : goal.returns-clause-found
 returns-clause-found c =
     let done = c.loop-summary.invariant in
-    let short = within_limit c.args.capture.now c.loop-summary.reader done.0 done.1 c.requires in
-    let frames = c.loop-summary.frames.items in
     let wholes = wholes_of done.0 in
-    let listed = c.in_ok-handles.ensures wholes (subst (λ (fs : List Frame). Show fs wholes) (sym c.as_slice.ensures.value) done.2) in
-    let said = c.in_ok-sections.ensures frames wholes done.3 (shown_are_good frames done.0 done.2 short) done.2
-    (subst (λ (lists : List ListOfRows). AreListedHandles wholes (lists_of lists)) (sym c.as_slice-2.ensures.value) listed) in (
+    let said = c.in_ok-sections.ensures wholes (subst (λ (fs : List Frame). Show fs wholes) (sym c.as_slice.ensures.value) done.2) in (
       done.0,
       said.0,
       frames_end c.args.capture.now None c.loop-summary.reader done.0 done.1 c.next_frame.new.self (rw c.in_default.is at c.in_ok-frame.ensures),

@@ -1,4 +1,5 @@
-use Rattle.std.proofs.Common.{◌≡◌, ◌++◌, [], map, sym, ap, ◌∙◌, rules}
+use Rattle.std.proofs.Common.{arith, ◌≡◌, ◌++◌, [], map, sym, ap, ◌∙◌, rules}
+use Rattle.std.proofs.lemmas.Grind.{common_steps}
 use Rattle.std.proofs.lemmas.List.{append-nil}
 use Rattle.std.specs.BTreeMap.{IsOrdered}
 use Rattle.handle_ledger.proofs.NodeLaws.{node_row, node_rows}
@@ -13,3 +14,6 @@ returns c = λ items sums.
     let whole : c.loop-key.rows.items ≡ map node_row entries.entries
     = sym (append-nil c.loop-key.rows.items) ∙ sym (ap (λ es. c.loop-key.rows.items ++ map node_row es) rest) ∙ c.loop-key.invariant in
     node_rows entries ordered items sums c.loop-key.rows.items whole
+
+pub loop-key-preserved : goal.loop-key-preserved
+loop-key-preserved c = grind (arith, common_steps)

@@ -1,4 +1,5 @@
-use Rattle.std.proofs.Common.{◌≡◌, ◌++◌, [], IsPermutation, sym, ap, subst, ◌∙◌, append-nil, rules}
+use Rattle.std.proofs.Common.{arith, ◌≡◌, ◌++◌, [], IsPermutation, sym, ap, subst, ◌∙◌, append-nil, rules}
+use Rattle.std.proofs.lemmas.Grind.{common_steps}
 use Rattle.std.specs.BTreeMap.{IsOrdered}
 use Rattle.pending_ledger.proofs.PendingLaws.{strays_of, strays_sorted}
 use Rattle.pending_ledger.specs.Sums.{gather}
@@ -13,3 +14,6 @@ returns g c = λ items sums.
     = sym (append-nil c.loop-key.places.items) ∙ sym (ap (λ es. c.loop-key.places.items ++ gather strays_of es) rest) ∙ c.loop-key.invariant in
     strays_sorted g.K.Ord.cmp g.met.K.Ord.total c.args.self.now ordered items sums c.sort_unstable.new.self.items
     (subst (λ ps. IsPermutation ps c.sort_unstable.new.self.items) whole c.sort_unstable.ensures.permutation) c.sort_unstable.ensures.sorted
+
+pub loop-key-preserved : goal.loop-key-preserved
+loop-key-preserved g c = grind (arith, common_steps)
