@@ -207,12 +207,12 @@ FRAME_HEADER = struct.Struct("<QIIB3sIII")
 
 
 def read_frame(capture, version, place, before):
-    """The frame that begins there, behind these frames."""
+    """The frame that begins there, behind the frame before it, if there is one."""
     if place + 32 > len(capture):
         raise Fault("FrameShort", place)
     sequence, process, thread, direction, reserved, commands, attachments, device = (
         FRAME_HEADER.unpack_from(capture, place))
-    if before and sequence <= before[-1].sequence:
+    if before is not None and sequence <= before.sequence:
         raise Fault("FrameSequence", place)
     if direction not in DIRECTIONS:
         raise Fault("FrameDirection", place)
@@ -290,19 +290,22 @@ def events_of(frame):
             for record in records]
 
 
-def read_part(part, frames, base):
-    """The frames and the events of a part, which stands behind these frames. So many bytes are
-    added to their places, and not to that of a fault."""
+def read_part(part, before):
+    """The frames and the events of a part, which stands behind the frame before it, if there is
+    one."""
     version, place = version_of(part), 16
-    more, events = [], []
+    frames, events = [], []
     while place < len(part):
-        frame = read_frame(part, version, place, frames + more)
-        events_of(frame)
-        placed = frame._replace(place=base + place)
-        more.append(placed)
-        events += events_of(placed)
-        place += 32 + len(frame.commands) + len(frame.attachments)
-    return more, events
+        before = read_frame(part, version, place, before)
+        frames.append(before)
+        events += events_of(before)
+        place += 32 + len(before.commands) + len(before.attachments)
+    return frames, events
+
+
+def moved(things, base):
+    """The frames or events, each so many bytes further on."""
+    return [thing._replace(place=base + thing.place) for thing in things] if base else things
 
 
 def read_parts(parts):
@@ -310,11 +313,11 @@ def read_parts(parts):
     frames, events, base = [], [], 0
     for number, part in enumerate(parts, 1):
         try:
-            more, told = read_part(part, frames, base)
+            more, told = read_part(part, frames[-1] if frames else None)
         except Fault as fault:
             raise PartFault(number, *fault.args) from None
-        frames += more
-        events += told
+        frames += moved(more, base)
+        events += moved(told, base)
         base += len(part) - 16
     return frames, events
 
