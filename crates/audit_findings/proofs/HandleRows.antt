@@ -1,5 +1,5 @@
 -- The rows of handles of a process: the deliveries that it never frees, and what they hold.
-use Rattle.std.proofs.Common.{◌≡◌, ◌||◌, ◌<◌, ◌+◌, ℕ, zero, suc, Bool, true, false, eqb, List, [], ◌∷◌, ◌++◌, length, map, take, Contains, Option, Some, None, Vec, Global, inl, inr, ⊎_elim, refl, sym, ap, subst, ◌∙◌, arith, get_or}
+use Rattle.std.proofs.Common.{◌≡◌, ◌||◌, ◌<◌, ◌+◌, ℕ, zero, suc, Bool, true, false, eqb, List, [], ◌∷◌, ◌++◌, length, map, take, Contains, Some, None, Vec, Global, inl, inr, ⊎_elim, refl, sym, ap, subst, ◌∙◌, arith, get_or}
 use Rattle.std.proofs.Math.Seq.{take-suc}
 use Rattle.std.specs.Prelude.{All, filter, slice_get, slice_index_or}
 use Rattle.std.specs.Option.{unwrap_or}
@@ -18,7 +18,7 @@ use Rattle.process_ledgers.specs.declared.process_summary.ProcessSummary.{Proces
 use Rattle.transaction_view.specs.Grammar.{WholeFrame}
 use Rattle.event_core.specs.declared.handle.HandleItem.{HandleItem}
 use Rattle.handle_ledger.proofs.HeldLaws.{read_held_rows}
-use Rattle.handle_ledger.specs.Held.{Held, AreHeldRows}
+use Rattle.handle_ledger.specs.Held.{AreHeldRows}
 use Rattle.handle_ledger.specs.declared.held_row.HeldRow.{HeldRow}
 use Rattle.event_core.specs.declared.pending.PendingItem.{PendingItem}
 use Rattle.pending_ledger.specs.Pending.{ArePlacesOf, IsOutstanding}
@@ -31,7 +31,6 @@ use Rattle.process_ledgers.specs.OfProcess.{AreLedgersOf, AreOfProcesses, HasNoI
 use Rattle.process_ledgers.specs.Processes.{items_of_process, processes_of, read_of}
 use Rattle.audit_findings.specs.declared.in_turn.OfProcess.{OfProcess}
 use Rattle.audit_findings.specs.Handles.{AreHandlesOf}
-use Rattle.audit_findings.specs.Held.{AreHeldBy, AreHeldIn, unweighed}
 use Rattle.audit_findings.specs.HeldCounts.{AreChosen}
 use Rattle.audit_findings.specs.Kept.{places_of}
 use Rattle.audit_findings.specs.Places.{AreEventsAt, IsOpenIn, RiseInPlace}

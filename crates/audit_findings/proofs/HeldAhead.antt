@@ -1,13 +1,13 @@
 -- The frame of the first place that is left, among whole frames that views show.
-use Rattle.std.proofs.Common.{◌≡◌, ℕ, suc, ◌+◌, ◌-◌, ◌*◌, ◌^◌, ◌<◌, ◌≤◌, inl, inr, Bool, true, leb, List, [], ◌∷◌, ◌++◌, length, map, take, drop, All, Option, Some, None, refl, sym, ap, ap₂, subst, ◌∙◌, append_assoc, length-append, arith, get_or}
+use Rattle.std.proofs.Common.{◌≡◌, ℕ, suc, ◌+◌, ◌-◌, ◌*◌, ◌^◌, ◌<◌, ◌≤◌, inl, inr, Bool, List, [], ◌∷◌, ◌++◌, length, take, drop, All, Option, Some, None, refl, sym, ap, ap₂, subst, ◌∙◌, append_assoc, length-append, arith, get_or}
 use Rattle.std.proofs.Math.Seq.{drop-append-add, get_or-append_seam, split_at}
 use Rattle.std.proofs.lemmas.Bool.{cases_lt}
-use Rattle.std.specs.Prelude.{AllPairs, filter, slice_get, slice_index_or}
+use Rattle.std.specs.Prelude.{AllPairs, filter, slice_get}
 use Rattle.std.specs.Option.{unwrap_or}
 use Rattle.std.specs.List.{sum_by}
 use Rattle.std.proofs.lemmas.List.{append-nil, map-append}
 use Rattle.std.proofs.lemmas.List.Concat.{flat_map-cons}
-use Rattle.std.proofs.lemmas.List.Elements.{All-append, All-cons, All-contains, All-filter, All-head, All-map, All-nil, All-tail, filter-append}
+use Rattle.std.proofs.lemmas.List.Elements.{All-cons, All-filter, All-head, All-map, All-nil, All-tail, filter-append}
 use Rattle.std.proofs.lemmas.List.Sums.{sum_by-append, sum_by-cons}
 use Rattle.capture_frame.specs.declared.frame.Frame.{Frame}
 use Rattle.capture_frame.specs.Envelope.{FrameText, frame_text, placed_frame}
@@ -20,7 +20,7 @@ use Rattle.transaction_view.specs.FirstFault.{HasGoodContent}
 use Rattle.transaction_view.specs.Grammar.{WholeFrame}
 use Rattle.audit_findings.specs.Frames.{AreGoodFrames, IsWhole, Show}
 use Rattle.audit_findings.specs.Held.{AreHeldBy}
-use Rattle.audit_findings.specs.HeldCounts.{AreChosen, AreOfFrame, CountsAt, CountsFrame, CountsHeld, GrowsBy, HasRoom, Rise}
+use Rattle.audit_findings.specs.HeldCounts.{AreChosen, AreEventsOfFrame, CountsAt, CountsFrame, CountsHeld, GrowsBy, HasRoom, Rise}
 use Rattle.audit_findings.specs.Kept.{places_of}
 use Rattle.audit_findings.proofs.EventSizes.{few_frames}
 use Rattle.audit_findings.proofs.FrameLaws.{events-append, first_same, none_shown, shown_first, whole_events}
@@ -462,7 +462,7 @@ module _ (frames : List Frame) (good : AreGoodFrames frames) (wholes : List (Pla
     same : placed_frame frame ≡ placed_text next.chosen.whole
     same = ap placed_frame (is ∙ the_frame d) ∙ next.view.same
 
-    events_of_it : AreOfFrame frame (events_of_whole next.chosen.whole)
+    events_of_it : AreEventsOfFrame frame (events_of_whole next.chosen.whole)
     events_of_it =
         let of = whole_events frame next.chosen.whole same next.view.whole in
         (of.0, of.1, of.2, of.3, sym (append-nil (events_of_whole next.chosen.whole)) ∙ of.4)

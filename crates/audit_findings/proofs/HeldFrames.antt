@@ -1,5 +1,5 @@
 -- The lists of offsets of a frame's events are no longer than its attachment bytes.
-use Rattle.std.proofs.Common.{◌≡◌, ℕ, ◌+◌, ◌<◌, ◌≤◌, inl, inr, List, [], ◌∷◌, ◌++◌, length, map, All, refl, sym, ap, subst, ◌∙◌, length-append, arith}
+use Rattle.std.proofs.Common.{◌≡◌, ℕ, ◌+◌, ◌<◌, ◌≤◌, inl, inr, List, [], ◌∷◌, length, map, All, refl, sym, ap, subst, ◌∙◌, length-append, arith}
 use Rattle.std.specs.Prelude.{find}
 use Rattle.std.specs.List.{sum_by}
 use Rattle.std.specs.Option.{option_map}
@@ -20,7 +20,7 @@ use Rattle.event_core.specs.Reading.{Reading, event_text}
 use Rattle.event_core.specs.declared.event.Event.{Event}
 use Rattle.event_core.proofs.EntryPlaces.{find-here, find-other}
 use Rattle.event_core.proofs.EventsGiven.{Given, given_first}
-use Rattle.audit_findings.specs.HeldCounts.{AreOfFrame, Rise}
+use Rattle.audit_findings.specs.HeldCounts.{AreEventsOfFrame, Rise}
 use Rattle.audit_findings.specs.Kept.{places_of}
 use Rattle.audit_findings.specs.Ledgers.{offset_bytes_of}
 use Rattle.audit_findings.proofs.EventSizes.{bytes_of}
@@ -114,13 +114,13 @@ entries_long frame (e ∷ entries) =
     omega (arith, split, one, more, all)
 
 -- the events of a frame rise
-pub frame_rises : (frame : Frame) (events : List EventText) → AreOfFrame frame events → Rise (places_of events)
+pub frame_rises : (frame : Frame) (events : List EventText) → AreEventsOfFrame frame events → Rise (places_of events)
 frame_rises frame events of =
     let w : Placed WholeFrame = placed_at frame.place record { frame = frame_text frame; records = of.0; entries = of.1 } in
     subst (λ (es : List EventText). Rise (places_of es)) (sym of.4) (pairs_map (λ a b. a < b) (λ (e : EventText). e.place) _ (whole_rises w))
 
 -- their lists of offsets are no longer than the attachment bytes
-pub lists_fit : (frame : Frame) (events : List EventText) → AreOfFrame frame events → sum_by offset_bytes_of events ≤ length frame.attachments.now
+pub lists_fit : (frame : Frame) (events : List EventText) → AreEventsOfFrame frame events → sum_by offset_bytes_of events ≤ length frame.attachments.now
 lists_fit frame events of =
     let there = placed_frame frame in
     let records = placed_records there of.0 in

@@ -1,5 +1,5 @@
 -- The handles that have a row: those that an item names and those that are held.
-use Rattle.std.proofs.Common.{◌≡◌, ◌||◌, ◌<◌, ℕ, Bool, true, false, List, ◌++◌, map, Option, inl, inr, refl, sym, ap, subst, ◌∙◌}
+use Rattle.std.proofs.Common.{◌≡◌, ◌<◌, ℕ, true, false, List, ◌++◌, map, Option, inl, inr, refl, sym, ap, subst}
 use Rattle.std.specs.Cmp.{IsTotalOrder, bool_cmp_total}
 use Rattle.std.specs.Ordering.{bool_cmp, nat_cmp}
 use Rattle.std.specs.Prelude.{ltb}

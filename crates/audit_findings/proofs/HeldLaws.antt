@@ -1,5 +1,5 @@
 -- The references that attachments hold, and tallies of them.
-use Rattle.std.proofs.Common.{◌≡◌, ℕ, ◌+◌, ◌*◌, ◌^◌, ◌≤◌, List, [], ◌∷◌, ◌++◌, length, map, Option, Some, None, refl, sym, ap, ap₂, subst, ◌∙◌, append_assoc, length-append, arith}
+use Rattle.std.proofs.Common.{◌≡◌, ℕ, ◌+◌, ◌^◌, ◌≤◌, List, [], ◌∷◌, ◌++◌, length, Option, Some, None, refl, sym, ap, ap₂, subst, ◌∙◌, append_assoc, length-append, arith}
 use Rattle.std.specs.List.{filter_map}
 use Rattle.std.specs.Option.{option_map_or}
 use Rattle.std.proofs.lemmas.Grind.{flat_map-append}
@@ -9,8 +9,7 @@ use Rattle.event_core.specs.declared.event.Event.{Event}
 use Rattle.event_core.specs.Events.{AttachmentText, EventText}
 use Rattle.event_core.specs.Reading.{event_text, entry_attachment}
 use Rattle.handle_ledger.specs.Held.{Held, held_cmp}
-use Rattle.object_view.specs.Objects.{ObjectText, AreObjects}
-use Rattle.object_view.specs.declared.bad_object.BadObject.{BadObject}
+use Rattle.object_view.specs.Objects.{ObjectText}
 use Rattle.object_view.proofs.ListLaws.{objects_short}
 use Rattle.std.specs.Option.{option_map}
 use Rattle.summary_law.proofs.ReadLaws.{length-read}
@@ -21,7 +20,7 @@ use Rattle.transaction_view.specs.declared.entry.Entry.{Entry}
 use Rattle.audit_findings.specs.Held.{AreHeldBy, held_in, unweighed}
 use Rattle.audit_findings.specs.HeldCounts.{CountsEvents, CountsHeld, CountsMore, CountsObjects}
 use Rattle.audit_findings.specs.Ledgers.{offset_bytes_of}
-use Rattle.audit_findings.specs.Objects.{Attached, Outcome, IsOutcome, attached_to, attachments_of, good_objects}
+use Rattle.audit_findings.specs.Objects.{Attached, Outcome, IsOutcome, attachments_of, good_objects}
 use Rattle.audit_findings.proofs.OutcomeLaws.{attachments-append, outcome_of, one_outcome}
 
 -- ---- one reference more

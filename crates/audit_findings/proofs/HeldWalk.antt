@@ -1,5 +1,5 @@
 -- A walk through the events of a frame, and through frames, beside the places of those that are chosen.
-use Rattle.std.proofs.Common.{◌≡◌, ◌≢◌, ℕ, ◌+◌, ◌^◌, ◌<◌, ◌≤◌, ◌⊎◌, inl, inr, Bool, true, false, List, [], ◌∷◌, ◌++◌, length, map, All, None, refl, sym, ap, subst, ◌∙◌, append_assoc, length-append, arith, ⊎_elim}
+use Rattle.std.proofs.Common.{◌≡◌, ◌≢◌, ℕ, ◌+◌, ◌^◌, ◌<◌, ◌≤◌, ◌⊎◌, Bool, true, false, List, [], ◌∷◌, ◌++◌, length, map, All, None, refl, sym, ap, subst, ◌∙◌, append_assoc, length-append, arith, ⊎_elim}
 use Rattle.std.specs.Prelude.{filter}
 use Rattle.std.specs.List.{sum_by}
 use Rattle.std.proofs.lemmas.Bool.{cases_Bool}
@@ -16,7 +16,7 @@ use Rattle.handle_ledger.specs.Held.{Held}
 use Rattle.summary_law.specs.declared.tally.Tally.{Tally}
 use Rattle.transaction_view.specs.FirstFault.{HasGoodContent}
 use Rattle.audit_findings.specs.Held.{AreHeldBy}
-use Rattle.audit_findings.specs.HeldCounts.{AreChosen, AreOfFrame, CountsEvents, CountsFrame, CountsHeld, CountsMore, GrowsBy, HasRoom, Rise}
+use Rattle.audit_findings.specs.HeldCounts.{AreChosen, AreEventsOfFrame, CountsEvents, CountsFrame, CountsHeld, CountsMore, GrowsBy, HasRoom, Rise}
 use Rattle.audit_findings.specs.Kept.{places_of}
 use Rattle.audit_findings.specs.Ledgers.{offset_bytes_of}
 use Rattle.audit_findings.proofs.HeldFrames.{given_fit, lists_fit}
@@ -69,7 +69,7 @@ GrowsGiven old frame given new =
 -- the chosen ones among those that it has given are counted, and the places of those that it has not given are left
 abbrev pub CountsGiven : Tally Held → Frame → List ℕ → List Event → Tally Held → List ℕ → Type 0
 CountsGiven old frame places given new left =
-    (events : List EventText) (choice : EventText → Bool) (others : List ℕ) → AreOfFrame frame events → Rise (places_of events ++ others)
+    (events : List EventText) (choice : EventText → Bool) (others : List ℕ) → AreEventsOfFrame frame events → Rise (places_of events ++ others)
     → AreChosen choice events others places → (later : List EventText) → events ≡ map event_text given ++ later
     → (left ≡ places_of (filter choice later) ++ others)
     × (more : List Held) × AreHeldBy (filter choice (map event_text given)) more

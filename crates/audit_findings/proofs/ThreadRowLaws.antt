@@ -34,7 +34,7 @@ use Rattle.event_core.specs.Events.{thread_of}
 use Rattle.capture_frame.specs.Process.{same_thread}
 use Rattle.audit_findings.specs.ThreadLedger.{text_call, leaves_mark, fed_call, fed_calls, SumsThreads}
 use Rattle.audit_findings.specs.ThreadRows.{opener_row, send_row, found_opener, found_send, is_listed, is_of, openers_in, listed_in, strays_in, sends_in}
-use Rattle.audit_findings.specs.ThreadRows.{AreGatheredRows, AreSortedRows, AreListedOf, IsCountOf, KeepRows}
+use Rattle.audit_findings.specs.ThreadRows.{AreGatheredRows, AreSortedRows, AreListedOf, IsCallCount, KeepRows}
 use Rattle.audit_findings.specs.declared.opener_row.End.TheVariants.{Caller, Server}
 use Rattle.call_stacks.specs.declared.verdict.Verdict.TheVariants.{Answered, Replied}
 use Rattle.std.proofs.lemmas.List.Sums.{count_by-le-length}
@@ -332,11 +332,11 @@ module _ (entries : List (Thread × Calls ⊤)) (events : List EventText) (sums 
         let short = sums.placed.0 in
         omega (arith, counted, passed, rows_long, long, fewer, short)
 
-    kept_answered : IsCountOf Caller Answered all_openers.0 rows.answered
+    kept_answered : IsCallCount Caller Answered all_openers.0 rows.answered
     kept_answered =
         sorted.answered ∙ in_turn.answered_is (few_counted (is_of Caller Answered)) ∙ counted_openers (is_of Caller Answered)
 
-    kept_replied : IsCountOf Server Replied all_openers.0 rows.replied
+    kept_replied : IsCallCount Server Replied all_openers.0 rows.replied
     kept_replied =
         sorted.replied ∙ in_turn.replied_is (few_counted (is_of Server Replied)) ∙ counted_openers (is_of Server Replied)
 

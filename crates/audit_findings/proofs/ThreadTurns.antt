@@ -18,7 +18,7 @@ use Rattle.call_stacks.specs.declared.verdict.Verdict.{Verdict}
 use Rattle.call_stacks.specs.declared.verdict.Verdict.TheVariants.{Answered, Replied}
 use Rattle.audit_findings.specs.declared.opener_row.End.{End}
 use Rattle.audit_findings.specs.declared.opener_row.End.TheVariants.{Caller, Server}
-use Rattle.audit_findings.specs.ThreadRows.{openers_in, listed_in, count_in, strays_in, sends_in, is_of, TakesOver, Holds, AreRowsInTurn, AreGatheredRows}
+use Rattle.audit_findings.specs.ThreadRows.{openers_in, listed_in, count_in, strays_in, sends_in, is_of, TakesOver, IsCountIfSmall, AreRowsInTurn, AreGatheredRows}
 
 pub no_threads : AreRowsInTurn [] [] 0 0 [] []
 no_threads = record {
@@ -33,8 +33,8 @@ no_threads = record {
 
 -- a count with that of a thread in front
 more_in_front : (end : End) (verdict : Verdict) (found : CallFindings (CallEvent ⊤)) (founds : List (CallFindings (CallEvent ⊤))) (number : ℕ)
-    → Holds number (count_by (is_of end verdict) (flat_map openers_in founds))
-    → Holds (count_in end verdict found + number) (count_by (is_of end verdict) (flat_map openers_in (found ∷ founds)))
+    → IsCountIfSmall number (count_by (is_of end verdict) (flat_map openers_in founds))
+    → IsCountIfSmall (count_in end verdict found + number) (count_by (is_of end verdict) (flat_map openers_in (found ∷ founds)))
 more_in_front end verdict found founds number holds few =
     let both : count_by (is_of end verdict) (flat_map openers_in (found ∷ founds))
     ≡ count_in end verdict found + count_by (is_of end verdict) (flat_map openers_in founds)
@@ -58,7 +58,7 @@ thread_in_front e entries found listed answered replied strays sends gives rows 
 }
 
 -- a number that another was added to
-added : (old own new more count : ℕ) → new ≡ min (old + own) (2 ^ 64 - 1) → Holds (old + (own + more)) count → Holds (new + more) count
+added : (old own new more count : ℕ) → new ≡ min (old + own) (2 ^ 64 - 1) → IsCountIfSmall (old + (own + more)) count → IsCountIfSmall (new + more) count
 added old own new more count is holds few =
     let whole = holds few in
     omega (arith, is, whole, few)
@@ -81,7 +81,7 @@ taken_over entries old new found listed answered replied strays sends takes rows
   sends_are = ap (λ (t : List SendRow). t ++ sends) takes.sends ∙ append_assoc old.sends.items (sends_in found) sends ∙ rows.sends_are;
 }
 
-none_more : (number count : ℕ) → Holds (number + 0) count → Holds number count
+none_more : (number count : ℕ) → IsCountIfSmall (number + 0) count → IsCountIfSmall number count
 none_more number count holds few =
     let whole = holds few in
     omega (arith, whole)

@@ -1,6 +1,6 @@
 -- The section `handles`: the references that each process holds by handle, those that it took itself and those that its
 -- deliveries hold (docs/REPORT.md).
-use Rattle.std.specs.Prelude.{◌≡◌, ◌||◌, ℕ, Bool, List}
+use Rattle.std.specs.Prelude.{◌||◌, Bool, List}
 use Rattle.std.specs.List.{AllZip}
 use Rattle.capture_frame.specs.declared.frame.Frame.{Frame}
 use Rattle.capture_frame.specs.declared.process.Process.{Process}

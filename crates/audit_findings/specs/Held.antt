@@ -1,5 +1,5 @@
--- The references that a process's buffers hold. A buffer holds those of the objects that its delivery carries, until the
--- process frees it (docs/REPORT.md).
+-- The references that a process's buffers hold. A buffer holds those of the objects that its delivery carries, until
+-- the process frees it (docs/REPORT.md).
 use Rattle.std.specs.Prelude.{◌≡◌, ℕ, List, map, Option}
 use Rattle.std.specs.List.{filter_map}
 use Rattle.capture_frame.specs.declared.process.Process.{Process}
@@ -21,7 +21,7 @@ AreHeldBy events held =
     (outcomes : List Outcome) × AreOutcomes (attachments_of events) outcomes
     × (held ≡ filter_map held_in (good_objects outcomes))
 
--- the references of those of this process's deliveries whose address no later free of its has
+-- the references that those deliveries of this process hold whose address no later free of the process has
 abbrev pub AreHeldIn : List EventText → Process → List Held → Type 0
 AreHeldIn events process held =
     (unfreed : List EventText) × AreEventsAt (IsOpenIn buffer_pending_of events process) events unfreed

@@ -16,7 +16,6 @@ use Rattle.transaction_view.specs.Grammar.{WholeFrame}
 use Rattle.audit_findings.specs.Frames.{Show}
 use Rattle.audit_findings.specs.Held.{AreHeldBy, held_in, unweighed}
 use Rattle.audit_findings.specs.Kept.{places_of}
-use Rattle.audit_findings.specs.Ledgers.{offset_bytes_of}
 
 -- the tally counts these references
 abbrev pub CountsHeld : Tally Held → List Held → Type 0
@@ -49,8 +48,8 @@ CountsEvents old n events new =
     (more : List Held) × AreHeldBy events more × (length more ≤ n) × CountsMore old n more new
 
 -- the events are those of the frame
-abbrev pub AreOfFrame : Frame → List EventText → Type 0
-AreOfFrame frame events =
+abbrev pub AreEventsOfFrame : Frame → List EventText → Type 0
+AreEventsOfFrame frame events =
     (records : List RecordText) × (entries : List EntryText) × HasRecords (frame_text frame) records
     × HasEntries (frame_text frame) entries × (events ≡ events_of (placed_frame frame) records entries)
 
@@ -66,7 +65,7 @@ AreChosen choice events others places = places ≡ places_of (filter choice even
 -- behind all events of the frame and rise, the others are left, and what the chosen ones hold is counted besides.
 abbrev pub CountsFrame : Tally Held → Frame → List ℕ → Tally Held → List ℕ → Type 0
 CountsFrame old frame places new left =
-    (events : List EventText) (choice : EventText → Bool) (others : List ℕ) → AreOfFrame frame events
+    (events : List EventText) (choice : EventText → Bool) (others : List ℕ) → AreEventsOfFrame frame events
     → Rise (places_of events ++ others) → AreChosen choice events others places
     → (left ≡ others) × CountsEvents old (length frame.attachments.now) (filter choice events) new
 

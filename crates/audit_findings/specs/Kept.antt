@@ -55,7 +55,7 @@ pub record KeepsRefused (kept : Refused) (said : RefusedText) : Type 0 where
   pub rows : kept.rows ≡ places_of said.rows
 
 -- numbers, and rows that are no events, are the same; of each list of events the places are kept
-pub record KeepEvents (kept : EventSections) (said : EventSectionsText) : Type 0 where
+pub record KeepEventSections (kept : EventSections) (said : EventSectionsText) : Type 0 where
   pub records : kept.records ≡ said.records
   pub opaque : kept.opaque ≡ said.opaque
   pub codes : kept.codes ≡ said.codes
@@ -65,13 +65,13 @@ pub record KeepEvents (kept : EventSections) (said : EventSectionsText) : Type 0
   pub bad_objects : kept.bad_objects ≡ map kept_bad said.bad_objects
   pub flags : kept.flags ≡ places_of said.flags
 
-pub record KeepCalls (kept : CallSections) (said : CallSectionsText) : Type 0 where
+pub record KeepCallSections (kept : CallSections) (said : CallSectionsText) : Type 0 where
   pub calls : KeepsCalls kept.calls said.calls
   pub served : KeepsServed kept.served said.served
   pub strays : kept.strays ≡ places_of said.strays
   pub refused : KeepsRefused kept.refused said.refused
 
-pub record KeepProcesses (kept : ProcessSections) (said : ProcessSectionsText) : Type 0 where
+pub record KeepProcessSections (kept : ProcessSections) (said : ProcessSectionsText) : Type 0 where
   pub handles : kept.handles ≡ said.handles
   pub nodes : kept.nodes ≡ said.nodes
   pub leaked : kept.leaked ≡ places_of said.leaked
@@ -83,9 +83,9 @@ pub record KeepProcesses (kept : ProcessSections) (said : ProcessSectionsText) :
 
 pub record Keep (sections : Sections) (said : FindingsText) : Type 0 where
   pub missing : sections.missing ≡ said.missing
-  pub events : KeepEvents sections.events said.events
-  pub calls : KeepCalls sections.calls said.calls
-  pub processes : KeepProcesses sections.processes said.processes
+  pub events : KeepEventSections sections.events said.events
+  pub calls : KeepCallSections sections.calls said.calls
+  pub processes : KeepProcessSections sections.processes said.processes
 
 -- the views show these frames of a capture, whose findings say this, and the sections keep it
 pub record Tell (wholes : List WholeFrame) (said : FindingsText) (frames : List Frame) (sections : Sections) :

@@ -41,7 +41,7 @@ use Rattle.audit_findings.specs.ThreadLedger.{SumsThreadCalls}
 abbrev pub offset_bytes_of : EventText → ℕ
 offset_bytes_of e = option_map_or (λ (a : AttachmentText). length a.offset_bytes) e.entry 0
 
--- at most 2^32 events, whose places rise, none with a list of offsets of 2^32 bytes
+-- at most 2^32 events, whose places rise, and whose lists of offsets each have fewer than 2^32 bytes
 abbrev pub AreFewEvents : List EventText → Type 0
 AreFewEvents events = IsPlaced (λ e. e.place) events × All (λ e. offset_bytes_of e < 2 ^ 32) events
 

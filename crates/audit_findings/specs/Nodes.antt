@@ -15,8 +15,7 @@ use Rattle.audit_findings.specs.References.{AreReferences, is_not_zero}
 abbrev pub AreNodesOf : List EventText → Process → List NodeRow → Type 0
 AreNodesOf events process rows = AreNodeRows (read_of node_item_of process) events rows
 
--- whether the strong or the weak references are not as many as were let go, or some are not acknowledged, or more were
--- than there are
+-- whether of one strength more or fewer references were let go than were taken, or acknowledged than were asked for
 abbrev pub is_unbalanced_node : NodeRow → Bool
 is_unbalanced_node row =
     is_not_zero row.strong.sum || is_not_zero row.weak.sum || is_not_zero row.strong_due || is_not_zero row.weak_due

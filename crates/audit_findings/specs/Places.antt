@@ -9,7 +9,7 @@ use Rattle.pending_ledger.specs.Pending.{ArePlacesOf, IsOutstanding, IsStray}
 use Rattle.summary_law.specs.Fits.{PlacesRise}
 use Rattle.process_ledgers.specs.Processes.{items_of_process}
 
--- these are, of the first events, the ones at the places at which something is so, in rising place
+-- what is said are some of the events: those at the places at which something is so, in rising place
 pub record AreEventsAt (IsSo : ℕ → Type 0) (events said : List EventText) : Type 0 where
   pub stand : All (λ e. Contains events e) said
   pub places : ArePlacesOf IsSo (map (λ e. e.place) said)

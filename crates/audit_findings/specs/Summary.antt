@@ -31,7 +31,7 @@ AreHandlesAt frames number rows =
     (wholes : List (Placed WholeFrame)) (d : Process) → Show frames wholes
     → AreRowsOf (AreHandlesOf (events_of_wholes wholes)) (slice_index_or (processes_of wholes) number d) rows
 
--- where the summary is that of these views
+-- the same, if the summary is that of these views
 abbrev pub GivesHandlesAt : PieceSummary → List Frame → ℕ → List (OfProcess HeldRow) → Type 0
 GivesHandlesAt summary frames number rows = SumsPiece summary frames → AreHandlesAt frames number rows
 

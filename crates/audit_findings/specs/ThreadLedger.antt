@@ -1,5 +1,5 @@
 -- What the calls of all threads come to while they are made.
-use Rattle.std.specs.Prelude.{◌≡◌, Bool, List, filter, is_some, map, ⊤}
+use Rattle.std.specs.Prelude.{Bool, List, filter, is_some, map, ⊤}
 use Rattle.capture_frame.specs.Process.{same_thread}
 use Rattle.capture_frame.specs.declared.process.Thread.{Thread}
 use Rattle.event_core.specs.Brackets.{is_oneway}

@@ -95,8 +95,8 @@ pub record TakesOver (old : ThreadRows) (found : CallFindings (CallEvent ⊤)) (
   pub sends : new.sends.items ≡ old.sends.items ++ sends_in found
 
 -- the number is the count, if that has 64 bits
-abbrev pub Holds : ℕ → ℕ → Type 0
-Holds number count = count < 2 ^ 64 → number ≡ count
+abbrev pub IsCountIfSmall : ℕ → ℕ → Type 0
+IsCountIfSmall number count = count < 2 ^ 64 → number ≡ count
 
 -- the rows of the threads of some entries, one thread behind another, and how many of their calls are not listed
 pub record AreRowsInTurn (entries : List (Thread × Calls ⊤)) (listed : List OpenerRow) (answered replied : ℕ)
@@ -104,8 +104,8 @@ pub record AreRowsInTurn (entries : List (Thread × Calls ⊤)) (listed : List O
   pub founds : List (CallFindings (CallEvent ⊤))
   pub are : AllZip (λ (e : Thread × Calls ⊤) found. GivesFindings e.1 found) entries founds
   pub listed_are : listed ≡ flat_map listed_in founds
-  pub answered_is : Holds answered (count_by (is_of Caller Answered) (flat_map openers_in founds))
-  pub replied_is : Holds replied (count_by (is_of Server Replied) (flat_map openers_in founds))
+  pub answered_is : IsCountIfSmall answered (count_by (is_of Caller Answered) (flat_map openers_in founds))
+  pub replied_is : IsCountIfSmall replied (count_by (is_of Server Replied) (flat_map openers_in founds))
   pub strays_are : strays ≡ flat_map strays_in founds
   pub sends_are : sends ≡ flat_map sends_in founds
 
@@ -129,16 +129,16 @@ pub record AreSortedRows (old new : ThreadRows) : Type 0 where
 abbrev pub AreListedOf : List (Opener EventText) → List OpenerRow → Type 0
 AreListedOf told listed = listed ≡ filter is_listed (map opener_row told)
 
-abbrev pub IsCountOf : End → Verdict → List (Opener EventText) → ℕ → Type 0
-IsCountOf end verdict told count = count ≡ count_by (is_of end verdict) (map opener_row told)
+abbrev pub IsCallCount : End → Verdict → List (Opener EventText) → ℕ → Type 0
+IsCallCount end verdict told count = count ≡ count_by (is_of end verdict) (map opener_row told)
 
 -- the rows keep the openers, the strays and the refused sends of all threads of these events
 pub record KeepRows (rows : ThreadRows) (events : List EventText) : Type 0 where
   pub openers : List (Opener EventText)
   pub are_openers : AreOpeners events openers
   pub listed_kept : AreListedOf openers rows.listed.items
-  pub answered_kept : IsCountOf Caller Answered openers rows.answered
-  pub replied_kept : IsCountOf Server Replied openers rows.replied
+  pub answered_kept : IsCallCount Caller Answered openers rows.answered
+  pub replied_kept : IsCallCount Server Replied openers rows.replied
   pub strays : List EventText
   pub are_strays : AreStrays events strays
   pub strays_kept : rows.strays.items ≡ map (λ e. e.place) strays

@@ -28,13 +28,13 @@ pub struct CallSections {
 }
 
 impl CallSections {
-    ghost use Rattle.audit_findings.specs.Kept.{KeepCalls};
+    ghost use Rattle.audit_findings.specs.Kept.{KeepCallSections};
 
     /// Those of the calls of all threads.
     pub(crate) fn of(alloc: Global, ledger: ThreadLedger) -> Result<Self, AllocError>
         ensures { IfOk result (λ kept. (events : List EventText) →
             SumsThreadCalls ledger events → RiseInPlace events →
-            (said : CallSectionsText) × AreCallSections events said × KeepCalls kept said) }
+            (said : CallSectionsText) × AreCallSections events said × KeepCallSections kept said) }
     {
         let ThreadRows {
             listed,

@@ -4,7 +4,7 @@ ghost use Rattle.std.specs.Prelude.{◌≡◌, List, IfOk};
 ghost use Rattle.event_core.specs.Events.{EventText};
 ghost use Rattle.audit_findings.specs.Calls.{AreCalls, CallsText};
 ghost use Rattle.audit_findings.specs.Kept.{KeepsCalls};
-ghost use Rattle.audit_findings.specs.ThreadRows.{found_call, AreListedOf, IsCountOf};
+ghost use Rattle.audit_findings.specs.ThreadRows.{found_call, AreListedOf, IsCallCount};
 ghost use Rattle.audit_findings.specs.declared.opener_row.End.TheVariants.{Caller};
 ghost use Rattle.call_stacks.specs.declared.verdict.Verdict.TheVariants.{Answered};
 
@@ -53,7 +53,7 @@ impl Calls {
     /// the listed ones.
     pub(crate) fn of(alloc: Global, answered: u64, listed: &[OpenerRow]) -> Result<Self, AllocError>
         ensures { IfOk result (λ calls. (told : List (Opener EventText)) →
-            IsCountOf Caller Answered told answered → AreListedOf told listed.entry.now →
+            IsCallCount Caller Answered told answered → AreListedOf told listed.entry.now →
             (said : CallsText) × AreCalls told said × KeepsCalls calls said) }
     {
         let crossed = count_of(listed, End::Caller, Verdict::Crossed);

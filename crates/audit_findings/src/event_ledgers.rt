@@ -1,6 +1,6 @@
 //! What events come to.
 
-ghost use Rattle.std.specs.Prelude.{◌≡◌, [], IfOk, OnOk};
+ghost use Rattle.std.specs.Prelude.{[], IfOk, OnOk};
 ghost use Rattle.event_core.specs.Reading.{event_text};
 ghost use Rattle.summary_law.specs.Summary.{CanAdd, Adds, CanJoin, Joins};
 ghost use Rattle.audit_findings.specs.Ledgers.{SumsEvents, AreFewEvents};

@@ -36,13 +36,13 @@ pub struct EventSections {
 }
 
 impl EventSections {
-    ghost use Rattle.audit_findings.specs.Kept.{KeepEvents};
+    ghost use Rattle.audit_findings.specs.Kept.{KeepEventSections};
 
     /// Those of the ledgers of some events.
     pub(crate) fn of(alloc: Global, ledgers: EventLedgers) -> Result<Self, AllocError>
         requires { (events : List EventText) × SumsEvents ledgers events × AreFewEvents events }
         ensures { IfOk result (λ kept. (events : List EventText) → SumsEvents ledgers events →
-            (said : EventSectionsText) × AreEventSections events said × KeepEvents kept said) }
+            (said : EventSectionsText) × AreEventSections events said × KeepEventSections kept said) }
     {
         let codes = code_rows(alloc, &ledgers.codes)?;
         Ok(EventSections {

@@ -17,8 +17,8 @@ use handle_ledger::HeldRow;
 use process_ledgers::ProcessSummary;
 use std::alloc::{AllocError, Global};
 
-/// The rows of the handles of one process. What its deliveries hold that it never frees is read
-/// from the frames again.
+/// The rows of the handles of one process. What those of its deliveries hold that it never frees is
+/// read again from the frames.
 pub(crate) fn handles_of_process(
     alloc: Global,
     frames: &[Frame<'_>],

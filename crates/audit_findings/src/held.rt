@@ -18,8 +18,8 @@ use transaction_view::Entry;
 /// Held references by handle, strong and weak ones apart.
 pub(crate) type HeldTally = Tally<(u32, bool)>;
 
-/// Counts what the deliveries at these places hold, which rise. A frame with many of them is gone
-/// through once.
+/// Counts what the deliveries at these places hold; the places rise. A frame is gone through once
+/// for all places in it.
 pub(crate) fn held_at(
     alloc: Global,
     frames: &[Frame<'_>],
@@ -32,7 +32,7 @@ pub(crate) fn held_at(
     let mut ahead = frames;
     let mut rest = places;
     while let Some(first) = rest.first() {
-        // A record begins there, so there is a frame, the last one that has begun.
+        // Where a record begins, the last frame that has begun holds it.
         let count = count_begun(ahead, *first);
         if count == 0 {
             break;

@@ -1,6 +1,6 @@
 //! What frames come to.
 
-ghost use Rattle.std.specs.Prelude.{◌≡◌, [], ◌∷◌, map, IfOk, OnOk};
+ghost use Rattle.std.specs.Prelude.{[], ◌∷◌, map, IfOk, OnOk};
 ghost use Rattle.summary_law.specs.Summary.{CanJoin, Joins};
 ghost use Rattle.audit_findings.specs.Ledgers.{SumsLedgers, AreFewFrames, CanTake, Takes, AreOfFew, GiveSections};
 ghost use Rattle.audit_findings.specs.Ledgers.{CanTakeItem, TakesItem};
@@ -93,8 +93,7 @@ impl Ledgers {
     }
 }
 
-/// Adds an item of a process that has come before. Most records are no item, and for these nothing
-/// is looked up.
+/// Adds an item of a process that has come before. Most records are no item, and change nothing.
 fn add_item(
     processes: &mut InOrder<Process, ProcessSummary>,
     process: Process,

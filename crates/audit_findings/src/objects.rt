@@ -1,7 +1,6 @@
 //! The section `objects`.
 
-ghost use Rattle.std.specs.Prelude.{◌≡◌, ◌+◌, ◌≤◌, ◌<◌, ◌^◌, ◌++◌, ◌∷◌, [], ℕ, List, length, map, IfOk, OnOk};
-ghost use Rattle.event_core.specs.Events.{EventText};
+ghost use Rattle.std.specs.Prelude.{◌≡◌, ◌+◌, ◌<◌, ◌^◌, ◌∷◌, [], List, length, IfOk, OnOk};
 ghost use Rattle.event_core.specs.Reading.{event_text};
 ghost use Rattle.object_view.specs.declared.sort.Sort.{Sort};
 ghost use Rattle.object_view.specs.Objects.{ObjectText, AreObjects};

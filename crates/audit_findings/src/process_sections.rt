@@ -51,7 +51,7 @@ pub struct ProcessSections {
 }
 
 impl ProcessSections {
-    ghost use Rattle.audit_findings.specs.Kept.{KeepProcesses};
+    ghost use Rattle.audit_findings.specs.Kept.{KeepProcessSections};
 
     /// Those of all processes, whose rows of handles are these lists.
     pub(crate) fn of(
@@ -64,7 +64,7 @@ impl ProcessSections {
             AreListedHandles wholes (map (λ list. list.items) handles.now) →
             RiseInPlace (events_of_wholes wholes) →
             (said : ProcessSectionsText) × AreProcessSections wholes said
-            × KeepProcesses kept said) }
+            × KeepProcessSections kept said) }
     {
         Ok(ProcessSections {
             handles: handles_of(alloc, handles)?,

@@ -1,6 +1,6 @@
 //! The first numbers of the heads of the sections `buffers` to `clears`.
 
-ghost use Rattle.std.specs.Prelude.{◌≡◌, ◌<◌, ◌^◌, List, length, map};
+ghost use Rattle.std.specs.Prelude.{◌<◌, ◌^◌, List, length, map};
 ghost use Rattle.std.specs.Ordering.{nat_cmp};
 ghost use Rattle.event_core.specs.Events.{EventText};
 ghost use Rattle.summary_law.specs.Tally.{TallySums};
@@ -26,19 +26,19 @@ pub struct RecordCounts {
 }
 
 // Code words, as the header's macros make them (`linux/android/binder.h`).
-const FREE_BUFFER: u32 = 0x4008_6303;
+const BC_FREE_BUFFER: u32 = 0x4008_6303;
 
-const REQUEST_DEATH_NOTIFICATION: u32 = 0x400c_630e;
+const BC_REQUEST_DEATH_NOTIFICATION: u32 = 0x400c_630e;
 
-const CLEAR_DEATH_NOTIFICATION: u32 = 0x400c_630f;
+const BC_CLEAR_DEATH_NOTIFICATION: u32 = 0x400c_630f;
 
-const TRANSACTION: u32 = 0x8040_7202;
+const BR_TRANSACTION: u32 = 0x8040_7202;
 
-const TRANSACTION_SEC_CTX: u32 = 0x8048_7202;
+const BR_TRANSACTION_SEC_CTX: u32 = 0x8048_7202;
 
-const REPLY: u32 = 0x8040_7203;
+const BR_REPLY: u32 = 0x8040_7203;
 
-const DEAD_BINDER: u32 = 0x8008_720f;
+const BR_DEAD_BINDER: u32 = 0x8008_720f;
 
 /// The counts of the records whose code words the tally has.
 pub(crate) fn record_counts(codes: &Tally<u32>) -> RecordCounts
@@ -48,12 +48,12 @@ pub(crate) fn record_counts(codes: &Tally<u32>) -> RecordCounts
         AreRecordCounts (code_words events) result }
 {
     RecordCounts {
-        deliveries: codes.amount(TRANSACTION).count
-            + codes.amount(TRANSACTION_SEC_CTX).count
-            + codes.amount(REPLY).count,
-        frees: codes.amount(FREE_BUFFER).count,
-        requests: codes.amount(REQUEST_DEATH_NOTIFICATION).count,
-        deaths: codes.amount(DEAD_BINDER).count,
-        clears: codes.amount(CLEAR_DEATH_NOTIFICATION).count,
+        deliveries: codes.amount(BR_TRANSACTION).count
+            + codes.amount(BR_TRANSACTION_SEC_CTX).count
+            + codes.amount(BR_REPLY).count,
+        frees: codes.amount(BC_FREE_BUFFER).count,
+        requests: codes.amount(BC_REQUEST_DEATH_NOTIFICATION).count,
+        deaths: codes.amount(BR_DEAD_BINDER).count,
+        clears: codes.amount(BC_CLEAR_DEATH_NOTIFICATION).count,
     }
 }

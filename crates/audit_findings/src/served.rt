@@ -5,7 +5,7 @@ ghost use Rattle.event_core.specs.Events.{EventText};
 ghost use Rattle.call_stacks.specs.declared.opener.Opener.{Opener};
 ghost use Rattle.audit_findings.specs.Calls.{AreServed, ServedText};
 ghost use Rattle.audit_findings.specs.Kept.{KeepsServed};
-ghost use Rattle.audit_findings.specs.ThreadRows.{AreListedOf, IsCountOf};
+ghost use Rattle.audit_findings.specs.ThreadRows.{AreListedOf, IsCallCount};
 ghost use Rattle.audit_findings.specs.declared.opener_row.End.TheVariants.{Server};
 ghost use Rattle.call_stacks.specs.declared.verdict.Verdict.TheVariants.{Replied};
 
@@ -33,7 +33,7 @@ impl Served {
     /// the listed ones.
     pub(crate) fn of(alloc: Global, replied: u64, listed: &[OpenerRow]) -> Result<Self, AllocError>
         ensures { IfOk result (λ served. (told : List (Opener EventText)) →
-            IsCountOf Server Replied told replied → AreListedOf told listed.entry.now →
+            IsCallCount Server Replied told replied → AreListedOf told listed.entry.now →
             (said : ServedText) × AreServed told said × KeepsServed served said) }
     {
         let rows = rows_but(alloc, listed, End::Server, Verdict::Replied)?;

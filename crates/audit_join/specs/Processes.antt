@@ -3,7 +3,7 @@ use Rattle.std.specs.Prelude.{ℕ, List, map, None}
 use Rattle.std.specs.List.{range_with_len}
 use Rattle.claim_board.specs.declared.job.Job.{Job}
 
--- the job of the process with this number: it starts there and has no fault
+-- the job of the process with this number: its start is that number, and it has no fault
 abbrev pub process_job : ℕ → Job
 process_job number = record { start = number; fault = None }
 

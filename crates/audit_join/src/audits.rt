@@ -33,7 +33,7 @@ use std::alloc::{AllocError, Global};
 use std::thread::Threads;
 
 /// The findings of a capture that is read in parts, in order, or their first fault. The frames of
-/// all parts are one list, which is shared among so many workers, a piece at a time.
+/// all parts are one list, which so many workers judge, a piece at a time, and then sum in shares.
 pub fn audit_parts<'c, T: Threads + Sync, G: Gate + Sync>(
     rt: &T,
     alloc: Global,
@@ -62,7 +62,7 @@ pub fn audit_parts<'c, T: Threads + Sync, G: Gate + Sync>(
     }
 }
 
-/// Judges frames of parts; the error is the first fault of the parts.
+/// Judges frames of parts; the error is the first fault of the parts, or want of memory.
 fn judge_parts<T: Threads + Sync, G: Gate + Sync>(
     rt: &T,
     alloc: Global,
@@ -86,8 +86,8 @@ fn judge_parts<T: Threads + Sync, G: Gate + Sync>(
     }
 }
 
-/// The findings of a capture, which is a single part, or its first fault. The frames are shared
-/// among so many workers, a piece at a time.
+/// The findings of a capture, which is a single part, or its first fault. So many workers judge the
+/// frames, a piece at a time, and then sum them in shares.
 pub fn audit<'c, T: Threads + Sync, G: Gate + Sync>(
     rt: &T,
     alloc: Global,

@@ -17,7 +17,8 @@ use std::alloc::Global;
 use std::marker::{Brand, PhantomData};
 use std::thread::Threads;
 
-/// Judges these frames, by workers that take them in runs; the error is their first fault.
+/// Judges these frames, by workers that take them in runs; the error is their first fault, or want
+/// of memory.
 pub(crate) fn judge<T: Threads + Sync, G: Gate + Sync>(
     rt: &T,
     alloc: Global,
@@ -42,7 +43,8 @@ pub(crate) fn judge<T: Threads + Sync, G: Gate + Sync>(
     }
 }
 
-/// Judges runs, by workers that take them as jobs; the error is the least fault of these.
+/// Judges runs, by workers that take them as jobs; the error is the place of their least fault, or
+/// want of memory.
 fn judge_runs<J: RunJobs + Sync, T: Threads + Sync, G: Gate + Sync>(
     rt: &T,
     alloc: Global,

@@ -6,7 +6,7 @@ ghost use Rattle.audit_join.specs.Parts.{IsFaultOfPart};
 
 use capture_frame::{Fault, PartFault};
 
-/// The length of a file header, which the joined capture has of no part.
+/// The length of a file header, without which the frames of a later part are joined.
 const FILE_HEADER: u64 = 16;
 
 /// A fault of the joined capture, as one of the part that it stands in.

@@ -1,8 +1,8 @@
-//! How many frames a worker takes at a time.
+//! How many frames a worker judges at a time.
 
 ghost use Rattle.std.specs.Prelude.{◌≡◌, ◌≤◌, ◌↔◌, IsSome, IfSome};
 
-/// How many frames a worker takes at a time: 1 to 65,536.
+/// How many frames a worker judges at a time: 1 to 65,536. They are summed in other shares.
 #[derive(Clone, Copy, Debug, PartialEq, Eq)]
 pub struct Piece {
     frames: u64,

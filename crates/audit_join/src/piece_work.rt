@@ -17,7 +17,7 @@ pub(crate) trait RunJobs {
     ghost jobs: { (runs : List (List Frame)) → AreJobRuns runs → List Job };
 }
 
-/// In place of these, `judge` picks the jobs that the runs are.
+/// A brand has no jobs of its own: the proof of `judge` gives it those that the runs are.
 impl RunJobs for Brand {
     ghost jobs = { λ _ _. [] };
 }

@@ -35,7 +35,7 @@ pub(crate) fn fault_at(frames: &[Frame<'_>], place: u64) -> Fault
     requires there { HasFirstAt frames.now place }
     ensures { IsFirstIn frames.now result }
 {
-    // A frame holds it, and has it.
+    // One frame holds the place, and its first fault is the one there.
     let frame = frame_at(frames, place).unwrap();
     check_frame(frame).unwrap()
 }

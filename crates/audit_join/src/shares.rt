@@ -19,7 +19,8 @@ pub(crate) trait Shared: Summary {
         ensures most { result < length items.now };
 }
 
-/// As many frames as begin in the front half of the bytes.
+/// As many frames as begin before the middle between the places of the first and the last one; at
+/// least one, and not all.
 impl<'c> Shared for PieceSummary<'c> {
     fn middle(items: &[Frame<'c>]) -> usize {
         let last = items.len() - 1;
@@ -29,8 +30,8 @@ impl<'c> Shared for PieceSummary<'c> {
     }
 }
 
-/// The summary of these items. Each worker sums a share of them in a thread of its own, and the
-/// summaries are joined.
+/// The summary of these items. Items and workers are halved, as long as there are two of each; each
+/// worker sums a share, and the summaries are joined in order.
 pub(crate) fn sum_shares<R: Threads + Sync, S: Shared + Send>(
     rt: &R,
     alloc: Global,

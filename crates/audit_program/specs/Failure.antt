@@ -7,7 +7,7 @@ use Rattle.audit_streams.specs.declared.run_error.RunError.TheVariants.{Memory}
 use Rattle.audit_program.specs.declared.command_line.WordsError.{WordsError}
 use Rattle.audit_program.specs.declared.command_line.WordsError.TheVariants as words
 
--- the failure of a command line that asks for nothing
+-- the failure of words that are not taken
 abbrev pub failure_of : WordsError → Failure
 failure_of words.Memory = Run Memory
 failure_of words.Usage = Usage

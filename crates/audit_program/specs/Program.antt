@@ -11,7 +11,7 @@ use Rattle.clap.specs.Words.{Text}
 use Rattle.audit_streams.specs.declared.run_error.RunError.{RunError}
 use Rattle.audit_streams.specs.declared.run_error.RunError.TheVariants.{Memory}
 use Rattle.audit_streams.specs.KnownBytes.{AppendsPrefix}
-use Rattle.audit_run.specs.Question.{GoesWithStatus, IsAnswer}
+use Rattle.audit_run.specs.Question.{GoWithStatus, IsAnswer}
 use Rattle.audit_run.specs.PartRuns.{FilesGive}
 use Rattle.audit_run.specs.Run.{Runs}
 use Rattle.audit_run.specs.declared.answers.Request.{Request}
@@ -32,7 +32,7 @@ AskForNothing words = (asked : Request) → ¬ Ask words asked
 -- what comes of the files of a request, of which nobody knows beforehand what they have
 abbrev pub RunsOnFiles : Request → Option (List ℕ) → Option (List ℕ) → Result ℕ RunError → Type 0
 RunsOnFiles asked old new result =
-    Runs (FilesGive (length asked.files.now)) (IsAnswer asked.question) GoesWithStatus old new result
+    Runs (FilesGive (length asked.files.now)) (IsAnswer asked.question) GoWithStatus old new result
 
 -- the words ask for something, and the whole answer to it was written, about some parts, one of each file, that are
 -- together within the limit

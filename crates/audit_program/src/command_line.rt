@@ -10,10 +10,10 @@ use clap::error::ErrorKind;
 use clap::{Arg, ArgAction, ArgMatches, Command, Error, value_parser};
 use std::alloc::{AllocError, Global};
 
-/// The most parts that a capture may have.
+/// The most files that a command line may name.
 const MOST_FILES: usize = 256;
 
-/// Why a command line asks for nothing.
+/// Why words are not taken.
 #[derive(Clone, Copy, Debug, PartialEq, Eq)]
 pub(crate) enum WordsError {
     Memory,

@@ -12,6 +12,6 @@ IsAnswer (Report workers piece) parts text = IsTextOfParts parts text
 IsAnswer FirstFault parts text = IsLineOnParts parts text
 
 -- status 0 goes with parts in the grammar, and 2 with parts that have a first fault
-pub data GoesWithStatus (parts : List (List ℕ)) (status : ℕ) : Type 0 where
-  good : AreReadable parts → status ≡ 0 → GoesWithStatus parts status
-  faulty : (found : PartFault) → HasFirstPartFault parts found → status ≡ 2 → GoesWithStatus parts status
+pub data GoWithStatus (parts : List (List ℕ)) (status : ℕ) : Type 0 where
+  good : AreReadable parts → status ≡ 0 → GoWithStatus parts status
+  faulty : (found : PartFault) → HasFirstPartFault parts found → status ≡ 2 → GoWithStatus parts status

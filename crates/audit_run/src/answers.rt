@@ -1,7 +1,7 @@
 //! The answer to a question about a capture: about what readers give, or about files.
 ghost use Rattle.std.specs.Prelude.{◌≡◌, ◌<◌, ◌^◌, length, map, vec_len, IfErr, IfOk};
 ghost use Rattle.audit_run.specs.PartRuns.{FilesGive, IsOpeningFault, ReadersGive};
-ghost use Rattle.audit_run.specs.Question.{GoesWithStatus, IsAnswer};
+ghost use Rattle.audit_run.specs.Question.{GoWithStatus, IsAnswer};
 ghost use Rattle.audit_run.specs.Run.{Runs};
 
 use crate::part_runs::{PartsWritten, run_first_fault_parts, run_parts};
@@ -40,7 +40,7 @@ pub fn answer_files<T: Files + Threads + Sync, W: Write>(
 ) -> Result<u8, RunError>
     requires { length request.files.now < 2 ^ 32 }
     ensures { Runs (FilesGive (length request.entry.files.now)) (IsAnswer request.entry.question)
-        GoesWithStatus (W.contents out.old) (W.contents out.new) result }
+        GoWithStatus (W.contents out.old) (W.contents out.new) result }
 {
     let readers = open_files(rt, alloc, request.files)?;
     answer(rt, alloc, request.question, readers, out)
@@ -69,7 +69,7 @@ pub fn answer<T: Threads + Sync, R: Read + Drop, W: Write>(
     out: &mut W,
 ) -> Result<u8, RunError>
     requires { vec_len readers < 2 ^ 32 }
-    ensures { Runs (ReadersGive (map R.remaining readers.items)) (IsAnswer question) GoesWithStatus
+    ensures { Runs (ReadersGive (map R.remaining readers.items)) (IsAnswer question) GoWithStatus
         (W.contents out.old) (W.contents out.new) result }
 {
     match question {

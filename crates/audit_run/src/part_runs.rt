@@ -51,7 +51,7 @@ pub fn run_parts<T: Threads + Sync, R: Read + Drop, W: Write, G: Gate + Sync>(
 ) -> Result<PartsWritten, RunError>
     requires { vec_len readers < 2 ^ 32 }
 
-    // What is written is the definitions' text of what was read, and nothing else.
+    // At Ok what is written is the definitions' text of what was read, and nothing else.
     ensures { Runs (ReadersGive (map R.remaining readers.items)) IsTextOfParts GoWithWritten
         (W.contents writer.old) (W.contents writer.new) result }
 {
@@ -103,8 +103,8 @@ fn slices_of<'p>(alloc: Global, parts: &'p [Vec<u8>]) -> Result<Vec<&'p [u8]>, R
     Ok(slices)
 }
 
-/// The same slice. Of the elements of a `Vec` no clause says that they are bytes, of those of a slice
-/// this one does.
+/// The same slice. Of the elements of a `Vec` no clause says that they are bytes; of those of a
+/// slice this one does.
 pub(crate) fn as_bytes(slice: &[u8]) -> &[u8]
     ensures same { result.now ≡ slice.now }
     ensures bytes { IsBytes slice.now }

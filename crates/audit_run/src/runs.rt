@@ -33,7 +33,7 @@ pub fn run<T: Threads + Sync, R: Read, W: Write>(
     workers: Workers,
     piece: Piece,
 ) -> Result<Written, RunError>
-    // What is written is the definitions' text of what was read, and nothing else.
+    // At Ok what is written is the definitions' text of what was read, and nothing else.
     ensures { Runs (ReaderGives (R.remaining reader.old)) IsTextOf GoesWithWritten
         (W.contents writer.old) (W.contents writer.new) result }
 {
@@ -50,7 +50,7 @@ pub fn run_gated<T: Threads + Sync, R: Read, W: Write, G: Gate + Sync>(
     piece: Piece,
     gate: &G,
 ) -> Result<Written, RunError>
-    // What is written is the definitions' text of what was read, and nothing else.
+    // At Ok what is written is the definitions' text of what was read, and nothing else.
     ensures { Runs (ReaderGives (R.remaining reader.old)) IsTextOf GoesWithWritten
         (W.contents writer.old) (W.contents writer.new) result }
 {

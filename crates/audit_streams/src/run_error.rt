@@ -10,13 +10,13 @@ use thiserror::Error;
 pub enum RunError {
     /// Memory ran out.
     Memory,
-    /// The capture has more bytes than are allowed.
+    /// The capture, all its parts together, has more bytes than are allowed.
     TooLarge,
     /// A read failed.
     Read,
     /// A write or the flush failed, and a prefix of the text may stand written.
     Write,
-    /// The file could not be opened.
+    /// A file could not be opened.
     Open,
 }
 

@@ -1,14 +1,12 @@
 -- The calls of events that are kept themselves.
-use Rattle.std.proofs.Common.{◌≡◌, refl, sym, ap, subst, ◌∙◌, List, [], ◌∷◌, map, ◌++◌, length, ◌≤◌, ◌^◌}
+use Rattle.std.proofs.Common.{◌≡◌, refl, sym, ap, subst, ◌∙◌, List, [], ◌∷◌, map, ◌++◌, ◌≤◌, ◌^◌}
 use Rattle.std.proofs.lemmas.List.{map-append, length-map}
 use Rattle.event_core.specs.declared.event.Event.{Event}
 use Rattle.summary_law.specs.Fits.{IsPlaced}
 use Rattle.summary_law.specs.Summary.{CanAdd, Adds, CanJoin, Joins}
 use Rattle.call_stacks.specs.declared.findings.CallFindings.{CallFindings}
-use Rattle.call_stacks.specs.declared.findings.RefusedSend.{RefusedSend}
 use Rattle.call_stacks.specs.declared.call_event.CallEvent.{CallEvent}
 use Rattle.call_stacks.specs.declared.opener.Opener.{Opener}
-use Rattle.call_stacks.specs.declared.calls.Calls.{Calls}
 use Rattle.call_stacks.specs.declared.thread_calls.ThreadCalls.{ThreadCalls}
 use Rattle.call_stacks.specs.Calls.{AreFindings, CallsSum, IsOpener, IsStrayEvent, event_place, event_reads, judged_of, refused_of}
 use Rattle.call_stacks.specs.Matching.{ListsInOrder}

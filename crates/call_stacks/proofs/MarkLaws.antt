@@ -1,5 +1,5 @@
 -- What an event is by the marks before it: only of an error reply does that depend on them.
-use Rattle.std.proofs.Common.{◌≡◌, ℕ, Bool, true, false, cond, Option, Some, None, refl}
+use Rattle.std.proofs.Common.{◌≡◌, Bool, true, false, cond, Option, Some, None, refl}
 use Rattle.binder_code.specs.declared.record_kind.Kind.{Kind}
 use Rattle.binder_code.specs.declared.record_kind.Kind.TheVariants.{BcTransaction, BcReply, BcTransactionSg, BcReplySg, BrTransaction, BrTransactionSecCtx, BrReply, BrDeadReply, BrTransactionComplete, BrFailedReply, BrFrozenReply, BrOnewaySpamSuspect, BrTransactionPendingFrozen}
 use Rattle.std.specs.Option.{is_some}

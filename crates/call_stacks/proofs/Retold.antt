@@ -21,7 +21,7 @@ use Rattle.call_stacks.specs.Matching.{Side, Match, IsStray, ListsInOrder}
 use Rattle.call_stacks.specs.Verdicts.{side_of, verdict_of}
 use Rattle.call_stacks.specs.declared.verdict.Verdict.{Verdict}
 use Rattle.call_stacks.proofs.Lists.{judged_events}
-use Rattle.call_stacks.proofs.Members.{In, in_list, contained, in-map, map-in, in_get, get_in, Rises, rises_from_pairs, pairs_from_rises, rises-map, map-rises, listed}
+use Rattle.call_stacks.proofs.Members.{In, in_list, contained, in-map, map-in, in_get, get_in, Rises, rises_from_pairs, pairs_from_rises, map-rises, listed}
 
 -- ---- a list in rising order of what is told of some things, as one of these things
 

@@ -13,7 +13,7 @@ use Rattle.call_stacks.specs.Verdicts.{side_of}
 use Rattle.call_stacks.proofs.Judging.{side}
 use Rattle.call_stacks.proofs.Lists.{found, event_of}
 use Rattle.call_stacks.proofs.Model as model
-use Rattle.call_stacks.proofs.Model.{strays, openers, strays-append, openers-append, AllClosed, AllClosers, first_is, nil_is_nil}
+use Rattle.call_stacks.proofs.Model.{strays, openers, strays-append, openers-append, AllClosed, first_is, nil_is_nil}
 use Rattle.call_stacks.specs.declared.call_event.CallEvent.{CallEvent}
 
 -- ---- the openers without a closer

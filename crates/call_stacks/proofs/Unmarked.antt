@@ -1,5 +1,5 @@
 -- Events that leave no mark are no part of the calls of their thread.
-use Rattle.std.proofs.Common.{◌≡◌, ℕ, Bool, true, false, cond, Option, Some, None, refl, sym, ap, ap₂, ◌∙◌, inl, inr, List, [], ◌∷◌, map}
+use Rattle.std.proofs.Common.{◌≡◌, ℕ, true, false, cond, Option, Some, None, refl, sym, ap, ap₂, ◌∙◌, inl, inr, List, [], ◌∷◌, map}
 use Rattle.std.proofs.lemmas.Bool.{true≢false}
 use Rattle.std.specs.List.{filter, find, fold, cons_option}
 use Rattle.std.proofs.lemmas.Option.{slice_get-map}
@@ -15,7 +15,7 @@ use Rattle.call_stacks.specs.declared.findings.RefusedSend.{RefusedSend}
 use Rattle.call_stacks.specs.declared.opener.Opener.{Opener}
 use Rattle.call_stacks.specs.Calls.{Reads, JudgedOf, IsOpener, IsStrayEvent, IsRefusedSend, bracket_read, judged_of, judged_with, mark_read, mark_behind_by}
 use Rattle.call_stacks.specs.Calls.{CallsSum, event_mark, event_place, bracket_in_part, mark_behind, judged_by, if_error_reply, is_error, is_refused, refused_of, refused_send}
-use Rattle.call_stacks.specs.Matching.{Side, opener, closer, neither}
+use Rattle.call_stacks.specs.Matching.{opener, closer, neither}
 use Rattle.call_stacks.specs.Verdicts.{side_of}
 use Rattle.call_stacks.proofs.Judging.{side, paired}
 use Rattle.call_stacks.proofs.Lists.{found, event_of}

@@ -2,7 +2,6 @@
 use Rattle.std.specs.Prelude.{ℕ, List, map}
 use Rattle.event_core.specs.Brackets.{is_oneway}
 use Rattle.event_core.specs.declared.event.Event.{Event}
-use Rattle.summary_law.specs.Fits.{IsPlaced}
 use Rattle.call_stacks.specs.declared.call_event.CallEvent.{CallEvent}
 use Rattle.call_stacks.specs.declared.findings.CallFindings.{CallFindings}
 use Rattle.call_stacks.specs.declared.findings.RefusedSend.{RefusedSend}

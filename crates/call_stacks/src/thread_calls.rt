@@ -1,6 +1,6 @@
 //! The calls of one thread, as a summary of its events.
 
-ghost use Rattle.std.specs.Prelude.{◌≡◌, ◌++◌, map, IfOk, OnOk};
+ghost use Rattle.std.specs.Prelude.{◌≡◌, map, IfOk};
 ghost use Rattle.summary_law.specs.Fits.{IsPlaced, placed_parts};
 ghost use Rattle.call_stacks.specs.Events.{view_place, ThreadCallsSum, GivesEventFindings, kept_event, kept_opener, kept_send};
 

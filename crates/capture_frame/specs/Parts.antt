@@ -8,8 +8,8 @@ use Rattle.capture_frame.specs.Units.{Format, state_after}
 use Rattle.capture_frame.specs.Envelope.{Before, in_version, file_header, file_header_length}
 use Rattle.capture_frame.specs.FirstFault.{IsPart, IsFirstFaultIn}
 
--- the sequence of the last of these frames, or where there is none, of the frame before them; it is the same in both
--- versions, and taken here in version 2
+-- the sequence of the last of these frames, or where there is none, of the frame before them; a format of frames gives
+-- the same in both versions, and here it is taken in version 2
 abbrev pub last_after : {U : Type 0} → Format Before U FaultKind → Option ℕ → List U → Option ℕ
 last_after format last units = (state_after format (in_version Two last) units).last
 

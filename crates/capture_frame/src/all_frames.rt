@@ -1,6 +1,6 @@
 //! All frames of a capture at once.
 
-ghost use Rattle.std.specs.Prelude.{◌≡◌, ◌+◌, ◌<◌, ◌^◌, ◌++◌, List, length, map, MatchResult};
+ghost use Rattle.std.specs.Prelude.{◌+◌, ◌<◌, ◌^◌, length, map, MatchResult};
 ghost use Rattle.std.specs.List.{sum_by};
 ghost use Rattle.capture_frame.specs.declared.frame.Frame.{Frame};
 ghost use Rattle.capture_frame.specs.Cut.{AreFrames, IsCutOff, ArePartFrames, IsPartCutOff, IsPushed, IsStopped};

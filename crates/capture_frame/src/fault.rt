@@ -1,7 +1,8 @@
 //! What makes a capture malformed.
 
 /// The kinds of malformed units, in the order of their numbers: at one place the first that applies
-/// is the one that is named. The names are those that the program prints.
+/// is named, but that a payload past the command bytes is judged after the code's direction and
+/// size. The names are those that the program prints.
 #[derive(Clone, Copy, Debug, PartialEq, Eq)]
 pub enum FaultKind {
     /// The file has fewer than 16 bytes.

@@ -63,9 +63,9 @@ impl<'c> Frames<'c> {
         Frames::after(capture, 0, None)
     }
 
-    /// A reader of the frames of a part, where its file header is good. They stand behind other
-    /// frames, the last of which has the sequence `before`, and `base` is added to their places and
-    /// to those of their faults.
+    /// A reader of the frames of a part, where its file header is good. They stand behind the
+    /// frame with the sequence `before`, if there is one, and `base` is added to their places and
+    /// to those of their faults, but not to that of a fault of the file header.
     pub fn after(part: &'c [u8], base: u64, before: Option<u64>) -> Result<Frames<'c>, Fault>
         requires fits { base + length part.now < 2 ^ 64 }
         ensures { MatchResult result
@@ -98,7 +98,7 @@ impl<'c> Frames<'c> {
             return Ok(None);
         }
         let place = self.start + offset as u64;
-        match frame_at(rest, place, self.version, last) {
+        match read_frame(rest, place, self.version, last) {
             Ok(frame) => {
                 let length = FRAME_HEADER + frame.commands.len() + frame.attachments.len();
                 self.state = State::At {
@@ -140,7 +140,7 @@ fn are_zero(bytes: &[u8], version: Version) -> bool
 
 /// The frame at the front of the bytes, which stand at `place`, behind a file header of that
 /// version and behind the frame with the sequence `last`, if there is one.
-fn frame_at(
+fn read_frame(
     bytes: &[u8],
     place: u64,
     version: Version,

@@ -1,6 +1,6 @@
 //! Which of the frames of a capture holds a place.
 
-ghost use Rattle.std.specs.Prelude.{◌≡◌, ◌+◌, leb, length, AllPairs};
+ghost use Rattle.std.specs.Prelude.{◌≡◌, ◌+◌, leb, AllPairs};
 ghost use Rattle.capture_frame.specs.Lookup.{span_of, StandApart, IsFrameAt, IsSplitAt};
 
 use crate::frame::Frame;

@@ -1,6 +1,6 @@
 //! Results in the order of their jobs, in time linear in the jobs.
 
-ghost use Rattle.std.specs.Prelude.{◌≡◌, ℕ, [], length, replicate, slice_get, Some, None, IfOk};
+ghost use Rattle.std.specs.Prelude.{◌≡◌, [], length, replicate, Some, None, IfOk};
 ghost use Rattle.claim_board.specs.Results.{IsWhole, AreFilling, AreTaken, AreInOrder};
 
 use crate::work::Work;

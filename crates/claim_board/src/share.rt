@@ -1,6 +1,6 @@
 //! Workers that share the jobs, each in a thread.
 
-ghost use Rattle.std.specs.Prelude.{◌≡◌, IfOk};
+ghost use Rattle.std.specs.Prelude.{IfOk};
 ghost use Rattle.claim_board.specs.Work.{AreAllResults, IsOneList, MayShare, StandsForSame};
 ghost use denote.Param.Send.{IsSend, IsSync};
 

@@ -1,6 +1,6 @@
 //! One worker at the board.
 
-ghost use Rattle.std.specs.Prelude.{◌≡◌, ◌<◌, List, length, OnOk, IfOk};
+ghost use Rattle.std.specs.Prelude.{◌<◌, List, length, OnOk, IfOk};
 ghost use Rattle.claim_board.specs.Steps.{IsSeatAt, worker_of};
 ghost use Rattle.claim_board.specs.Work.{IsAt, HasEnded, AreResults, AreAllResults, StandsForSame, MayShare};
 ghost use Rattle.claim_board.specs.declared.job.JobState.TheVariants.{Held};

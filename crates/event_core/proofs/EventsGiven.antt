@@ -2,14 +2,14 @@
 use Rattle.std.proofs.Common.{◌≡◌, List, [], ◌∷◌, ◌++◌, map, Option, Some, None, refl, sym, ap, subst, ◌∙◌, append_assoc}
 use Rattle.std.specs.Option.{unwrap_or}
 use Rattle.std.proofs.lemmas.List.{append-nil, map-append}
-use Rattle.capture_frame.specs.Calls.{Calls, no_more, one_more, GiveInOrder}
+use Rattle.capture_frame.specs.Calls.{Calls, no_more, one_more}
 use Rattle.capture_frame.specs.Envelope.{FrameText}
 use Rattle.capture_frame.specs.Units.{Placed}
 use Rattle.record_view.specs.Records.{RecordText, HasRecords}
 use Rattle.transaction_view.specs.Attachments.{EntryText, HasEntries}
 use Rattle.event_core.specs.declared.event.Event.{Event}
 use Rattle.event_core.specs.Events.{EventText, events_of}
-use Rattle.event_core.specs.Reading.{Reading, Steps, event_text, events_start, GivesEvent, GiveEvents}
+use Rattle.event_core.specs.Reading.{Reading, Steps, event_text, events_start, GiveEvents}
 use Rattle.event_core.proofs.EventCalls.{events_given}
 
 -- a reader of the frame that stands there has given these events

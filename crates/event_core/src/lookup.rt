@@ -1,6 +1,6 @@
 //! The event at a place of the capture.
 
-ghost use Rattle.std.specs.Prelude.{◌≡◌, ◌≤◌, ◌+◌, ◌↔◌, ℕ, length, drop, IsSome};
+ghost use Rattle.std.specs.Prelude.{◌≡◌, ◌≤◌, ◌+◌, ◌↔◌, length, IsSome};
 ghost use Rattle.capture_frame.specs.Units.{placed_at};
 ghost use Rattle.capture_frame.specs.Envelope.{frame_text, placed_frame, commands_place};
 ghost use Rattle.record_view.specs.Records.{RecordText};

@@ -15,13 +15,13 @@ use Rattle.summary_law.specs.ByKey.{SumsByKey}
 use Rattle.summary_law.specs.Count.{Change, raises, lowers, IsCountOf}
 
 -- what a change does to the count of its strength
-abbrev pub count_change : HandleChange → Change
-count_change Raise = raises
-count_change Lower = lowers
+abbrev pub handle_count_change : HandleChange → Change
+handle_count_change Raise = raises
+handle_count_change Lower = lowers
 
 -- what an item does to the count of this strength of the handle that it names
 abbrev pub handle_change : Strength → HandleItem → Change
-handle_change strength item = change_of strength item.strength (count_change item.change)
+handle_change strength item = change_of strength item.strength (handle_count_change item.change)
 
 -- the handle that an item names
 abbrev pub handle_of : HandleItem → ℕ

@@ -22,10 +22,10 @@ abbrev pub node_cmp : NodeKey → NodeKey → Ordering
 node_cmp = then_cmp (on (λ key. key.ptr) nat_cmp) (on (λ key. key.cookie) nat_cmp)
 
 -- what a change does to the count of its strength
-abbrev pub count_change : NodeChange → Change
-count_change Raise = raises
-count_change Lower = lowers
-count_change Done = keeps
+abbrev pub node_count_change : NodeChange → Change
+node_count_change Raise = raises
+node_count_change Lower = lowers
+node_count_change Done = keeps
 
 -- what a change does to the number of references of its strength that are asked for and not yet acknowledged
 abbrev pub due_change : NodeChange → Change
@@ -35,7 +35,7 @@ due_change Done = lowers
 
 -- what an item does to the count of this strength of the node that it names
 abbrev pub node_change : Strength → NodeItem → Change
-node_change strength item = change_of strength item.strength (count_change item.change)
+node_change strength item = change_of strength item.strength (node_count_change item.change)
 
 -- what an item does to the references of this strength that are due to the node that it names
 abbrev pub node_due_change : Strength → NodeItem → Change

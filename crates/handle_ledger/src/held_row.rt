@@ -2,13 +2,13 @@
 
 use crate::handle_row::HandleRow;
 
-/// A handle that a process named, or that one of its deliveries holds.
+/// A handle that a process named, or that a delivery holds which it never frees.
 #[derive(Clone, Copy, Debug, PartialEq, Eq)]
 pub struct HeldRow {
     /// The references that the process took and let go itself.
     pub taken: HandleRow,
-    /// How many strong references its deliveries hold.
+    /// How many strong references the deliveries hold that it never frees.
     pub held_strong: u64,
-    /// How many weak references its deliveries hold.
+    /// How many weak references they hold.
     pub held_weak: u64,
 }

@@ -74,7 +74,7 @@ impl<'c> Object<'c> {
         }
     }
 
-    /// The address of a PTR's buffer in the sender.
+    /// The address of a PTR's buffer in the process whose record carries the object.
     pub fn buffer(self) -> Option<u64>
         ensures { result ≡ field 8 (buffer_position self.entry.sort) self.entry.bytes.now }
     {
@@ -104,8 +104,8 @@ impl<'c> Object<'c> {
         }
     }
 
-    /// The number of the object whose buffer holds the pointer to a PTR's buffer, or an FDA's
-    /// array.
+    /// `parent`: meant as the number of the object whose buffer holds the pointer to a PTR's
+    /// buffer, or an FDA's array. A PTR has it also where its flags name no parent.
     pub fn parent(self) -> Option<u64>
         ensures { result ≡ field 8 (parent_position self.entry.sort) self.entry.bytes.now }
     {
@@ -116,7 +116,7 @@ impl<'c> Object<'c> {
         }
     }
 
-    /// Where in the parent's buffer it stands, in bytes.
+    /// `parent_offset`: meant as where in the parent's buffer that is, in bytes.
     pub fn parent_offset(self) -> Option<u64>
         ensures { result ≡ field 8 (parent_offset_position self.entry.sort) self.entry.bytes.now }
     {

@@ -79,7 +79,7 @@ impl<'c> Objects<'c> {
         if rest.is_empty() {
             return None;
         }
-        let offset = offset_of(rest);
+        let offset = first_offset(rest);
         match object_at(self.body, offset, end) {
             Ok(object) => {
                 self.state = State::At {
@@ -101,7 +101,7 @@ impl<'c> Objects<'c> {
 }
 
 /// The first offset of a list.
-fn offset_of(list: &[u8]) -> u64
+fn first_offset(list: &[u8]) -> u64
     requires { 8 ≤ length list.now }
     ensures read { result ≡ first_offset list.now }
     ensures spelled { list.now ≡ little_bytes 8 result ++ drop 8 list.now }

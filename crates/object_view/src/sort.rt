@@ -5,11 +5,11 @@ ghost use Rattle.object_view.specs.Objects.{IsUnknown};
 /// The sorts of objects, `BINDER_TYPE_..` of `linux/android/binder.h`.
 #[derive(Clone, Copy, Debug, PartialEq, Eq)]
 pub enum Sort {
-    /// `BINDER_TYPE_BINDER`: a node of the sender.
+    /// `BINDER_TYPE_BINDER`: a node of the process whose record carries the object.
     Binder,
     /// `BINDER_TYPE_WEAK_BINDER`: the same, held weakly.
     WeakBinder,
-    /// `BINDER_TYPE_HANDLE`: a handle of the sender.
+    /// `BINDER_TYPE_HANDLE`: a handle of the process whose record carries the object.
     Handle,
     /// `BINDER_TYPE_WEAK_HANDLE`: the same, held weakly.
     WeakHandle,

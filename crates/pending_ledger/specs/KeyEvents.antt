@@ -27,14 +27,14 @@ behind_last test (x ∷ xs) = if list_any test (x ∷ xs) then behind_last test 
 abbrev pub open_places : List KeyEvent → List ℕ
 open_places events = map event_place (behind_last is_closing events)
 
--- whether a change is a close that comes right behind no open, `before` being what comes right before it
+-- whether a change is a close that does not come right behind an open, `before` being what comes right before it
 abbrev pub is_unmet : Option PendingChange → PendingChange → Bool
 is_unmet before Open = false
 is_unmet (Some Open) Close = false
 is_unmet (Some Close) Close = true
 is_unmet None Close = true
 
--- the places of the closes that come right behind no open, `before` being what comes right before the list
+-- the places of the closes that do not come right behind an open, `before` being what comes right before the list
 abbrev pub unmet_places : Option PendingChange → List KeyEvent → List ℕ
 unmet_places before [] = []
 unmet_places before (event ∷ later) =

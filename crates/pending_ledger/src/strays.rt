@@ -10,7 +10,7 @@ use event_core::PendingChange;
 use std::alloc::{AllocError, Global};
 use summary_law::Summary;
 
-/// Whether a change is a close that comes right behind no open.
+/// Whether a change is a close that does not come right behind an open.
 fn is_unmet(before: Option<PendingChange>, change: PendingChange) -> bool
     ensures { result ≡ is_unmet before change }
 {
@@ -33,7 +33,7 @@ fn met_count(before: Option<PendingChange>, after: Option<PendingChange>) -> usi
     }
 }
 
-/// The closes of one key that come right behind no open.
+/// The closes of one key that do not come right behind an open.
 #[derive(Drop)]
 pub struct Strays {
     /// Their places, in order.

@@ -10,7 +10,7 @@ use Rattle.event_core.specs.Events.{wholes_of}
 use Rattle.audit_findings.specs.Kept.{KeptFindings, AreOfFrames}
 use Rattle.audit_findings.specs.Lookup.{HasRecordIn}
 use Rattle.audit_findings.proofs.RecordsThere.{has_record_in}
-use Rattle.report_text.specs.Pushed.{HaveEvents, IsKept, Keeps, KeepsWhole, ShowsEvent, TellsLines}
+use Rattle.report_text.specs.Pushed.{HaveEvents, IsKept, KeepsRows, KeepsWhole, ShowsEvent, TellsLines}
 use Rattle.report_text.specs.Section.{SectionText, lines_of}
 use Rattle.report_text.proofs.Sections.{IsShownBy, shown_lines}
 
@@ -33,7 +33,7 @@ whole_lines section head_for found kept keeps = λ wholes said tell shown shows.
 -- and of rows that are kept with the places of their records, and read again
 module _ {S K : Type 0} (section : SectionText S) (keep : S → K) (place : K → ℕ) (owner : S → EventText)
     (same_place : (row : S) → place (keep row) ≡ (owner row).place) (head_for : ℕ → List ℕ) (found : KeptFindings) (kept : List K)
-    (keeps : Keeps section keep head_for found kept) (have : HaveEvents section owner found) where
+    (keeps : KeepsRows section keep head_for found kept) (have : HaveEvents section owner found) where
   -- a record of the frames begins at the place of each
   pub listed : AreOfFrames found.frames found.sections → All (λ k. HasRecordIn found.frames (place k)) kept
   listed (wholes, said, tell) =

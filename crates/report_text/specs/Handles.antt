@@ -6,8 +6,8 @@ use Rattle.audit_findings.specs.declared.in_turn.OfProcess.{OfProcess}
 use Rattle.report_text.specs.ProcessRow.{process_start, count_fields, unbalanced_head}
 use Rattle.report_text.specs.Section.{SectionText}
 
--- a row: process, handle, the strong count and its low, the weak count and its low, and how many strong and how many weak
--- references the process's deliveries hold
+-- a row: process, handle, the strong count and its low, the weak count and its low, and how many strong and how many
+-- weak references those deliveries of the process hold that it never frees
 abbrev pub handles_row : OfProcess HeldRow → List ℕ
 handles_row of =
     process_start of.process ++ codes " " ++ decimal of.row.taken.handle

@@ -17,15 +17,15 @@ open_and_stray_head name word all unclosed strays =
 
 -- what a row is called
 abbrev pub word_of : List ℕ → PendingChange → List ℕ
-word_of unclosed Open = unclosed
-word_of unclosed Close = codes "stray"
+word_of word Open = word
+word_of word Close = codes "stray"
 
 -- what a row says of an open or a close: its cookie, and what it is called; and nothing of what is neither
 abbrev pub open_and_stray_fields : List ℕ → Option (PendingItem ℕ) → List ℕ
-open_and_stray_fields unclosed (Some item) =
-    codes " " ++ hex_number item.key ++ codes " " ++ word_of unclosed item.change
-open_and_stray_fields unclosed None = []
+open_and_stray_fields word (Some item) =
+    codes " " ++ hex_number item.key ++ codes " " ++ word_of word item.change
+open_and_stray_fields word None = []
 
 -- a row: place, process, and these fields
 abbrev pub open_and_stray_row : List ℕ → (EventText → Option (PendingItem ℕ)) → EventText → List ℕ
-open_and_stray_row unclosed read e = row_start e ++ open_and_stray_fields unclosed (read e)
+open_and_stray_row word read e = row_start e ++ open_and_stray_fields word (read e)

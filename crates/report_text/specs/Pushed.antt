@@ -44,12 +44,12 @@ pub record IsKept {S K : Type 0} (section : SectionText S) (keep : S → K) (hea
   pub rows : kept ≡ map keep (section.rows said)
 
 -- whatever the findings tell, the section is kept so
-abbrev pub Keeps : {S K : Type 0} → SectionText S → (S → K) → (ℕ → List ℕ) → KeptFindings → List K → Type 0
-Keeps section keep head_for found kept =
+abbrev pub KeepsRows : {S K : Type 0} → SectionText S → (S → K) → (ℕ → List ℕ) → KeptFindings → List K → Type 0
+KeepsRows section keep head_for found kept =
     (wholes : List WholeFrame) (said : FindingsText) → Tell wholes said found.frames found.sections
     → IsKept section keep head_for kept said
 
--- and each of its rows has an event of the frames
+-- whatever the findings tell, each row of the section has an event of the frames, its owner
 abbrev pub HaveEvents : {S : Type 0} → SectionText S → (S → EventText) → KeptFindings → Type 0
 HaveEvents section owner found =
     (wholes : List WholeFrame) (said : FindingsText) → Tell wholes said found.frames found.sections

@@ -39,9 +39,9 @@ totals frames records opaque missing =
 abbrev pub totals_lines : FindingsText → List (List ℕ)
 totals_lines said = totals said.frames said.events.records said.events.opaque said.missing ∷ []
 
--- the parts of the report, in their order: the first two lines, and the sections
-abbrev pub parts : List (FindingsText → List (List ℕ))
-parts =
+-- what gives the lines of the report, in their order: the first two lines, and the sections
+abbrev pub lines_in_order : List (FindingsText → List (List ℕ))
+lines_in_order =
     title_lines ∷ totals_lines ∷ lines_of codes_section ∷ lines_of calls_section ∷ lines_of served_section
     ∷ lines_of strays_section ∷ lines_of refused_section ∷ lines_of handles_section ∷ lines_of nodes_section
     ∷ lines_of buffers_section ∷ lines_of frees_section ∷ lines_of requests_section ∷ lines_of deaths_section
@@ -49,7 +49,7 @@ parts =
 
 -- the lines of the report, without their line feeds
 abbrev pub report_lines : FindingsText → List (List ℕ)
-report_lines said = flat_map (λ part. part said) parts
+report_lines said = flat_map (λ lines. lines said) lines_in_order
 
 -- the report
 unfoldable pub report_text : FindingsText → List ℕ

@@ -23,7 +23,7 @@ pub(crate) trait CallSection {
     ghost use Rattle.audit_findings.specs.declared.findings.Sections.{Sections};
     ghost use Rattle.audit_findings.specs.Kept.{kept_call};
     ghost use Rattle.report_text.specs.CallRow.{call_row};
-    ghost use Rattle.report_text.specs.Pushed.{Keeps, HaveEvents};
+    ghost use Rattle.report_text.specs.Pushed.{KeepsRows, HaveEvents};
     ghost use Rattle.report_text.specs.Section.{SectionText};
 
     /// The section.
@@ -44,7 +44,7 @@ pub(crate) trait CallSection {
 
     /// What is kept of the calls.
     fn calls<'f>(&self, found: &'f Findings<'_>) -> &'f [CallRow]
-        ensures kept { Keeps section kept_call (head_of found.now.sections) found.now result.now }
+        ensures kept { KeepsRows section kept_call (head_of found.now.sections) found.now result.now }
         ensures events { HaveEvents section (λ call. call.event) found.now };
 
     /// Pushes the field.

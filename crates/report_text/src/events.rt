@@ -17,7 +17,7 @@ pub(crate) trait EventSection {
     ghost use Rattle.event_core.specs.Events.{EventText};
     ghost use Rattle.event_core.specs.Reading.{event_text};
     ghost use Rattle.audit_findings.specs.declared.findings.Sections.{Sections};
-    ghost use Rattle.report_text.specs.Pushed.{Keeps, HaveEvents};
+    ghost use Rattle.report_text.specs.Pushed.{KeepsRows, HaveEvents};
     ghost use Rattle.report_text.specs.Section.{SectionText};
 
     /// The section.
@@ -35,7 +35,7 @@ pub(crate) trait EventSection {
 
     /// The places of the rows' records.
     fn places<'f>(&self, found: &'f Findings<'_>) -> &'f [u64]
-        ensures kept { Keeps section (λ e. e.place) (head_of found.now.sections)
+        ensures kept { KeepsRows section (λ e. e.place) (head_of found.now.sections)
             found.now result.now }
         ensures events { HaveEvents section (λ e. e) found.now };
 

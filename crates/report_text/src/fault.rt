@@ -12,7 +12,7 @@ pub fn fault_text(fault: Fault) -> Row
     ensures line { result.bytes ≡ fault_line fault }
     ensures short { length result.bytes ≤ 256 }
 {
-    let mut line = row_of(fault);
+    let mut line = fault_words(fault);
     line.push_str("\n");
     line
 }
@@ -26,27 +26,27 @@ pub fn part_fault_text(found: PartFault, parts: usize) -> Row
     if parts == 1 {
         return fault_text(found.fault);
     }
-    let mut line = row_of(found.fault);
+    let mut line = fault_words(found.fault);
     push_counted(&mut line, " in part ", u64::from(found.part));
     line.push_str("\n");
     line
 }
 
 /// What is wrong, and where.
-fn row_of(fault: Fault) -> Row
+fn fault_words(fault: Fault) -> Row
     ensures words { result.bytes ≡ fault_words fault }
     ensures short { array_string_len result ≤ 49 }
 {
     let mut line = Row::new();
     line.push_str("malformed ");
-    line.push_str(kind_name(fault.kind));
+    line.push_str(fault_name(fault.kind));
     line.push_str(" at ");
     push_decimal(&mut line, fault.place);
     line
 }
 
 /// The name of a kind of fault, as it is printed.
-fn kind_name(kind: FaultKind) -> &'static str
+fn fault_name(kind: FaultKind) -> &'static str
     ensures name { result.now ≡ fault_name kind }
     ensures short { length result.now ≤ 15 }
 {

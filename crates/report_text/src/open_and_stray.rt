@@ -12,17 +12,17 @@ use event_core::{Event, PendingChange, PendingItem};
 
 /// The head of a section that has this name, and this word for an open without its close. There
 /// are so many opens in all.
-pub(crate) fn open_and_stray_head(name: &str, unclosed: &str, all: u64, kept: &OpenAndStray) -> Row
+pub(crate) fn open_and_stray_head(name: &str, word: &str, all: u64, kept: &OpenAndStray) -> Row
     requires name { length name.now ≤ 16 }
-    requires unclosed { length unclosed.now ≤ 16 }
-    ensures { result.bytes ≡ open_and_stray_head name.now unclosed.now all kept.now.unclosed
+    requires word { length word.now ≤ 16 }
+    ensures { result.bytes ≡ open_and_stray_head name.now word.now all kept.now.unclosed
         kept.now.strays }
 {
     let mut line = Row::new();
     line.push_str(name);
     push_counted(&mut line, " ", all);
     line.push_str(" ");
-    line.push_str(unclosed);
+    line.push_str(word);
     push_counted(&mut line, " ", kept.unclosed);
     push_counted(&mut line, " stray ", kept.strays);
     line
@@ -32,11 +32,11 @@ pub(crate) fn open_and_stray_head(name: &str, unclosed: &str, all: u64, kept: &O
 pub(crate) fn open_and_stray_row(
     event: Event<'_>,
     item: Option<PendingItem<u64>>,
-    unclosed: &str,
+    word: &str,
 ) -> Row
-    requires { length unclosed.now ≤ 16 }
+    requires { length word.now ≤ 16 }
     ensures { result.bytes ≡ row_start (event_text event.entry)
-        ++ open_and_stray_fields unclosed.now item }
+        ++ open_and_stray_fields word.now item }
 {
     let mut line = row_start(event);
     if let Some(PendingItem { key, change, .. }) = item {
@@ -44,7 +44,7 @@ pub(crate) fn open_and_stray_row(
         push_hex_number(&mut line, key);
         line.push_str(" ");
         line.push_str(match change {
-            PendingChange::Open => unclosed,
+            PendingChange::Open => word,
             PendingChange::Close => "stray",
         });
     }

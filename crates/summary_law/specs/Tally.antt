@@ -36,10 +36,6 @@ pub record AreTallyRows {K : Type 0} (cmp : K → K → Ordering) (items : List 
   pub keys : AreKeys cmp items (map (λ row. row.0) rows)
   pub right : All (IsTallyRow cmp items) rows
 
--- there are this many keys that items stand under
-abbrev pub IsKeyCount : {K : Type 0} → (K → K → Ordering) → List (K × ℕ) → ℕ → Type 0
-IsKeyCount {K} cmp items n = (keys : List K) × AreKeys cmp items keys × (n ≡ length keys)
-
 -- the tally has the amount of each key that items stand under
 abbrev pub TallySums : {K : Type 0} → (K → K → Ordering) → Tally K → List (K × ℕ) → Type 0
 TallySums cmp tally items = SumsByKey cmp IsAmount tally.amounts.entries items
@@ -47,10 +43,6 @@ TallySums cmp tally items = SumsByKey cmp IsAmount tally.amounts.entries items
 -- the rows of whatever items the tally sums
 abbrev pub GivesRows : {K : Type 0} → (K → K → Ordering) → Tally K → List (K × ℕ × ℕ) → Type 0
 GivesRows {K} cmp tally rows = (items : List (K × ℕ)) → TallySums cmp tally items → AreTallyRows cmp items rows
-
--- the number of keys of whatever items the tally sums
-abbrev pub GivesKeyCount : {K : Type 0} → (K → K → Ordering) → Tally K → ℕ → Type 0
-GivesKeyCount {K} cmp tally n = (items : List (K × ℕ)) → TallySums cmp tally items → IsKeyCount cmp items n
 
 -- the count and the sum of the key, over whatever items the tally sums
 abbrev pub GivesAmount : {K : Type 0} → (K → K → Ordering) → Tally K → K → Amount → Type 0

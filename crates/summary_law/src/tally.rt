@@ -2,7 +2,7 @@
 
 ghost use Rattle.std.specs.Prelude.{IfOk};
 ghost use Rattle.summary_law.specs.Tally.{AreWeighted, TallySums, weighted_parts};
-ghost use Rattle.summary_law.specs.Tally.{GivesRows, GivesKeyCount, GivesAmount};
+ghost use Rattle.summary_law.specs.Tally.{GivesRows, GivesAmount};
 
 use crate::amount::Amount;
 use crate::by_key::ByKey;
@@ -25,13 +25,6 @@ impl<K: Ord + Copy> Tally<K> {
             rows.push((*key, amount.count, amount.sum))?;
         }
         Ok(rows)
-    }
-
-    /// How many different keys there are.
-    pub fn key_count(&self) -> usize
-        ensures { GivesKeyCount K.cmp self.now result }
-    {
-        self.amounts.entries.len()
     }
 
     /// The count and the sum of a key, which are 0 where nothing stands under it.

@@ -1,6 +1,6 @@
 -- The grammar of a whole capture, and its first fault: its frames, judged with all that stands in them
 -- (docs/ENVELOPE.md).
-use Rattle.std.specs.Prelude.{ℕ, List, Option, Some, None}
+use Rattle.std.specs.Prelude.{ℕ, List, Some, None}
 use Rattle.capture_frame.specs.declared.fault.Fault.{Fault}
 use Rattle.capture_frame.specs.declared.fault.PartFault.{PartFault}
 use Rattle.capture_frame.specs.declared.fault.FaultKind.{FaultKind}

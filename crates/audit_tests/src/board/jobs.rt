@@ -1,8 +1,8 @@
 //! The work of the tests.
 
-ghost use Rattle.std.specs.Prelude.{◌≡◌, ◌+◌, ◌*◌, ◌<◌, ◌≤◌, ℕ, [], ◌∷◌, length, IfOk, IfSome};
+ghost use Rattle.std.specs.Prelude.{◌≡◌, ◌+◌, ◌*◌, ◌<◌, ◌≤◌, [], ◌∷◌, length, IfOk, IfSome};
 ghost use Rattle.claim_board.specs.Board.{AreJobs};
-ghost use Rattle.audit_tests.specs.SpacedJobs.{spaced_fault, AreSpacedFrom};
+ghost use Rattle.audit_tests.specs.SpacedJobs.{spaced_fault};
 
 use super::rounds::Rounds;
 use claim_board::{Job, JobStop, Work};

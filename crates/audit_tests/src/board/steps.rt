@@ -1,6 +1,6 @@
 //! The board of one thread: worked steps, and all orders of the steps of few jobs and workers.
 
-ghost use Rattle.std.specs.Prelude.{◌≡◌, ◌≤◌, ℕ, length, IfOk, IfSome};
+ghost use Rattle.std.specs.Prelude.{◌≡◌, ◌≤◌, length, IfOk, IfSome};
 ghost use Rattle.claim_board.specs.Board.{AreJobs};
 
 use super::jobs::jobs_by_bits;

@@ -131,7 +131,8 @@ fn expect_in_order(
     let (frames, _) = FRAMES.split_at(count.min(FRAMES.len()));
     let whole: NumberedFrames<'_> = in_two(alloc, frames, end)?;
     assert!(rt; whole.frames.frames.len() == frames.len());
-    assert!(rt; whole.numbers.key_count() == frames.len());
+    let numbers = whole.numbers.rows()?;
+    assert!(rt; numbers.len() == frames.len());
     for (place, frame) in whole.frames.frames.iter().enumerate() {
         assert!(rt; frame.number as usize == place);
     }

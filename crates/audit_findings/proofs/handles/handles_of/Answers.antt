@@ -1,13 +1,10 @@
-use Rattle.std.proofs.Common.{◌++◌, map, take, sym, ap, subst, ◌∙◌, arith}
+use Rattle.std.proofs.Common.{◌++◌, map, sym, ap, ◌∙◌, arith}
 use Rattle.std.specs.Prelude.{count_by}
 use Rattle.std.specs.List.{flat_map}
 use Rattle.std.proofs.lemmas.List.{take_all}
-use Rattle.event_core.specs.Events.{events_of_wholes}
 use Rattle.handle_ledger.specs.declared.held_row.HeldRow.{HeldRow}
-use Rattle.process_ledgers.specs.Processes.{processes_of}
 use Rattle.audit_findings.specs.declared.in_turn.OfProcess.{OfProcess}
-use Rattle.audit_findings.specs.Handles.{AreHandlesOf, is_unbalanced_handle}
-use Rattle.audit_findings.specs.InTurn.{AreInTurn}
+use Rattle.audit_findings.specs.Handles.{is_unbalanced_handle}
 use Rattle.audit_findings.proofs.HandleRows.{ListOfRows, joined_next, joined_to}
 use Rattle.audit_findings.proofs.handles.handles_of.Goals as goal
 

@@ -1,4 +1,4 @@
-use Rattle.std.proofs.Common.{sym, subst, ◌∙◌}
+use Rattle.std.proofs.Common.{sym, subst}
 use Rattle.std.proofs.lemmas.Result.{IfOk-weaker}
 use Rattle.event_core.specs.Events.{events_of_wholes}
 use Rattle.handle_ledger.proofs.HeldLaws.{read_held_rows}

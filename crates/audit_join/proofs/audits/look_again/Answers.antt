@@ -1,4 +1,3 @@
-use Rattle.std.proofs.Common.{◌^◌, ◌≤◌}
 use Rattle.audit_findings.specs.Summary.{process_count}
 use Rattle.audit_join.proofs.CutLaws.{good_cut}
 use Rattle.audit_join.proofs.HandleJobs.{all_listed, few_processes, process_work}

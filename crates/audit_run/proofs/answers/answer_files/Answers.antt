@@ -2,7 +2,7 @@ use Rattle.std.proofs.Common.{length, sym, ◌∙◌}
 use Rattle.std.proofs.KnownBytes.{Keeps-refl}
 use Rattle.std.proofs.lemmas.List.{length-map}
 use Rattle.std.proofs.lemmas.Result.{err_from_is_err_and}
-use Rattle.audit_run.specs.Question.{GoesWithStatus, IsAnswer}
+use Rattle.audit_run.specs.Question.{GoWithStatus, IsAnswer}
 use Rattle.audit_run.specs.Run.{none_given}
 use Rattle.audit_run.proofs.RunLaws.{opening_gives, run_on_files}
 use Rattle.audit_run.proofs.answers.answer_files.Goals as goal
@@ -14,5 +14,5 @@ returns-in_err-readers g c =
 
 pub returns : goal.returns
 returns g c =
-    run_on_files _ _ (IsAnswer c.args.request.question) GoesWithStatus _ _ c.answer.result
+    run_on_files _ _ (IsAnswer c.args.request.question) GoWithStatus _ _ c.answer.result
     (length-map c.in_ok-readers.readers.items _ ∙ sym c.in_ok-readers.readers.ok.0 ∙ c.in_ok-readers.ensures.each) c.answer.ensures

@@ -2,7 +2,7 @@ use Rattle.std.proofs.Common.{ℕ, ◌++◌, drop, sym, ap, ◌∙◌, arith}
 use Rattle.byteorder.specs.Endian.{little_bytes}
 use Rattle.transaction_view.specs.Envelope.{number_at}
 use Rattle.transaction_view.proofs.NumberLaws.{number_spelled}
-use Rattle.object_view.proofs.objects.offset_of.Goals as goal
+use Rattle.object_view.proofs.objects.first_offset.Goals as goal
 
 pub returns-clause-spelled : goal.returns-clause-spelled
 unfolding number_at

@@ -1,10 +1,10 @@
-use Rattle.std.proofs.Common.{◌≡◌, ◌++◌, ◌∷◌, [], Option, Some, None, refl, sym, ap, ◌∙◌}
+use Rattle.std.proofs.Common.{◌++◌, ◌∷◌, [], sym, ap}
 use Rattle.std.proofs.lemmas.Result.{err_from_is_err_and}
 use Rattle.capture_frame.specs.declared.version.Version.TheVariants.{Two}
 use Rattle.capture_frame.specs.Envelope.{Before, in_version}
 use Rattle.capture_frame.proofs.UnitLaws.{state_after-snoc}
 use Rattle.transaction_view.specs.Grammar.{whole_format}
-use Rattle.transaction_view.proofs.CaptureWalk.{whole_of, stands_at_start, stands_behind_next, left_falls, frames_end, header_fails, content_fails}
+use Rattle.transaction_view.proofs.CaptureWalk.{whole_of, stands_behind_next, left_falls, header_fails, content_fails}
 use Rattle.transaction_view.proofs.check.check_part.Goals as goal
 
 pub returns-in_err-frame : goal.returns-in_err-frame

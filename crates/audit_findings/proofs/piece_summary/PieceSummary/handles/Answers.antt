@@ -1,6 +1,5 @@
-use Rattle.std.proofs.Common.{◌++◌, List, map, sym, ap, subst, ◌∙◌}
+use Rattle.std.proofs.Common.{◌++◌, map, sym, ap, subst, ◌∙◌}
 use Rattle.event_core.specs.Events.{events_of_wholes}
-use Rattle.handle_ledger.specs.declared.held_row.HeldRow.{HeldRow}
 use Rattle.capture_frame.specs.declared.process.Process.{Process}
 use Rattle.process_ledgers.proofs.OfProcesses.{are_of_processes}
 use Rattle.process_ledgers.specs.declared.process_summary.ProcessSummary.{ProcessSummary}

@@ -1,14 +1,13 @@
-use Rattle.std.proofs.Common.{◌≡◌, true, false, Option, Some, None, [], ◌∷◌, ◌++◌, List, refl, sym, ap, ap₂, subst, ◌∙◌}
+use Rattle.std.proofs.Common.{◌≡◌, true, false, [], ◌∷◌, ◌++◌, List, sym, ap, ap₂, subst, ◌∙◌}
 use Rattle.std.specs.Prelude.{⊤}
 use Rattle.std.proofs.lemmas.List.{append-nil}
 use Rattle.std.proofs.lemmas.Result.{on_ok_weaker}
 use Rattle.std.specs.Option.{is_some}
 use Rattle.event_core.specs.Reading.{event_text}
-use Rattle.event_core.specs.declared.marks.Mark.{Mark}
 use Rattle.capture_frame.specs.declared.process.Thread.{Thread}
 use Rattle.call_stacks.specs.Calls.{event_mark}
 use Rattle.call_stacks.specs.declared.call_event.CallEvent.{CallEvent}
-use Rattle.audit_findings.specs.ThreadLedger.{fed_call, fed_calls, leaves_mark}
+use Rattle.audit_findings.specs.ThreadLedger.{fed_calls, leaves_mark}
 use Rattle.audit_findings.proofs.ThreadFits.{FitThreads, SumsFedCalls, fit_behind, fed_behind, fed_marked, fed_plain}
 use Rattle.audit_findings.proofs.thread_ledger.ThreadLedger.add.Goals as goal
 

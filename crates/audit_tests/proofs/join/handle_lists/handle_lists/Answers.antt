@@ -1,5 +1,4 @@
 use Rattle.std.proofs.Common.{◌≡◌, subst, ◌∙◌, arith}
-use Rattle.audit_findings.specs.Summary.{process_count}
 use Rattle.audit_join.proofs.HandleJobs.{all_listed}
 use Rattle.audit_tests.proofs.HandleLists.{GivesFirst, gives_all, gives_next, gives_none}
 use Rattle.audit_tests.proofs.join.handle_lists.handle_lists.Goals as goal

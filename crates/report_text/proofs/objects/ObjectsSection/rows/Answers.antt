@@ -4,12 +4,12 @@ use Rattle.audit_findings.specs.declared.objects.BadRow.{BadRow}
 use Rattle.event_core.specs.Events.{wholes_of, events_of_wholes}
 use Rattle.audit_findings.specs.Kept.{kept_bad}
 use Rattle.report_text.specs.Objects.{objects_head, objects_row, objects_section}
-use Rattle.report_text.specs.Pushed.{HaveEvents, Keeps}
+use Rattle.report_text.specs.Pushed.{HaveEvents, KeepsRows}
 use Rattle.report_text.proofs.Listed.{listed, listed_lines}
 use Rattle.report_text.proofs.ObjectOwners.{owners_there}
 use Rattle.report_text.proofs.objects.ObjectsSection.rows.Goals as goal
 
-kept : (c : goal.After-as_slice) → Keeps objects_section kept_bad (objects_head c.args.found.now.sections.events.objects) c.args.found.now c.as_slice.result.now
+kept : (c : goal.After-as_slice) → KeepsRows objects_section kept_bad (objects_head c.args.found.now.sections.events.objects) c.args.found.now c.as_slice.result.now
 kept c = λ wholes said tell. record {
   head = λ rows. ap (λ counts. objects_head counts rows) tell.keep.events.objects;
   rows = c.as_slice.ensures ∙ ap (λ (s : Sections). s.events.bad_objects) c.sections.ensures.value ∙ tell.keep.events.bad_objects;
