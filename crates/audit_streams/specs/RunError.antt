@@ -11,6 +11,14 @@ IsReadingFault Read = ⊤
 IsReadingFault Write = ⊥
 IsReadingFault Open = ⊥
 
+-- what an answer without room for more bytes may be: memory was refused, or they pass the limit
+abbrev pub IsRoomFault : RunError → Type 0
+IsRoomFault Memory = ⊤
+IsRoomFault TooLarge = ⊤
+IsRoomFault Read = ⊥
+IsRoomFault Write = ⊥
+IsRoomFault Open = ⊥
+
 -- what standard error says of an error
 abbrev pub error_message : RunError → List ℕ
 error_message Memory = codes "fault Memory"

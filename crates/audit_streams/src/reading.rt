@@ -1,8 +1,9 @@
 //! Reads a capture whole.
-ghost use Rattle.std.specs.Prelude.{◌≡◌, ◌+◌, ◌<◌, ◌≤◌, ◌↔◌, ◌++◌, length, vec_len, IfSome, IfOk, IfErr, OnOk, OnErr, IsErrOf};
+ghost use Rattle.std.specs.Prelude.{◌≡◌, ◌+◌, ◌<◌, ◌≤◌, ◌↔◌, ◌++◌, length, vec_len, IfSome, IfOk, IfErr, OnOk, OnErr, IsErrOf, IsOkUnless};
 ghost use Rattle.std.specs.Io.KnownBytes.{IsAtEnd};
 ghost use Rattle.audit_streams.specs.KnownBytes.{ConsumesSome};
-ghost use Rattle.audit_streams.specs.RunError.{IsReadingFault};
+ghost use Rattle.audit_streams.specs.RunError.{IsReadingFault, IsRoomFault};
+ghost use Rattle.audit_streams.specs.declared.reading.TheConstants.{ASKED};
 
 use crate::run_error::RunError;
 use std::alloc::Global;
@@ -27,8 +28,16 @@ pub fn read_capture<R: Read>(
     ensures faults { IfErr result IsReadingFault }
     ensures left { ConsumesSome (R.remaining reader.old) (R.remaining reader.new) }
 {
-    let mut buffer = vec![in alloc; 0u8; ASKED].map_err(|_| RunError::Memory)?;
+    let mut buffer = empty_buffer(alloc)?;
     read_through(alloc, reader, buffer.as_mut_slice(), limit)
+}
+
+// Room for the bytes that are asked for at a time.
+fn empty_buffer(alloc: Global) -> Result<Vec<u8>, RunError>
+    ensures room { IfOk result (λ buffer. vec_len buffer ≡ ASKED) }
+    ensures memory { IsOkUnless result RunError.Memory }
+{
+    vec![in alloc; 0u8; ASKED].map_err(|_| RunError::Memory)
 }
 
 // Reads by way of the buffer.
@@ -67,7 +76,7 @@ fn append_within(capture: &mut Vec<u8>, piece: &[u8], limit: usize) -> Result<()
     ensures within { vec_len capture.new ≤ limit }
     ensures too_large { IsErrOf result RunError.TooLarge
         ↔ (limit < vec_len capture.old + length piece.now) }
-    ensures faults { IfErr result IsReadingFault }
+    ensures memory { IfErr result IsRoomFault }
 {
     if limit - capture.len() < piece.len() {
         return Err(RunError::TooLarge);

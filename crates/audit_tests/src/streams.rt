@@ -1,7 +1,7 @@
-//! A reader read whole and a text written whole, byte by byte, also where a device fails.
+//! A reader read whole, a text written whole, byte by byte, also where a device fails, and what is told of errors.
 
 use crate::devices::{Drip, Sink};
-use audit_streams::{RunError, read_capture, write_text};
+use audit_streams::{Failure, RunError, read_capture, write_text};
 use std::alloc::Global;
 use std::io::ErrorKind;
 use std::process::Abort;
@@ -95,4 +95,31 @@ fn stops_where_a_write_fails(rt: HostRuntime) {
             );
         }
     }
+}
+
+// ---- failures
+
+const SHOWN: [(RunError, &str); 5] = [
+    (RunError::Memory, "fault Memory"),
+    (RunError::TooLarge, "fault TooLarge"),
+    (RunError::Read, "fault Read"),
+    (RunError::Write, "fault Write"),
+    (RunError::Open, "fault Open"),
+];
+
+#[test]
+fn displays_each_error_without_a_line_feed(rt: HostRuntime) -> Result<(), Fail> {
+    for (error, shown) in SHOWN {
+        let text = format!(in rt.alloc(); "{error}")?;
+        assert_eq!(rt; text.as_str(), shown);
+    }
+    Ok(())
+}
+
+#[test]
+fn tells_a_beginning_where_a_write_fails(rt: HostRuntime) {
+    let mut sink = Sink::failing(b"fault Memory\n", 4, Some(ErrorKind::Other));
+    let told = Failure::Run(RunError::Memory).tell(&mut sink);
+    assert_eq!(rt; told, Err(RunError::Write));
+    assert_eq!(rt; [sink.writes, sink.taken as u64, sink.flushes], [4, 3, 0]);
 }
