@@ -1,17 +1,14 @@
 //! The section `handles`.
 
-ghost use Rattle.std.specs.Prelude.{◌≡◌, List, count_by, map, IfOk};
+ghost use Rattle.std.specs.Prelude.{List, map, IfOk};
 ghost use Rattle.capture_frame.specs.Units.{Placed};
 ghost use Rattle.transaction_view.specs.Grammar.{WholeFrame};
-ghost use Rattle.handle_ledger.specs.declared.held_row.HeldRow.{HeldRow};
 ghost use Rattle.audit_findings.specs.Frames.{AreGoodFrames};
-ghost use Rattle.audit_findings.specs.Handles.{AreHandleFindings, AreListedHandles, GivesHandles, is_unbalanced_handle};
-ghost use Rattle.audit_findings.specs.declared.in_turn.OfProcess.{OfProcess};
+ghost use Rattle.audit_findings.specs.Handles.{AreHandleFindings, AreListedHandles, GivesHandles};
 
 use crate::held::held_at;
 use crate::in_turn::OfProcess;
-use crate::references::References;
-use crate::rows::Rows;
+use crate::references::{Balance, References, references_of};
 use capture_frame::Frame;
 use handle_ledger::HeldRow;
 use process_ledgers::ProcessSummary;
@@ -50,21 +47,15 @@ pub(crate) fn handles_of(
     for list in lists {
         rows.extend_from_slice(list.as_slice())?;
     }
-    Ok(References {
-        unbalanced: unbalanced_count(rows.as_slice()),
-        rows: Rows::of(rows),
-    })
+    Ok(references_of(rows))
 }
 
-fn unbalanced_count(rows: &[OfProcess<HeldRow>]) -> u64
-    ensures { result ≡
-        count_by (λ (row : OfProcess HeldRow). is_unbalanced_handle row.row) rows.now }
-{
-    rows.iter().filter(|row| is_unbalanced(&row.row)).count() as u64
-}
+impl Balance for HeldRow {
+    ghost use Rattle.audit_findings.specs.Handles.{is_unbalanced_handle};
 
-fn is_unbalanced(row: &HeldRow) -> bool
-    ensures { result ≡ is_unbalanced_handle row.now }
-{
-    row.taken.strong.sum != 0 || row.taken.weak.sum != 0
+    ghost unbalanced = { is_unbalanced_handle };
+
+    fn is_unbalanced(&self) -> bool {
+        self.taken.strong.sum != 0 || self.taken.weak.sum != 0
+    }
 }

@@ -1,16 +1,13 @@
 //! The section `nodes`.
 
-ghost use Rattle.std.specs.Prelude.{◌≡◌, List, count_by, IfOk};
+ghost use Rattle.std.specs.Prelude.{List, IfOk};
 ghost use Rattle.capture_frame.specs.Units.{Placed};
 ghost use Rattle.transaction_view.specs.Grammar.{WholeFrame};
-ghost use Rattle.handle_ledger.specs.declared.node_row.NodeRow.{NodeRow};
 ghost use Rattle.process_ledgers.specs.OfProcess.{AreOfProcesses};
-ghost use Rattle.audit_findings.specs.Nodes.{AreNodeFindings, is_unbalanced_node};
-ghost use Rattle.audit_findings.specs.declared.in_turn.OfProcess.{OfProcess};
+ghost use Rattle.audit_findings.specs.Nodes.{AreNodeFindings};
 
-use crate::in_turn::{InTurn, OfProcess, rows_in_turn};
-use crate::references::References;
-use crate::rows::Rows;
+use crate::in_turn::{InTurn, rows_in_turn};
+use crate::references::{Balance, References, references_of};
 use capture_frame::Process;
 use handle_ledger::NodeRow;
 use process_ledgers::{ProcessLedgers, ProcessSummary};
@@ -41,21 +38,18 @@ pub(crate) fn nodes_of(
         AreOfProcesses processes.now.entries.entries wholes → AreNodeFindings wholes found) }
 {
     let rows = rows_in_turn::<Nodes>(alloc, processes)?;
-    Ok(References {
-        unbalanced: unbalanced_count(rows.as_slice()),
-        rows: Rows::of(rows),
-    })
+    Ok(references_of(rows))
 }
 
-fn unbalanced_count(rows: &[OfProcess<NodeRow>]) -> u64
-    ensures { result ≡
-        count_by (λ (row : OfProcess NodeRow). is_unbalanced_node row.row) rows.now }
-{
-    rows.iter().filter(|row| is_unbalanced(&row.row)).count() as u64
-}
+impl Balance for NodeRow {
+    ghost use Rattle.audit_findings.specs.Nodes.{is_unbalanced_node};
 
-fn is_unbalanced(row: &NodeRow) -> bool
-    ensures { result ≡ is_unbalanced_node row.now }
-{
-    row.strong.sum != 0 || row.weak.sum != 0 || row.strong_due != 0 || row.weak_due != 0
+    ghost unbalanced = { is_unbalanced_node };
+
+    fn is_unbalanced(&self) -> bool {
+        self.strong.sum != 0
+            || self.weak.sum != 0
+            || self.strong_due != 0
+            || self.weak_due != 0
+    }
 }

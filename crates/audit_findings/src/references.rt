@@ -1,5 +1,8 @@
 //! What the sections `handles` and `nodes` have alike.
 
+ghost use Rattle.std.specs.Prelude.{◌≡◌, List, count_by};
+ghost use Rattle.audit_findings.specs.declared.in_turn.OfProcess.{OfProcess};
+
 use crate::in_turn::OfProcess;
 use crate::rows::Rows;
 
@@ -11,4 +14,28 @@ pub struct References<R> {
     pub unbalanced: u64,
     /// The rows of each process in turn, the keys of each rising.
     pub rows: Rows<OfProcess<R>>,
+}
+
+/// A row that counts the references to one thing.
+pub(crate) trait Balance {
+    ghost use Rattle.std.specs.Prelude.{◌≡◌, Bool};
+
+    /// Whether more or fewer references were let go, or acknowledged, than were taken.
+    ghost unbalanced: { Self → Bool };
+
+    fn is_unbalanced(&self) -> bool
+        ensures { result ≡ unbalanced self.now };
+}
+
+/// The section of these rows.
+pub(crate) fn references_of<R: Balance + Drop>(rows: Vec<OfProcess<R>>) -> References<R>
+    ensures rows { result.rows ≡ rows.items }
+    ensures unbalanced { result.unbalanced
+        ≡ count_by (λ (row : OfProcess R). R.unbalanced row.row) result.rows }
+{
+    let unbalanced = rows.iter().filter(|row| row.row.is_unbalanced()).count() as u64;
+    References {
+        unbalanced,
+        rows: Rows::of(rows),
+    }
 }

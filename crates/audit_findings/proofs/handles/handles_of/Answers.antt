@@ -1,10 +1,6 @@
 use Rattle.std.proofs.Common.{◌++◌, map, sym, ap, ◌∙◌, arith}
-use Rattle.std.specs.Prelude.{count_by}
 use Rattle.std.specs.List.{flat_map}
 use Rattle.std.proofs.lemmas.List.{take_all}
-use Rattle.handle_ledger.specs.declared.held_row.HeldRow.{HeldRow}
-use Rattle.audit_findings.specs.declared.in_turn.OfProcess.{OfProcess}
-use Rattle.audit_findings.specs.Handles.{is_unbalanced_handle}
 use Rattle.audit_findings.proofs.HandleRows.{ListOfRows, joined_next, joined_to}
 use Rattle.audit_findings.proofs.handles.handles_of.Goals as goal
 
@@ -22,9 +18,8 @@ returns c wholes listed =
     let lists = c.args.lists.now in
     let items = λ (list : ListOfRows). list.items in
     let whole = take_all c.loop-list.list-index lists (omega arith) in
-    let rows = c.of.ensures ∙ c.loop-list.invariant ∙ ap (λ ls. flat_map (λ list. list) (map items ls)) whole in
+    let rows = c.references_of.ensures.rows ∙ c.loop-list.invariant ∙ ap (λ ls. flat_map (λ list. list) (map items ls)) whole in
     record {
       rows = (map items lists, listed, rows);
-      unbalanced = c.unbalanced_count.ensures
-          ∙ ap (count_by (λ (row : OfProcess HeldRow). is_unbalanced_handle row.row)) (c.as_slice-2.ensures.value ∙ sym c.of.ensures);
+      unbalanced = c.references_of.ensures.unbalanced;
     }
