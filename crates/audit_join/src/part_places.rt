@@ -4,15 +4,13 @@ ghost use Rattle.std.specs.Prelude.{◌≡◌, ◌<◌, ◌^◌, length, map};
 ghost use Rattle.capture_frame.specs.declared.fault.PartFault.{PartFault};
 ghost use Rattle.audit_join.specs.Parts.{IsFaultOfPart};
 
-use capture_frame::{Fault, PartFault};
-
-/// The length of a file header, without which the frames of a later part are joined.
-const FILE_HEADER: u64 = 16;
+use capture_frame::{FILE_HEADER, Fault, PartFault};
 
 /// A fault of the joined capture, as one of the part that it stands in.
 pub(crate) fn part_of(parts: &[&[u8]], fault: Fault) -> PartFault
     requires few { length parts.now < 2 ^ 32 }
-    requires there { (found : PartFault) × IsFaultOfPart (map (λ part. part.now) parts.now) fault found }
+    requires there { (found : PartFault)
+        × IsFaultOfPart (map (λ part. part.now) parts.now) fault found }
     ensures { (found : PartFault) →
         IsFaultOfPart (map (λ part. part.now) parts.now) fault found → result ≡ found }
 {
@@ -28,7 +26,8 @@ pub(crate) fn part_of(parts: &[&[u8]], fault: Fault) -> PartFault
                 fault: Fault { kind, place },
             };
         }
-        place -= length.saturating_sub(FILE_HEADER);
+        // The frames of a later part are joined without its file header.
+        place -= length.saturating_sub(FILE_HEADER as u64);
     }
     unreachable!()
 }

@@ -21,6 +21,7 @@ pub use direction::Direction;
 pub use fault::{Fault, FaultKind, PartFault};
 pub use frame::Frame;
 pub use frames::Frames;
+pub use header::FILE_HEADER;
 pub use lookup::{count_begun, frame_at};
 pub use number::{u32_at, u64_at};
 pub use process::{Process, Thread};
