@@ -1,5 +1,5 @@
 -- The jobs that processes are, and what they give together.
-use Rattle.std.proofs.Common.{◌≡◌, ℕ, zero, suc, ◌+◌, ◌^◌, ◌<◌, ◌≤◌, Bool, not, List, [], ◌∷◌, length, map, Some, refl, sym, ap, ◌∙◌, arith, get_or}
+use Rattle.std.proofs.Common.{◌≡◌, ℕ, zero, suc, ◌+◌, ◌^◌, ◌<◌, ◌≤◌, Bool, not, List, [], ◌∷◌, length, map, Option, Some, None, refl, sym, ap, ◌∙◌, arith, get_or}
 use Rattle.std.specs.Prelude.{All, IfSome, slice_get, slice_index_or}
 use Rattle.std.specs.List.{AllZip, range_with_len}
 use Rattle.std.proofs.Math.Logic.{∥∥₁_elim, ∥∥₁_map}
@@ -13,6 +13,7 @@ use Rattle.capture_frame.specs.Units.{Placed}
 use Rattle.capture_frame.specs.declared.frame.Frame.{Frame}
 use Rattle.capture_frame.specs.declared.process.Process.{Process}
 use Rattle.claim_board.specs.Board.{AreJobs}
+use Rattle.claim_board.specs.Orders.{IsLeastFault}
 use Rattle.claim_board.specs.Results.{AreInOrder}
 use Rattle.claim_board.specs.Running.{AreWorkJobs, job_at, no_place}
 use Rattle.claim_board.specs.declared.job.Job.{Job}
@@ -115,6 +116,21 @@ process_work n few = record {
   places = all_placed 0 n (omega (arith, few));
   few = let long = jobs_long n in omega (arith, few, long);
 }
+
+-- ---- none of them has a fault
+
+abbrev fault_in : Option Job → Option ℕ
+fault_in None = None
+fault_in (Some job) = job.fault
+
+no_fault_from : (start n i : ℕ) (job : Job) (x : ℕ) → slice_get (map process_job (range_with_len start n)) i ≡ Some job
+    → job.fault ≡ Some x → ⊥
+no_fault_from start zero i job x is has = absurd (cc)
+no_fault_from start (suc n) zero job x is has = let none : None ≡ Some x = ap fault_in is ∙ has in absurd (cc)
+no_fault_from start (suc n) (suc i) job x is has = no_fault_from (start + 1) n i job x is has
+
+pub no_least : (n x : ℕ) → IsLeastFault (process_jobs n) x → ⊥
+no_least n x least = let found = least.found in no_fault_from 0 n found.0 found.1 x found.2 found.3
 
 -- ---- what they give
 

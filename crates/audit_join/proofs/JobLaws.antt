@@ -1,5 +1,6 @@
 -- The jobs that runs of frames are.
 use Rattle.std.proofs.Common.{◌≡◌, ℕ, zero, suc, ◌*◌, ◌^◌, ◌<◌, ◌≤◌, List, [], ◌∷◌, length, map, get_or, sym, ◌∙◌, subst, arith, Bor}
+use Rattle.std.specs.Prelude.{slice_index_or}
 use Rattle.std.proofs.Math.Logic.{∥∥₁_elim}
 use Rattle.std.specs.Coded.{le_prop}
 use Rattle.std.specs.List.{AllZip}
@@ -7,7 +8,7 @@ use Rattle.std.proofs.lemmas.Slice.Zip.{AllZip-long}
 use Rattle.std.proofs.lemmas.List.{length-map, get_or-map}
 use Rattle.capture_frame.specs.declared.frame.Frame.{Frame}
 use Rattle.claim_board.specs.Running.{job_at}
-use Rattle.audit_join.specs.Jobs.{AreCut, IsJobOf, AreJobRuns, run_at}
+use Rattle.audit_join.specs.Jobs.{AreCut, IsJobOf, AreJobRuns}
 use Rattle.claim_board.specs.declared.job.Job.{Job}
 
 zip_at : {A B : Type 0} (R : A → B → Type 0) (xs : List A) (ys : List B) (i : ℕ) (d : A) (e : B) → AllZip R xs ys → i < length ys
@@ -38,7 +39,8 @@ pub within_runs : (runs : List (Bor (List Frame))) (jobs : List Job) → ∥ All
 within_runs runs jobs are i within = ∥∥₁_elim are le_prop (λ each. number_within runs jobs each i within)
 
 -- the run with this number, as it is read
-pub run_is : (runs : List (Bor (List Frame))) (i : ℕ) (d : Bor (List Frame)) → i < length runs → run_at (lists_of runs) i ≡ (get_or runs i d).now
+pub run_is : (runs : List (Bor (List Frame))) (i : ℕ) (d : Bor (List Frame)) → i < length runs
+    → slice_index_or (lists_of runs) i [] ≡ (get_or runs i d).now
 run_is runs i d within = get_or-map (λ (run : Bor (List Frame)). run.now) runs i d [] within
 
 -- it is that job

@@ -1,5 +1,5 @@
 -- The first fault of what stands in frames, and the jobs that runs of frames are.
-use Rattle.std.specs.Prelude.{◌≡◌, ℕ, ◌≤◌, ◌^◌, List, length, ◌∷◌, ◌++◌, All, AllPairs, Option, Some, None, slice_index_or, []}
+use Rattle.std.specs.Prelude.{◌≡◌, ℕ, ◌≤◌, ◌^◌, List, length, ◌∷◌, ◌++◌, All, AllPairs, Option, Some, None}
 use Rattle.std.specs.List.{sum_by}
 use Rattle.capture_frame.specs.declared.fault.Fault.{Fault}
 use Rattle.capture_frame.specs.declared.frame.Frame.{Frame}
@@ -55,7 +55,3 @@ pub record AreJobRuns (runs : List (List Frame)) : Type 0 where
   pub few : length runs ≤ 2 ^ 32
   pub some : All (λ run. 1 ≤ length run) runs
   pub cut : All AreCut runs
-
--- the run with this number
-abbrev pub run_at : List (List Frame) → ℕ → List Frame
-run_at runs i = slice_index_or runs i []

@@ -27,7 +27,7 @@ use crate::piece::Piece;
 use crate::shares::sum_shares;
 use audit_findings::{Findings, OfProcess, PieceSummary};
 use capture_frame::{Frame, PartCut, cut_parts};
-use claim_board::{Gate, NoGate, Workers, run_all};
+use claim_board::{Gate, NoGate, Stop, Workers, run_all};
 use handle_ledger::HeldRow;
 use std::alloc::{AllocError, Global};
 use std::thread::Threads;
@@ -157,7 +157,8 @@ fn look_again<'c, T: Threads + Sync>(
     let work = HandleWork { whole, frames };
     match run_all(rt, alloc, &work, workers, &NoGate) {
         Ok(lists) => Ok(lists),
+        Err(Stop::Memory) => Err(AllocError),
         // No job has a fault.
-        Err(_) => Err(AllocError),
+        Err(Stop::Least(_)) => unreachable!(),
     }
 }

@@ -1,6 +1,6 @@
 use Rattle.audit_findings.specs.Summary.{process_count}
 use Rattle.audit_join.proofs.CutLaws.{good_cut}
-use Rattle.audit_join.proofs.HandleJobs.{all_listed, few_processes, process_work}
+use Rattle.audit_join.proofs.HandleJobs.{all_listed, few_processes, no_least, process_work}
 use Rattle.audit_join.proofs.audits.look_again.Goals as goal
 
 pub invariant_of-work : goal.invariant_of-work
@@ -20,3 +20,7 @@ run_all-requires-after_bounds g c κs within =
 
 pub returns-in-Ok : goal.returns-in-Ok
 returns-in-Ok g c wholes show = all_listed c.args.whole.now c.args.frames.now c.in-Ok.lists.items c.requires.sums c.in-Ok.ensures.results wholes show
+
+pub unreachable-requires : goal.unreachable-requires
+unreachable-requires g c =
+    no_least (process_count c.args.whole.now) c.in-Err-Least.field-0-0 (rw c.in-Err-Least.field-0-is at c.in-Err-Least.ensures.stop)
