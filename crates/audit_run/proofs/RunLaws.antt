@@ -1,5 +1,5 @@
 -- What a run rests on: what came of a failed write, and what is said besides of the same text.
-use Rattle.std.proofs.Common.{◌≡◌, ℕ, ◌<◌, List, length, map, Bor, Option, Result, Ok, Err, sym, ap, subst, ◌∙◌, arith}
+use Rattle.std.proofs.Common.{◌≡◌, ℕ, ◌<◌, List, length, map, Vec, Global, Bor, Option, Result, Ok, Err, sym, ap, subst, ◌∙◌, arith}
 use Rattle.std.specs.List.{AllZip}
 use Rattle.std.proofs.lemmas.List.{length-map}
 use Rattle.capture_frame.specs.declared.fault.PartFault.{PartFault}
@@ -34,6 +34,13 @@ opening_gives files TooLarge fault = absurd fault
 opening_gives files Read fault = absurd fault
 opening_gives files Write fault = absurd fault
 opening_gives files Open fault = tt
+
+-- a part from each reader
+pub a_part_each : {R : Type 0} (remaining : R → Option (List ℕ)) (readers : List R) (parts : List (Vec ℕ Global))
+    → AllZip IsAllOf (map remaining readers) (map (λ (part : Vec ℕ Global). part.items) parts) → length parts ≡ length readers
+a_part_each remaining readers parts read =
+    sym (length-map parts (λ (part : Vec ℕ Global). part.items))
+    ∙ AllZip-long IsAllOf (map remaining readers) (map (λ (part : Vec ℕ Global). part.items) parts) read ∙ length-map readers remaining
 
 -- a slice for each reader
 pub few_slices : {R : Type 0} (remaining : R → Option (List ℕ)) (readers : List R) (parts : List (List ℕ)) (slices : List (Bor (List ℕ))) (most : ℕ)

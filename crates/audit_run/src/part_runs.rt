@@ -1,6 +1,6 @@
 //! From the bytes of several readers, the parts of a capture, to the bytes of a writer.
 
-ghost use Rattle.std.specs.Prelude.{◌≡◌, ◌<◌, ◌≤◌, ◌^◌, List, length, map, vec_len, All, IfOk, IfErr, OnOk, OnErr, IsOkUnless, string_bytes};
+ghost use Rattle.std.specs.Prelude.{◌≡◌, ◌<◌, ◌≤◌, ◌^◌, List, [], length, map, vec_len, vec_capacity, All, IfOk, IfErr, OnOk, OnErr, IsOkUnless, string_bytes};
 ghost use Rattle.std.specs.Io.KnownBytes.{Appends};
 ghost use Rattle.capture_frame.specs.Parts.{joined};
 ghost use Rattle.capture_frame.specs.Units.{IsBytes};
@@ -55,14 +55,14 @@ pub fn run_parts<T: Threads + Sync, R: Read + Drop, W: Write, G: Gate + Sync>(
     ensures { Runs (ReadersGive (map R.remaining readers.items)) IsTextOfParts GoWithWritten
         (W.contents writer.old) (W.contents writer.new) result }
 {
+    let room = room_for(alloc, readers.len())?;
     let parts = read_within(alloc, readers)?;
-    let slices = slices_of(alloc, parts.as_slice())?;
+    let slices = slices_of(room, parts.as_slice());
     write_parts(rt, alloc, slices.as_slice(), writer, workers, piece, gate)
 }
 
 /// Reads the parts of a capture in order, each to its end, and writes the line that names the first
-/// fault, or that there is none. Finding it takes no memory beyond what the parts and their list
-/// take.
+/// fault, or that there is none. Reading alone takes memory: see `write_first_fault`.
 pub fn run_first_fault_parts<R: Read + Drop, W: Write>(
     alloc: Global,
     readers: Vec<R>,
@@ -72,9 +72,20 @@ pub fn run_first_fault_parts<R: Read + Drop, W: Write>(
     ensures { Runs (ReadersGive (map R.remaining readers.items)) IsLineOnParts GoWithFault
         (W.contents writer.old) (W.contents writer.new) result }
 {
+    let room = room_for(alloc, readers.len())?;
     let parts = read_within(alloc, readers)?;
-    let slices = slices_of(alloc, parts.as_slice())?;
+    let slices = slices_of(room, parts.as_slice());
     write_first_fault_parts(slices.as_slice(), writer)
+}
+
+/// An empty list with room for the slices of so many parts. The room is taken before anything is
+/// read, so that no memory is asked for between the parts and their first fault.
+fn room_for<'p>(alloc: Global, parts: usize) -> Result<Vec<&'p [u8]>, RunError>
+    ensures empty { IfOk result (λ room. room.items ≡ []) }
+    ensures room { IfOk result (λ room. vec_capacity room ≡ parts) }
+    ensures memory { IsOkUnless result RunError.Memory }
+{
+    Vec::with_capacity(alloc, parts).map_err(|_| RunError::Memory)
 }
 
 /// Reads the parts whole, all together within the limit.
@@ -87,20 +98,18 @@ fn read_within<R: Read + Drop>(alloc: Global, readers: Vec<R>) -> Result<Vec<Vec
     read_parts(alloc, readers, CAPTURE_LIMIT)
 }
 
-/// The bytes of each part.
-fn slices_of<'p>(alloc: Global, parts: &'p [Vec<u8>]) -> Result<Vec<&'p [u8]>, RunError>
-    ensures slices { IfOk result (λ slices.
-        map (λ slice. slice.now) slices.items ≡ map (λ part. part.items) parts.now) }
-    ensures bytes { IfOk result (λ slices. All IsBytes (map (λ slice. slice.now) slices.items)) }
-    ensures memory { IsOkUnless result RunError.Memory }
+/// The bytes of each part, in an empty list that has room for them.
+fn slices_of<'p>(room: Vec<&'p [u8]>, parts: &'p [Vec<u8>]) -> Vec<&'p [u8]>
+    requires empty { room.items ≡ [] }
+    requires room { length parts.now ≤ vec_capacity room }
+    ensures slices { map (λ slice. slice.now) result.items ≡ map (λ part. part.items) parts.now }
+    ensures bytes { All IsBytes (map (λ slice. slice.now) result.items) }
 {
-    let mut slices = Vec::new(alloc);
+    let mut slices = room;
     for part in parts {
-        slices
-            .push(as_bytes(part.as_slice()))
-            .map_err(|_| RunError::Memory)?;
+        slices.push_reserved(as_bytes(part.as_slice()));
     }
-    Ok(slices)
+    slices
 }
 
 /// The same slice. Of the elements of a `Vec` no clause says that they are bytes; of those of a

@@ -3,18 +3,23 @@ use Rattle.audit_streams.specs.declared.run_error.RunError.TheVariants.{Memory}
 use Rattle.std.proofs.KnownBytes.{Keeps-refl}
 use Rattle.std.proofs.lemmas.Result.{err_from_is_err_and}
 use Rattle.audit_run.specs.Run.{given, none_given}
-use Rattle.audit_run.proofs.RunLaws.{few_slices}
+use Rattle.audit_run.proofs.RunLaws.{a_part_each, few_slices}
 use Rattle.audit_run.proofs.part_runs.run_first_fault_parts.Goals as goal
+
+pub returns-in_err-room : goal.returns-in_err-room
+returns-in_err-room g c =
+    let error = err_from_is_err_and c.from_residual.result c.from_residual.ensures.1 in
+    none_given Memory tt (rw (error.1, error.2, c.in_err-room.ensures.memory) refl) (Keeps-refl _)
 
 pub returns-in_err-parts : goal.returns-in_err-parts
 returns-in_err-parts g c =
-    let error = err_from_is_err_and c.from_residual.result c.from_residual.ensures.1 in
+    let error = err_from_is_err_and c.from_residual-in_err-parts.result c.from_residual-in_err-parts.ensures.1 in
     none_given _ c.in_err-parts.ensures.none (rw (← error.2) error.1) (Keeps-refl _)
 
-pub returns-in_err-slices : goal.returns-in_err-slices
-returns-in_err-slices g c =
-    let error = err_from_is_err_and c.from_residual-in_err-slices.result c.from_residual-in_err-slices.ensures.1 in
-    none_given Memory tt (rw (error.1, error.2, c.in_err-slices.ensures.memory) refl) (Keeps-refl _)
+pub slices_of-slices-requires-clause-room : goal.slices_of-slices-requires-clause-room
+slices_of-slices-requires-clause-room g c =
+    let many = a_part_each g.R.Read.remaining c.args.readers.items c.in_ok-parts.parts.items c.in_ok-parts.ensures.parts.0 in
+    omega (arith, many, c.as_slice.ensures.len, c.len.ensures, c.in_ok-room.ensures.room, c.in_ok-parts.parts.ok.0, c.args.readers.ok.0)
 
 pub write_first_fault_parts-requires : goal.write_first_fault_parts-requires
 write_first_fault_parts-requires g c =
@@ -25,4 +30,4 @@ write_first_fault_parts-requires g c =
 pub returns : goal.returns
 returns g c =
     let slices : map (λ slice. slice.now) c.as_slice-2.result.now ≡ map (λ part. part.items) c.in_ok-parts.parts.items = search rules in
-    given _ (c.in_ok-parts.ensures.parts, rw (c.in_ok-slices.ensures.slices, c.as_slice.ensures.value) at c.in_ok-slices.ensures.bytes) (rw slices at c.write_first_fault_parts.ensures.written)
+    given _ (c.in_ok-parts.ensures.parts, rw (c.slices_of-slices.ensures.slices, c.as_slice.ensures.value) at c.slices_of-slices.ensures.bytes) (rw slices at c.write_first_fault_parts.ensures.written)
