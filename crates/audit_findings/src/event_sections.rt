@@ -42,7 +42,8 @@ impl EventSections {
     pub(crate) fn of(alloc: Global, ledgers: EventLedgers) -> Result<Self, AllocError>
         requires { (events : List EventText) × SumsEvents ledgers events × AreFewEvents events }
         ensures { IfOk result (λ kept. (events : List EventText) → SumsEvents ledgers events →
-            (said : EventSectionsText) × AreEventSections events said × KeepEventSections kept said) }
+            (said : EventSectionsText) × AreEventSections events said
+            × KeepEventSections kept said) }
     {
         let codes = code_rows(alloc, &ledgers.codes)?;
         Ok(EventSections {

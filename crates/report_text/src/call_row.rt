@@ -44,7 +44,8 @@ pub(crate) trait CallSection {
 
     /// What is kept of the calls.
     fn calls<'f>(&self, found: &'f Findings<'_>) -> &'f [CallRow]
-        ensures kept { KeepsRows section kept_call (head_of found.now.sections) found.now result.now }
+        ensures kept { KeepsRows section kept_call (head_of found.now.sections) found.now
+            result.now }
         ensures events { HaveEvents section (λ call. call.event) found.now };
 
     /// Pushes the field.
