@@ -5,8 +5,7 @@ ghost use Rattle.capture_frame.specs.Cut.{AreFrames};
 
 use crate::no_answer::NoAnswer;
 use crate::told;
-use audit_join::CAPTURE_LIMIT;
-use capture_frame::{Cut, Frame, PartCut, Thread, cut, cut_parts};
+use capture_frame::{Cut, Frame, Thread, cut};
 use event_core::{Event, Events};
 use std::alloc::{AllocError, Global};
 use std::io::Write;
@@ -23,30 +22,6 @@ pub(crate) fn cut_all<W: Write>(
         Err(Cut::Memory) => Err(NoAnswer::Memory),
         Err(Cut::Bad { fault, before }) => {
             told::fault(fault, out)?;
-            told::frames(before.as_slice(), out)
-        }
-    }
-}
-
-/// A part of one frame, a write with the sequence 0 on device 1.
-pub(crate) const FIRST_PART: &[u8] = b"BNDRCAP2\x08\0\0\0\0\0\0\0\
-    \0\0\0\0\0\0\0\0\x64\0\0\0\x65\0\0\0\x01\0\0\0\0\0\0\0\0\0\0\0\x01\0\0\0";
-
-/// Prints the frames of three parts, of which the capture is the second and the third one has no
-/// frame; or the first fault of the parts and the frames before.
-pub(crate) fn cut_all_parts<W: Write>(
-    alloc: Global,
-    capture: &[u8],
-    out: &mut W,
-) -> Result<(), NoAnswer> {
-    if capture.len() > CAPTURE_LIMIT {
-        return Err(NoAnswer::Unfit);
-    }
-    match cut_parts(alloc, &[FIRST_PART, capture, &FIRST_PART[..16]]) {
-        Ok(frames) => told::frames(frames.as_slice(), out),
-        Err(PartCut::Memory) => Err(NoAnswer::Memory),
-        Err(PartCut::Bad { found, before }) => {
-            told::part_fault(found, out)?;
             told::frames(before.as_slice(), out)
         }
     }

@@ -7,12 +7,13 @@ use crate::sums::{Way, summed};
 use crate::told;
 use call_stacks::ThreadCalls;
 use event_core::{
-    BufferItem, Event, HandleItem, NodeItem, PendingItem, RequestItem, buffer_step, clear_step,
-    death_step, handle_step, node_step, request_step,
+    BufferItem, Event, HandleItem, NodeItem, OnewayItem, PendingItem, RequestItem, buffer_step,
+    clear_step, death_step, handle_step, node_step, oneway_step, request_step,
 };
 use handle_ledger::{HandleLedger, NodeLedger};
 use object_view::{Objects, held_step};
 use pending_ledger::{Buffers, Pending, Requests};
+use process_ledgers::OnewayLedger;
 use std::alloc::{AllocError, Global};
 use std::io::Write;
 use summary_law::Tally;
@@ -54,6 +55,10 @@ fn clear_items(alloc: Global, events: &[Event<'_>]) -> Result<Vec<PendingItem<u6
 
 fn request_items(alloc: Global, events: &[Event<'_>]) -> Result<Vec<RequestItem>, AllocError> {
     items!(alloc, events, request_step)
+}
+
+fn oneway_items(alloc: Global, events: &[Event<'_>]) -> Result<Vec<OnewayItem>, AllocError> {
+    items!(alloc, events, oneway_step)
 }
 
 /// The code word of each record, with the length of its payload.
@@ -236,6 +241,22 @@ pub(crate) fn requests<W: Write>(
     let ledger: Requests = summed(alloc, items.as_slice(), way)?;
     let outstanding = ledger.outstanding()?;
     told::line(out, "outstanding", outstanding.as_slice())
+}
+
+pub(crate) fn oneway<W: Write>(
+    alloc: Global,
+    capture: &[u8],
+    way: Way,
+    out: &mut W,
+) -> Result<(), NoAnswer> {
+    let events = events_of_process(alloc, capture)?;
+    let items = oneway_items(alloc, events.as_slice())?;
+    if !is_short(items.as_slice()) {
+        return Err(NoAnswer::Unfit);
+    }
+    let ledger: OnewayLedger = summed(alloc, items.as_slice(), way)?;
+    let rows = ledger.rows()?;
+    told::oneway(rows.as_slice(), out)
 }
 
 pub(crate) fn calls<W: Write>(

@@ -6,6 +6,7 @@ mod fits;
 mod jobs;
 mod ledgers;
 mod no_answer;
+mod parts;
 mod pieces;
 mod runs;
 mod sums;

@@ -1,19 +1,11 @@
 //! From a capture, or a command line, to findings, to text and to streams.
 
-ghost use Rattle.std.specs.Prelude.{◌≡◌, IfOk, vec_len};
-ghost use Rattle.audit_join.specs.declared.limits.TheConstants.{CAPTURE_LIMIT};
-
-use crate::events::FIRST_PART;
 use crate::no_answer::NoAnswer;
 use crate::told;
-use audit_join::{
-    AuditError, CAPTURE_LIMIT, Findings, PartsError, Piece, audit, audit_one, audit_parts,
-};
+use audit_join::{AuditError, CAPTURE_LIMIT, Findings, Piece, audit, audit_one};
 use audit_program::program;
-use audit_run::{
-    PartsWritten, Written, run, run_first_fault, run_first_fault_parts, run_gated, run_parts,
-};
-use audit_streams::{read_capture, read_parts};
+use audit_run::{Question, Request, Written, answer_files, run, run_first_fault, run_gated};
+use audit_streams::read_capture;
 use claim_board::{NoGate, Workers};
 use report_text::{rows, text};
 use std::alloc::{AllocError, Global};
@@ -21,32 +13,14 @@ use std::fs::Files;
 use std::io::Write;
 use std::thread::Threads;
 
+/// How many files a line may name: as many as a command line.
+const MOST_FILES: usize = 256;
+
 /// Prints the bytes that are read.
 pub(crate) fn read<W: Write>(alloc: Global, bytes: &[u8], out: &mut W) -> Result<(), NoAnswer> {
     let mut reader = bytes;
     let capture = read_capture(alloc, &mut reader, CAPTURE_LIMIT)?;
     writeln!(out, "{capture:?}")?;
-    Ok(())
-}
-
-/// Readers of three parts, of which the capture is the second and the third one has no frame.
-fn readers_of(alloc: Global, capture: &[u8]) -> Result<Vec<&[u8]>, AllocError>
-    ensures { IfOk result (λ readers. vec_len readers ≡ 3) }
-{
-    Ok(vec![in alloc; FIRST_PART, capture, &FIRST_PART[..16]]?)
-}
-
-/// Prints the bytes of each part that is read.
-pub(crate) fn read_all_parts<W: Write>(
-    alloc: Global,
-    capture: &[u8],
-    out: &mut W,
-) -> Result<(), NoAnswer> {
-    let readers = readers_of(alloc, capture)?;
-    let parts = read_parts(alloc, readers, CAPTURE_LIMIT)?;
-    for part in &parts {
-        writeln!(out, "{part:?}")?;
-    }
     Ok(())
 }
 
@@ -59,7 +33,7 @@ fn tell<W: Write>(audited: Result<Findings<'_>, AuditError>, out: &mut W) -> Res
     }
 }
 
-fn tell_findings<W: Write>(found: &Findings<'_>, out: &mut W) -> Result<(), NoAnswer> {
+pub(crate) fn tell_findings<W: Write>(found: &Findings<'_>, out: &mut W) -> Result<(), NoAnswer> {
     told::frames(found.frames(), out)?;
     told::sections(found.sections(), out)
 }
@@ -83,35 +57,6 @@ pub(crate) fn audited<T: Threads + Sync, W: Write>(
     }
     let piece = Piece::new(1).unwrap();
     tell(audit(rt, alloc, capture, workers, piece, &NoGate), out)
-}
-
-/// Prints the findings of parts, or the first fault.
-fn tell_of_parts<W: Write>(
-    audited: Result<Findings<'_>, PartsError>,
-    out: &mut W,
-) -> Result<(), NoAnswer> {
-    match audited {
-        Ok(found) => tell_findings(&found, out),
-        Err(PartsError::Memory) => Err(NoAnswer::Memory),
-        Err(PartsError::Malformed(found)) => told::part_fault(found, out),
-    }
-}
-
-/// The capture is the second of three parts.
-pub(crate) fn audited_parts<T: Threads + Sync, W: Write>(
-    rt: &T,
-    alloc: Global,
-    capture: &[u8],
-    workers: Workers,
-    out: &mut W,
-) -> Result<(), NoAnswer> {
-    // The other parts have 64 bytes.
-    if capture.len() > CAPTURE_LIMIT - 64 {
-        return Err(NoAnswer::Unfit);
-    }
-    let parts = [FIRST_PART, capture, &FIRST_PART[..16]];
-    let piece = Piece::new(1).unwrap();
-    tell_of_parts(audit_parts(rt, alloc, &parts, workers, piece, &NoGate), out)
 }
 
 pub(crate) fn audited_by_one<T: Threads + Sync, W: Write>(
@@ -225,33 +170,6 @@ pub(crate) fn ran_first_fault<W: Write>(
     }
 }
 
-pub(crate) fn ran_parts<T: Threads + Sync, W: Write>(
-    rt: &T,
-    alloc: Global,
-    capture: &[u8],
-    workers: Workers,
-    out: &mut W,
-) -> Result<(), NoAnswer> {
-    let readers = readers_of(alloc, capture)?;
-    let piece = Piece::new(1).unwrap();
-    match run_parts(rt, alloc, readers, out, workers, piece, &NoGate)? {
-        PartsWritten::Report => told::line(out, "a report", &[]),
-        PartsWritten::Malformed(found) => told::part_fault(found, out),
-    }
-}
-
-pub(crate) fn ran_first_fault_parts<W: Write>(
-    alloc: Global,
-    capture: &[u8],
-    out: &mut W,
-) -> Result<(), NoAnswer> {
-    let readers = readers_of(alloc, capture)?;
-    match run_first_fault_parts(alloc, readers, out)? {
-        None => told::line(out, "no fault", &[]),
-        Some(found) => told::part_fault(found, out),
-    }
-}
-
 /// The words of a command line, which are parted by one tab each.
 fn words_of(alloc: Global, line: &str) -> Result<Vec<String>, AllocError> {
     let mut words = Vec::new(alloc);
@@ -277,5 +195,34 @@ pub(crate) fn programmed<T: Files + Threads + Sync, W: Write, E: Write>(
     if status == 3 {
         return Err(NoAnswer::Memory);
     }
+    told::line(out, "status", &[status as u64])
+}
+
+/// The names of the files, which are parted by one tab each.
+fn files_of(alloc: Global, line: &str) -> Result<Vec<&str>, AllocError> {
+    let mut files = Vec::new(alloc);
+    for file in line.split('\t') {
+        files.push(file)?;
+    }
+    Ok(files)
+}
+
+/// The bytes are names of files.
+pub(crate) fn answered_files<T: Files + Threads + Sync, W: Write>(
+    rt: &T,
+    alloc: Global,
+    bytes: &[u8],
+    question: Question,
+    out: &mut W,
+) -> Result<(), NoAnswer> {
+    let Ok(line) = str::from_utf8(bytes) else {
+        return Err(NoAnswer::Unfit);
+    };
+    let files = files_of(alloc, line)?;
+    if files.len() > MOST_FILES {
+        return Err(NoAnswer::Unfit);
+    }
+    let files = files.as_slice();
+    let status = answer_files(rt, alloc, Request { question, files }, out)?;
     told::line(out, "status", &[status as u64])
 }

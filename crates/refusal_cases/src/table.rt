@@ -1,9 +1,11 @@
 //! The names of the calls, and what each of them is.
 
 use crate::no_answer::NoAnswer;
+use crate::parts::report_by;
 use crate::sums::Way;
-use crate::{events, jobs, ledgers, pieces, runs};
+use crate::{events, jobs, ledgers, parts, pieces, runs};
 use audit_join::CAPTURE_LIMIT;
+use audit_run::Question;
 use audit_streams::read_capture;
 use claim_board::Workers;
 use std::alloc::Global;
@@ -75,9 +77,9 @@ fn of_lists<W: Write>(
 ) -> Result<(), NoAnswer> {
     by_name! { name, out;
         "read_capture" => runs::read(alloc, bytes, out),
-        "read_parts" => runs::read_all_parts(alloc, bytes, out),
+        "read_parts" => parts::read(alloc, bytes, out),
         "cut" => events::cut_all(alloc, bytes, out),
-        "cut_parts" => events::cut_all_parts(alloc, bytes, out),
+        "cut_parts" => parts::cut_all(alloc, bytes, out),
         "Tally: add, rows" => ledgers::tally(alloc, bytes, Way::Add, out),
         "Tally: join, rows" => ledgers::tally(alloc, bytes, Way::Join, out),
         "HandleLedger: add, rows" => ledgers::handles(alloc, bytes, Way::Add, out),
@@ -92,6 +94,8 @@ fn of_lists<W: Write>(
         "Deaths: join, outstanding, strays" => ledgers::deaths(alloc, bytes, Way::Join, out),
         "Clears: add, outstanding, strays" => ledgers::clears(alloc, bytes, Way::Add, out),
         "Clears: join, outstanding, strays" => ledgers::clears(alloc, bytes, Way::Join, out),
+        "OnewayLedger: add, rows" => ledgers::oneway(alloc, bytes, Way::Add, out),
+        "OnewayLedger: join, rows" => ledgers::oneway(alloc, bytes, Way::Join, out),
         "Requests: add, outstanding" => ledgers::requests(alloc, bytes, Way::Add, out),
         "Requests: join, outstanding" => ledgers::requests(alloc, bytes, Way::Join, out),
         "ThreadCalls: add, finish" => ledgers::calls(alloc, bytes, Way::Add, out),
@@ -118,8 +122,8 @@ fn of_frames<T: Threads + Sync, W: Write>(
         "PieceSummary: join, sections" => pieces::summed(alloc, bytes, Way::Join, out),
         "audit by 1" => runs::audited(rt, alloc, bytes, one, out),
         "audit by 4" => runs::audited(rt, alloc, bytes, four, out),
-        "audit_parts by 1" => runs::audited_parts(rt, alloc, bytes, one, out),
-        "audit_parts by 4" => runs::audited_parts(rt, alloc, bytes, four, out),
+        "audit_parts by 1" => parts::audited(rt, alloc, bytes, one, out),
+        "audit_parts by 4" => parts::audited(rt, alloc, bytes, four, out),
         "audit_one" => runs::audited_by_one(rt, alloc, bytes, out),
     }
 }
@@ -141,9 +145,16 @@ fn of_captures<T: Files + Threads + Sync, W: Write, E: Write>(
         "run by 1" => runs::ran(rt, alloc, bytes, one, out),
         "run by 4" => runs::ran(rt, alloc, bytes, four, out),
         "run_gated by 1" => runs::ran_gated(rt, alloc, bytes, one, out),
-        "run_parts by 1" => runs::ran_parts(rt, alloc, bytes, one, out),
+        "run_parts by 1" => parts::ran(rt, alloc, bytes, one, out),
+        "run_parts by 4" => parts::ran(rt, alloc, bytes, four, out),
         "run_first_fault" => runs::ran_first_fault(alloc, bytes, out),
-        "run_first_fault_parts" => runs::ran_first_fault_parts(alloc, bytes, out),
+        "run_first_fault_parts" => parts::ran_first_fault(alloc, bytes, out),
+        "answer: report by 1" => parts::answered(rt, alloc, bytes, report_by(one), out),
+        "answer: first fault" => parts::answered(rt, alloc, bytes, Question::FirstFault, out),
+        "answer_files: report by 1" => runs::answered_files(rt, alloc, bytes, report_by(one), out),
+        "answer_files: first fault" => {
+            runs::answered_files(rt, alloc, bytes, Question::FirstFault, out)
+        },
         "program" => runs::programmed(rt, alloc, bytes, out, err),
     }
 }

@@ -4,7 +4,7 @@ use crate::no_answer::NoAnswer;
 use audit_findings::{CodeRow, Sections};
 use call_stacks::{CallFindings, Opener, RefusedSend};
 use capture_frame::{Fault, Frame, PartFault};
-use event_core::Event;
+use event_core::{Event, OnewayKey};
 use handle_ledger::{HandleRow, HeldRow, NodeRow};
 use std::io::Write;
 
@@ -80,6 +80,21 @@ pub(crate) fn tally<W: Write>(rows: &[(u32, u64, u128)], out: &mut W) -> Result<
     for row in rows {
         let weight = u64::try_from(row.2).unwrap_or(u64::MAX);
         line(out, "key", &[row.0 as u64, row.1, weight])?;
+    }
+    Ok(())
+}
+
+/// Prints each handle that is sent to, and what is received, how often and with what size.
+pub(crate) fn oneway<W: Write>(
+    rows: &[(OnewayKey, u64, u128)],
+    out: &mut W,
+) -> Result<(), NoAnswer> {
+    for row in rows {
+        let size = u64::try_from(row.2).unwrap_or(u64::MAX);
+        match row.0 {
+            OnewayKey::Sent(handle) => line(out, "sent", &[handle as u64, row.1, size])?,
+            OnewayKey::Received => line(out, "received", &[row.1, size])?,
+        }
     }
     Ok(())
 }

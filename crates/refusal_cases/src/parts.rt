@@ -1,0 +1,163 @@
+//! The calls of a capture in parts: what is read, its frames, its findings and what is written.
+
+ghost use Rattle.std.specs.Bool.{OnTrue};
+ghost use Rattle.std.specs.List.{sum_by};
+ghost use Rattle.std.specs.Prelude.{◌≤◌, length, map, vec_len, IfOk};
+ghost use Rattle.audit_join.specs.declared.limits.TheConstants.{CAPTURE_LIMIT};
+
+use crate::no_answer::NoAnswer;
+use crate::{runs, told};
+use audit_join::{CAPTURE_LIMIT, PartsError, Piece, audit_parts};
+use audit_run::{PartsWritten, Question, answer, run_first_fault_parts, run_parts};
+use audit_streams::read_parts;
+use capture_frame::{PartCut, cut_parts};
+use claim_board::{NoGate, Workers};
+use std::alloc::{AllocError, Global};
+use std::io::Write;
+use std::thread::Threads;
+
+/// How many parts a list may have: as many as the program takes.
+const MOST_PARTS: usize = 256;
+
+/// The first part of a list, in front of which stands its length in two bytes, the lower one first;
+/// and what is behind it.
+fn first_part(input: &[u8]) -> Option<(&[u8], &[u8])> {
+    if input.len() < 2 {
+        return None;
+    }
+    let length = input[0] as usize + 256 * (input[1] as usize);
+    let (_, behind) = input.split_at(2);
+    if length > behind.len() {
+        return None;
+    }
+    Some(behind.split_at(length))
+}
+
+/// Whether these parts have at most so many bytes together.
+fn are_within(parts: &[&[u8]], left: usize) -> bool
+    ensures { OnTrue result (sum_by length (map (λ part. part.now) parts.now) ≤ left) }
+{
+    match parts {
+        [] => true,
+        [part, others @ ..] => part.len() <= left && are_within(others, left - part.len()),
+    }
+}
+
+/// The parts of a list, which may have nothing else behind them.
+fn parts_of<'c>(alloc: Global, input: &'c [u8]) -> Result<Vec<&'c [u8]>, NoAnswer>
+    ensures few { IfOk result (λ parts. vec_len parts ≤ 256) }
+    ensures limit { IfOk result (λ parts.
+        sum_by length (map (λ part. part.now) parts.items) ≤ CAPTURE_LIMIT) }
+{
+    let mut parts = Vec::new(alloc);
+    let mut rest = input;
+    for _ in 0..MOST_PARTS {
+        if let Some((part, behind)) = first_part(rest) {
+            parts.push(part).map_err(AllocError::from)?;
+            rest = behind;
+        }
+    }
+    if !rest.is_empty() || parts.len() > MOST_PARTS || !are_within(parts.as_slice(), CAPTURE_LIMIT)
+    {
+        return Err(NoAnswer::Unfit);
+    }
+    Ok(parts)
+}
+
+/// Prints the bytes of each part that is read.
+pub(crate) fn read<W: Write>(alloc: Global, input: &[u8], out: &mut W) -> Result<(), NoAnswer> {
+    let readers = parts_of(alloc, input)?;
+    let parts = read_parts(alloc, readers, CAPTURE_LIMIT)?;
+    for part in &parts {
+        writeln!(out, "{part:?}")?;
+    }
+    Ok(())
+}
+
+/// Prints the frames of the parts, or the first fault of their headers and the frames before.
+pub(crate) fn cut_all<W: Write>(alloc: Global, input: &[u8], out: &mut W) -> Result<(), NoAnswer> {
+    let parts = parts_of(alloc, input)?;
+    match cut_parts(alloc, parts.as_slice()) {
+        Ok(frames) => told::frames(frames.as_slice(), out),
+        Err(PartCut::Memory) => Err(NoAnswer::Memory),
+        Err(PartCut::Bad { found, before }) => {
+            told::part_fault(found, out)?;
+            told::frames(before.as_slice(), out)
+        }
+    }
+}
+
+/// Prints the findings of the parts, or their first fault.
+pub(crate) fn audited<T: Threads + Sync, W: Write>(
+    rt: &T,
+    alloc: Global,
+    input: &[u8],
+    workers: Workers,
+    out: &mut W,
+) -> Result<(), NoAnswer> {
+    let parts = parts_of(alloc, input)?;
+    audited_slices(rt, alloc, parts.as_slice(), workers, out)
+}
+
+fn audited_slices<T: Threads + Sync, W: Write>(
+    rt: &T,
+    alloc: Global,
+    parts: &[&[u8]],
+    workers: Workers,
+    out: &mut W,
+) -> Result<(), NoAnswer>
+    requires few { length parts.now ≤ 256 }
+    requires limit { sum_by length (map (λ part. part.now) parts.now) ≤ CAPTURE_LIMIT }
+{
+    let piece = Piece::new(1).unwrap();
+    match audit_parts(rt, alloc, parts, workers, piece, &NoGate) {
+        Ok(found) => runs::tell_findings(&found, out),
+        Err(PartsError::Memory) => Err(NoAnswer::Memory),
+        Err(PartsError::Malformed(found)) => told::part_fault(found, out),
+    }
+}
+
+pub(crate) fn ran<T: Threads + Sync, W: Write>(
+    rt: &T,
+    alloc: Global,
+    input: &[u8],
+    workers: Workers,
+    out: &mut W,
+) -> Result<(), NoAnswer> {
+    let readers = parts_of(alloc, input)?;
+    let piece = Piece::new(1).unwrap();
+    match run_parts(rt, alloc, readers, out, workers, piece, &NoGate)? {
+        PartsWritten::Report => told::line(out, "a report", &[]),
+        PartsWritten::Malformed(found) => told::part_fault(found, out),
+    }
+}
+
+pub(crate) fn ran_first_fault<W: Write>(
+    alloc: Global,
+    input: &[u8],
+    out: &mut W,
+) -> Result<(), NoAnswer> {
+    let readers = parts_of(alloc, input)?;
+    match run_first_fault_parts(alloc, readers, out)? {
+        None => told::line(out, "no fault", &[]),
+        Some(found) => told::part_fault(found, out),
+    }
+}
+
+/// The question for a report, by so many workers and a frame at a time.
+pub(crate) fn report_by(workers: Workers) -> Question {
+    let piece = Piece::new(1).unwrap();
+    Question::Report { workers, piece }
+}
+
+pub(crate) fn answered<T: Threads + Sync, W: Write>(
+    rt: &T,
+    alloc: Global,
+    input: &[u8],
+    question: Question,
+    out: &mut W,
+) -> Result<(), NoAnswer> {
+    let readers = parts_of(alloc, input)?;
+    let status = answer(rt, alloc, question, readers, out)?;
+    told::line(out, "status", &[status as u64])
+}
