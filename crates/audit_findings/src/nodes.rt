@@ -11,11 +11,9 @@ ghost use Rattle.audit_findings.specs.declared.in_turn.OfProcess.{OfProcess};
 use crate::in_turn::{InTurn, OfProcess, rows_in_turn};
 use crate::references::References;
 use crate::rows::Rows;
-use capture_frame::Process;
 use handle_ledger::NodeRow;
-use process_ledgers::{ProcessLedgers, ProcessSummary};
+use process_ledgers::{ProcessLedgers, Processes};
 use std::alloc::{AllocError, Global};
-use summary_law::InOrder;
 
 /// The rows of the nodes of a process.
 struct Nodes;
@@ -27,18 +25,18 @@ impl InTurn for Nodes {
 
     ghost are_of = { AreNodesOf };
 
-    fn rows(ledgers: &ProcessLedgers) -> Result<Vec<NodeRow>, AllocError> {
-        ledgers.nodes.rows()
+    fn rows(ledgers: &ProcessLedgers<'_>) -> Result<Vec<NodeRow>, AllocError> {
+        ledgers.nodes.own.rows()
     }
 }
 
 /// The section: the rows of each process in turn.
 pub(crate) fn nodes_of(
     alloc: Global,
-    processes: &InOrder<Process, ProcessSummary>,
+    processes: Processes<'_, '_>,
 ) -> Result<References<NodeRow>, AllocError>
     ensures { IfOk result (λ found. (wholes : List (Placed WholeFrame)) →
-        AreOfProcesses processes.now.entries.entries wholes → AreNodeFindings wholes found) }
+        AreOfProcesses processes.entry wholes → AreNodeFindings wholes found) }
 {
     let rows = rows_in_turn::<Nodes>(alloc, processes)?;
     Ok(References {

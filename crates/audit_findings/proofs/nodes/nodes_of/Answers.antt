@@ -6,12 +6,11 @@ use Rattle.process_ledgers.specs.Processes.{processes_of}
 use Rattle.audit_findings.specs.declared.in_turn.OfProcess.{OfProcess}
 use Rattle.audit_findings.specs.Nodes.{AreNodesOf, is_unbalanced_node}
 use Rattle.audit_findings.specs.InTurn.{AreInTurn}
-use Rattle.audit_findings.proofs.NoRows.{no_nodes_of}
 use Rattle.audit_findings.proofs.nodes.nodes_of.Goals as goal
 
 pub returns : goal.returns
 returns c wholes of = record {
-  rows = subst (AreInTurn (AreNodesOf (events_of_wholes wholes)) (processes_of wholes)) (sym c.of.ensures) (c.in_ok-rows.ensures no_nodes_of wholes of);
+  rows = subst (AreInTurn (AreNodesOf (events_of_wholes wholes)) (processes_of wholes)) (sym c.of.ensures) (c.in_ok-rows.ensures wholes of);
   unbalanced = c.unbalanced_count.ensures
       ∙ ap (count_by (λ (row : OfProcess NodeRow). is_unbalanced_node row.row)) (c.as_slice.ensures.value ∙ sym c.of.ensures);
 }
