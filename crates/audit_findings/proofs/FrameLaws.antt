@@ -1,7 +1,7 @@
 -- Views of frames, and the whole frames that they show.
 use Rattle.std.proofs.Common.{◌≡◌, List, [], ◌∷◌, ◌++◌, length, map, All, Some, None, refl, sym, ap, ap₂, subst, ◌∙◌, append_assoc, arith}
 use Rattle.std.proofs.lemmas.Grind.{flat_map-append}
-use Rattle.std.proofs.lemmas.List.{append-nil, map-append}
+use Rattle.std.proofs.lemmas.List.{append-nil}
 use Rattle.std.proofs.lemmas.List.Elements.{All-cons, All-head, All-nil, All-tail}
 use Rattle.capture_frame.specs.declared.frame.Frame.{Frame}
 use Rattle.capture_frame.specs.Envelope.{FrameText, frame_text, placed_frame}
@@ -14,6 +14,8 @@ use Rattle.transaction_view.specs.Attachments.{EntryText, HasEntries}
 use Rattle.event_core.specs.declared.event.Event.{Event}
 use Rattle.event_core.specs.Reading.{Reading, Steps, event_text}
 use Rattle.event_core.proofs.EventsGiven.{Given, one_further, given_first, given_all}
+use Rattle.capture_frame.specs.Process.{process_of_frame}
+use Rattle.process_ledgers.specs.Processes.{process_of_whole}
 use Rattle.audit_findings.specs.Ledgers.{AreFewEvents, AreFewFrames}
 use Rattle.audit_findings.proofs.FewLaws.{few_parts}
 use Rattle.audit_findings.specs.Frames.{Show, IsWhole}
@@ -141,19 +143,15 @@ pub given_next : (frame : Frame) (before reading : Reading) (earlier : List Even
     → Steps before (Some found) reading → Given (placed_frame frame) reading (earlier ++ found ∷ [])
 given_next frame before reading earlier found so_far steps = one_further before reading earlier (earlier ++ found ∷ []) found so_far steps refl
 
-pub texts_next : (before : List EventText) (given : List Event) (found : Event)
-    → (before ++ map event_text given) ++ event_text found ∷ [] ≡ before ++ map event_text (given ++ found ∷ [])
-texts_next before given found = append_assoc before (map event_text given) (event_text found ∷ [])
-    ∙ ap (λ (t : List EventText). before ++ t) (sym (map-append event_text given (found ∷ [])))
-
 -- the one whole frame that a view shows
 pub shown_alone : (frame : Frame) (others : List (Placed WholeFrame)) → Show (frame ∷ []) others
-    → (w : Placed WholeFrame) × (others ≡ w ∷ []) × (w.unit.frame.sequence ≡ frame.sequence)
+    → (w : Placed WholeFrame) × (others ≡ w ∷ []) × (w.unit.frame.sequence ≡ frame.sequence) × (process_of_whole w ≡ process_of_frame (frame_text frame))
 shown_alone frame others show =
     let one = shown_first frame [] others show in (
       one.0,
       one.2 ∙ ap (λ (t : List (Placed WholeFrame)). one.0 ∷ t) (shown_none one.1 one.5),
       sym (ap (λ (p : Placed FrameText). p.unit.sequence) one.3),
+      sym (ap (λ (p : Placed FrameText). process_of_frame p.unit) one.3),
     )
 
 -- and its content has no fault

@@ -1,24 +1,22 @@
 -- The rows of handles of a process: the deliveries that it never frees, and what they hold.
 use Rattle.std.proofs.Common.{◌≡◌, ◌||◌, ◌<◌, ◌+◌, ℕ, zero, suc, Bool, true, false, eqb, List, [], ◌∷◌, ◌++◌, length, map, take, Contains, Some, None, Vec, Global, inl, inr, ⊎_elim, refl, sym, ap, subst, ◌∙◌, arith, get_or}
 use Rattle.std.proofs.Math.Seq.{take-suc}
-use Rattle.std.specs.Prelude.{All, filter, slice_get, slice_index_or}
+use Rattle.std.specs.Prelude.{filter, slice_get, slice_index_or}
 use Rattle.std.specs.Option.{unwrap_or}
 use Rattle.std.specs.List.{flat_map, list_any}
-use Rattle.std.specs.List.Sorted.{IsStrictlyIncreasing, IsStrictlySortedBy}
+use Rattle.std.specs.List.Sorted.{IsStrictlyIncreasing}
 use Rattle.std.proofs.lemmas.Bool.{cases_Bool, eq-eqb, eqb-true}
 use Rattle.std.proofs.lemmas.Grind.{flat_map-append}
 use Rattle.std.proofs.lemmas.List.{append-nil, map-append}
-use Rattle.std.proofs.lemmas.List.Elements.{All-contains_itself, All-filter, All-head, All-nil, All-tail}
+use Rattle.std.proofs.lemmas.List.Elements.{All-contains_itself, All-filter}
 use Rattle.std.proofs.lemmas.List.Kept.{AllPairs-from_increasing}
 use Rattle.call_stacks.proofs.Members.{In, contained, in-map, in_list, map-in}
 use Rattle.capture_frame.specs.declared.process.Process.{Process}
 use Rattle.capture_frame.specs.Units.{Placed}
-use Rattle.event_core.specs.Events.{EventText, events_of_wholes}
-use Rattle.process_ledgers.specs.declared.process_summary.ProcessSummary.{ProcessSummary}
+use Rattle.event_core.specs.Events.{EventText}
+use Rattle.process_ledgers.specs.declared.processes.Processes.{Processes}
+use Rattle.summary_law.specs.declared.nothing.Nothing.{Nothing}
 use Rattle.transaction_view.specs.Grammar.{WholeFrame}
-use Rattle.event_core.specs.declared.handle.HandleItem.{HandleItem}
-use Rattle.handle_ledger.proofs.HeldLaws.{read_held_rows}
-use Rattle.handle_ledger.specs.Held.{AreHeldRows}
 use Rattle.handle_ledger.specs.declared.held_row.HeldRow.{HeldRow}
 use Rattle.event_core.specs.declared.pending.PendingItem.{PendingItem}
 use Rattle.pending_ledger.specs.Pending.{ArePlacesOf, IsOutstanding}
@@ -26,20 +24,18 @@ use Rattle.pending_ledger.specs.Sums.{GivesLeaked}
 use Rattle.process_ledgers.proofs.ItemPlaces.{pending_keeps}
 use Rattle.process_ledgers.specs.declared.process_ledgers.ProcessLedgers.{ProcessLedgers}
 use Rattle.std.specs.Ordering.{eq_by_cmp, nat_cmp}
-use Rattle.process_ledgers.specs.Items.{buffer_item_of, buffer_pending_of, handle_item_of}
-use Rattle.process_ledgers.specs.OfProcess.{AreLedgersOf, AreOfProcesses, HasNoItems, IsOfProcess}
-use Rattle.process_ledgers.specs.Processes.{items_of_process, processes_of, read_of}
+use Rattle.process_ledgers.specs.Items.{buffer_item_of, buffer_pending_of}
+use Rattle.process_ledgers.specs.OfProcess.{AreLedgersOf, AreOfProcesses}
+use Rattle.process_ledgers.specs.Processes.{items_of_process, processes_of}
 use Rattle.audit_findings.specs.declared.in_turn.OfProcess.{OfProcess}
-use Rattle.audit_findings.specs.Handles.{AreHandlesOf}
 use Rattle.audit_findings.specs.HeldCounts.{AreChosen}
 use Rattle.audit_findings.specs.Kept.{places_of}
 use Rattle.audit_findings.specs.Places.{AreEventsAt, IsOpenIn, RiseInPlace}
 use Rattle.audit_findings.proofs.EventsAt.{HasEventAt}
-use Rattle.audit_findings.proofs.HeldLaws.{held_none}
 use Rattle.audit_findings.proofs.Listings.{in_kept, kept_in}
 use Rattle.audit_findings.proofs.Rising.{pairs_map, rising_kept}
 use Rattle.audit_findings.proofs.SameMembers.{same_members}
-use Rattle.audit_findings.proofs.StandLaws.{no_buffers, open_needs, open_stands, pending_made}
+use Rattle.audit_findings.proofs.StandLaws.{open_stands, pending_made}
 
 -- ---- the events at some places, chosen from all
 
@@ -98,7 +94,7 @@ events_chosen IsSo events places are chosen = record {
 }
 
 -- what a ledger of deliveries and frees gives as outstanding
-pub open_places : (events : List EventText) (process : Process) (ledgers : ProcessLedgers) (places : List ℕ) → GivesLeaked ledgers.buffers places
+pub open_places : (events : List EventText) (process : Process) (ledgers : ProcessLedgers) (places : List ℕ) → GivesLeaked ledgers.buffers.own places
     → AreLedgersOf ledgers events process → ArePlacesOf (IsOpenIn buffer_pending_of events process) places
 open_places events process ledgers places gives of =
     subst (λ (items : List (PendingItem ℕ)). ArePlacesOf (IsOutstanding (eq_by_cmp nat_cmp) items) places) (sym (pending_made process events))
@@ -113,35 +109,7 @@ chosen_open events rise process places are =
     let found = open_stands buffer_pending_of pending_keeps events process place ((are.exact place).0 there) in
     (found.0, found.1, found.3))
 
--- ---- a process without an item
-
-no_rows : AreHeldRows (λ (item : HandleItem). Some item) [] [] []
-unfolding IsStrictlySortedBy
-no_rows = record { rising = tt; named = All-nil _; whole = λ key is. let no : ⊥ = cc in absurd no; right = All-nil _ }
-
-no_places : (events : List EventText) (process : Process) → HasNoItems events process → ArePlacesOf (IsOpenIn buffer_pending_of events process) []
-no_places events process none = record {
-  rising = λ k within. absurd (omega (arith, within));
-  exact = λ place. (λ there. absurd (nowhere place there), λ is. absurd (open_needs buffer_pending_of no_buffers events process place none is));
-}
-  where
-    nowhere : (place : ℕ) → Contains [] place → ⊥
-    nowhere place (k, within, is) = absurd (omega (arith, within))
-
--- it has no row
-pub no_handles_of : (events : List EventText) (process : Process) → HasNoItems events process → AreHandlesOf events process []
-no_handles_of events process none = (
-  [],
-  ([], record { stand = All-nil (Contains events); places = no_places events process none }, held_none [] refl),
-  read_held_rows (read_of handle_item_of process) events [] [] (subst (λ items. AreHeldRows (λ item. Some item) items [] []) (sym none.handles) no_rows),
-)
-
 -- ---- the entry of a process by its number
-
-entry_is : {X : Type 0} (P : X → Type 0) (xs : List X) (n : ℕ) (x : X) → All P xs → slice_get xs n ≡ Some x → P x
-entry_is P [] n x all is = let wrong : None ≡ Some x = is in absurd (cc)
-entry_is P (y ∷ xs) zero x all is = subst P (ap (λ o. unwrap_or o y) is) (All-head P y xs all)
-entry_is P (y ∷ xs) (suc n) x all is = entry_is P xs n x (All-tail P y xs all) is
 
 key_is : {X Y : Type 0} (key : X → Y) (xs : List X) (n : ℕ) (x : X) (d : Y) → slice_get xs n ≡ Some x → slice_index_or (map key xs) n d ≡ key x
 key_is key [] n x d is = let wrong : None ≡ Some x = is in absurd (cc)
@@ -149,13 +117,11 @@ key_is key (y ∷ xs) zero x d is = ap (λ o. key (unwrap_or o y)) is
 key_is key (y ∷ xs) (suc n) x d is = key_is key xs n x d is
 
 -- it is that of the process with this number
-pub entry_at : (entries : List (Process × ProcessSummary)) (wholes : List (Placed WholeFrame)) (number : ℕ) (e : Process × ProcessSummary)
-    → AreOfProcesses entries wholes → slice_get entries number ≡ Some e
-    → IsOfProcess e.1.ledgers (events_of_wholes wholes) e.0 × ((d : Process) → slice_index_or (processes_of wholes) number d ≡ e.0)
-entry_at entries wholes number e of is = (
-  entry_is (λ (x : Process × ProcessSummary). IsOfProcess x.1.ledgers (events_of_wholes wholes) x.0) entries number e of.each is,
-  λ d. ap (λ (ps : List Process). slice_index_or ps number d) (sym of.order) ∙ key_is (λ (x : Process × ProcessSummary). x.0) entries number e d is,
-)
+pub entry_at : (processes : Processes) (wholes : List (Placed WholeFrame)) (number : ℕ) (e : Process × Nothing)
+    → AreOfProcesses processes wholes → slice_get processes.order.now.entries.entries number ≡ Some e
+    → (d : Process) → slice_index_or (processes_of wholes) number d ≡ e.0
+entry_at processes wholes number e of is d =
+    ap (λ (ps : List Process). slice_index_or ps number d) (sym of.order) ∙ key_is (λ (x : Process × Nothing). x.0) processes.order.now.entries.entries number e d is
 
 -- ---- lists, one behind another
 

@@ -21,8 +21,7 @@ mod TallyRows
 pub mod OneFindings
 pub mod StandLaws
 pub mod PlaceLaws
-pub mod FitLaws
-mod LeftOut
+mod GivenLaws
 pub mod ThreadFits
 mod SortedRows
 mod ThreadRowLaws
@@ -32,7 +31,6 @@ pub mod EventsAt
 pub mod TurnLaws
 mod RecordCountLaws
 mod OnewayCountLaws
-mod NoRows
 pub mod Listings
 pub mod CallListings
 pub mod PlaceListings

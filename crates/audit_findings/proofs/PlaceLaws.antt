@@ -1,6 +1,6 @@
 -- The places that the ledgers of all processes list, gathered and sorted, and the events that stand at them.
-use Rattle.std.proofs.Common.{◌≡◌, ◌≢◌, ℕ, suc, ◌⊎◌, ⊎_elim, inl, inr, true, Decides, List, [], ◌∷◌, ◌++◌, length, map, All, AllPairs, Contains, Option, Some, None, refl, sym, ap, subst, append_assoc, ◌∙◌, arith}
-use Rattle.std.proofs.Common.{IsPermutation, IsSorted, nat_cmp, Box, Global}
+use Rattle.std.proofs.Common.{◌≡◌, ◌≢◌, ℕ, suc, ◌⊎◌, ⊎_elim, inl, inr, true, Decides, List, [], ◌∷◌, ◌++◌, length, map, All, AllPairs, Contains, Option, refl, sym, ap, subst, append_assoc, ◌∙◌, arith}
+use Rattle.std.proofs.Common.{IsPermutation, IsSorted, nat_cmp}
 use Rattle.std.specs.List.Sorted.{IsStrictlyIncreasing}
 use Rattle.capture_frame.proofs.ProcessLaws.{same_process_equiv, same_process_eq, same_process_self}
 use Rattle.capture_frame.specs.Process.{same_process}
@@ -10,7 +10,6 @@ use Rattle.std.proofs.lemmas.List.Kept.{AllPairs-from_increasing}
 use Rattle.std.proofs.lemmas.Map.Made.{AllPairs-from_IsDistinct}
 use Rattle.std.proofs.lemmas.Map.Views.{Contains-from_any}
 use Rattle.std.specs.List.{list_any}
-use Rattle.std.specs.Option.{IsSomeAnd}
 use Rattle.capture_frame.specs.Units.{Placed, placed_at}
 use Rattle.transaction_view.specs.Grammar.{WholeFrame}
 use Rattle.event_core.specs.Events.{EventText, event_of, events_of_whole, events_of_wholes, placed_records, process_of}
@@ -21,12 +20,13 @@ use Rattle.pending_ledger.specs.Pending.{ArePlacesOf, place_of}
 use Rattle.process_ledgers.specs.Items.{KeepsPlace}
 use Rattle.capture_frame.specs.declared.process.Process.{Process}
 use Rattle.process_ledgers.specs.declared.process_ledgers.ProcessLedgers.{ProcessLedgers}
-use Rattle.process_ledgers.specs.declared.process_summary.ProcessSummary.{ProcessSummary}
+use Rattle.process_ledgers.specs.declared.processes.Processes.{Processes}
+use Rattle.summary_law.specs.declared.nothing.Nothing.{Nothing}
 use Rattle.audit_findings.specs.declared.open_and_stray.OpenAndStray.{OpenAndStray}
 use Rattle.audit_findings.specs.Kept.{KeepsOpenAndStray}
 use Rattle.audit_findings.specs.Places.{IsOpenStill, IsStrayClose, RiseInPlace, SomeProcess, StandsInProcess, OpenAndStrayText, AreOpenAndStray}
 use Rattle.process_ledgers.specs.Processes.{process_of_whole, processes_of}
-use Rattle.process_ledgers.specs.OfProcess.{NeedsItems, AreLedgersOf, IsOfProcess, AreOfProcesses}
+use Rattle.process_ledgers.specs.OfProcess.{AreOfProcesses, GivesOf, ledgers_in}
 use Rattle.summary_law.proofs.InOrderLaws.{each_among_firsts, firsts_distinct}
 use Rattle.audit_findings.proofs.EventsAt.{events_at}
 use Rattle.audit_findings.proofs.StandLaws.{apart, open_stands, stray_stands}
@@ -104,49 +104,25 @@ module _ {K : Type 0} (Is : K → ℕ → Type 0) where
 -- ---- the places of the ledgers of some processes, one list behind another
 
 module _ (IsSo : List EventText → Process → ℕ → Type 0) where
-  -- the places of whatever process the ledgers are of, if there are any
-  abbrev pub GivesOwn : Option (Box ProcessLedgers Global) → List ℕ → Type 0
-  GivesOwn None own = own ≡ []
-  GivesOwn (Some ledgers) own =
-      (events : List EventText) (process : Process) → AreLedgersOf ledgers.value events process → ArePlacesOf (IsSo events process) own
+  -- the places of whatever process the ledgers are of
+  abbrev pub GivesOwn : ProcessLedgers → List ℕ → Type 0
+  GivesOwn ledgers own = GivesOf (λ events process places. ArePlacesOf (IsSo events process) places) ledgers own
 
-  abbrev pub AreGathered : List (Process × ProcessSummary) → List ℕ → Type 0
-  AreGathered [] places = places ≡ []
-  AreGathered (entry ∷ entries) places =
-      (own : List ℕ) × (rest : List ℕ) × (places ≡ own ++ rest) × GivesOwn entry.1.ledgers own × AreGathered entries rest
+  abbrev pub AreGathered : Processes → List (Process × Nothing) → List ℕ → Type 0
+  AreGathered processes [] places = places ≡ []
+  AreGathered processes (entry ∷ entries) places =
+      (own : List ℕ) × (rest : List ℕ) × (places ≡ own ++ rest) × GivesOwn (ledgers_in processes entry.0) own × AreGathered processes entries rest
 
-  -- the places of ledgers that there are
-  pub given_own : (ledgers : ProcessLedgers) (own : List ℕ)
-      → ((events : List EventText) (process : Process) → AreLedgersOf ledgers events process → ArePlacesOf (IsSo events process) own)
-      → (there : Option (Box ProcessLedgers Global)) → IsSomeAnd there (λ box. ledgers ≡ box.value) → GivesOwn there own
-  given_own ledgers own gives None same = absurd same
-  given_own ledgers own gives (Some box) same =
-      λ events process of. gives events process (subst (λ (l : ProcessLedgers). AreLedgersOf l events process) (sym same) of)
-
-  module _ (needs : NeedsItems IsSo) (events : List EventText) where
-    own_places : (process : Process) (ledgers : Option (Box ProcessLedgers Global)) (own : List ℕ) → GivesOwn ledgers own → IsOfProcess ledgers events process
-        → ArePlacesOf (IsSo events process) own
-    own_places process None own none of = record {
-      rising = subst IsStrictlyIncreasing (sym none) (λ k within. absurd (omega (arith, within)));
-      exact = λ p. (
-        λ c. absurd (contains_none p (subst (λ (t : List ℕ). Contains t p) none c)),
-        λ is. absurd (needs events process p of is),
-      );
-    }
-    own_places process (Some ledgers) own gives of = gives events process of
-
-    blocks_of : (entries : List (Process × ProcessSummary)) (places : List ℕ) → AreGathered entries places
-        → All (λ (e : Process × ProcessSummary). IsOfProcess e.1.ledgers events e.0) entries
-        → AreBlocks (IsSo events) (map (λ (e : Process × ProcessSummary). e.0) entries) places
-    blocks_of [] places none of = none
-    blocks_of (e ∷ entries) places gathered of =
-        let IsOf = λ (e : Process × ProcessSummary). IsOfProcess e.1.ledgers events e.0 in (
-          gathered.0,
-          gathered.1,
-          gathered.2,
-          own_places e.0 e.1.ledgers gathered.0 gathered.3 (All-head IsOf e entries of),
-          blocks_of entries gathered.1 gathered.4 (All-tail IsOf e entries of),
-        )
+  blocks_of : (processes : Processes) (wholes : List (Placed WholeFrame)) → AreOfProcesses processes wholes → (entries : List (Process × Nothing)) (places : List ℕ)
+      → AreGathered processes entries places → AreBlocks (IsSo (events_of_wholes wholes)) (map (λ (e : Process × Nothing). e.0) entries) places
+  blocks_of processes wholes of [] places none = none
+  blocks_of processes wholes of (e ∷ entries) places gathered = (
+    gathered.0,
+    gathered.1,
+    gathered.2,
+    gathered.3 (events_of_wholes wholes) e.0 (of.each e.0),
+    blocks_of processes wholes of entries gathered.1 gathered.4,
+  )
 
 -- the process of each event of these frames is one of those of the frames
 each_known : (known : List Process) (wholes : List (Placed WholeFrame)) → All (Contains known) (map process_of_whole wholes)
@@ -177,11 +153,11 @@ decides_process process other = (
 )
 
 -- what is gathered from the ledgers of all processes, sorted
-pub gathered_sorted : (IsSo : List EventText → Process → ℕ → Type 0) → StandsInProcess IsSo → NeedsItems IsSo → (entries : List (Process × ProcessSummary))
-    (wholes : List (Placed WholeFrame)) → AreOfProcesses entries wholes → RiseInPlace (events_of_wholes wholes) → (gathered places : List ℕ)
-    → AreGathered IsSo entries gathered → IsPermutation gathered places → IsSorted nat_cmp places
+pub gathered_sorted : (IsSo : List EventText → Process → ℕ → Type 0) → StandsInProcess IsSo → (processes : Processes)
+    (wholes : List (Placed WholeFrame)) → AreOfProcesses processes wholes → RiseInPlace (events_of_wholes wholes) → (gathered places : List ℕ)
+    → AreGathered IsSo processes processes.order.now.entries.entries gathered → IsPermutation gathered places → IsSorted nat_cmp places
     → ArePlacesOf (SomeProcess (IsSo (events_of_wholes wholes))) places
-gathered_sorted IsSo stands needs entries wholes of rise gathered places are moved sorted =
+gathered_sorted IsSo stands own wholes of rise gathered places are moved sorted =
     let events = events_of_wholes wholes in
     let processes = processes_of wholes in
     let one : (process other : Process) (place : ℕ) → IsSo events process place → IsSo events other place → process ≡ other
@@ -196,7 +172,7 @@ gathered_sorted IsSo stands needs entries wholes of rise gathered places are mov
     subst (Contains processes) a.2 (All-contains (λ (e : EventText). Contains processes (process_of e)) events a.0 (each_among wholes) a.1) in
     blocks_sorted (IsSo events) one processes gathered places
     (AllPairs-from_IsDistinct decides_process processes (firsts_distinct same_process_equiv (map process_of_whole wholes))) among
-    (subst (λ (keys : List Process). AreBlocks (IsSo events) keys gathered) of.order (blocks_of IsSo needs events entries gathered are of.each)) moved sorted
+    (subst (λ (keys : List Process). AreBlocks (IsSo events) keys gathered) of.order (blocks_of IsSo own wholes of own.order.now.entries.entries gathered are)) moved sorted
 
 -- ---- the events at places
 

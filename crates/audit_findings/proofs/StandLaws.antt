@@ -1,5 +1,5 @@
 -- Where a ledger of a process lists a place, an event of the process stands; of an open and a close not both stand at one
--- place; and where no event is an item of a ledger, none lists a place.
+-- place.
 use Rattle.std.proofs.Common.{◌≡◌, ℕ, Bool, true, false, cond, List, [], ◌∷◌, ◌++◌, map, Contains, Option, Some, None, refl, sym, ap, subst, ◌∙◌}
 use Rattle.std.specs.List.{cons_option}
 use Rattle.std.specs.Option.{option_map, unwrap_or}
@@ -10,12 +10,11 @@ use Rattle.event_core.specs.Buffers.{buffer_pending}
 use Rattle.event_core.specs.Events.{EventText, process_of}
 use Rattle.event_core.specs.declared.pending.PendingChange.TheVariants.{Open, Close}
 use Rattle.event_core.specs.declared.pending.PendingItem.{PendingItem}
-use Rattle.pending_ledger.proofs.ListLaws.{contains_none, contains_read, contains_middle, one_place}
+use Rattle.pending_ledger.proofs.ListLaws.{contains_read, contains_middle, one_place}
 use Rattle.pending_ledger.specs.Pending.{place_of}
 use Rattle.pending_ledger.specs.Requests.{request_place}
 use Rattle.process_ledgers.proofs.ItemPlaces.{request_keeps}
-use Rattle.process_ledgers.specs.Items.{KeepsPlace, buffer_item_of, buffer_pending_of, clear_item_of, death_item_of, request_item_of}
-use Rattle.process_ledgers.specs.OfProcess.{NeedsItems, ReadsItems}
+use Rattle.process_ledgers.specs.Items.{KeepsPlace, buffer_item_of, buffer_pending_of, request_item_of}
 use Rattle.process_ledgers.specs.Processes.{read_of, items_of_process}
 use Rattle.audit_findings.specs.Places.{IsOpenIn, IsStrayIn, RiseInPlace, StandsInProcess}
 use Rattle.audit_findings.specs.Requests.{IsStandingIn}
@@ -43,9 +42,6 @@ stands_there place read keeps events process at i c there =
 -- an open or a close that a ledger lists, in the middle of its items
 listed_there : {I : Type 0} (items earlier later : List I) (i : I) → items ≡ earlier ++ i ∷ later → Contains items i
 listed_there items earlier later i split = subst (λ t. Contains t i) (sym split) (contains_middle earlier i later)
-
-not_there : {I : Type 0} (items earlier later : List I) (i : I) → items ≡ [] → items ≡ earlier ++ i ∷ later → ⊥
-not_there items earlier later i none split = contains_none i (subst (λ t. Contains t i) none (listed_there items earlier later i split))
 
 module _ (read : EventText → Option (PendingItem ℕ)) where
   module _ (keeps : KeepsPlace place_of read) where
@@ -75,23 +71,10 @@ module _ (read : EventText → Option (PendingItem ℕ)) where
         let change : Open ≡ Close = sym opened.is_open ∙ ap (λ (i : PendingItem ℕ). i.change) item ∙ closed.is_a_close in
         cc
 
-  module _ (none_of : ReadsItems read) where
-    pub open_needs : NeedsItems (IsOpenIn read)
-    open_needs events process place none is =
-        not_there (items_of_process read process events) is.earlier is.later is.item (none_of events process none) is.split
-
-    pub stray_needs : NeedsItems (IsStrayIn read)
-    stray_needs events process place none is =
-        not_there (items_of_process read process events) is.earlier is.later is.item (none_of events process none) is.split
-
 pub request_stands : StandsInProcess IsStandingIn
 request_stands events process place is =
     stands_there request_place request_item_of request_keeps events process place is.item
     (listed_there (items_of_process request_item_of process events) is.earlier is.later is.item is.split) is.at_place
-
-pub request_needs : NeedsItems IsStandingIn
-request_needs events process place none is =
-    not_there (items_of_process request_item_of process events) is.earlier is.later is.item none.requests is.split
 
 -- ---- what is made of each item
 
@@ -112,14 +95,3 @@ read_made f read process (e ∷ events) =
 pub pending_made : (process : Process) (events : List EventText)
     → items_of_process buffer_pending_of process events ≡ map buffer_pending (items_of_process buffer_item_of process events)
 pending_made process events = read_made buffer_pending buffer_item_of process events
-
--- ---- a process without an item has no open and no close
-
-pub no_buffers : ReadsItems buffer_pending_of
-no_buffers events process none = pending_made process events ∙ ap (map buffer_pending) none.buffers
-
-pub no_deaths : ReadsItems death_item_of
-no_deaths events process none = none.deaths
-
-pub no_clears : ReadsItems clear_item_of
-no_clears events process none = none.clears

@@ -1,5 +1,5 @@
 -- Rows of each process in turn, one behind another.
-use Rattle.std.proofs.Common.{◌≡◌, List, [], ◌∷◌, ◌++◌, map, All, None, IsSomeAnd, refl, sym, ap₂, subst, ◌∙◌, append_assoc}
+use Rattle.std.proofs.Common.{◌≡◌, List, [], ◌∷◌, ◌++◌, map, All, refl, sym, ap₂, subst, ◌∙◌, append_assoc}
 use Rattle.std.specs.List.{AllZip, flat_map}
 use Rattle.std.proofs.lemmas.Grind.{flat_map-append}
 use Rattle.std.proofs.lemmas.List.{append-nil}
@@ -8,13 +8,12 @@ use Rattle.capture_frame.specs.declared.process.Process.{Process}
 use Rattle.capture_frame.specs.Units.{Placed}
 use Rattle.transaction_view.specs.Grammar.{WholeFrame}
 use Rattle.event_core.specs.Events.{EventText, events_of_wholes}
-use Rattle.process_ledgers.proofs.ItemLaws.{found_ledgers, no_ledgers}
-use Rattle.process_ledgers.specs.declared.process_ledgers.ProcessLedgers.{ProcessLedgers}
-use Rattle.process_ledgers.specs.declared.process_summary.ProcessSummary.{ProcessSummary}
-use Rattle.process_ledgers.specs.OfProcess.{AreLedgersOf, AreOfProcesses, GivesOf, IsOfProcess}
+use Rattle.process_ledgers.specs.declared.processes.Processes.{Processes}
+use Rattle.summary_law.specs.declared.nothing.Nothing.{Nothing}
+use Rattle.process_ledgers.specs.OfProcess.{AreLedgersOf, AreOfProcesses, GivesOf, ledgers_in}
 use Rattle.process_ledgers.specs.Processes.{processes_of}
 use Rattle.audit_findings.specs.declared.in_turn.OfProcess.{OfProcess}
-use Rattle.audit_findings.specs.InTurn.{AreInTurn, AreRowsOf, HasNoRows, of_process}
+use Rattle.audit_findings.specs.InTurn.{AreInTurn, AreRowsOf, of_process}
 
 zip_append : {X Y : Type 0} (R : X → Y → Type 0) (xs us : List X) (ys vs : List Y) → AllZip R xs ys → AllZip R us vs → AllZip R (xs ++ us) (ys ++ vs)
 zip_append R [] us [] vs first second = second
@@ -47,11 +46,6 @@ module _ {E R : Type 0} (Gives : E → List R → Type 0) where
         ap₂ (λ (a b : List R). a ++ b) turning.4 (sym (append-nil own)) ∙ sym (flat_map-append (λ (list : List R). list) lists (own ∷ [])),
       )
 
-  -- an element with no row
-  pub turning_stays : (entries rest : List E) (e : E) (rows : List R) → Turning Gives entries (e ∷ rest) rows → Gives e [] → Turning Gives entries rest rows
-  turning_stays entries rest e rows turning gives =
-      subst (Turning Gives entries rest) (append-nil rows) (turning_goes_on entries rest e rows [] turning gives)
-
   -- at the end each element has its list
   pub turned : (entries : List E) (rows : List R) → Turning Gives entries [] rows → (lists : List (List R)) × AllZip Gives entries lists × (rows ≡ joined lists)
   turned entries rows turning =
@@ -69,32 +63,22 @@ module _ {E R : Type 0} (Gives : E → List R → Type 0) where
 
 -- ---- the rows of each process
 
--- the rows of an entry, each as one of its process
-abbrev pub RowsOf : {R : Type 0} → (List EventText → Process → List R → Type 0) → Process × ProcessSummary → List (OfProcess R) → Type 0
-RowsOf {R} AreOf e rows = (own : List R) × GivesOf AreOf e.1 own × (rows ≡ map (of_process e.0) own)
+-- the rows of a process, each as one of it
+abbrev pub RowsOf : {R : Type 0} → (List EventText → Process → List R → Type 0) → Processes → Process × Nothing → List (OfProcess R) → Type 0
+RowsOf {R} AreOf processes e rows = (own : List R) × GivesOf AreOf (ledgers_in processes e.0) own × (rows ≡ map (of_process e.0) own)
 
-module _ {R : Type 0} (AreOf : List EventText → Process → List R → Type 0) where
-  -- what ledgers that there are give
-  pub some_rows : (summary : ProcessSummary) (ledgers : ProcessLedgers) → IsSomeAnd summary.ledgers (λ own. ledgers ≡ own.value) → (rows : List R)
-      → ((events : List EventText) (process : Process) → AreLedgersOf ledgers events process → AreOf events process rows) → GivesOf AreOf summary rows
-  some_rows summary ledgers some rows gives events process is =
-      gives events process (found_ledgers summary.ledgers ledgers events process some is)
-
-  -- where there are none, there is no row
-  pub none_rows : HasNoRows AreOf → (summary : ProcessSummary)
-      → summary.ledgers ≡ None → GivesOf AreOf summary []
-  none_rows none_of summary none events process is = none_of events process (no_ledgers summary.ledgers events process none is)
-
-  -- the rows of all entries are those of their processes in turn
-  pub in_turn : (wholes : List (Placed WholeFrame)) (entries : List (Process × ProcessSummary)) (rows : List (OfProcess R))
-      → Turning (RowsOf AreOf) entries [] rows → AreOfProcesses entries wholes → AreInTurn (AreOf (events_of_wholes wholes)) (processes_of wholes) rows
-  in_turn wholes entries rows turning of =
-      let events = events_of_wholes wholes in
-      let OfIts : Process × ProcessSummary → Type 0 = λ e. IsOfProcess e.1.ledgers events e.0 in
-      let all = turned (RowsOf AreOf) entries rows turning in (
-        all.0,
-        subst (λ (ps : List Process). AllZip (AreRowsOf (AreOf events)) ps all.0) of.order
-            (turned_of (RowsOf AreOf) (λ (e : Process × ProcessSummary). e.0) OfIts (AreRowsOf (AreOf events))
-            (λ e list is gives. (gives.0, gives.1 events e.0 is, gives.2)) entries all.0 of.each all.1),
-        all.2,
-      )
+-- the rows of all processes are theirs in turn
+pub in_turn : {R : Type 0} (AreOf : List EventText → Process → List R → Type 0) (processes : Processes) (wholes : List (Placed WholeFrame)) (rows : List (OfProcess R))
+    → Turning (RowsOf AreOf processes) processes.order.now.entries.entries [] rows → AreOfProcesses processes wholes
+    → AreInTurn (AreOf (events_of_wholes wholes)) (processes_of wholes) rows
+in_turn AreOf processes wholes rows turning of =
+    let events = events_of_wholes wholes in
+    let entries = processes.order.now.entries.entries in
+    let OfIts : Process × Nothing → Type 0 = λ e. AreLedgersOf (ledgers_in processes e.0) events e.0 in
+    let all = turned (RowsOf AreOf processes) entries rows turning in (
+      all.0,
+      subst (λ (ps : List Process). AllZip (AreRowsOf (AreOf events)) ps all.0) of.order
+          (turned_of (RowsOf AreOf processes) (λ (e : Process × Nothing). e.0) OfIts (AreRowsOf (AreOf events))
+          (λ e list is gives. (gives.0, gives.1 events e.0 is, gives.2)) entries all.0 (λ i d within. of.each _) all.1),
+      all.2,
+    )

@@ -10,9 +10,9 @@ use Rattle.event_core.specs.Events.{EventText, events_of_wholes}
 use Rattle.handle_ledger.specs.Held.{Held, AreHeldRows}
 use Rattle.handle_ledger.specs.declared.held_row.HeldRow.{HeldRow}
 use Rattle.process_ledgers.specs.Items.{handle_item_of}
-use Rattle.process_ledgers.specs.OfProcess.{IsOfProcess}
+use Rattle.process_ledgers.specs.OfProcess.{AreLedgersOf}
 use Rattle.process_ledgers.specs.Processes.{processes_of, read_of}
-use Rattle.process_ledgers.specs.declared.process_summary.ProcessSummary.{ProcessSummary}
+use Rattle.process_ledgers.specs.declared.process_ledgers.ProcessLedgers.{ProcessLedgers}
 use Rattle.audit_findings.specs.declared.in_turn.OfProcess.{OfProcess}
 use Rattle.audit_findings.specs.declared.references.References.{References}
 use Rattle.audit_findings.specs.Frames.{Show}
@@ -40,9 +40,9 @@ AreHandleFindings wholes said =
 abbrev pub AreListedHandles : List (Placed WholeFrame) → List (List (OfProcess HeldRow)) → Type 0
 AreListedHandles wholes lists = AllZip (AreRowsOf (AreHandlesOf (events_of_wholes wholes))) (processes_of wholes) lists
 
--- the summary may be of any process of the frames that these views show: the rows are that process's
-abbrev pub GivesHandles : ProcessSummary → List Frame → List HeldRow → Type 0
-GivesHandles summary frames rows =
+-- the ledgers may be those of any process of the frames that these views show: the rows are that process's
+abbrev pub GivesHandles : ProcessLedgers → List Frame → List HeldRow → Type 0
+GivesHandles ledgers frames rows =
     (wholes : List (Placed WholeFrame)) (process : Process) → Show frames wholes
-    → IsOfProcess summary.ledgers (events_of_wholes wholes) process
+    → AreLedgersOf ledgers (events_of_wholes wholes) process
     → AreHandlesOf (events_of_wholes wholes) process rows

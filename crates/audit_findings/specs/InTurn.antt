@@ -1,9 +1,7 @@
 -- Rows of each process in turn (docs/REPORT.md).
-use Rattle.std.specs.Prelude.{◌≡◌, List, [], map}
+use Rattle.std.specs.Prelude.{◌≡◌, List, map}
 use Rattle.std.specs.List.{AllZip, flat_map}
 use Rattle.capture_frame.specs.declared.process.Process.{Process}
-use Rattle.event_core.specs.Events.{EventText}
-use Rattle.process_ledgers.specs.OfProcess.{HasNoItems}
 use Rattle.audit_findings.specs.declared.in_turn.OfProcess.{OfProcess}
 
 -- a row as one of this process
@@ -19,7 +17,3 @@ abbrev pub AreInTurn : {R : Type 0} → (Process → List R → Type 0) → List
 AreInTurn {R} AreOf processes rows =
     (lists : List (List (OfProcess R))) × AllZip (AreRowsOf AreOf) processes lists
     × (rows ≡ flat_map (λ list. list) lists)
-
--- a process without an item has no row
-abbrev pub HasNoRows : {R : Type 0} → (List EventText → Process → List R → Type 0) → Type 0
-HasNoRows AreOf = (events : List EventText) (process : Process) → HasNoItems events process → AreOf events process []

@@ -1,14 +1,14 @@
 -- What the ledgers of some events, and of some frames, come to while they are made.
-use Rattle.std.specs.Prelude.{◌≡◌, ℕ, ◌+◌, ◌<◌, ◌^◌, true, List, [], ◌∷◌, ◌++◌, length, map, count_by, All}
-use Rattle.std.specs.List.{list_any}
-use Rattle.std.specs.Map.{keys_of}
+use Rattle.std.specs.Prelude.{◌≡◌, ℕ, ◌+◌, ◌<◌, ◌^◌, List, [], ◌∷◌, ◌++◌, length, map, count_by, All}
+use Rattle.std.proofs.Common.{subst}
+use Rattle.std.proofs.lemmas.List.{map-append}
 use Rattle.std.specs.Option.{option_map_or}
 use Rattle.std.specs.Ordering.{nat_cmp}
 use Rattle.capture_frame.specs.declared.frame.Frame.{Frame}
 use Rattle.capture_frame.specs.Units.{Placed}
 use Rattle.transaction_view.specs.Grammar.{WholeFrame}
 use Rattle.event_core.specs.Events.{AttachmentText, EventText}
-use Rattle.summary_law.specs.Fits.{IsShort, IsPlaced}
+use Rattle.summary_law.specs.Fits.{IsShort, IsPlaced, all_parts, placed_parts}
 use Rattle.summary_law.specs.Tally.{TallySums}
 use Rattle.audit_findings.specs.declared.codes.CodeRow.{CodeRow}
 use Rattle.audit_findings.specs.declared.event_ledgers.EventLedgers.{EventLedgers}
@@ -28,13 +28,18 @@ use Rattle.event_core.specs.Events.{events_of_wholes}
 use Rattle.audit_findings.specs.Kept.{Keep, kept_bad}
 use Rattle.audit_findings.specs.Objects.{BadOwned, AreObjectFindings, attachments_of}
 use Rattle.audit_findings.specs.Oneway.{CountsOneway}
-use Rattle.process_ledgers.specs.ProcessLedgers.{FitProcess, SumsProcessItems, SumsProcesses}
-use Rattle.process_ledgers.specs.declared.process_item.ProcessItem.{ProcessItem}
-use Rattle.process_ledgers.specs.declared.process_summary.ProcessSummary.{ProcessSummary}
-use Rattle.summary_law.specs.ByKey.{EachFits}
+use Rattle.event_core.specs.Reading.{event_text}
+use Rattle.event_core.specs.declared.event.Event.{Event}
+use Rattle.process_ledgers.specs.Concerns.{concerned}
+use Rattle.process_ledgers.specs.OfProcess.{AreOfProcesses, SumsOrder}
+use Rattle.process_ledgers.specs.ProcessLedgers.{SumsProcess}
+use Rattle.process_ledgers.specs.declared.process_ledgers.ProcessLedgers.{ProcessLedgers}
+use Rattle.process_ledgers.specs.declared.processes.Processes.{Processes}
+use Rattle.summary_law.specs.Fed.{SumsPicked}
 use Rattle.summary_law.specs.InOrder.{SumsInOrder}
+use Rattle.summary_law.specs.Summary.{FitsInParts}
 use Rattle.capture_frame.specs.Process.{same_process}
-use Rattle.capture_frame.specs.declared.process.Process.{Process}
+use Rattle.audit_findings.specs.declared.event_sums.EventSums.{EventSums}
 use Rattle.audit_findings.specs.ThreadLedger.{SumsThreadCalls}
 
 -- how many bytes of a list of offsets an event has
@@ -75,12 +80,30 @@ SumsFrames sequences (first ∷ others) =
     (sequences.frames ≡ length others + 1) × (sequences.first ≡ first.unit.frame.sequence)
     × (sequences.last ≡ last_sequence first others)
 
--- the ledgers are those of these frames
+-- what these events say are few events
+abbrev pub AreFewGiven : List Event → Type 0
+AreFewGiven events = AreFewEvents (map event_text events)
+
+pub few_given_parts : FitsInParts AreFewGiven
+few_given_parts first second few =
+    let all = subst AreFewEvents (map-append event_text first second) few in
+    let placed = placed_parts (λ (e : EventText). e.place) (map event_text first) (map event_text second) all.0 in
+    let small = all_parts (λ (e : EventText). offset_bytes_of e < 2 ^ 32) (map event_text first) (map event_text second) all.1 in
+    ((placed.0, small.0), (placed.1, small.1))
+
+-- the ledgers are those of these events, of their threads and of their processes
+pub record SumsGiven (sums : EventSums) (events : List Event) : Type 0 where
+  pub all : SumsEvents sums.all (map event_text events)
+  pub threads : SumsThreadCalls sums.threads (map event_text events)
+  pub processes : SumsPicked concerned (SumsInOrder same_process SumsProcess) sums.processes.entries.entries events
+
+-- the ledgers are those of these frames, and of the events that they were given of them
 pub record SumsLedgers (ledgers : Ledgers) (wholes : List (Placed WholeFrame)) : Type 0 where
   pub sequences : SumsFrames ledgers.sequences wholes
-  pub events : SumsEvents ledgers.events (events_of_wholes wholes)
-  pub threads : SumsThreadCalls ledgers.threads (events_of_wholes wholes)
-  pub processes : SumsProcesses ledgers.processes.entries.entries wholes
+  pub order : SumsOrder ledgers.order.entries.entries wholes
+  pub given : List Event
+  pub are_all : map event_text given ≡ events_of_wholes wholes
+  pub sums : SumsGiven ledgers.of_events given
 
 -- few frames, with few events
 abbrev pub AreFewFrames : List (Placed WholeFrame) → Type 0
@@ -113,26 +136,7 @@ GiveSections ledgers handles sections =
 abbrev pub row_of : ℕ × ℕ × ℕ → CodeRow
 row_of row = record { word = row.0; count = row.1 }
 
--- the items of each process can be summarised
-abbrev pub FitFed : List (Process × ProcessItem) → Type 0
-FitFed fed = EachFits same_process FitProcess fed
-
--- and these entries sum them
-abbrev pub SumsFed : List (Process × ProcessSummary) → List (Process × ProcessItem) → Type 0
-SumsFed entries fed = SumsInOrder same_process SumsProcessItems entries fed
-
--- one of them is of this process
-abbrev pub HasCome : Process → List (Process × ProcessItem) → Type 0
-HasCome process fed = list_any (same_process process) (keys_of fed) ≡ true
-
--- the entries sum what was fed, which can be summarised with the item behind it
-abbrev pub CanTakeItem : List (Process × ProcessSummary) → Process → ProcessItem → Type 0
-CanTakeItem entries process item =
-    (fed : List (Process × ProcessItem)) × SumsFed entries fed × FitFed (fed ++ (process, item) ∷ [])
-
--- whatever the old entries sum, the new ones sum it with the item behind it, where the process has come before
-abbrev pub TakesItem : List (Process × ProcessSummary) → Process → ProcessItem → List (Process × ProcessSummary)
-    → Type 0
-TakesItem old process item new =
-    (fed : List (Process × ProcessItem)) → HasCome process fed → SumsFed old fed
-    → FitFed (fed ++ (process, item) ∷ []) → SumsFed new (fed ++ (process, item) ∷ [])
+-- whatever frames the ledgers are those of, these are their processes, with these ledgers where none has an item
+abbrev pub GivesProcesses : Ledgers → ProcessLedgers → Processes → Type 0
+GivesProcesses ledgers none processes =
+    (wholes : List (Placed WholeFrame)) → SumsLedgers ledgers wholes → SumsProcess none [] → AreOfProcesses processes wholes

@@ -23,7 +23,7 @@ SumsPiece summary frames = (wholes : List (Placed WholeFrame)) → Show frames w
 
 -- how many processes they have
 abbrev pub process_count : PieceSummary → ℕ
-process_count summary = length summary.ledgers.processes.entries.entries
+process_count summary = length summary.ledgers.order.entries.entries
 
 -- whatever whole frames these views show, the rows are those of the handles of their process with this number
 abbrev pub AreHandlesAt : List Frame → ℕ → List (OfProcess HeldRow) → Type 0

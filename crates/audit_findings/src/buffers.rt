@@ -12,11 +12,11 @@ impl Paired for BufferPairs {
 
     ghost read = { buffer_pending_of };
 
-    fn outstanding(ledgers: &ProcessLedgers) -> Result<Vec<u64>, AllocError> {
-        ledgers.buffers.outstanding()
+    fn outstanding(ledgers: &ProcessLedgers<'_>) -> Result<Vec<u64>, AllocError> {
+        ledgers.buffers.own.outstanding()
     }
 
-    fn strays(ledgers: &ProcessLedgers) -> Result<Vec<u64>, AllocError> {
-        ledgers.buffers.strays()
+    fn strays(ledgers: &ProcessLedgers<'_>) -> Result<Vec<u64>, AllocError> {
+        ledgers.buffers.own.strays()
     }
 }

@@ -12,11 +12,11 @@ impl Paired for ClearPairs {
 
     ghost read = { clear_item_of };
 
-    fn outstanding(ledgers: &ProcessLedgers) -> Result<Vec<u64>, AllocError> {
-        ledgers.clears.outstanding()
+    fn outstanding(ledgers: &ProcessLedgers<'_>) -> Result<Vec<u64>, AllocError> {
+        ledgers.clears.own.outstanding()
     }
 
-    fn strays(ledgers: &ProcessLedgers) -> Result<Vec<u64>, AllocError> {
-        ledgers.clears.strays()
+    fn strays(ledgers: &ProcessLedgers<'_>) -> Result<Vec<u64>, AllocError> {
+        ledgers.clears.own.strays()
     }
 }

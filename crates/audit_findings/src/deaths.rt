@@ -12,11 +12,11 @@ impl Paired for DeathPairs {
 
     ghost read = { death_item_of };
 
-    fn outstanding(ledgers: &ProcessLedgers) -> Result<Vec<u64>, AllocError> {
-        ledgers.deaths.outstanding()
+    fn outstanding(ledgers: &ProcessLedgers<'_>) -> Result<Vec<u64>, AllocError> {
+        ledgers.deaths.own.outstanding()
     }
 
-    fn strays(ledgers: &ProcessLedgers) -> Result<Vec<u64>, AllocError> {
-        ledgers.deaths.strays()
+    fn strays(ledgers: &ProcessLedgers<'_>) -> Result<Vec<u64>, AllocError> {
+        ledgers.deaths.own.strays()
     }
 }

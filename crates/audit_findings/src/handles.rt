@@ -11,7 +11,7 @@ use crate::in_turn::OfProcess;
 use crate::references::{Balance, References, references_of};
 use capture_frame::Frame;
 use handle_ledger::HeldRow;
-use process_ledgers::ProcessSummary;
+use process_ledgers::ProcessLedgers;
 use std::alloc::{AllocError, Global};
 
 /// The rows of the handles of one process. What those of its deliveries hold that it never frees is
@@ -19,19 +19,14 @@ use std::alloc::{AllocError, Global};
 pub(crate) fn handles_of_process(
     alloc: Global,
     frames: &[Frame<'_>],
-    summary: &ProcessSummary,
+    ledgers: &ProcessLedgers<'_>,
 ) -> Result<Vec<HeldRow>, AllocError>
     requires { AreGoodFrames frames.now }
-    ensures { IfOk result (λ rows. GivesHandles summary.now frames.now rows.items) }
+    ensures { IfOk result (λ rows. GivesHandles ledgers.now frames.now rows.items) }
 {
-    match summary.ledgers() {
-        Some(ledgers) => {
-            let unfreed = ledgers.buffers.outstanding()?;
-            let held = held_at(alloc, frames, unfreed.as_slice())?;
-            ledgers.handles.rows_held(&held)
-        }
-        None => Ok(Vec::new(alloc)),
-    }
+    let unfreed = ledgers.buffers.own.outstanding()?;
+    let held = held_at(alloc, frames, unfreed.as_slice())?;
+    ledgers.handles.own.rows_held(&held)
 }
 
 /// The section: the rows of each process in turn.

@@ -6,12 +6,11 @@ ghost use Rattle.transaction_view.specs.Grammar.{WholeFrame};
 ghost use Rattle.event_core.specs.Events.{events_of_wholes};
 ghost use Rattle.process_ledgers.specs.OfProcess.{AreOfProcesses};
 ghost use Rattle.process_ledgers.specs.Processes.{processes_of};
-ghost use Rattle.audit_findings.specs.InTurn.{AreInTurn, HasNoRows, of_process};
+ghost use Rattle.audit_findings.specs.InTurn.{AreInTurn, of_process};
 
 use capture_frame::Process;
-use process_ledgers::{ProcessLedgers, ProcessSummary};
+use process_ledgers::{ProcessLedgers, Processes};
 use std::alloc::{AllocError, Global};
-use summary_law::InOrder;
 
 /// A row of one process, as its ledger gives it.
 #[derive(Clone, Copy, Debug, PartialEq, Eq)]
@@ -33,7 +32,7 @@ pub(crate) trait InTurn {
     ghost are_of: { List EventText → Process → List Self.Row → Type 0 };
 
     /// The rows of the process that the ledgers are of.
-    fn rows(ledgers: &ProcessLedgers) -> Result<Vec<Self::Row>, AllocError>
+    fn rows(ledgers: &ProcessLedgers<'_>) -> Result<Vec<Self::Row>, AllocError>
         ensures { IfOk result (λ rows. (events : List EventText) (process : Process) →
             AreLedgersOf ledgers.now events process → are_of events process rows.items) };
 }
@@ -41,18 +40,16 @@ pub(crate) trait InTurn {
 /// The rows of each process in turn.
 pub(crate) fn rows_in_turn<S: InTurn>(
     alloc: Global,
-    processes: &InOrder<Process, ProcessSummary>,
+    processes: Processes<'_, '_>,
 ) -> Result<Vec<OfProcess<S::Row>>, AllocError>
-    ensures { IfOk result (λ rows. HasNoRows S.are_of → (wholes : List (Placed WholeFrame)) →
-        AreOfProcesses processes.now.entries.entries wholes →
+    ensures { IfOk result (λ rows. (wholes : List (Placed WholeFrame)) →
+        AreOfProcesses processes.entry wholes →
         AreInTurn (S.are_of (events_of_wholes wholes)) (processes_of wholes) rows.items) }
 {
     let mut rows = Vec::new(alloc);
-    for (process, summary) in &processes.entries {
-        if let Some(ledgers) = summary.ledgers() {
-            let own = S::rows(ledgers)?;
-            push_rows_of(&mut rows, *process, own.as_slice())?;
-        }
+    for (process, _nothing) in &processes.order.entries {
+        let own = S::rows(processes.ledgers(*process))?;
+        push_rows_of(&mut rows, *process, own.as_slice())?;
     }
     Ok(rows)
 }

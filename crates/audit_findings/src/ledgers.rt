@@ -1,75 +1,79 @@
 //! What frames come to.
 
-ghost use Rattle.std.specs.Prelude.{[], ◌∷◌, map, IfOk, OnOk};
+ghost use Rattle.std.specs.Prelude.{◌≡◌, [], ◌∷◌, map, IfOk, OnOk};
 ghost use Rattle.summary_law.specs.Summary.{CanJoin, Joins};
-ghost use Rattle.audit_findings.specs.Ledgers.{SumsLedgers, AreFewFrames, CanTake, Takes, AreOfFew, GiveSections};
-ghost use Rattle.audit_findings.specs.Ledgers.{CanTakeItem, TakesItem};
+ghost use Rattle.audit_findings.specs.Ledgers.{SumsLedgers, AreFewFrames, CanTake, Takes, AreOfFew, GiveSections, GivesProcesses};
 
 use crate::call_sections::CallSections;
-use crate::event_ledgers::EventLedgers;
 use crate::event_sections::EventSections;
+use crate::event_sums::EventSums;
 use crate::findings::Sections;
 use crate::in_turn::OfProcess;
 use crate::process_sections::ProcessSections;
 use crate::sequences::Sequences;
-use crate::thread_ledger::ThreadLedger;
 use capture_frame::{Frame, Process};
 use event_core::Events;
 use handle_ledger::HeldRow;
-use process_ledgers::{ProcessItem, ProcessSummary};
+use process_ledgers::{ProcessLedgers, Processes};
 use std::alloc::{AllocError, Global};
-use summary_law::{InOrder, Summary};
+use summary_law::{InOrder, Nothing, Summary};
 
-/// The sequences of frames, what their events come to, and what those of each thread and of each
-/// process do.
+/// The sequences of frames, their processes, and what their events come to.
 #[derive(Drop)]
-pub(crate) struct Ledgers {
+pub(crate) struct Ledgers<'c> {
     pub sequences: Sequences,
-    pub events: EventLedgers,
-    pub threads: ThreadLedger,
-    pub processes: InOrder<Process, ProcessSummary>,
+    /// Each process once, in the order of first frames.
+    pub order: InOrder<Process, Nothing>,
+    pub of_events: EventSums<'c>,
 }
 
-impl Ledgers {
+impl<'c> Ledgers<'c> {
     pub fn empty(alloc: Global) -> Self
         ensures { SumsLedgers result [] }
     {
         Ledgers {
             sequences: Sequences::NONE,
-            events: EventLedgers::empty(alloc),
-            threads: ThreadLedger::empty(alloc),
-            processes: InOrder::empty(alloc),
+            order: InOrder::empty(alloc),
+            of_events: EventSums::empty(alloc),
         }
     }
 
     /// Adds a frame without a fault. After an error they are only to be dropped.
-    pub fn add(&mut self, frame: Frame<'_>) -> Result<(), AllocError>
+    pub fn add(&mut self, frame: Frame<'c>) -> Result<(), AllocError>
         requires { CanTake self.old (frame ∷ []) }
         ensures { OnOk result (Takes self.old (frame.entry ∷ []) self.new) }
     {
         self.sequences = self.sequences.with(frame.sequence);
-        let process = frame.of_process();
-        self.processes.add((process, ProcessItem::Nothing))?;
+        self.order.add((frame.of_process(), ()))?;
         let mut events = Events::of(frame);
         while let Some(event) = events.next_event() {
-            self.events.add(event)?;
-            self.threads.add(event)?;
-            add_item(&mut self.processes, process, ProcessItem::of(event))?;
+            self.of_events.add(event)?;
         }
         Ok(())
     }
 
     /// Those of these frames and of the later ones.
-    pub fn join(self, later: Ledgers) -> Result<Ledgers, AllocError>
+    pub fn join(self, later: Ledgers<'c>) -> Result<Ledgers<'c>, AllocError>
         requires { CanJoin SumsLedgers AreFewFrames self later }
-        ensures { IfOk result (Joins SumsLedgers AreFewFrames self later) }
+        ensures { IfOk result (Joins SumsLedgers AreFewFrames self.entry later.entry) }
     {
         Ok(Ledgers {
             sequences: self.sequences.then(later.sequences),
-            events: self.events.join(later.events)?,
-            threads: self.threads.join(later.threads)?,
-            processes: self.processes.join(later.processes)?,
+            order: self.order.join(later.order)?,
+            of_events: self.of_events.join(later.of_events)?,
         })
+    }
+
+    /// The processes of the frames; where no event of one concerns a ledger, it has these.
+    pub fn processes<'a>(&'a self, none: &'a ProcessLedgers<'c>) -> Processes<'a, 'c>
+        ensures order { result.order.now ≡ self.now.order }
+        ensures gives { GivesProcesses self.now none.now result }
+    {
+        Processes {
+            order: &self.order,
+            own: &self.of_events.processes,
+            none,
+        }
     }
 
     /// What the findings keep of the frames, whose processes have these lists of handles.
@@ -79,32 +83,19 @@ impl Ledgers {
         handles: &[Vec<OfProcess<HeldRow>>],
     ) -> Result<Sections, AllocError>
         requires { AreOfFew self }
-        ensures { IfOk result (GiveSections self (map (λ list. list.items) handles.now)) }
+        ensures { IfOk result (GiveSections self.entry (map (λ list. list.items) handles.now)) }
     {
-        let processes = ProcessSections::of(alloc, &self.processes, handles)?;
-        let calls = CallSections::of(alloc, self.threads)?;
-        let events = EventSections::of(alloc, self.events)?;
+        let none = ProcessLedgers::empty(alloc);
+        let processes = ProcessSections::of(alloc, self.processes(&none), handles)?;
+        let missing = self.sequences.missing();
+        let of_events = self.of_events;
+        let calls = CallSections::of(alloc, of_events.threads)?;
+        let events = EventSections::of(alloc, of_events.all)?;
         Ok(Sections {
-            missing: self.sequences.missing(),
+            missing,
             events,
             calls,
             processes,
         })
-    }
-}
-
-/// Adds an item of a process that has come before. Most records are no item, and change nothing.
-fn add_item(
-    processes: &mut InOrder<Process, ProcessSummary>,
-    process: Process,
-    item: ProcessItem,
-) -> Result<(), AllocError>
-    requires { CanTakeItem processes.old.entries.entries process item }
-    ensures { OnOk result
-        (TakesItem processes.old.entries.entries process item processes.new.entries.entries) }
-{
-    match item {
-        ProcessItem::Nothing => Ok(()),
-        _ => processes.add((process, item)),
     }
 }

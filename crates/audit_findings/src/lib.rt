@@ -9,6 +9,7 @@ mod codes;
 mod deaths;
 mod event_ledgers;
 mod event_sections;
+mod event_sums;
 mod findings;
 mod flags;
 mod handles;

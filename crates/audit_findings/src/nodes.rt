@@ -8,11 +8,9 @@ ghost use Rattle.audit_findings.specs.Nodes.{AreNodeFindings};
 
 use crate::in_turn::{InTurn, rows_in_turn};
 use crate::references::{Balance, References, references_of};
-use capture_frame::Process;
 use handle_ledger::NodeRow;
-use process_ledgers::{ProcessLedgers, ProcessSummary};
+use process_ledgers::{ProcessLedgers, Processes};
 use std::alloc::{AllocError, Global};
-use summary_law::InOrder;
 
 /// The rows of the nodes of a process.
 struct Nodes;
@@ -24,18 +22,18 @@ impl InTurn for Nodes {
 
     ghost are_of = { AreNodesOf };
 
-    fn rows(ledgers: &ProcessLedgers) -> Result<Vec<NodeRow>, AllocError> {
-        ledgers.nodes.rows()
+    fn rows(ledgers: &ProcessLedgers<'_>) -> Result<Vec<NodeRow>, AllocError> {
+        ledgers.nodes.own.rows()
     }
 }
 
 /// The section: the rows of each process in turn.
 pub(crate) fn nodes_of(
     alloc: Global,
-    processes: &InOrder<Process, ProcessSummary>,
+    processes: Processes<'_, '_>,
 ) -> Result<References<NodeRow>, AllocError>
     ensures { IfOk result (λ found. (wholes : List (Placed WholeFrame)) →
-        AreOfProcesses processes.now.entries.entries wholes → AreNodeFindings wholes found) }
+        AreOfProcesses processes.entry wholes → AreNodeFindings wholes found) }
 {
     let rows = rows_in_turn::<Nodes>(alloc, processes)?;
     Ok(references_of(rows))

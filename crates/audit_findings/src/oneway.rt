@@ -8,11 +8,9 @@ ghost use Rattle.audit_findings.specs.Oneway.{AreOnewayRows};
 
 use crate::in_turn::{InTurn, OfProcess, rows_in_turn};
 use crate::rows::Rows;
-use capture_frame::Process;
 use event_core::OnewayKey;
-use process_ledgers::{ProcessLedgers, ProcessSummary};
+use process_ledgers::{ProcessLedgers, Processes};
 use std::alloc::{AllocError, Global};
-use summary_law::InOrder;
 
 /// The oneway transactions that a process sends to a handle, or those that it receives: which, how
 /// many, and the bytes of data that they say they have, together.
@@ -28,18 +26,18 @@ impl InTurn for Oneway {
 
     ghost are_of = { AreOnewayOf };
 
-    fn rows(ledgers: &ProcessLedgers) -> Result<Vec<OnewayRow>, AllocError> {
-        ledgers.oneway.rows()
+    fn rows(ledgers: &ProcessLedgers<'_>) -> Result<Vec<OnewayRow>, AllocError> {
+        ledgers.oneway.own.rows()
     }
 }
 
 /// The rows of the section: those of each process in turn.
 pub(crate) fn oneway_rows(
     alloc: Global,
-    processes: &InOrder<Process, ProcessSummary>,
+    processes: Processes<'_, '_>,
 ) -> Result<Rows<OfProcess<OnewayRow>>, AllocError>
     ensures { IfOk result (λ rows. (wholes : List (Placed WholeFrame)) →
-        AreOfProcesses processes.now.entries.entries wholes → AreOnewayRows wholes rows) }
+        AreOfProcesses processes.entry wholes → AreOnewayRows wholes rows) }
 {
     Ok(Rows::of(rows_in_turn::<Oneway>(alloc, processes)?))
 }

@@ -6,18 +6,16 @@ ghost use Rattle.transaction_view.specs.Grammar.{WholeFrame};
 ghost use Rattle.event_core.specs.Events.{events_of_wholes};
 ghost use Rattle.pending_ledger.specs.Pending.{place_of};
 ghost use Rattle.process_ledgers.specs.Items.{KeepsPlace};
-ghost use Rattle.process_ledgers.specs.OfProcess.{AreOfProcesses, ReadsItems};
+ghost use Rattle.process_ledgers.specs.OfProcess.{AreOfProcesses};
 ghost use Rattle.audit_findings.specs.Kept.{KeepsOpenAndStray};
 ghost use Rattle.audit_findings.specs.Places.{RiseInPlace, OpenAndStrayText, AreOpenAndStray};
 
 use crate::open_and_stray::OpenAndStray;
 use crate::places::{Listed, places_of};
 use crate::rows::Rows;
-use capture_frame::Process;
-use process_ledgers::{ProcessLedgers, ProcessSummary};
+use process_ledgers::{ProcessLedgers, Processes};
 use std::alloc::{AllocError, Global};
 use std::marker::PhantomData;
-use summary_law::InOrder;
 
 /// A ledger of opens and closes among those of a process.
 pub(crate) trait Paired {
@@ -33,13 +31,13 @@ pub(crate) trait Paired {
     ghost read: { EventText → Option (PendingItem ℕ) };
 
     /// The places of the opens that no later close has the key of.
-    fn outstanding(ledgers: &ProcessLedgers) -> Result<Vec<u64>, AllocError>
+    fn outstanding(ledgers: &ProcessLedgers<'_>) -> Result<Vec<u64>, AllocError>
         ensures { IfOk result (λ places. (events : List EventText) (process : Process) →
             AreLedgersOf ledgers.now events process →
             ArePlacesOf (IsOpenIn read events process) places.items) };
 
     /// The places of the closes whose latest earlier item of their key, if any, is no open.
-    fn strays(ledgers: &ProcessLedgers) -> Result<Vec<u64>, AllocError>
+    fn strays(ledgers: &ProcessLedgers<'_>) -> Result<Vec<u64>, AllocError>
         ensures { IfOk result (λ places. (events : List EventText) (process : Process) →
             AreLedgersOf ledgers.now events process →
             ArePlacesOf (IsStrayIn read events process) places.items) };
@@ -55,7 +53,7 @@ impl<P: Paired> Listed for Unclosed<P> {
 
     ghost is_so = { IsOpenIn P.read };
 
-    fn places(ledgers: &ProcessLedgers) -> Result<Vec<u64>, AllocError> {
+    fn places(ledgers: &ProcessLedgers<'_>) -> Result<Vec<u64>, AllocError> {
         P::outstanding(ledgers)
     }
 }
@@ -70,7 +68,7 @@ impl<P: Paired> Listed for Strays<P> {
 
     ghost is_so = { IsStrayIn P.read };
 
-    fn places(ledgers: &ProcessLedgers) -> Result<Vec<u64>, AllocError> {
+    fn places(ledgers: &ProcessLedgers<'_>) -> Result<Vec<u64>, AllocError> {
         P::strays(ledgers)
     }
 }
@@ -78,11 +76,11 @@ impl<P: Paired> Listed for Strays<P> {
 /// Both, of all processes.
 pub(crate) fn open_and_stray_of<P: Paired>(
     alloc: Global,
-    processes: &InOrder<Process, ProcessSummary>,
+    processes: Processes<'_, '_>,
 ) -> Result<OpenAndStray, AllocError>
-    ensures { IfOk result (λ found. KeepsPlace place_of P.read → ReadsItems P.read →
+    ensures { IfOk result (λ found. KeepsPlace place_of P.read →
         (wholes : List (Placed WholeFrame)) →
-        AreOfProcesses processes.now.entries.entries wholes →
+        AreOfProcesses processes.entry wholes →
         RiseInPlace (events_of_wholes wholes) →
         (said : OpenAndStrayText) × KeepsOpenAndStray found said
         × AreOpenAndStray P.read (events_of_wholes wholes) said) }

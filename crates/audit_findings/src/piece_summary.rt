@@ -11,6 +11,7 @@ use crate::in_turn::{OfProcess, push_rows_of};
 use crate::ledgers::Ledgers;
 use capture_frame::Frame;
 use handle_ledger::HeldRow;
+use process_ledgers::ProcessLedgers;
 use std::alloc::{AllocError, Global};
 use std::marker::PhantomData;
 use summary_law::Summary;
@@ -18,7 +19,7 @@ use summary_law::Summary;
 /// What the report needs of some frames, one behind another.
 #[derive(Drop)]
 pub struct PieceSummary<'c> {
-    ledgers: Ledgers,
+    ledgers: Ledgers<'c>,
     alloc: Global,
     frames: PhantomData<Frame<'c>>,
 }
@@ -28,7 +29,7 @@ impl<'c> PieceSummary<'c> {
     pub fn process_count(&self) -> usize
         ensures { result ≡ process_count self.now }
     {
-        self.ledgers.processes.entries.len()
+        self.ledgers.order.entries.len()
     }
 
     /// The rows of handles of a process by its number, in the order of first frames, where these
@@ -42,8 +43,10 @@ impl<'c> PieceSummary<'c> {
         requires within { number < process_count self.now }
         ensures { IfOk result (λ rows. GivesHandlesAt self.now frames.now number rows.items) }
     {
-        let (process, summary) = self.ledgers.processes.entries.get_index(number).unwrap();
-        let own = handles_of_process(self.alloc, frames, summary)?;
+        let (process, _nothing) = self.ledgers.order.entries.get_index(number).unwrap();
+        let none = ProcessLedgers::empty(self.alloc);
+        let ledgers = self.ledgers.processes(&none).ledgers(*process);
+        let own = handles_of_process(self.alloc, frames, ledgers)?;
         let mut rows = Vec::new(self.alloc);
         push_rows_of(&mut rows, *process, own.as_slice())?;
         Ok(rows)

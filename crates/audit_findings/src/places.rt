@@ -5,13 +5,11 @@ ghost use Rattle.capture_frame.specs.Units.{Placed};
 ghost use Rattle.transaction_view.specs.Grammar.{WholeFrame};
 ghost use Rattle.event_core.specs.Events.{events_of_wholes};
 ghost use Rattle.pending_ledger.specs.Pending.{ArePlacesOf};
-ghost use Rattle.process_ledgers.specs.OfProcess.{AreOfProcesses, NeedsItems};
+ghost use Rattle.process_ledgers.specs.OfProcess.{AreOfProcesses};
 ghost use Rattle.audit_findings.specs.Places.{RiseInPlace, SomeProcess, StandsInProcess};
 
-use capture_frame::Process;
-use process_ledgers::{ProcessLedgers, ProcessSummary};
+use process_ledgers::{ProcessLedgers, Processes};
 use std::alloc::{AllocError, Global};
-use summary_law::InOrder;
 
 /// A list of places that the ledgers of a process have.
 pub(crate) trait Listed {
@@ -25,7 +23,7 @@ pub(crate) trait Listed {
     ghost is_so: { List EventText → Process → ℕ → Type 0 };
 
     /// The list, the places rising.
-    fn places(ledgers: &ProcessLedgers) -> Result<Vec<u64>, AllocError>
+    fn places(ledgers: &ProcessLedgers<'_>) -> Result<Vec<u64>, AllocError>
         ensures { IfOk result (λ places. (events : List EventText) (process : Process) →
             AreLedgersOf ledgers.now events process →
             ArePlacesOf (is_so events process) places.items) };
@@ -34,19 +32,17 @@ pub(crate) trait Listed {
 /// The places that the ledgers of all processes list, rising.
 pub(crate) fn places_of<L: Listed>(
     alloc: Global,
-    processes: &InOrder<Process, ProcessSummary>,
+    processes: Processes<'_, '_>,
 ) -> Result<Vec<u64>, AllocError>
-    ensures { IfOk result (λ places. StandsInProcess L.is_so → NeedsItems L.is_so →
-        (wholes : List (Placed WholeFrame)) → AreOfProcesses processes.now.entries.entries wholes →
+    ensures { IfOk result (λ places. StandsInProcess L.is_so →
+        (wholes : List (Placed WholeFrame)) → AreOfProcesses processes.entry wholes →
         RiseInPlace (events_of_wholes wholes) →
         ArePlacesOf (SomeProcess (L.is_so (events_of_wholes wholes))) places.items) }
 {
     let mut places = Vec::new(alloc);
-    for (_process, summary) in &processes.entries {
-        if let Some(ledgers) = summary.ledgers() {
-            let own = L::places(ledgers)?;
-            places.extend_from_slice(own.as_slice())?;
-        }
+    for (process, _nothing) in &processes.order.entries {
+        let own = L::places(processes.ledgers(*process))?;
+        places.extend_from_slice(own.as_slice())?;
     }
     places.sort_unstable();
     Ok(places)

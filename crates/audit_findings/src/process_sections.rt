@@ -22,11 +22,9 @@ use crate::places::places_of;
 use crate::references::References;
 use crate::requests::Standing;
 use crate::rows::Rows;
-use capture_frame::Process;
 use handle_ledger::{HeldRow, NodeRow};
-use process_ledgers::ProcessSummary;
+use process_ledgers::Processes;
 use std::alloc::{AllocError, Global};
-use summary_law::InOrder;
 
 /// What the sections keep that count and pair in each process.
 #[derive(Drop)]
@@ -56,11 +54,11 @@ impl ProcessSections {
     /// Those of all processes, whose rows of handles are these lists.
     pub(crate) fn of(
         alloc: Global,
-        processes: &InOrder<Process, ProcessSummary>,
+        processes: Processes<'_, '_>,
         handles: &[Vec<OfProcess<HeldRow>>],
     ) -> Result<Self, AllocError>
         ensures { IfOk result (λ kept. (wholes : List (Placed WholeFrame)) →
-            AreOfProcesses processes.now.entries.entries wholes →
+            AreOfProcesses processes.entry wholes →
             AreListedHandles wholes (map (λ list. list.items) handles.now) →
             RiseInPlace (events_of_wholes wholes) →
             (said : ProcessSectionsText) × AreProcessSections wholes said

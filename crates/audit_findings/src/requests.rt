@@ -12,7 +12,7 @@ impl Listed for Standing {
 
     ghost is_so = { IsStandingIn };
 
-    fn places(ledgers: &ProcessLedgers) -> Result<Vec<u64>, AllocError> {
-        ledgers.requests.outstanding()
+    fn places(ledgers: &ProcessLedgers<'_>) -> Result<Vec<u64>, AllocError> {
+        ledgers.requests.own.outstanding()
     }
 }

@@ -19,10 +19,10 @@ use Rattle.claim_board.specs.Running.{AreWorkJobs, job_at, no_place}
 use Rattle.claim_board.specs.declared.job.Job.{Job}
 use Rattle.event_core.specs.Events.{events_of_wholes}
 use Rattle.handle_ledger.specs.declared.held_row.HeldRow.{HeldRow}
-use Rattle.process_ledgers.proofs.OfProcesses.{are_of_processes}
-use Rattle.process_ledgers.specs.OfProcess.{AreOfProcesses}
+use Rattle.std.proofs.lemmas.Simd.{map-map}
+use Rattle.std.specs.Prelude.{⊤}
 use Rattle.process_ledgers.specs.Processes.{process_of_whole, processes_of}
-use Rattle.process_ledgers.specs.declared.process_summary.ProcessSummary.{ProcessSummary}
+use Rattle.summary_law.specs.declared.nothing.Nothing.{Nothing}
 use Rattle.summary_law.specs.InOrder.{firsts}
 use Rattle.transaction_view.specs.Grammar.{WholeFrame}
 use Rattle.audit_findings.proofs.EventSizes.{few_frames}
@@ -52,19 +52,18 @@ few_firsts {K} eq (k ∷ keys) =
     omega (arith, rest, long, few)
 
 -- as many as are told apart
-process_number : (entries : List (Process × ProcessSummary)) (wholes : List (Placed WholeFrame)) → AreOfProcesses entries wholes
-    → length entries ≡ length (processes_of wholes)
-process_number entries wholes of = sym (length-map entries (λ (e : Process × ProcessSummary). e.0)) ∙ ap length of.order
-
-entries_of : (summary : PieceSummary) (frames : List Frame) (wholes : List (Placed WholeFrame)) → SumsPiece summary frames → Show frames wholes
-    → AreOfProcesses summary.ledgers.processes.entries.entries wholes
-entries_of summary frames wholes sums show = are_of_processes summary.ledgers.processes.entries.entries wholes (sums wholes show).processes
+process_number : (summary : PieceSummary) (frames : List Frame) (wholes : List (Placed WholeFrame)) → SumsPiece summary frames → Show frames wholes
+    → process_count summary ≡ length (processes_of wholes)
+process_number summary frames wholes sums show =
+    let entries = summary.ledgers.order.entries.entries in
+    let order = (sums wholes show).order.order ∙ ap (firsts same_process) (map-map (λ (e : Process × ⊤). e.0) (λ w. (process_of_whole w, tt)) wholes) in
+    sym (length-map entries (λ (e : Process × Nothing). e.0)) ∙ ap length order
 
 pub few_processes : (summary : PieceSummary) (frames : List Frame) → SumsPiece summary frames → AreGoodFrames frames → process_count summary ≤ 2 ^ 32
 few_processes summary frames sums fits =
     let shown = good_shown frames fits.good in
     let few = (few_frames frames shown.0 fits shown.1).0 in
-    let number = process_number summary.ledgers.processes.entries.entries shown.0 (entries_of summary frames shown.0 sums shown.1) in
+    let number = process_number summary frames shown.0 sums shown.1 in
     let firsts_few = few_firsts same_process (map process_of_whole shown.0) in
     let long = length-map shown.0 process_of_whole in
     omega (arith, few, number, firsts_few, long)
@@ -148,7 +147,7 @@ pub all_listed : (summary : PieceSummary) (frames : List Frame) (lists : List Li
     → AreInOrder (λ i (list : ListOfRows). GivesHandlesAt summary frames i list.items) (length (process_jobs (process_count summary))) lists
     → (wholes : List (Placed WholeFrame)) → Show frames wholes → AreListedHandles wholes (lists_of lists)
 all_listed summary frames lists sums are wholes show =
-    let number = process_number summary.ledgers.processes.entries.entries wholes (entries_of summary frames wholes sums show) in
+    let number = process_number summary frames wholes sums show in
     let count = are.count in
     let long = jobs_long (process_count summary) in
     listed (AreHandlesOf (events_of_wholes wholes)) (processes_of wholes) lists (omega (arith, number, count, long))

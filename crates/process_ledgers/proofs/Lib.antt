@@ -1,7 +1,4 @@
 pub mod OnewayLaws
-pub mod AddLaws
-pub mod ItemLaws
-pub mod ItemParts
 pub mod ItemPlaces
-pub mod FedLaws
+pub mod FitLaws
 pub mod OfProcesses

@@ -1,13 +1,16 @@
-//! What each process of a capture comes to: the items that its events are, the ledgers that take
-//! them, and the summary of a process, whose ledgers there are from its first item on.
+//! What each process of a capture comes to: what its ledgers pick from its events, and the ledgers.
 #![tactic(auto)]
 
+mod concerns;
 mod oneway_ledger;
-mod process_item;
 mod process_ledgers;
-mod process_summary;
+mod processes;
+mod readers;
 
 pub use oneway_ledger::OnewayLedger;
-pub use process_item::ProcessItem;
 pub use process_ledgers::ProcessLedgers;
-pub use process_summary::ProcessSummary;
+pub use processes::Processes;
+pub use readers::{
+    BufferItems, ClearItems, Concerned, DeathItems, HandleItems, NodeItems, OnewayItems,
+    RequestItems,
+};

@@ -1,71 +1,61 @@
 //! What the events of one process come to.
 
-ghost use Rattle.process_ledgers.specs.ProcessLedgers.{SumsProcess, FitProcess, process_parts};
+ghost use Rattle.event_core.specs.Reading.{event_text};
+ghost use Rattle.summary_law.specs.Fits.{placed_parts};
+ghost use Rattle.process_ledgers.specs.ProcessLedgers.{SumsProcess, ArePlaced, event_place};
 
 use crate::oneway_ledger::OnewayLedger;
-use crate::process_item::ProcessItem;
+use crate::readers::{
+    BufferItems, ClearItems, DeathItems, HandleItems, NodeItems, OnewayItems, RequestItems,
+};
+use event_core::Event;
 use handle_ledger::{HandleLedger, NodeLedger};
 use pending_ledger::{Buffers, Clears, Deaths, Requests};
 use std::alloc::{AllocError, Global};
-use summary_law::Summary;
+use summary_law::{Fed, Summary};
 
 /// The ledgers of one process.
 #[derive(Drop)]
-pub struct ProcessLedgers {
-    pub handles: HandleLedger,
-    pub nodes: NodeLedger,
-    pub buffers: Buffers,
-    pub requests: Requests,
-    pub deaths: Deaths,
-    pub clears: Clears,
-    pub oneway: OnewayLedger,
+pub struct ProcessLedgers<'c> {
+    pub handles: Fed<HandleItems<'c>, HandleLedger>,
+    pub nodes: Fed<NodeItems<'c>, NodeLedger>,
+    pub buffers: Fed<BufferItems<'c>, Buffers>,
+    pub requests: Fed<RequestItems<'c>, Requests>,
+    pub deaths: Fed<DeathItems<'c>, Deaths>,
+    pub clears: Fed<ClearItems<'c>, Clears>,
+    pub oneway: Fed<OnewayItems<'c>, OnewayLedger>,
 }
 
-impl Summary for ProcessLedgers {
-    type Item = ProcessItem;
+impl<'c> Summary for ProcessLedgers<'c> {
+    type Item = Event<'c>;
 
-    ghost fits = { FitProcess };
+    ghost fits = { ArePlaced };
 
     ghost sums = { SumsProcess };
 
-    fn empty(alloc: Global) -> ProcessLedgers {
+    fn empty(alloc: Global) -> ProcessLedgers<'c> {
         ProcessLedgers {
-            handles: HandleLedger::empty(alloc),
-            nodes: NodeLedger::empty(alloc),
-            buffers: Buffers::empty(alloc),
-            requests: Requests::empty(alloc),
-            deaths: Deaths::empty(alloc),
-            clears: Clears::empty(alloc),
-            oneway: OnewayLedger::empty(alloc),
+            handles: Fed::empty(alloc),
+            nodes: Fed::empty(alloc),
+            buffers: Fed::empty(alloc),
+            requests: Fed::empty(alloc),
+            deaths: Fed::empty(alloc),
+            clears: Fed::empty(alloc),
+            oneway: Fed::empty(alloc),
         }
     }
 
-    fn add(&mut self, item: ProcessItem) -> Result<(), AllocError> {
-        match item {
-            ProcessItem::Nothing => Ok(()),
-            ProcessItem::Handle(handle) => self.handles.add(handle),
-            ProcessItem::Node(node) => self.nodes.add(node),
-            ProcessItem::Buffer(buffer) => self.buffers.add(buffer),
-            ProcessItem::Sent(oneway) => self.oneway.add(oneway),
-            ProcessItem::Received(buffer, oneway) => {
-                self.buffers.add(buffer)?;
-                self.oneway.add(oneway)
-            }
-            ProcessItem::Request(request) => self.requests.add(request),
-            ProcessItem::TakenBack(request, clear) => {
-                self.requests.add(request)?;
-                self.clears.add(clear)
-            }
-            ProcessItem::Confirmed(clear) => self.clears.add(clear),
-            ProcessItem::Died(request, death) => {
-                self.requests.add(request)?;
-                self.deaths.add(death)
-            }
-            ProcessItem::Acknowledged(death) => self.deaths.add(death),
-        }
+    fn add(&mut self, item: Event<'c>) -> Result<(), AllocError> {
+        self.handles.add(item)?;
+        self.nodes.add(item)?;
+        self.buffers.add(item)?;
+        self.requests.add(item)?;
+        self.deaths.add(item)?;
+        self.clears.add(item)?;
+        self.oneway.add(item)
     }
 
-    fn join(self, later: ProcessLedgers) -> Result<ProcessLedgers, AllocError> {
+    fn join(self, later: ProcessLedgers<'c>) -> Result<ProcessLedgers<'c>, AllocError> {
         // All are joined before one is looked at, so that less is left to drop at each `?`.
         let handles = self.handles.join(later.handles);
         let nodes = self.nodes.join(later.nodes);
@@ -85,5 +75,5 @@ impl Summary for ProcessLedgers {
         })
     }
 
-    ghost fits_parts = { process_parts };
+    ghost fits_parts = { placed_parts event_place };
 }

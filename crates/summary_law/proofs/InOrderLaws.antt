@@ -1,20 +1,15 @@
 -- What a map of summaries in the order of first items tells, and what the keys of a list in that order are.
-use Rattle.std.proofs.Common.{◌≡◌, ◌≢◌, Bool, true, false, cond, not, ◌&&◌, ◌||◌, List, [], ◌∷◌, ◌++◌, map, filter, Option, Some, None, is_some, All, slice_index_or, refl, sym, ap, ap₂, subst, ◌∙◌, ⊎_elim, append-nil}
+use Rattle.std.proofs.Common.{◌≡◌, ◌≢◌, Bool, true, false, not, List, [], ◌∷◌, map, filter, Option, Some, None, is_some, All, slice_index_or, refl, sym, ap, subst, ◌∙◌, ⊎_elim}
 use Rattle.std.proofs.lemmas.Bool.{cases_Bool, true≢false}
-use Rattle.std.proofs.lemmas.List.{map-append}
-use Rattle.std.proofs.lemmas.List.Elements.{All-cons, All-head, All-tail, All-filter, All-weaker, Contains-get_or, filter_map-append}
+use Rattle.std.proofs.lemmas.List.Elements.{All-cons, All-head, All-tail, All-filter, All-weaker, Contains-get_or}
 use Rattle.std.proofs.lemmas.Map.Made.{is_some-lookup, All-is_member}
 use Rattle.std.proofs.lemmas.Map.Views.{lookup-from_Contains}
 use Rattle.std.specs.Cmp.{IsEquivalence}
-use Rattle.std.specs.List.{list_any, flat_map, cons_option, AllByRecursion, IsDistinct}
+use Rattle.std.specs.List.{list_any, AllByRecursion, IsDistinct}
 use Rattle.std.specs.Map.{lookup, keys_of}
-use Rattle.summary_law.specs.ByKey.{items_of, under, IsPart}
+use Rattle.summary_law.specs.ByKey.{items_of, IsPart}
 use Rattle.summary_law.specs.InOrder.{firsts, SumsInOrder}
-use Rattle.summary_law.proofs.FirstLaws.{filter_twice, list_any-firsts, firsts_stay}
-
-and_itself : (b : Bool) → b ≡ (b && b)
-and_itself true = refl
-and_itself false = refl
+use Rattle.summary_law.proofs.FirstLaws.{list_any-firsts}
 
 -- the keys that stay are still apart
 still_apart : {K : Type 0} (eq : K → K → Bool) (p : K → Bool) (key : K) (keys : List K) → AllByRecursion (λ other. eq key other ≡ false) keys
@@ -79,41 +74,6 @@ module _ {K : Type 0} {eq : K → K → Bool} (laws : IsEquivalence eq) where
   firsts_distinct (key ∷ keys) =
       (none_equal key (firsts eq keys), IsDistinct-filter eq (λ other. not (eq other key)) (firsts eq keys) (firsts_distinct keys))
 
-  -- copies of a key behind it add nothing
-  copies_past : {X : Type 0} (key : K) (copies : List X) (keys : List K)
-      → filter (λ other. not (eq other key)) (firsts eq (map (λ x. key) copies ++ keys)) ≡ filter (λ other. not (eq other key)) (firsts eq keys)
-  copies_past key [] keys = refl
-  copies_past key (x ∷ copies) keys =
-      let apart : K → Bool = λ other. not (eq other key) in
-      rw (laws.refl key)
-      (filter_twice apart apart apart (λ other. and_itself (apart other)) (firsts eq (map (λ x. key) copies ++ keys)) ∙ copies_past key copies keys)
-
-  -- a list in which further copies follow each key has the firsts of the list without them
-  pub firsts-blocks : {B X : Type 0} (key : B → K) (rest : B → List X) (blocks : List B)
-      → firsts eq (flat_map (λ b. key b ∷ map (λ x. key b) (rest b)) blocks) ≡ firsts eq (map key blocks)
-  firsts-blocks key rest [] = refl
-  firsts-blocks key rest (b ∷ blocks) =
-      ap (λ t. key b ∷ t) (copies_past (key b) (rest b) (flat_map (λ b. key b ∷ map (λ x. key b) (rest b)) blocks))
-      ∙ ap (λ t. key b ∷ filter (λ other. not (eq other (key b))) t) (firsts-blocks key rest blocks)
-
-  copied_key : {X I : Type 0} (key : K) (item : X → I) (xs : List X) → keys_of (map {B = K × I} (λ x. (key, item x)) xs) ≡ map (λ x. key) xs
-  copied_key key item [] = refl
-  copied_key key item (x ∷ xs) = ap (λ t. key ∷ t) (copied_key key item xs)
-
-  -- items that come in blocks, each block a first item and then others under one key, have the firsts of the blocks' keys
-  pub firsts-fed : {B X I : Type 0} (key : B → K) (first : B → I) (rest : B → List X) (item : B → X → I) (blocks : List B)
-      → firsts eq (keys_of (flat_map {A = K × I} (λ b. (key b, first b) ∷ map (λ x. (key b, item b x)) (rest b)) blocks)) ≡ firsts eq (map key blocks)
-  firsts-fed {B} {X} {I} key first rest item blocks = ap (firsts eq) (keys_fed blocks) ∙ firsts-blocks key rest blocks
-    where
-      block : B → List (K × I)
-      block b = (key b, first b) ∷ map (λ x. (key b, item b x)) (rest b)
-
-      keys_fed : (bs : List B) → keys_of (flat_map block bs) ≡ flat_map (λ b. key b ∷ map (λ x. key b) (rest b)) bs
-      keys_fed [] = refl
-      keys_fed (b ∷ bs) =
-          map-append (λ (e : K × I). e.0) (block b) (flat_map block bs)
-          ∙ (λ j. key b ∷ (copied_key (key b) (item b) (rest b) j ++ keys_fed bs j))
-
   module _ {S I : Type 0} (Sums : S → List I → Type 0) (entries : List (K × S)) (items : List (K × I)) (sums : SumsInOrder eq Sums entries items) where
     -- no two entries have equal keys
     pub entries_distinct : IsDistinct eq (keys_of entries)
@@ -133,44 +93,3 @@ module _ {K : Type 0} {eq : K → K → Bool} (laws : IsEquivalence eq) where
     -- a key that no entry has has no items
     pub none_else : (key : K) → list_any (eq key) (keys_of entries) ≡ false → items_of eq key items ≡ []
     none_else key missing = no_part (lookup (eq key) entries) (items_of eq key items) (sums.parts key) (is_some-lookup (eq key) entries ∙ missing)
-
--- ---- an item that changes no summary
-
-one_more : {X : Type 0} (xs : List X) (x : X) → xs ++ x ∷ [] ≢ []
-one_more [] x = λ none. absurd cc
-one_more (y ∷ xs) x = λ none. absurd cc
-
-module _ {K : Type 0} {eq : K → K → Bool} (laws : IsEquivalence eq) where
-  any_alike : (a b : K) → eq a b ≡ true → (keys : List K) → list_any (eq a) keys ≡ list_any (eq b) keys
-  any_alike a b same [] = refl
-  any_alike a b same (key ∷ keys) = ap₂ (λ (x y : Bool). x || y) (laws.congr a b key same) (any_alike a b same keys)
-
-  -- a key that has come has items
-  has_items : {I : Type 0} (key : K) (items : List (K × I)) → list_any (eq key) (keys_of items) ≡ true → items_of eq key items ≢ []
-  has_items key [] come = λ none. true≢false (sym come)
-  has_items {I} key (e ∷ items) come =
-      elim (eq key e.0) as (λ b. (b || list_any (eq key) (keys_of items)) ≡ true → cons_option (cond b (Some e.1) None) (items_of eq key items) ≢ []) [
-        | true ↦ λ come none. absurd cc
-        | false ↦ λ come. has_items key items come
-      ] come
-
-  module _ {S I : Type 0} (Sums : S → List I → Type 0) (key : K) (item : I)
-      (idle : (part : S) (own : List I) → Sums part own → Sums part (own ++ item ∷ [])) where
-    part_stays : (b : Bool) (part : Option S) (own : List I) → (b ≡ true → own ≢ []) → IsPart Sums part own
-        → IsPart Sums part (own ++ cons_option (cond b (Some item) None) [])
-    part_stays false part own some is = subst (IsPart Sums part) (sym (append-nil own)) is
-    part_stays true None own some is = absurd (some refl is)
-    part_stays true (Some part) own some is = (one_more own item, idle part own is.1)
-
-    -- what sums the items before it sums them with it
-    pub item_left_out : (entries : List (K × S)) (items : List (K × I)) → list_any (eq key) (keys_of items) ≡ true → SumsInOrder eq Sums entries items
-        → SumsInOrder eq Sums entries (items ++ (key, item) ∷ [])
-    item_left_out entries items come sums =
-        record {
-          order = firsts_stay eq laws (keys_of entries) items key item sums.order
-              (ap (list_any (eq key)) sums.order ∙ list_any-firsts eq laws key (keys_of items) ∙ come);
-          parts = λ other.
-              subst (IsPart Sums (lookup (eq other) entries)) (sym (filter_map-append (under eq other) items ((key, item) ∷ [])))
-              (part_stays (eq other key) (lookup (eq other) entries) (items_of eq other items)
-              (λ same. has_items other items (any_alike other key same (keys_of items) ∙ come)) (sums.parts other));
-        }

@@ -5,3 +5,4 @@ pub mod ByKey
 pub mod Amount
 pub mod Tally
 pub mod InOrder
+pub mod Fed

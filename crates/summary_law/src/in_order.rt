@@ -1,6 +1,8 @@
 //! A summary for each key of a list of pairs, in the order in which the keys first come.
 
 ghost use Rattle.std.specs.Prelude.{◌≡◌};
+ghost use Rattle.std.specs.Map.{lookup};
+ghost use Rattle.std.specs.Option.{unwrap_or};
 ghost use Rattle.indexmap.specs.IndexMap.{index_of, IsUnique};
 ghost use Rattle.summary_law.specs.ByKey.{EachFits, each_fits_parts};
 ghost use Rattle.summary_law.specs.InOrder.{SumsInOrder};
@@ -31,6 +33,16 @@ impl<K: Eq + Hash + Copy, S: Summary> InOrder<K, S> {
         match self.entries.as_slice().get_index(self.latest) {
             Some((latest, _part)) if *latest == key => Some(self.latest),
             _ => self.entries.get_index_of(&key),
+        }
+    }
+
+    /// The summary of the items under the key, or this one where there are none.
+    pub fn part_or<'a>(&'a self, key: K, none: &'a S) -> &'a S
+        ensures { result.now ≡ unwrap_or (lookup (K.eq key) self.now.entries.entries) none.now }
+    {
+        match self.entries.get(&key) {
+            Some(part) => part,
+            None => none,
         }
     }
 }

@@ -5,16 +5,22 @@
 mod amount;
 mod by_key;
 mod count;
+mod fed;
 mod in_order;
 pub mod laws;
 mod list;
+mod nothing;
+mod picks;
 mod summary;
 mod tally;
 
 pub use amount::Amount;
 pub use by_key::ByKey;
 pub use count::Count;
+pub use fed::Fed;
 pub use in_order::InOrder;
 pub use list::summary_of;
+pub use nothing::Nothing;
+pub use picks::Picks;
 pub use summary::Summary;
 pub use tally::Tally;

@@ -16,6 +16,12 @@ sum_shares-requires-after_bounds g c κs within =
 pub look_again-requires-clause-sound : goal.look_again-requires-clause-sound
 look_again-requires-clause-sound g c κs within = subst AreSound (sym c.as_slice-2.ensures.value) c.requires.sound
 
+pub sections-requires : goal.sections-requires
+sections-requires g c =
+    let frames = c.args.frames.items in
+    let sums = subst (SumsPiece c.in_ok-whole.whole) c.as_slice.ensures.value c.in_ok-whole.ensures in
+    (frames, sums, good_cut frames c.requires.cut c.requires.sound)
+
 pub new-requires : goal.new-requires
 new-requires g c =
     let frames = c.args.frames.items in

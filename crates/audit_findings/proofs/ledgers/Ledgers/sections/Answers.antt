@@ -1,19 +1,20 @@
-use Rattle.std.proofs.Common.{refl, length}
+use Rattle.std.proofs.Common.{refl, length, subst}
 use Rattle.audit_findings.specs.Findings.{FindingsText}
+use Rattle.audit_findings.specs.Ledgers.{SumsEvents}
+use Rattle.audit_findings.specs.ThreadLedger.{SumsThreadCalls}
 use Rattle.event_core.specs.Events.{events_of_wholes}
-use Rattle.process_ledgers.proofs.OfProcesses.{are_of_processes}
 use Rattle.audit_findings.proofs.ledgers.Ledgers.sections.Goals as goal
 
 pub returns : goal.returns
 returns c wholes sums few listed =
     let events = events_of_wholes wholes in
     let rise = few.1.0.1 in
-    let processes = c.in_ok-processes.ensures wholes (are_of_processes c.args.self.processes.entries.entries wholes sums.processes) listed rise in
-    let calls = c.in_ok-calls.ensures events sums.threads rise in
-    let counted = c.in_ok-events.ensures events sums.events in
+    let processes = c.in_ok-processes.ensures wholes (c.processes.ensures.gives wholes sums c.empty-none.ensures) listed rise in
+    let calls = c.in_ok-calls.ensures events (subst (SumsThreadCalls c.args.self.of_events.threads) sums.are_all sums.sums.threads) rise in
+    let counted = c.in_ok-events.ensures events (subst (SumsEvents c.args.self.of_events.all) sums.are_all sums.sums.all) in
     let said : FindingsText = record {
       frames = length wholes;
-      missing = c.missing.result;
+      missing = c.missing-missing.result;
       events = counted.0;
       calls = calls.0;
       processes = processes.0;
@@ -21,7 +22,7 @@ returns c wholes sums few listed =
       said,
       record {
         frames = refl;
-        missing = c.missing.ensures wholes sums.sequences;
+        missing = c.missing-missing.ensures wholes sums.sequences;
         events = counted.1;
         calls = calls.1;
         processes = processes.1;

@@ -4,7 +4,7 @@ use Rattle.process_ledgers.proofs.ItemPlaces.{clear_keeps, death_keeps, pending_
 use Rattle.process_ledgers.specs.Items.{buffer_pending_of}
 use Rattle.audit_findings.specs.Findings.{ProcessSectionsText}
 use Rattle.audit_findings.proofs.EventsAt.{events_at, stands_somewhere}
-use Rattle.audit_findings.proofs.StandLaws.{no_buffers, no_clears, no_deaths, open_needs, open_stands, request_needs, request_stands, stray_needs, stray_stands}
+use Rattle.audit_findings.proofs.StandLaws.{open_stands, request_stands, stray_stands}
 use Rattle.audit_findings.proofs.process_sections.ProcessSections.of.Goals as goal
 
 pub returns : goal.returns
@@ -13,12 +13,12 @@ returns c wholes of listed rise =
     let leaked_stand = open_stands buffer_pending_of pending_keeps in
     let strays_stand = stray_stands buffer_pending_of pending_keeps in
     let leaked = events_at _ events (stands_somewhere _ leaked_stand events) _
-    (c.in_ok-places_of.ensures leaked_stand (open_needs buffer_pending_of no_buffers) wholes of rise) in
+    (c.in_ok-places_of.ensures leaked_stand wholes of rise) in
     let strays = events_at _ events (stands_somewhere _ strays_stand events) _
-    (c.in_ok-places_of-2.ensures strays_stand (stray_needs buffer_pending_of no_buffers) wholes of rise) in
-    let standing = events_at _ events (stands_somewhere _ request_stands events) _ (c.in_ok-places_of-3.ensures request_stands request_needs wholes of rise) in
-    let deaths = c.in_ok-open_and_stray_of.ensures death_keeps no_deaths wholes of rise in
-    let clears = c.in_ok-open_and_stray_of-2.ensures clear_keeps no_clears wholes of rise in
+    (c.in_ok-places_of-2.ensures strays_stand wholes of rise) in
+    let standing = events_at _ events (stands_somewhere _ request_stands events) _ (c.in_ok-places_of-3.ensures request_stands wholes of rise) in
+    let deaths = c.in_ok-open_and_stray_of.ensures death_keeps wholes of rise in
+    let clears = c.in_ok-open_and_stray_of-2.ensures clear_keeps wholes of rise in
     let said : ProcessSectionsText = record {
       handles = c.in_ok-handles_of.field-0;
       nodes = c.in_ok-nodes_of.field-0;

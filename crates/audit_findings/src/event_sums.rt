@@ -1,0 +1,55 @@
+//! What events come to: all together, in each thread, and in each process.
+
+ghost use Rattle.audit_findings.specs.Ledgers.{SumsGiven, AreFewGiven, few_given_parts};
+
+use crate::event_ledgers::EventLedgers;
+use crate::thread_ledger::ThreadLedger;
+use capture_frame::Process;
+use event_core::Event;
+use process_ledgers::{Concerned, ProcessLedgers};
+use std::alloc::{AllocError, Global};
+use summary_law::{InOrder, Picks, Summary};
+
+/// What events come to: all together, in each thread, and in each process.
+#[derive(Drop)]
+pub(crate) struct EventSums<'c> {
+    pub all: EventLedgers,
+    pub threads: ThreadLedger,
+    /// The ledgers of each process with an event that concerns one.
+    pub processes: InOrder<Process, ProcessLedgers<'c>>,
+}
+
+impl<'c> Summary for EventSums<'c> {
+    type Item = Event<'c>;
+
+    ghost fits = { AreFewGiven };
+
+    ghost sums = { SumsGiven };
+
+    fn empty(alloc: Global) -> EventSums<'c> {
+        EventSums {
+            all: EventLedgers::empty(alloc),
+            threads: ThreadLedger::empty(alloc),
+            processes: InOrder::empty(alloc),
+        }
+    }
+
+    fn add(&mut self, item: Event<'c>) -> Result<(), AllocError> {
+        self.all.add(item)?;
+        self.threads.add(item)?;
+        match Concerned::pick(item) {
+            Some(found) => self.processes.add(found),
+            None => Ok(()),
+        }
+    }
+
+    fn join(self, later: EventSums<'c>) -> Result<EventSums<'c>, AllocError> {
+        Ok(EventSums {
+            all: self.all.join(later.all)?,
+            threads: self.threads.join(later.threads)?,
+            processes: self.processes.join(later.processes)?,
+        })
+    }
+
+    ghost fits_parts = { few_given_parts };
+}

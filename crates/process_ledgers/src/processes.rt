@@ -1,0 +1,28 @@
+//! The processes of some frames, each with its ledgers.
+
+ghost use Rattle.std.specs.Prelude.{◌≡◌};
+
+use crate::process_ledgers::ProcessLedgers;
+use capture_frame::Process;
+use summary_law::{InOrder, Nothing};
+
+/// The processes of some frames in the order of their first frames, and the ledgers of those with an
+/// event that concerns one.
+#[derive(Clone, Copy)]
+pub struct Processes<'a, 'c> {
+    pub order: &'a InOrder<Process, Nothing>,
+    pub own: &'a InOrder<Process, ProcessLedgers<'c>>,
+    /// The ledgers of no event, which stand for those of every other process.
+    pub none: &'a ProcessLedgers<'c>,
+}
+
+impl<'a, 'c> Processes<'a, 'c> {
+    ghost use Rattle.process_ledgers.specs.OfProcess.{ledgers_in};
+
+    /// The ledgers of the process.
+    pub fn ledgers(self, process: Process) -> &'a ProcessLedgers<'c>
+        ensures { result.now ≡ ledgers_in self.entry process }
+    {
+        self.own.part_or(process, self.none)
+    }
+}

@@ -1,0 +1,154 @@
+//! What each ledger of a process picks from its events, and which events concern one of them.
+
+ghost use Rattle.event_core.specs.Reading.{event_text};
+ghost use Rattle.process_ledgers.specs.Concerns.{concerned};
+ghost use Rattle.process_ledgers.specs.Items.{handle_item_of, node_item_of, buffer_item_of, request_item_of, death_item_of, clear_item_of, oneway_item_of};
+
+use crate::concerns::concerns;
+use capture_frame::Process;
+use event_core::{
+    BufferItem, Event, HandleItem, NodeItem, OnewayItem, PendingItem, RequestItem, buffer_step,
+    clear_step, death_step, handle_step, node_step, oneway_step, request_step,
+};
+use std::marker::PhantomData;
+use summary_law::Picks;
+
+/// The events that concern some ledger, each under its process.
+pub struct Concerned<'c> {
+    of: PhantomData<Event<'c>>,
+}
+
+impl<'c> Picks for Concerned<'c> {
+    type Thing = Event<'c>;
+
+    type Item = (Process, Event<'c>);
+
+    ghost picks = { concerned };
+
+    fn pick(event: Event<'c>) -> Option<(Process, Event<'c>)> {
+        if concerns(event.kind) {
+            Some((event.of_process(), event))
+        } else {
+            None
+        }
+    }
+}
+
+/// The changes of handles' counts.
+pub struct HandleItems<'c> {
+    of: PhantomData<Event<'c>>,
+}
+
+impl<'c> Picks for HandleItems<'c> {
+    type Thing = Event<'c>;
+
+    type Item = HandleItem;
+
+    ghost picks = { λ event. handle_item_of (event_text event) };
+
+    fn pick(event: Event<'c>) -> Option<HandleItem> {
+        handle_step(event)
+    }
+}
+
+/// The changes of nodes' counts.
+pub struct NodeItems<'c> {
+    of: PhantomData<Event<'c>>,
+}
+
+impl<'c> Picks for NodeItems<'c> {
+    type Thing = Event<'c>;
+
+    type Item = NodeItem;
+
+    ghost picks = { λ event. node_item_of (event_text event) };
+
+    fn pick(event: Event<'c>) -> Option<NodeItem> {
+        node_step(event)
+    }
+}
+
+/// Deliveries and frees.
+pub struct BufferItems<'c> {
+    of: PhantomData<Event<'c>>,
+}
+
+impl<'c> Picks for BufferItems<'c> {
+    type Thing = Event<'c>;
+
+    type Item = BufferItem;
+
+    ghost picks = { λ event. buffer_item_of (event_text event) };
+
+    fn pick(event: Event<'c>) -> Option<BufferItem> {
+        buffer_step(event)
+    }
+}
+
+/// Requests, and what ends them.
+pub struct RequestItems<'c> {
+    of: PhantomData<Event<'c>>,
+}
+
+impl<'c> Picks for RequestItems<'c> {
+    type Thing = Event<'c>;
+
+    type Item = RequestItem;
+
+    ghost picks = { λ event. request_item_of (event_text event) };
+
+    fn pick(event: Event<'c>) -> Option<RequestItem> {
+        request_step(event)
+    }
+}
+
+/// Deaths and acknowledgements.
+pub struct DeathItems<'c> {
+    of: PhantomData<Event<'c>>,
+}
+
+impl<'c> Picks for DeathItems<'c> {
+    type Thing = Event<'c>;
+
+    type Item = PendingItem<u64>;
+
+    ghost picks = { λ event. death_item_of (event_text event) };
+
+    fn pick(event: Event<'c>) -> Option<PendingItem<u64>> {
+        death_step(event)
+    }
+}
+
+/// Clears and confirmations.
+pub struct ClearItems<'c> {
+    of: PhantomData<Event<'c>>,
+}
+
+impl<'c> Picks for ClearItems<'c> {
+    type Thing = Event<'c>;
+
+    type Item = PendingItem<u64>;
+
+    ghost picks = { λ event. clear_item_of (event_text event) };
+
+    fn pick(event: Event<'c>) -> Option<PendingItem<u64>> {
+        clear_step(event)
+    }
+}
+
+/// Oneway transactions.
+pub struct OnewayItems<'c> {
+    of: PhantomData<Event<'c>>,
+}
+
+impl<'c> Picks for OnewayItems<'c> {
+    type Thing = Event<'c>;
+
+    type Item = OnewayItem;
+
+    ghost picks = { λ event. oneway_item_of (event_text event) };
+
+    fn pick(event: Event<'c>) -> Option<OnewayItem> {
+        oneway_step(event)
+    }
+}

@@ -1,0 +1,50 @@
+//! The summary of what is picked from things.
+
+ghost use Rattle.std.specs.List.{filter_map};
+ghost use Rattle.summary_law.specs.Fed.{SumsPicked, picked_parts};
+
+use crate::picks::Picks;
+use crate::summary::Summary;
+use std::alloc::{AllocError, Global};
+use std::marker::PhantomData;
+
+/// The summary of what a reader picks from things. A thing from which nothing is picked is nothing
+/// to it.
+#[derive(Drop)]
+pub struct Fed<R: Picks, S: Summary> {
+    /// The summary of the items.
+    pub own: S,
+    things: PhantomData<R::Thing>,
+}
+
+impl<R: Picks, S: Summary<Item = R::Item>> Summary for Fed<R, S> {
+    type Item = R::Thing;
+
+    ghost fits = { λ things. S.fits (filter_map R.picks things) };
+
+    ghost sums = { λ v things. SumsPicked R.picks S.sums v.own things };
+
+    fn empty(alloc: Global) -> Fed<R, S> {
+        Fed {
+            own: S::empty(alloc),
+            things: PhantomData,
+        }
+    }
+
+    fn add(&mut self, item: R::Thing) -> Result<(), AllocError> {
+        match R::pick(item) {
+            Some(found) => self.own.add(found),
+            None => Ok(()),
+        }
+    }
+
+    fn join(self, later: Fed<R, S>) -> Result<Fed<R, S>, AllocError> {
+        let own = self.own.join(later.own)?;
+        Ok(Fed {
+            own,
+            things: PhantomData,
+        })
+    }
+
+    ghost fits_parts = { picked_parts R.picks S.fits S.fits_parts };
+}
