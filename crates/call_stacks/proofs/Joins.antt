@@ -11,7 +11,8 @@ use Rattle.std.specs.Prelude.{All}
 use Rattle.event_core.specs.declared.marks.Bracket.{Bracket}
 use Rattle.event_core.specs.declared.marks.Bracket.TheVariants.{Neither}
 use Rattle.event_core.specs.declared.marks.Mark.{Mark}
-use Rattle.summary_law.specs.Fits.{IsPlaced, rising_parts, rising_apart}
+use Rattle.summary_law.specs.Fits.{IsPlaced, rising_parts}
+use Rattle.summary_law.proofs.RisingLaws.{rising_apart}
 use Rattle.summary_law.specs.Summary.{Adds}
 use Rattle.call_stacks.specs.declared.findings.CallFindings.{CallFindings}
 use Rattle.call_stacks.specs.declared.findings.RefusedSend.{RefusedSend}

@@ -1,7 +1,7 @@
 -- Lists that can be summarised: few items, and places that rise.
 use Rattle.std.specs.Prelude.{ℕ, ◌+◌, ◌≤◌, ◌<◌, ◌^◌, List, ◌++◌, length, All, AllPairs}
-use Rattle.std.proofs.Common.{subst, ◌∙◌, arith, length-append, get_or}
-use Rattle.std.proofs.lemmas.List.{get_or_append_left, get_or-append-add, get_or_default}
+use Rattle.std.proofs.Common.{subst, arith, length-append, get_or}
+use Rattle.std.proofs.lemmas.List.{get_or_append_left, get_or-append-add}
 
 -- at most 2^32 items
 abbrev pub IsShort : {I : Type 0} → List I → Type 0
@@ -51,16 +51,6 @@ pairs_parts {I} R first second all =
 pub rising_parts : {I : Type 0} (place : I → ℕ) (first second : List I)
     → PlacesRise place (first ++ second) → PlacesRise place first × PlacesRise place second
 rising_parts place first second rise = pairs_parts (λ a b. place a < place b) first second rise
-
--- where the places of a list rise, those of its first part are below those of its second
-pub rising_apart : {I : Type 0} (place : I → ℕ) (first second : List I)
-    → PlacesRise place (first ++ second) → All (λ a. All (λ b. place a < place b) second) first
-rising_apart {I} place first second rise i d inside j e within =
-    let long = length-append first second in
-    subst (λ (x : I). place (get_or first i d) < place x) (get_or-append-add first second j e)
-    (subst (λ (x : I). place x < place (get_or (first ++ second) (length first + j) e))
-    (get_or_append_left first second e i inside ∙ get_or_default first i e d inside)
-    (rise i (length first + j) e (omega arith) (omega arith)))
 
 -- both parts of a list that is placed are
 pub placed_parts : {I : Type 0} (place : I → ℕ) (first second : List I)

@@ -1,6 +1,6 @@
 use Rattle.std.proofs.Common.{◌<◌, ◌≤◌, All, Contains, get_or, arith}
 use Rattle.std.proofs.lemmas.List.Elements.{All-append, All-contains, Contains-append_right}
-use Rattle.summary_law.specs.Fits.{rising_apart}
+use Rattle.summary_law.proofs.RisingLaws.{rising_apart}
 use Rattle.ledger_tests.proofs.summaries.placed.GreatestSummary.join.Goals as goal
 
 pub returns-in-Some : goal.returns-in-Some
