@@ -1,0 +1,3 @@
+#include "scenarios.h"
+
+const struct scenario call_scenarios[] = {{0}};

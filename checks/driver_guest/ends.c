@@ -1,0 +1,3 @@
+#include "scenarios.h"
+
+const struct scenario end_scenarios[] = {{0}};

@@ -1,0 +1,3 @@
+#include "scenarios.h"
+
+const struct scenario many_scenarios[] = {{0}};

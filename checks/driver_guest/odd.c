@@ -1,0 +1,3 @@
+#include "scenarios.h"
+
+const struct scenario odd_scenarios[] = {{0}};

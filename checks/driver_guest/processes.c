@@ -1,0 +1,87 @@
+/* The processes of a scenario: how they start, how the driver's books are saved, how they end. See raw.h. */
+#define _GNU_SOURCE
+#include <dirent.h>
+#include <fcntl.h>
+#include <signal.h>
+#include <stdio.h>
+#include <stdlib.h>
+#include <sys/prctl.h>
+#include <sys/syscall.h>
+#include <sys/wait.h>
+#include <unistd.h>
+#include "raw.h"
+
+static const char *directory;
+
+pid_t start(const char *name, void (*process)(void))
+{
+	fflush(NULL);
+	pid_t started = fork();
+	if (started < 0) fail("fork");
+	if (!started) {
+		prctl(PR_SET_NAME, name);
+		alarm(300);
+		process();
+		_exit(0);
+	}
+	shared->process[shared->processes++] = started;
+	return started;
+}
+
+void wait_until(_Atomic int *counter, int least)
+{
+	for (int tries = 0; *counter < least; tries++) {
+		if (tries > 60000) fail("a process of the scenario did not come so far");
+		usleep(1000);
+	}
+}
+
+static void copy_file(const char *from, const char *to)
+{
+	static char buffer[1 << 16];
+	ssize_t got;
+	int in = open(from, O_RDONLY), out = open(to, O_WRONLY | O_CREAT | O_TRUNC, 0600);
+	if (in < 0 || out < 0) fail(from);
+	while ((got = read(in, buffer, sizeof buffer)) > 0)
+		if (write(out, buffer, got) != got) fail(to);
+	close(in);
+	close(out);
+}
+
+void in_directory(const char *name)
+{
+	directory = name;
+}
+
+void dump_books(const char *suffix)
+{
+	static const char *const books[] = {"state", "stats", "transactions", "failed_transaction_log"};
+	char from[80], to[300];
+	for (size_t i = 0; i < sizeof books / sizeof *books; i++) {
+		snprintf(from, sizeof from, "/sys/kernel/debug/binder/%s", books[i]);
+		snprintf(to, sizeof to, "%s/%s%s", directory, books[i], suffix);
+		copy_file(from, to);
+	}
+}
+
+/* Interrupts each thread that waits in the driver: it then has no call under way, and makes no other. */
+static void interrupt(pid_t process)
+{
+	char path[40];
+	snprintf(path, sizeof path, "/proc/%d/task", process);
+	DIR *tasks = opendir(path);
+	struct dirent *entry;
+	if (!tasks) return;
+	while ((entry = readdir(tasks)) != NULL)
+		if (atoi(entry->d_name)) syscall(SYS_tgkill, process, atoi(entry->d_name), SIGUSR1);
+	closedir(tasks);
+}
+
+void end_all(void)
+{
+	shared->ending = 1;
+	for (int i = 0; i < shared->processes; i++) interrupt(shared->process[i]);
+	usleep(200000);
+	for (int i = 0; i < shared->processes; i++) kill(shared->process[i], SIGKILL);
+	while (wait(NULL) > 0) continue;
+}

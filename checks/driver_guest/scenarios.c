@@ -1,0 +1,48 @@
+/* scenarios NAME DIRECTORY [NUMBER]: plays a scenario in raw Binder, saves the driver's books before and after it to
+ * DIRECTORY, and ends its processes. */
+#define _GNU_SOURCE
+#include <signal.h>
+#include <stdio.h>
+#include <stdlib.h>
+#include <string.h>
+#include <sys/mman.h>
+#include <unistd.h>
+#include "raw.h"
+#include "scenarios.h"
+
+int scale;
+
+static void nothing(int number)
+{
+	(void)number;
+}
+
+static const struct scenario *find(const char *name)
+{
+	const struct scenario *const lists[] = {call_scenarios, held_scenarios, end_scenarios, odd_scenarios, many_scenarios};
+	for (size_t i = 0; i < sizeof lists / sizeof *lists; i++)
+		for (const struct scenario *scenario = lists[i]; scenario->name; scenario++)
+			if (!strcmp(scenario->name, name)) return scenario;
+	return NULL;
+}
+
+int main(int count, char **words)
+{
+	const struct scenario *scenario = count > 2 ? find(words[1]) : NULL;
+	struct sigaction interrupted = {.sa_handler = nothing};
+	if (!scenario) {
+		fprintf(stderr, "usage: scenarios NAME DIRECTORY [NUMBER]\n");
+		return 64;
+	}
+	scale = count > 3 ? atoi(words[3]) : 0;
+	shared = mmap(NULL, 4096, PROT_READ | PROT_WRITE, MAP_SHARED | MAP_ANONYMOUS, -1, 0);
+	if (shared == MAP_FAILED) fail("mmap");
+	sigaction(SIGUSR1, &interrupted, NULL);
+	in_directory(words[2]);
+	dump_books(".before");
+	scenario->run();
+	usleep(300000);
+	dump_books("");
+	end_all();
+	return 0;
+}

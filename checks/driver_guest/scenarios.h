@@ -1,0 +1,10 @@
+/* The scenarios by name. Each starts its processes and returns when they have done what they do. */
+#ifndef SCENARIOS_H
+#define SCENARIOS_H
+struct scenario {
+	const char *name;
+	void (*run)(void);
+};
+extern const struct scenario call_scenarios[], held_scenarios[], end_scenarios[], odd_scenarios[], many_scenarios[];
+extern int scale;	/* how much of it is done, where the scenario can do more or less */
+#endif
