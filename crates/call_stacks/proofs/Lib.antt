@@ -10,5 +10,4 @@ pub mod Sums
 pub mod Joins
 pub mod JoinedMatch
 pub mod Retold
-pub mod Kept
 pub mod Unmarked

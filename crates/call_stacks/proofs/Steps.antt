@@ -7,6 +7,7 @@ use Rattle.std.specs.Prelude.{slice_get, slice_set, All}
 use Rattle.event_core.specs.declared.marks.Bracket.{Bracket}
 use Rattle.event_core.specs.declared.marks.Bracket.TheVariants.{Call, Served, Reply, Sent, Error, Refused, Neither}
 use Rattle.call_stacks.specs.declared.opener.Opener.{Opener}
+use Rattle.call_stacks.specs.Calls.{Reads}
 use Rattle.call_stacks.specs.Content.{Content, left_open, closed_with, begun, refused_too, Closes, closes_last, closes_none, ClosesAll, Enters}
 use Rattle.call_stacks.specs.Matching.{Side, opener, closer, neither}
 use Rattle.call_stacks.specs.Verdicts.{side_of}
@@ -14,7 +15,6 @@ use Rattle.call_stacks.proofs.Judging.{side}
 use Rattle.call_stacks.proofs.Lists.{found, event_of}
 use Rattle.call_stacks.proofs.Model as model
 use Rattle.call_stacks.proofs.Model.{strays, openers, strays-append, openers-append, AllClosed, first_is, nil_is_nil}
-use Rattle.call_stacks.specs.declared.call_event.CallEvent.{CallEvent}
 
 -- ---- the openers without a closer
 
@@ -109,16 +109,27 @@ last_open n ((x, None) ∷ later) (f ∷ front) index e =
       front_is = ap (λ t. n ∷ t) rest.front_is ∙ ap (λ t. t ∷ front) (first_is n f (unmatched_at (n + 1) later) (front ++ index ∷ []) e);
     }
 
-module _ {K : Type 0} where
+at_split : {X : Type 0} (before behind : List X) (x y : X) (n : ℕ) → length before ≡ n → slice_get (before ++ x ∷ behind) n ≡ Some y → y ≡ x
+at_split [] behind x y zero e there = let same : Some x ≡ Some y = there in let is : y ≡ x = cc in is
+at_split [] behind x y (suc n) e there = absurd (omega arith)
+at_split (b ∷ before) behind x y zero e there = absurd (omega arith)
+at_split (b ∷ before) behind x y (suc n) e there = at_split before behind x y n (omega arith) there
+
+module _ {E : Type 0} where
+  -- many more closers
+  abbrev pub as_closers : List E → List (E × Side)
+  as_closers events = map (λ event. (event, closer)) events
+
+module _ {E : Type 0} (reads : Reads E) where
   -- ---- what a value holds of these sides
 
-  pub record Models (content : Content K) (pairs : List (CallEvent K × Side)) : Type 0 where
-    pub openers_are : content.openers ≡ map found (openers side pairs)
+  pub record Models (content : Content E) (pairs : List (E × Side)) : Type 0 where
+    pub openers_are : content.openers ≡ map (found reads) (openers side pairs)
     pub unmatched_are : content.unmatched ≡ unmatched_at 0 (openers side pairs)
     pub strays_are : content.strays ≡ map event_of (strays side pairs)
 
   -- the same lists
-  pub models_same : (old new : Content K) (pairs : List (CallEvent K × Side)) → new.openers ≡ old.openers → new.unmatched ≡ old.unmatched → new.strays ≡ old.strays
+  pub models_same : (old new : Content E) (pairs : List (E × Side)) → new.openers ≡ old.openers → new.unmatched ≡ old.unmatched → new.strays ≡ old.strays
       → Models old pairs → Models new pairs
   models_same old new pairs a b c models = record {
     openers_are = a ∙ models.openers_are;
@@ -127,39 +138,39 @@ module _ {K : Type 0} where
   }
 
   -- one more record that is no bracket
-  push_strays : (pairs : List (CallEvent K × Side)) (p : CallEvent K × Side) → strays side (p ∷ []) ≡ [] → strays side (pairs ++ p ∷ []) ≡ strays side pairs
+  push_strays : (pairs : List (E × Side)) (p : E × Side) → strays side (p ∷ []) ≡ [] → strays side (pairs ++ p ∷ []) ≡ strays side pairs
   push_strays pairs p none =
       strays-append side pairs (p ∷ []) ∙ ap (λ t. strays side (pairs ++ t)) none ∙ ap (strays side) (append-nil pairs)
 
-  push_openers : (pairs : List (CallEvent K × Side)) (p : CallEvent K × Side) → strays side (p ∷ []) ≡ []
+  push_openers : (pairs : List (E × Side)) (p : E × Side) → strays side (p ∷ []) ≡ []
       → openers side (pairs ++ p ∷ []) ≡ openers side pairs ++ openers side (p ∷ [])
   push_openers pairs p none =
       openers-append side pairs (p ∷ [])
       ∙ ap (λ t. openers side (pairs ++ t) ++ openers side (p ∷ [])) none
       ∙ ap (λ t. openers side t ++ openers side (p ∷ [])) (append-nil pairs)
 
-  pub passes_models : (content : Content K) (pairs : List (CallEvent K × Side)) (event : CallEvent K) → Models content pairs → Models content (pairs ++ (event, neither) ∷ [])
+  pub passes_models : (content : Content E) (pairs : List (E × Side)) (event : E) → Models content pairs → Models content (pairs ++ (event, neither) ∷ [])
   passes_models content pairs event models =
       let same : openers side (pairs ++ (event, neither) ∷ []) ≡ openers side pairs
       = push_openers pairs (event, neither) refl ∙ append-nil (openers side pairs) in
       record {
-        openers_are = models.openers_are ∙ ap (map found) (sym same);
+        openers_are = models.openers_are ∙ ap (map (found reads)) (sym same);
         unmatched_are = models.unmatched_are ∙ ap (unmatched_at 0) (sym same);
         strays_are = models.strays_are ∙ ap (map event_of) (sym (push_strays pairs (event, neither) refl));
       }
 
   -- one more opener
-  pub begun_models : (old : Content K) (pairs : List (CallEvent K × Side)) (event : CallEvent K) → Models old pairs → Models (begun event old) (pairs ++ (event, opener) ∷ [])
+  pub begun_models : (old : Content E) (pairs : List (E × Side)) (event : E) → Models old pairs → Models (begun event old) (pairs ++ (event, opener) ∷ [])
   begun_models old pairs event models =
       let more : openers side (pairs ++ (event, opener) ∷ []) ≡ openers side pairs ++ ((event, opener), None) ∷ []
       = push_openers pairs (event, opener) refl in
       let count : length old.openers ≡ 0 + length (openers side pairs)
-      = ap length models.openers_are ∙ length-map (openers side pairs) found
+      = ap length models.openers_are ∙ length-map (openers side pairs) (found reads)
       ∙ (let n : length (openers side pairs) ≡ 0 + length (openers side pairs) = omega arith in n) in
       record {
         openers_are = ap (λ t. t ++ left_open event ∷ []) models.openers_are
-            ∙ sym (map-append found (openers side pairs) (((event, opener), None) ∷ []))
-            ∙ ap (map found) (sym more);
+            ∙ sym (map-append (found reads) (openers side pairs) (((event, opener), None) ∷ []))
+            ∙ ap (map (found reads)) (sym more);
         unmatched_are = ap (λ t. t ++ length old.openers ∷ []) models.unmatched_are
             ∙ ap (λ n. unmatched_at 0 (openers side pairs) ++ n ∷ []) count
             ∙ sym (unmatched-append 0 (openers side pairs) (((event, opener), None) ∷ []))
@@ -167,23 +178,16 @@ module _ {K : Type 0} where
         strays_are = models.strays_are ∙ ap (map event_of) (sym (push_strays pairs (event, opener) refl));
       }
 
--- one more closer
-at_split : {X : Type 0} (before behind : List X) (x y : X) (n : ℕ) → length before ≡ n → slice_get (before ++ x ∷ behind) n ≡ Some y → y ≡ x
-at_split [] behind x y zero e there = let same : Some x ≡ Some y = there in let is : y ≡ x = cc in is
-at_split [] behind x y (suc n) e there = absurd (omega arith)
-at_split (b ∷ before) behind x y zero e there = absurd (omega arith)
-at_split (b ∷ before) behind x y (suc n) e there = at_split before behind x y n (omega arith) there
-
-module _ {K : Type 0} where
-  pub closes_models : (old new : Content K) (pairs : List (CallEvent K × Side)) (event : CallEvent K) → Models old pairs → Closes old event new
+  -- one more closer
+  pub closes_models : (old new : Content E) (pairs : List (E × Side)) (event : E) → Models old pairs → Closes reads old event new
       → Models new (pairs ++ (event, closer) ∷ [])
   closes_models old new pairs event models (closes_none none is) =
       let all = all_closed 0 (openers side pairs) (sym models.unmatched_are ∙ none) in
       let step = model.closes_none side pairs (event, closer) refl all in
       record {
-        openers_are = ap (λ (c : Content K). c.openers) is ∙ models.openers_are ∙ ap (map found) (sym step.0);
-        unmatched_are = ap (λ (c : Content K). c.unmatched) is ∙ models.unmatched_are ∙ ap (unmatched_at 0) (sym step.0);
-        strays_are = ap (λ (c : Content K). c.strays) is
+        openers_are = ap (λ (c : Content E). c.openers) is ∙ models.openers_are ∙ ap (map (found reads)) (sym step.0);
+        unmatched_are = ap (λ (c : Content E). c.unmatched) is ∙ models.unmatched_are ∙ ap (unmatched_at 0) (sym step.0);
+        strays_are = ap (λ (c : Content E). c.strays) is
             ∙ ap (λ t. t ++ event ∷ []) models.strays_are
             ∙ sym (map-append event_of (strays side pairs) ((event, closer) ∷ []))
             ∙ ap (map event_of) (sym step.1);
@@ -194,70 +198,66 @@ module _ {K : Type 0} where
       let x = open_last.call in
       let behind = open_last.behind in
       let step = model.closes_last side pairs (event, closer) before x behind refl open_last.split open_last.closed_behind in
-      let lists : old.openers ≡ map found before ++ found (x, None) ∷ map found behind
-      = models.openers_are ∙ ap (map found) open_last.split ∙ map-append found before ((x, None) ∷ behind) in
+      let lists : old.openers ≡ map (found reads) before ++ found reads (x, None) ∷ map (found reads) behind
+      = models.openers_are ∙ ap (map (found reads)) open_last.split ∙ map-append (found reads) before ((x, None) ∷ behind) in
       let number = open_last.number in
-      let long : length (map found before) ≡ index = length-map before found ∙ (let n : length before ≡ index = omega arith in n) in
-      let call_is : call ≡ found (x, None)
-      = at_split (map found before) (map found behind) (found (x, None)) call index long (ap (λ l. slice_get l index) (sym lists) ∙ there) in
-      let closed_openers : slice_set old.openers index (closed_with event call) ≡ map found (before ++ (x, Some (event, closer)) ∷ behind)
-      = ap (λ l. slice_set l index (closed_with event call)) lists
-      ∙ ap (λ (c : Opener (CallEvent K)). slice_set (map found before ++ found (x, None) ∷ map found behind) index (closed_with event c)) call_is
-      ∙ set_at (map found before) (found (x, None)) (map found behind) (closed_with event (found (x, None))) index long
-      ∙ sym (map-append found before ((x, Some (event, closer)) ∷ behind)) in
+      let long : length (map (found reads) before) ≡ index = length-map before (found reads) ∙ (let n : length before ≡ index = omega arith in n) in
+      let call_is : call ≡ found reads (x, None)
+      = at_split (map (found reads) before) (map (found reads) behind) (found reads (x, None)) call index long (ap (λ l. slice_get l index) (sym lists) ∙ there) in
+      let closed_openers : slice_set old.openers index (closed_with reads event call) ≡ map (found reads) (before ++ (x, Some (event, closer)) ∷ behind)
+      = ap (λ l. slice_set l index (closed_with reads event call)) lists
+      ∙ ap (λ (c : Opener E). slice_set (map (found reads) before ++ found reads (x, None) ∷ map (found reads) behind) index (closed_with reads event c)) call_is
+      ∙ set_at (map (found reads) before) (found reads (x, None)) (map (found reads) behind) (closed_with reads event (found reads (x, None))) index long
+      ∙ sym (map-append (found reads) before ((x, Some (event, closer)) ∷ behind)) in
       record {
-        openers_are = ap (λ (c : Content K). c.openers) is ∙ closed_openers ∙ ap (map found) (sym step.0);
-        unmatched_are = ap (λ (c : Content K). c.unmatched) is
+        openers_are = ap (λ (c : Content E). c.openers) is ∙ closed_openers ∙ ap (map (found reads)) (sym step.0);
+        unmatched_are = ap (λ (c : Content E). c.unmatched) is
             ∙ sym open_last.front_is
             ∙ sym (append-nil (unmatched_at 0 before))
             ∙ ap (λ t. unmatched_at 0 before ++ t) (sym (closed_unmatched (0 + length before) ((x, Some (event, closer)) ∷ behind) open_last.closed_behind))
             ∙ sym (unmatched-append 0 before ((x, Some (event, closer)) ∷ behind))
             ∙ ap (unmatched_at 0) (sym step.0);
-        strays_are = ap (λ (c : Content K). c.strays) is ∙ models.strays_are ∙ ap (map event_of) (sym step.1);
+        strays_are = ap (λ (c : Content E). c.strays) is ∙ models.strays_are ∙ ap (map event_of) (sym step.1);
       }
 
-  -- many more closers
-  abbrev pub as_closers : List (CallEvent K) → List (CallEvent K × Side)
-  as_closers events = map (λ event. (event, closer)) events
-
-  pub closes_all_models : (old new : Content K) (pairs : List (CallEvent K × Side)) (events : List (CallEvent K)) → Models old pairs → ClosesAll old events new
+  pub closes_all_models : (old new : Content E) (pairs : List (E × Side)) (events : List E) → Models old pairs → ClosesAll reads old events new
       → Models new (pairs ++ as_closers events)
   closes_all_models old new pairs [] models is =
-      subst (λ (l : List (CallEvent K × Side)). Models new l) (sym (append-nil pairs)) (subst (λ (c : Content K). Models c pairs) (sym is) models)
+      subst (λ (l : List (E × Side)). Models new l) (sym (append-nil pairs)) (subst (λ (c : Content E). Models c pairs) (sym is) models)
   closes_all_models old new pairs (e ∷ events) models step =
-      subst (λ (l : List (CallEvent K × Side)). Models new l) (append_assoc pairs ((e, closer) ∷ []) (as_closers events))
+      subst (λ (l : List (E × Side)). Models new l) (append_assoc pairs ((e, closer) ∷ []) (as_closers events))
       (closes_all_models step.0 new (pairs ++ (e, closer) ∷ []) events (closes_models old step.0 pairs e models step.1) step.2)
 
   -- an event that is this bracket
-  pub enters_models : (bracket : Bracket) (event : CallEvent K) (old new : Content K) (pairs : List (CallEvent K × Side)) → Models old pairs → Enters bracket event old new
+  pub enters_models : (bracket : Bracket) (event : E) (old new : Content E) (pairs : List (E × Side)) → Models old pairs → Enters reads bracket event old new
       → Models new (pairs ++ (event, side_of bracket) ∷ [])
   enters_models Call event old new pairs models is =
-      subst (λ (c : Content K). Models c (pairs ++ (event, opener) ∷ [])) (sym is) (begun_models old pairs event models)
+      subst (λ (c : Content E). Models c (pairs ++ (event, opener) ∷ [])) (sym is) (begun_models old pairs event models)
   enters_models Served event old new pairs models is =
-      subst (λ (c : Content K). Models c (pairs ++ (event, opener) ∷ [])) (sym is) (begun_models old pairs event models)
+      subst (λ (c : Content E). Models c (pairs ++ (event, opener) ∷ [])) (sym is) (begun_models old pairs event models)
   enters_models Reply event old new pairs models step = closes_models old new pairs event models step
   enters_models Sent event old new pairs models step = closes_models old new pairs event models step
   enters_models Error event old new pairs models step = closes_models old new pairs event models step
   enters_models Refused event old new pairs models is =
-      subst (λ (c : Content K). Models c (pairs ++ (event, neither) ∷ [])) (sym is)
+      subst (λ (c : Content E). Models c (pairs ++ (event, neither) ∷ [])) (sym is)
       (passes_models (refused_too event old) pairs event (models_same old (refused_too event old) pairs refl refl refl models))
   enters_models Neither event old new pairs models is =
-      subst (λ (c : Content K). Models c (pairs ++ (event, neither) ∷ [])) (sym is) (passes_models old pairs event models)
+      subst (λ (c : Content E). Models c (pairs ++ (event, neither) ∷ [])) (sym is) (passes_models old pairs event models)
 
   -- ---- closers in turn
 
-  pub closes_all_push : (old between new : Content K) (events : List (CallEvent K)) (e : CallEvent K) → ClosesAll old events between → Closes between e new
-      → ClosesAll old (events ++ e ∷ []) new
-  closes_all_push old between new [] e is step = (new, subst (λ (c : Content K). Closes c e new) is step, refl)
+  pub closes_all_push : (old between new : Content E) (events : List E) (e : E) → ClosesAll reads old events between → Closes reads between e new
+      → ClosesAll reads old (events ++ e ∷ []) new
+  closes_all_push old between new [] e is step = (new, subst (λ (c : Content E). Closes reads c e new) is step, refl)
   closes_all_push old between new (x ∷ events) e steps step = (steps.0, steps.1, closes_all_push steps.0 between new events e steps.2 step)
 
   -- each index is within the openers, still
-  pub closes_within : (old new : Content K) (e : CallEvent K) → Closes old e new → All (λ index. index < length old.openers) old.unmatched
+  pub closes_within : (old new : Content E) (e : E) → Closes reads old e new → All (λ index. index < length old.openers) old.unmatched
       → All (λ index. index < length new.openers) new.unmatched
   closes_within old new e (closes_none none is) all =
-      subst (λ (c : Content K). All (λ index. index < length c.openers) c.unmatched) (sym is) all
+      subst (λ (c : Content E). All (λ index. index < length c.openers) c.unmatched) (sym is) all
   closes_within old new e (closes_last front index call last there is) all =
       let few : All (λ i. i < length old.openers) front = (All-pop (λ i. i < length old.openers) old.unmatched front (Some index) last all).0 in
-      let same : length (slice_set old.openers index (closed_with e call)) ≡ length old.openers = length-set old.openers index (closed_with e call) in
-      subst (λ (c : Content K). All (λ i. i < length c.openers) c.unmatched) (sym is)
+      let same : length (slice_set old.openers index (closed_with reads e call)) ≡ length old.openers = length-set old.openers index (closed_with reads e call) in
+      subst (λ (c : Content E). All (λ i. i < length c.openers) c.unmatched) (sym is)
       (subst (λ (n : ℕ). All (λ i. i < n) front) (sym same) few)

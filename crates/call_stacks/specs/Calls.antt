@@ -10,7 +10,7 @@ use Rattle.event_core.specs.declared.marks.Bracket.TheVariants.{Error, Refused, 
 use Rattle.event_core.specs.declared.marks.Mark.{Mark}
 use Rattle.event_core.specs.declared.marks.Mark.TheVariants.{Oneway}
 use Rattle.summary_law.specs.Fits.{IsPlaced}
-use Rattle.call_stacks.specs.declared.call_event.CallEvent.{CallEvent}
+use Rattle.call_stacks.specs.declared.call_record.CallEvent.{CallEvent}
 use Rattle.call_stacks.specs.declared.calls.Calls.{Calls}
 use Rattle.call_stacks.specs.declared.findings.CallFindings.{CallFindings}
 use Rattle.call_stacks.specs.declared.findings.RefusedSend.{RefusedSend}
@@ -119,96 +119,77 @@ refused_send found =
 abbrev pub refused_of : {E : Type 0} → List (JudgedOf E) → List (RefusedSend E)
 refused_of judged = filter_map refused_send judged
 
+-- the place of an opener
+abbrev pub opener_place : {E : Type 0} → Reads E → Opener E → ℕ
+opener_place reads found = reads.place found.event
+
 -- the calls of a whole thread
 pub record AreFindings {E : Type 0} (reads : Reads E) (events : List E) (findings : CallFindings E) : Type 0 where
-  pub openers : ListsInOrder (λ o. reads.place o.event) (IsOpener reads (judged_of reads events)) findings.openers.items
+  pub openers : ListsInOrder (opener_place reads) (IsOpener reads (judged_of reads events)) findings.openers.items
   pub strays : ListsInOrder reads.place (IsStrayEvent (judged_of reads events)) findings.strays.items
   pub refused : findings.refused.items ≡ refused_of (judged_of reads events)
 
--- ---- of the events that a summary of calls takes
+-- ---- of an event itself, and of what is read of it alone
 
--- what the calls of a thread go by of an event, with this kept of it
-abbrev pub call_event : {K : Type 0} → Event → K → CallEvent K
-call_event event kept = record {
-  place = event.place;
-  kind = event.kind;
-  oneway = is_oneway event.kind event.payload.now;
-  kept = kept;
+abbrev pub view_reads : Reads Event
+view_reads = record {
+  place = λ event. event.place;
+  kind = λ event. event.kind;
+  oneway = λ event. is_oneway event.kind event.payload.now;
 }
 
-abbrev pub event_place : {K : Type 0} → CallEvent K → ℕ
+-- what the calls of a thread go by of an event
+abbrev pub call_event : Event → CallEvent
+call_event event = record { place = event.place; kind = event.kind; oneway = is_oneway event.kind event.payload.now }
+
+abbrev pub event_place : CallEvent → ℕ
 event_place event = event.place
 
-abbrev pub opener_place : {K : Type 0} → Opener (CallEvent K) → ℕ
-opener_place found = found.event.place
-
--- what is read of such an event
-abbrev pub event_reads : {K : Type 0} → Reads (CallEvent K)
+abbrev pub event_reads : Reads CallEvent
 event_reads = record { place = event_place; kind = λ event. event.kind; oneway = λ event. event.oneway }
 
-abbrev pub event_mark : {K : Type 0} → CallEvent K → Option Mark
-event_mark event = mark_read event_reads event
-
-abbrev pub bracket_by : {K : Type 0} → Option Mark → CallEvent K → Bracket
-bracket_by before event = bracket_read event_reads before event
-
-abbrev pub mark_behind : {K : Type 0} → Option Mark → CallEvent K → Option Mark
-mark_behind before event = mark_behind_by event_reads before event
+-- ---- of a part of a thread
 
 -- the latest mark of the events
-abbrev pub last_mark : {K : Type 0} → List (CallEvent K) → Option Mark
-last_mark events = fold mark_behind None events
-
-abbrev pub Judged : Type 0 → Type 0
-Judged K = JudgedOf (CallEvent K)
-
-abbrev pub judged_by : {K : Type 0} → (Option Mark → CallEvent K → Bracket) → Option Mark → List (CallEvent K)
-    → List (Judged K)
-judged_by judge before events = judged_with event_reads judge before events
-
--- the events of a whole thread
-abbrev pub judged : {K : Type 0} → List (CallEvent K) → List (Judged K)
-judged events = judged_of event_reads events
+abbrev pub last_mark : {E : Type 0} → Reads E → List E → Option Mark
+last_mark reads events = fold (mark_behind_by reads) None events
 
 abbrev pub is_error : Bracket → Bool
 is_error Error = true
 is_error _ = false
 
 -- in a part of a thread, an error reply that is the part's first mark is taken as no bracket: it is undecided
-abbrev pub bracket_in_part : {K : Type 0} → Option Mark → CallEvent K → Bracket
-bracket_in_part None event = if is_error (bracket_by None event) then Neither else bracket_by None event
-bracket_in_part (Some mark) event = bracket_by (Some mark) event
+abbrev pub bracket_in_part : {E : Type 0} → Reads E → Option Mark → E → Bracket
+bracket_in_part reads None event = if is_error (bracket_read reads None event) then Neither else bracket_read reads None event
+bracket_in_part reads (Some mark) event = bracket_read reads (Some mark) event
 
 -- the events of a part of a thread
-abbrev pub judged_part : {K : Type 0} → List (CallEvent K) → List (Judged K)
-judged_part events = judged_by bracket_in_part None events
+abbrev pub judged_part : {E : Type 0} → Reads E → List E → List (JudgedOf E)
+judged_part reads events = judged_with reads (bracket_in_part reads) None events
 
 -- the event, where it is an error reply
-abbrev pub if_error_reply : {K : Type 0} → CallEvent K → Option (CallEvent K)
-if_error_reply event = if is_error (bracket_by None event) then Some event else None
+abbrev pub if_error_reply : {E : Type 0} → Reads E → E → Option E
+if_error_reply reads event = if is_error (bracket_read reads None event) then Some event else None
 
 -- the undecided error reply of a part of a thread: the first event that leaves a mark, where that is an error reply
-abbrev pub undecided_of : {K : Type 0} → List (CallEvent K) → Option (CallEvent K)
-undecided_of events = option_and_then if_error_reply (find (λ event. is_some (event_mark event)) events)
-
-abbrev pub verdict_by : {K : Type 0} → CallEvent K → CallEvent K → Verdict
-verdict_by call answer = verdict_read event_reads call answer
+abbrev pub undecided_of : {E : Type 0} → Reads E → List E → Option E
+undecided_of reads events = option_and_then (if_error_reply reads) (find (λ event. is_some (mark_read reads event)) events)
 
 -- an index among the openers of one without a closer
 abbrev pub IsLeftOpen : {E : Type 0} → List (Opener E) → ℕ → Type 0
 IsLeftOpen {E} openers index = (found : Opener E) × (slice_get openers index ≡ Some found) × (found.closer ≡ None)
 
 -- the value sums the events of a part of a thread
-pub record CallsSum {K : Type 0} (calls : Calls K) (events : List (CallEvent K)) : Type 0 where
-  pub placed : IsPlaced event_place events
-  pub last : calls.last ≡ last_mark events
-  pub undecided : calls.undecided ≡ undecided_of events
-  pub openers : ListsInOrder opener_place (IsOpener event_reads (judged_part events)) calls.openers.items
+pub record CallsSum {E : Type 0} (reads : Reads E) (calls : Calls E) (events : List E) : Type 0 where
+  pub placed : IsPlaced reads.place events
+  pub last : calls.last ≡ last_mark reads events
+  pub undecided : calls.undecided ≡ undecided_of reads events
+  pub openers : ListsInOrder (opener_place reads) (IsOpener reads (judged_part reads events)) calls.openers.items
   pub unmatched : ListsInOrder (λ index. index) (IsLeftOpen calls.openers.items) calls.unmatched.items
-  pub strays : ListsInOrder event_place (IsStrayEvent (judged_part events)) calls.strays.items
-  pub refused : calls.refused.items ≡ refused_of (judged_part events)
+  pub strays : ListsInOrder reads.place (IsStrayEvent (judged_part reads events)) calls.strays.items
+  pub refused : calls.refused.items ≡ refused_of (judged_part reads events)
 
 -- the calls of whatever events the value sums
-abbrev pub GivesFindings : {K : Type 0} → Calls K → CallFindings (CallEvent K) → Type 0
-GivesFindings {K} calls findings =
-    (events : List (CallEvent K)) → CallsSum calls events → AreFindings event_reads events findings
+abbrev pub GivesFindings : {E : Type 0} → Reads E → Calls E → CallFindings E → Type 0
+GivesFindings {E} reads calls findings =
+    (events : List E) → CallsSum reads calls events → AreFindings reads events findings

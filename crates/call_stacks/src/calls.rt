@@ -1,15 +1,15 @@
-//! The calls of one thread, as a summary of what is read of its events.
+//! The calls of one thread, as a summary of its events.
 
 ghost use Rattle.std.specs.Prelude.{◌≡◌, ◌+◌, ◌<◌, ◌^◌, length, All, IfOk, OnOk};
 ghost use Rattle.summary_law.specs.Fits.{IsPlaced, placed_parts};
-ghost use Rattle.call_stacks.specs.Calls.{event_place, CallsSum, GivesFindings};
+ghost use Rattle.call_stacks.specs.Calls.{CallsSum, GivesFindings};
 ghost use Rattle.call_stacks.specs.Content.{content_of, begun, refused_too, appended};
 ghost use Rattle.call_stacks.specs.Content.{Enters, Closes, ClosesAll};
 
-use crate::call_event::CallEvent;
+use crate::call_record::CallRecord;
 use crate::findings::{CallFindings, RefusedSend};
 use crate::opener::Opener;
-use event_core::{Bracket, Mark};
+use event_core::{Bracket, Event, Mark};
 use std::alloc::{AllocError, Global};
 use summary_law::Summary;
 
@@ -17,25 +17,25 @@ use summary_law::Summary;
 /// with an error reply that belongs to what stands before the part: it stays undecided until that
 /// is joined in front.
 #[derive(Drop)]
-pub struct Calls<K> {
+pub struct Calls<E> {
     /// The mark of the latest event that left one.
     last: Option<Mark>,
     /// The first event that left a mark, where that is an error reply.
-    undecided: Option<CallEvent<K>>,
+    undecided: Option<E>,
     /// The calls so far, in rising place.
-    openers: Vec<Opener<CallEvent<K>>>,
+    openers: Vec<Opener<E>>,
     /// The indices in `openers` of those without a closer, in rising order.
     unmatched: Vec<usize>,
     /// The closers that match no opener, in rising place.
-    strays: Vec<CallEvent<K>>,
+    strays: Vec<E>,
     /// The refused sends, in rising place.
-    refused: Vec<RefusedSend<CallEvent<K>>>,
+    refused: Vec<RefusedSend<E>>,
 }
 
-impl<K: Copy> Calls<K> {
+impl<E: CallRecord> Calls<E> {
     /// The calls of the whole thread. An error reply that is still undecided closes nothing.
-    pub fn finish(self) -> Result<CallFindings<CallEvent<K>>, AllocError>
-        ensures { IfOk result (GivesFindings self) }
+    pub fn finish(self) -> Result<CallFindings<E>, AllocError>
+        ensures { IfOk result (GivesFindings E.reads self) }
     {
         let Calls {
             last: _,
@@ -57,10 +57,10 @@ impl<K: Copy> Calls<K> {
     }
 
     /// Takes in an event that is this bracket.
-    fn enter(&mut self, event: CallEvent<K>, bracket: Bracket) -> Result<(), AllocError>
+    fn enter(&mut self, event: E, bracket: Bracket) -> Result<(), AllocError>
         requires { All (λ index. index < length self.old.openers.items) self.old.unmatched.items }
         ensures { OnOk result
-            (Enters bracket event (content_of self.old) (content_of self.new)) }
+            (Enters E.reads bracket event (content_of self.old) (content_of self.new)) }
     {
         match bracket {
             Bracket::Call | Bracket::Served => self.begin(event),
@@ -71,7 +71,7 @@ impl<K: Copy> Calls<K> {
     }
 
     /// A call begins.
-    fn begin(&mut self, event: CallEvent<K>) -> Result<(), AllocError>
+    fn begin(&mut self, event: E) -> Result<(), AllocError>
         ensures { OnOk result (content_of self.new ≡ begun event (content_of self.old)) }
     {
         self.unmatched.push(self.openers.len())?;
@@ -80,7 +80,7 @@ impl<K: Copy> Calls<K> {
     }
 
     /// A send is refused: the latest one.
-    fn refuse(&mut self, event: CallEvent<K>) -> Result<(), AllocError>
+    fn refuse(&mut self, event: E) -> Result<(), AllocError>
         ensures { OnOk result
             (content_of self.new ≡ refused_too event (content_of self.old)) }
     {
@@ -90,10 +90,10 @@ impl<K: Copy> Calls<K> {
     }
 
     /// Closes the innermost call that is open, if there is one.
-    fn close(&mut self, closer: CallEvent<K>) -> Result<(), AllocError>
+    fn close(&mut self, closer: E) -> Result<(), AllocError>
         requires { All (λ index. index < length self.old.openers.items) self.old.unmatched.items }
         ensures { OnOk result
-            (Closes (content_of self.old) closer (content_of self.new)) }
+            (Closes E.reads (content_of self.old) closer (content_of self.new)) }
     {
         match self.unmatched.pop() {
             Some(index) => {
@@ -106,10 +106,10 @@ impl<K: Copy> Calls<K> {
     }
 
     /// Each of the closers closes the innermost call that is then open.
-    fn close_all(&mut self, closers: &[CallEvent<K>]) -> Result<(), AllocError>
+    fn close_all(&mut self, closers: &[E]) -> Result<(), AllocError>
         requires { All (λ index. index < length self.old.openers.items) self.old.unmatched.items }
         ensures { OnOk result
-            (ClosesAll (content_of self.old) closers.now (content_of self.new)) }
+            (ClosesAll E.reads (content_of self.old) closers.now (content_of self.new)) }
     {
         for closer in closers {
             self.close(*closer)?;
@@ -120,9 +120,9 @@ impl<K: Copy> Calls<K> {
     /// Takes over the calls of a later part, and its refused sends.
     fn append(
         &mut self,
-        openers: Vec<Opener<CallEvent<K>>>,
+        openers: Vec<Opener<E>>,
         unmatched: &[usize],
-        refused: Vec<RefusedSend<CallEvent<K>>>,
+        refused: Vec<RefusedSend<E>>,
     ) -> Result<(), AllocError>
         requires { All (λ index. length self.old.openers.items + index < 2 ^ 64) unmatched.now }
         ensures { OnOk result (content_of self.new ≡
@@ -140,17 +140,20 @@ impl<K: Copy> Calls<K> {
     }
 }
 
+/// The calls of one thread, where the events themselves are kept.
+pub type ThreadCalls<'c> = Calls<Event<'c>>;
+
 /// An `add` takes constant time, amortized. A `join` takes a step for each entry of the later
 /// value's lists, and walks through nothing of the earlier one beyond the calls that it closes. A
 /// thread without calls takes no heap.
-impl<K: Copy> Summary for Calls<K> {
-    type Item = CallEvent<K>;
+impl<E: CallRecord> Summary for Calls<E> {
+    type Item = E;
 
-    ghost fits = { IsPlaced event_place };
+    ghost fits = { IsPlaced E.reads.place };
 
-    ghost sums = { CallsSum };
+    ghost sums = { CallsSum E.reads };
 
-    fn empty(alloc: Global) -> Calls<K> {
+    fn empty(alloc: Global) -> Calls<E> {
         Calls {
             last: None,
             undecided: None,
@@ -161,7 +164,7 @@ impl<K: Copy> Summary for Calls<K> {
         }
     }
 
-    fn add(&mut self, item: CallEvent<K>) -> Result<(), AllocError> {
+    fn add(&mut self, item: E) -> Result<(), AllocError> {
         let bracket = item.bracket(self.last);
         if self.last.is_none() && bracket == Bracket::Error {
             self.undecided = Some(item);
@@ -172,7 +175,7 @@ impl<K: Copy> Summary for Calls<K> {
         Ok(())
     }
 
-    fn join(self, later: Calls<K>) -> Result<Calls<K>, AllocError> {
+    fn join(self, later: Calls<E>) -> Result<Calls<E>, AllocError> {
         let mut joined = self;
         let Calls {
             last,
@@ -191,5 +194,5 @@ impl<K: Copy> Summary for Calls<K> {
         Ok(joined)
     }
 
-    ghost fits_parts = { placed_parts event_place };
+    ghost fits_parts = { placed_parts E.reads.place };
 }

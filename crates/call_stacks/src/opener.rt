@@ -3,7 +3,7 @@
 ghost use Rattle.std.specs.Prelude.{◌≡◌};
 ghost use Rattle.call_stacks.specs.Content.{left_open, closed_with};
 
-use crate::call_event::CallEvent;
+use crate::call_record::CallRecord;
 use crate::verdict::{Verdict, verdict_between};
 
 /// A call that a thread made or got to serve, and what became of it.
@@ -17,9 +17,9 @@ pub struct Opener<E> {
     pub closer: Option<u64>,
 }
 
-impl<K: Copy> Opener<CallEvent<K>> {
+impl<E: CallRecord> Opener<E> {
     /// A call that nothing closes so far.
-    pub(crate) fn new(event: CallEvent<K>) -> Self
+    pub(crate) fn new(event: E) -> Self
         ensures { result ≡ left_open event }
     {
         Opener {
@@ -30,13 +30,13 @@ impl<K: Copy> Opener<CallEvent<K>> {
     }
 
     /// The call with what closes it.
-    pub(crate) fn closed_with(self, closer: CallEvent<K>) -> Self
-        ensures { result ≡ closed_with closer self }
+    pub(crate) fn closed_with(self, closer: E) -> Self
+        ensures { result ≡ closed_with E.reads closer self }
     {
         Opener {
             event: self.event,
             verdict: verdict_between(self.event.bracket(None), closer.bracket(None)),
-            closer: Some(closer.place),
+            closer: Some(closer.place()),
         }
     }
 }

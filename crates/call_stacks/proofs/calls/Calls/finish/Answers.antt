@@ -7,6 +7,7 @@ use Rattle.call_stacks.proofs.calls.Calls.finish.Goals.{in-Some+in_ok-insert, in
 
 pub returns : goal.returns
 returns g c = λ events sums.
+    let reads = g.E.CallRecord.reads in
     let calls = c.args.self in
     let strays_are : c.match-undecided.strays.items ≡ option_to_list calls.undecided ++ calls.strays.items
     = elim c.match-undecided.branch [
@@ -15,4 +16,4 @@ returns g c = λ events sums.
       | in_default w ↦ ap (λ v. v.items) w.strays-is ∙ ap (λ o. option_to_list o ++ calls.strays.items) (sym w.in_default.is)
     ]
     in
-    finished calls _ events (holds calls events sums) refl strays_are refl
+    finished reads calls _ events (holds reads calls events sums) refl strays_are refl

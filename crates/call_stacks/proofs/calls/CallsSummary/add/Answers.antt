@@ -5,7 +5,7 @@ use Rattle.event_core.specs.declared.marks.Bracket.{Bracket}
 use Rattle.event_core.specs.declared.marks.Bracket.TheVariants.{Call, Served, Reply, Sent, Error, Refused, Neither}
 use Rattle.event_core.specs.declared.marks.Mark.{Mark}
 use Rattle.call_stacks.specs.declared.calls.Calls.{Calls}
-use Rattle.call_stacks.specs.Calls.{bracket_in_part, bracket_by, is_error, event_mark}
+use Rattle.call_stacks.specs.Calls.{bracket_in_part, bracket_read, is_error, mark_read}
 use Rattle.call_stacks.specs.Content.{Content, content_of}
 use Rattle.call_stacks.proofs.Joins.{within}
 use Rattle.call_stacks.proofs.Judging.{paired}
@@ -16,9 +16,10 @@ use denote.Enum.Bare.{sameb}
 
 pub enter-requires : goal.enter-requires
 enter-requires g c =
+    let reads = g.E.CallRecord.reads in
     let old = c.args.self.now in
     let events = c.requires.0 in
-    within (content_of old) (paired bracket_in_part None events) (holds old events c.requires.1).models
+    within reads (content_of old) (paired reads (bracket_in_part reads) None events) (holds reads old events c.requires.1).models
 
 same_error : (bracket : Bracket) → sameb the_type bracket Error ≡ is_error bracket
 same_error Call = refl
@@ -38,32 +39,33 @@ not_none None e none = cc
 not_none (Some mark) e none = cc
 
 -- what a value holds, with this mark as the last one
-abbrev with_last : {K : Type 0} → Option Mark → Calls K → Content K
+abbrev with_last : {E : Type 0} → Option Mark → Calls E → Content E
 with_last mark calls = record (content_of calls) { last = mark }
 
 pub returns : goal.returns
 returns g c = λ events summed placed.
+    let reads = g.E.CallRecord.reads in
     let old = content_of c.args.self.now in
     let event = c.args.item in
-    let held = holds c.args.self.now events summed in
-    let last = λ (o : Option Mark). option_or (event_mark event) o in
+    let held = holds reads c.args.self.now events summed in
+    let last = λ (o : Option Mark). option_or (mark_read reads event) o in
     let mark_is : c.or-self.result ≡ last c.if-is_none.self.last
     = c.or-self.ensures ∙ ap (λ o. option_or o c.if-is_none.self.last) c.mark.ensures in
-    sums _ (events ++ event ∷ [])
+    sums reads _ (events ++ event ∷ [])
     (elim c.if-is_none.branch [
       | then-is_none+then-eq w ↦
           let none : old.last ≡ None = none_is old.last w.if-is_none.ensures in
           let same : is_error c.bracket-bracket.result ≡ true = sym (same_error c.bracket-bracket.result) ∙ sym w.eq.ensures ∙ w.if-eq.true in
-          let error : is_error (bracket_by None event) ≡ true
-          = ap (λ o. is_error (bracket_by o event)) (sym none) ∙ ap is_error (sym c.bracket-bracket.ensures) ∙ same in
+          let error : is_error (bracket_read reads None event) ≡ true
+          = ap (λ o. is_error (bracket_read reads o event)) (sym none) ∙ ap is_error (sym c.bracket-bracket.ensures) ∙ same in
           let mark_then : c.or-self.result ≡ last old.last = mark_is ∙ ap (λ (v : Calls _). last v.last) w.self-is in
-          add_undecided old _ events event held placed none error
+          add_undecided reads old _ events event held placed none error
           (ap (with_last c.or-self.result) w.self-is ∙ ap (λ o. record old { last = o; undecided = Some event }) mark_then)
       | else-is_none+in_ok-enter w ↦
-          add_entered old (content_of w.enter.new.self) _ events event c.bracket-bracket.result held placed c.bracket-bracket.ensures
+          add_entered reads old (content_of w.enter.new.self) _ events event c.bracket-bracket.result held placed c.bracket-bracket.ensures
           (λ none. elim w.else-is_none.branch [
             | else-is_none-via-then-is_none+else-eq v ↦
-                ap (λ o. is_error (bracket_by o event)) (sym none) ∙ ap is_error (sym c.bracket-bracket.ensures)
+                ap (λ o. is_error (bracket_read reads o event)) (sym none) ∙ ap is_error (sym c.bracket-bracket.ensures)
                 ∙ sym (same_error c.bracket-bracket.result) ∙ sym v.eq.ensures ∙ v.if-eq.false
             | else-is_none-via-else-is_none v ↦ absurd (not_none old.last v.if-is_none.ensures none)
           ])
@@ -71,5 +73,5 @@ returns g c = λ events summed placed.
           (ap (with_last c.or-self.result) w.self-is
           ∙ ap (λ o. record (content_of w.enter.new.self) { last = o })
           (mark_is ∙ ap (λ (v : Calls _). last v.last) w.self-is
-          ∙ ap last (enters_last c.bracket-bracket.result event old (content_of w.enter.new.self) w.in_ok-enter.ensures)))
+          ∙ ap last (enters_last reads c.bracket-bracket.result event old (content_of w.enter.new.self) w.in_ok-enter.ensures)))
     ])

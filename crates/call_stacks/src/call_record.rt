@@ -1,0 +1,95 @@
+//! What the calls of a thread go by of an event.
+
+ghost use Rattle.std.specs.Prelude.{◌≡◌};
+ghost use Rattle.call_stacks.specs.Calls.{Reads, mark_read, bracket_read, event_reads, view_reads, call_event};
+
+use binder_code::Kind;
+use event_core::{Bracket, Event, Mark, bracket_of, is_oneway, mark_of};
+
+/// An event, in any form that tells what the calls of its thread go by.
+pub trait CallRecord: Copy {
+    /// What is read of it.
+    ghost reads: { Reads Self };
+
+    /// Where its record begins in the capture, in bytes.
+    fn place(&self) -> u64
+        ensures { result ≡ reads.place self.now };
+
+    /// What the record's code stands for.
+    fn kind(&self) -> Kind
+        ensures { result ≡ reads.kind self.now };
+
+    /// Whether it is a transaction, sent or received, with TF_ONE_WAY.
+    fn oneway(&self) -> bool
+        ensures { result ≡ reads.oneway self.now };
+
+    /// The mark that it leaves in its thread.
+    final fn mark(&self) -> Option<Mark>
+        ensures { result ≡ mark_read reads self.now }
+    {
+        mark_of(self.kind(), self.oneway())
+    }
+
+    /// What it is, where `last` is the mark of its thread's latest earlier event that left one.
+    final fn bracket(&self, last: Option<Mark>) -> Bracket
+        ensures { result ≡ bracket_read reads last self.now }
+    {
+        bracket_of(last, self.kind(), self.oneway())
+    }
+}
+
+impl<'c> CallRecord for Event<'c> {
+    ghost reads = { view_reads };
+
+    fn place(&self) -> u64 {
+        self.place
+    }
+
+    fn kind(&self) -> Kind {
+        self.kind
+    }
+
+    fn oneway(&self) -> bool {
+        is_oneway(*self)
+    }
+}
+
+/// What the calls of a thread go by of an event, and nothing else of it.
+#[derive(Clone, Copy)]
+pub struct CallEvent {
+    /// Where its record begins in the capture, in bytes.
+    pub place: u64,
+    /// What the record's code stands for.
+    pub kind: Kind,
+    /// Whether it is a transaction, sent or received, with TF_ONE_WAY.
+    pub oneway: bool,
+}
+
+impl CallEvent {
+    /// What is read of an event.
+    pub fn of(event: Event<'_>) -> Self
+        ensures { result ≡ call_event event.entry }
+    {
+        CallEvent {
+            place: event.place,
+            kind: event.kind,
+            oneway: is_oneway(event),
+        }
+    }
+}
+
+impl CallRecord for CallEvent {
+    ghost reads = { event_reads };
+
+    fn place(&self) -> u64 {
+        self.place
+    }
+
+    fn kind(&self) -> Kind {
+        self.kind
+    }
+
+    fn oneway(&self) -> bool {
+        self.oneway
+    }
+}
