@@ -47,8 +47,9 @@ pub(crate) fn rows_in_turn<S: InTurn>(
         AreInTurn (S.are_of (events_of_wholes wholes)) (processes_of wholes) rows.items) }
 {
     let mut rows = Vec::new(alloc);
+    let mut guess = 0;
     for (process, _nothing) in &processes.order.entries {
-        let own = S::rows(processes.ledgers(*process))?;
+        let own = S::rows(processes.ledgers(*process, &mut guess))?;
         push_rows_of(&mut rows, *process, own.as_slice())?;
     }
     Ok(rows)

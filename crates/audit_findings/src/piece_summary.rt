@@ -45,7 +45,8 @@ impl<'c> PieceSummary<'c> {
     {
         let (process, _nothing) = self.ledgers.order.entries.get_index(number).unwrap();
         let none = ProcessLedgers::empty(self.alloc);
-        let ledgers = self.ledgers.processes(&none).ledgers(*process);
+        let mut guess = number;
+        let ledgers = self.ledgers.processes(&none).ledgers(*process, &mut guess);
         let own = handles_of_process(self.alloc, frames, ledgers)?;
         let mut rows = Vec::new(self.alloc);
         push_rows_of(&mut rows, *process, own.as_slice())?;

@@ -40,8 +40,9 @@ pub(crate) fn places_of<L: Listed>(
         ArePlacesOf (SomeProcess (L.is_so (events_of_wholes wholes))) places.items) }
 {
     let mut places = Vec::new(alloc);
+    let mut guess = 0;
     for (process, _nothing) in &processes.order.entries {
-        let own = L::places(processes.ledgers(*process))?;
+        let own = L::places(processes.ledgers(*process, &mut guess))?;
         places.extend_from_slice(own.as_slice())?;
     }
     places.sort_unstable();

@@ -19,10 +19,11 @@ pub struct Processes<'a, 'c> {
 impl<'a, 'c> Processes<'a, 'c> {
     ghost use Rattle.process_ledgers.specs.OfProcess.{ledgers_in};
 
-    /// The ledgers of the process.
-    pub fn ledgers(self, process: Process) -> &'a ProcessLedgers<'c>
+    /// The ledgers of the process. For processes in their order, each with the guess that the call
+    /// before left and the first with 0, mostly nothing is looked up.
+    pub fn ledgers(self, process: Process, guess: &mut usize) -> &'a ProcessLedgers<'c>
         ensures { result.now ≡ ledgers_in self.entry process }
     {
-        self.own.part_or(process, self.none)
+        self.own.part_or(process, self.none, guess)
     }
 }

@@ -25,23 +25,28 @@ pub struct InOrder<K: Eq + Hash + Copy, S: Summary> {
 }
 
 impl<K: Eq + Hash + Copy, S: Summary> InOrder<K, S> {
-    // The index of the key's entry. Where that is the latest one, nothing is looked up.
-    fn index_of(&self, key: K) -> Option<usize>
+    // The index of the key's entry. Where that is the guess, nothing is looked up.
+    fn index_of(&self, key: K, guess: usize) -> Option<usize>
         ensures index { result ≡ index_of K.eq self.now.entries key }
         ensures unique { IsUnique K.eq self.now.entries }
     {
-        match self.entries.as_slice().get_index(self.latest) {
-            Some((latest, _part)) if *latest == key => Some(self.latest),
+        match self.entries.as_slice().get_index(guess) {
+            Some((there, _part)) if *there == key => Some(guess),
             _ => self.entries.get_index_of(&key),
         }
     }
 
-    /// The summary of the items under the key, or this one where there are none.
-    pub fn part_or<'a>(&'a self, key: K, none: &'a S) -> &'a S
+    /// The summary of the items under the key, or this one where there are none. Where the key has
+    /// the entry that is guessed, nothing is looked up. The guess becomes the entry behind the key's,
+    /// so keys that come in the order of the entries take no look-up.
+    pub fn part_or<'a>(&'a self, key: K, none: &'a S, guess: &mut usize) -> &'a S
         ensures { result.now ≡ unwrap_or (lookup (K.eq key) self.now.entries.entries) none.now }
     {
-        match self.entries.get(&key) {
-            Some(part) => part,
+        match self.index_of(key, *guess) {
+            Some(index) => {
+                *guess = index.saturating_add(1);
+                &self.entries[index]
+            }
             None => none,
         }
     }
@@ -66,7 +71,7 @@ impl<K: Eq + Hash + Copy, S: Summary> Summary for InOrder<K, S> {
 
     fn add(&mut self, item: (K, S::Item)) -> Result<(), AllocError> {
         let (key, inner) = item;
-        match self.index_of(key) {
+        match self.index_of(key, self.latest) {
             Some(index) => {
                 self.latest = index;
                 self.entries[index].add(inner)
