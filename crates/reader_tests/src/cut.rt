@@ -1,5 +1,5 @@
-//! Whole captures at once: good ones, and one with each fault that a file header or a frame header
-//! has.
+//! Whole captures at once: good ones, one with a fault of the file header, and one with a fault of
+//! the third frame.
 
 use crate::expect::same;
 use crate::frames::{expect_bytes, expect_number};
@@ -22,12 +22,6 @@ const ROWS: &[Row] = &[
     Row {
         capture: b"BNDRCAP1\x08\0\0\0\0\0\0\0",
         frames: 0,
-        fault: None,
-    },
-    Row {
-        capture: b"BNDRCAP1\x08\0\0\0\0\0\0\0\
-            \x01\0\0\0\0\0\0\0\x64\0\0\0\x65\0\0\0\x01\0\0\0\x04\0\0\0\0\0\0\0\0\0\0\0\x0c\x63\0\0",
-        frames: 1,
         fault: None,
     },
     Row {
@@ -55,86 +49,6 @@ const ROWS: &[Row] = &[
         }),
     },
     Row {
-        capture: b"",
-        frames: 0,
-        fault: Some(Fault {
-            kind: FaultKind::HeaderShort,
-            place: 0,
-        }),
-    },
-    Row {
-        capture: b"BNDRCAP3\x08\0\0\0\0\0\0\0\
-            \x01\0\0\0\0\0\0\0\x64\0\0\0\x65\0\0\0\x01\0\0\0\x04\0\0\0\0\0\0\0\0\0\0\0\x0c\x63\0\0",
-        frames: 0,
-        fault: Some(Fault {
-            kind: FaultKind::HeaderMagic,
-            place: 0,
-        }),
-    },
-    Row {
-        capture: b"BNDRCAP1\x07\0\0\0\0\0\0\0\
-            \x01\0\0\0\0\0\0\0\x64\0\0\0\x65\0\0\0\x01\0\0\0\x04\0\0\0\0\0\0\0\0\0\0\0\x0c\x63\0\0",
-        frames: 0,
-        fault: Some(Fault {
-            kind: FaultKind::HeaderProtocol,
-            place: 8,
-        }),
-    },
-    Row {
-        capture: b"BNDRCAP1\x08\0\0\0\x01\0\0\0\
-            \x01\0\0\0\0\0\0\0\x64\0\0\0\x65\0\0\0\x01\0\0\0\x04\0\0\0\0\0\0\0\0\0\0\0\x0c\x63\0\0",
-        frames: 0,
-        fault: Some(Fault {
-            kind: FaultKind::HeaderReserved,
-            place: 12,
-        }),
-    },
-    Row {
-        capture: b"BNDRCAP1\x08\0\0\0\0\0\0\0\
-            \x01\0\0\0\0\0\0\0\x64\0\0\0\x65\0\0\0\x01\0\0\0\x04\0\0\0\0\0\0\0\0\0\0\0\x0c\x63\0\0\
-            \x02\0\0\0\0\0\0\0\x64\0\0\0\x65\0\0\0\x01\0\0\0\x04\0\0\0\0\0\0\0\0\0\0\0\x0c\x63\0\0\
-            \x03",
-        frames: 2,
-        fault: Some(Fault {
-            kind: FaultKind::FrameShort,
-            place: 88,
-        }),
-    },
-    Row {
-        capture: b"BNDRCAP1\x08\0\0\0\0\0\0\0\
-            \x01\0\0\0\0\0\0\0\x64\0\0\0\x65\0\0\0\x01\0\0\0\x04\0\0\0\0\0\0\0\0\0\0\0\x0c\x63\0\0\
-            \x02\0\0\0\0\0\0\0\x64\0\0\0\x65\0\0\0\x01\0\0\0\x04\0\0\0\0\0\0\0\0\0\0\0\x0c\x63\0\0\
-            \x02\0\0\0\0\0\0\0\x64\0\0\0\x65\0\0\0\x01\0\0\0\x04\0\0\0\0\0\0\0\0\0\0\0\x0c\x63\0\0",
-        frames: 2,
-        fault: Some(Fault {
-            kind: FaultKind::FrameSequence,
-            place: 88,
-        }),
-    },
-    Row {
-        capture: b"BNDRCAP1\x08\0\0\0\0\0\0\0\
-            \x01\0\0\0\0\0\0\0\x64\0\0\0\x65\0\0\0\x01\0\0\0\x04\0\0\0\0\0\0\0\0\0\0\0\x0c\x63\0\0\
-            \x02\0\0\0\0\0\0\0\x64\0\0\0\x65\0\0\0\x01\0\0\0\x04\0\0\0\0\0\0\0\0\0\0\0\x0c\x63\0\0\
-            \x03\0\0\0\0\0\0\0\x64\0\0\0\x65\0\0\0\x03\0\0\0\x04\0\0\0\0\0\0\0\0\0\0\0\x0c\x63\0\0",
-        frames: 2,
-        fault: Some(Fault {
-            kind: FaultKind::FrameDirection,
-            place: 88,
-        }),
-    },
-    Row {
-        capture: b"BNDRCAP1\x08\0\0\0\0\0\0\0\
-            \x01\0\0\0\0\0\0\0\x64\0\0\0\x65\0\0\0\x01\0\0\0\x04\0\0\0\0\0\0\0\0\0\0\0\x0c\x63\0\0\
-            \x02\0\0\0\0\0\0\0\x64\0\0\0\x65\0\0\0\x01\0\0\0\x04\0\0\0\0\0\0\0\0\0\0\0\x0c\x63\0\0\
-            \x03\0\0\0\0\0\0\0\x64\0\0\0\x65\0\0\0\x01\0\0\x01\
-            \x04\0\0\0\0\0\0\0\0\0\0\0\x0c\x63\0\0",
-        frames: 2,
-        fault: Some(Fault {
-            kind: FaultKind::FrameReserved,
-            place: 88,
-        }),
-    },
-    Row {
         capture: b"BNDRCAP1\x08\0\0\0\0\0\0\0\
             \x01\0\0\0\0\0\0\0\x64\0\0\0\x65\0\0\0\x01\0\0\0\x04\0\0\0\0\0\0\0\0\0\0\0\x0c\x63\0\0\
             \x02\0\0\0\0\0\0\0\x64\0\0\0\x65\0\0\0\x01\0\0\0\x04\0\0\0\0\0\0\0\0\0\0\0\x0c\x63\0\0\
@@ -144,15 +58,6 @@ const ROWS: &[Row] = &[
         fault: Some(Fault {
             kind: FaultKind::FrameLength,
             place: 88,
-        }),
-    },
-    Row {
-        capture: b"BNDRCAP1\x08\0\0\0\0\0\0\0\
-            \0\0\0\0\0\0\0\0\x64\0\0\0\x65\0\0\0\x01\0\0\0\x04\0\0\0\0\0\0\0\0\0\0\x01\x0c\x63\0\0",
-        frames: 0,
-        fault: Some(Fault {
-            kind: FaultKind::FrameReserved,
-            place: 16,
         }),
     },
 ];

@@ -1,13 +1,11 @@
-//! Captures in parts: where frames and faults stand, and that the sequence goes on.
+//! Captures in parts: where frames and the faults of headers stand, and that the sequence goes on.
 
 use crate::build::{Shapes, WRITE, built};
 use crate::expect::{holds, same};
-use crate::transactions::{CAPTURE, CHANGES, CUTS, Change, changed};
 use capture_frame::{Fault, FaultKind, Frame, Frames, PartCut, PartFault, cut_parts};
 use std::alloc::{AllocError, Global};
 use std::process::Abort;
 use std::test::Fail;
-use transaction_view::first_fault_parts;
 
 // ---- one part behind others
 
@@ -177,15 +175,6 @@ const ROWS: &[Row] = &[
         frames: &[(16, 5, 1)],
         fault: Some((3, FaultKind::FrameSequence, 16)),
     },
-    Row {
-        parts: &[
-            (b'2', &[(5, WRITE, 1), (5, WRITE, 2)]),
-            (b'2', &[]),
-            (b'2', &[]),
-        ],
-        frames: &[(16, 5, 1)],
-        fault: Some((1, FaultKind::FrameSequence, 52)),
-    },
 ];
 
 fn expect_frames(rt: &impl Abort, frames: &[Frame<'_>], wanted: &[(u64, u64, u32)]) {
@@ -243,77 +232,4 @@ fn gives_all_frames_of_parts(rt: HostRuntime) -> Result<(), Fail> {
         cut_parts(rt.alloc(), &[]).is_ok_and(|frames| frames.is_empty()),
     );
     Ok(())
-}
-
-// ---- the first fault of parts
-
-/// A part of no frame.
-const EMPTY: &[u8] = b"BNDRCAP2\x08\0\0\0\0\0\0\0";
-
-/// A part of one frame with the sequence 0.
-const ZERO: &[u8] = b"BNDRCAP2\x08\0\0\0\0\0\0\0\
-    \0\0\0\0\0\0\0\0\x64\0\0\0\x65\0\0\0\x01\0\0\0\0\0\0\0\0\0\0\0\x03\0\0\0";
-
-/// A part that ends within its file header.
-const SHORT: &[u8] = b"BNDRCAP2\x08";
-
-/// The fault of a part is that of its number, whatever stands before and behind.
-fn expect_fault(rt: &impl Abort, part: &[u8], kind: FaultKind, place: u64) {
-    let first = Some(found((1, kind, place)));
-    same(rt, first_fault_parts(&[part]), first);
-    same(rt, first_fault_parts(&[part, SHORT]), first);
-    let second = Some(found((2, kind, place)));
-    same(rt, first_fault_parts(&[ZERO, part]), second);
-    same(rt, first_fault_parts(&[EMPTY, part, SHORT]), second);
-    let third = Some(found((3, kind, place)));
-    same(rt, first_fault_parts(&[ZERO, EMPTY, part, part]), third);
-}
-
-fn expect_changed(
-    rt: &impl Abort,
-    alloc: Global,
-    (bytes, kind, place): Change,
-) -> Result<(), AllocError> {
-    let part = changed(rt, alloc, bytes)?;
-    expect_fault(rt, part.as_slice(), kind, place);
-    Ok(())
-}
-
-/// Each of the fifteen kinds is in one of the tables.
-#[test]
-fn names_the_first_fault_of_parts(rt: HostRuntime) -> Result<(), Fail> {
-    for change in CHANGES {
-        expect_changed(&rt, rt.alloc(), *change)?;
-    }
-    for (length, kind, place) in CUTS {
-        expect_fault(&rt, &CAPTURE[..(*length).min(CAPTURE.len())], *kind, *place);
-    }
-    Ok(())
-}
-
-/// Parts, and in which one the sequence of the first frame, at 16, is not above that before it.
-const FOLLOWING: &[(&[&[u8]], Option<u32>)] = &[
-    (&[], None),
-    (&[EMPTY], None),
-    (&[CAPTURE], None),
-    (&[ZERO, CAPTURE], None),
-    (&[EMPTY, ZERO, EMPTY, CAPTURE, EMPTY], None),
-    (&[ZERO, ZERO], Some(2)),
-    (&[CAPTURE, ZERO], Some(2)),
-    (&[CAPTURE, CAPTURE, ZERO], Some(2)),
-    (&[ZERO, CAPTURE, CAPTURE], Some(3)),
-    (&[CAPTURE, EMPTY, EMPTY, ZERO], Some(4)),
-];
-
-fn expect_following(rt: &impl Abort, parts: &[&[u8]], wanted: Option<u32>) {
-    holds(rt, parts.len() < 10);
-    let wanted = wanted.map(|part| found((part, FaultKind::FrameSequence, 16)));
-    same(rt, first_fault_parts(parts), wanted);
-}
-
-#[test]
-fn goes_on_with_the_sequence(rt: HostRuntime) {
-    for (parts, wanted) in FOLLOWING {
-        expect_following(&rt, *parts, *wanted);
-    }
 }

@@ -271,7 +271,7 @@ fn leaves_an_entry_that_outlives_its_reader(rt: HostRuntime) -> Result<(), Fail>
 
 /// Two frames of one transaction and its entry each: a frame begins at 16 and one at 140, their
 /// records at 48 and 172, their entries at 116 and 240.
-pub(crate) const CAPTURE: &[u8] = b"BNDRCAP1\x08\0\0\0\0\0\0\0\
+const CAPTURE: &[u8] = b"BNDRCAP1\x08\0\0\0\0\0\0\0\
     \x01\0\0\0\0\0\0\0\x02\0\0\0\x03\0\0\0\x01\0\0\0\x44\0\0\0\x18\0\0\0\0\0\0\0\
     \0\x63\x40\x40\0\0\0\0\0\0\0\0\0\0\0\0\0\0\0\0\0\0\0\0\0\0\0\0\0\0\0\0\0\0\0\0\
     \x04\0\0\0\0\0\0\0\x08\0\0\0\0\0\0\0\0\0\0\0\0\0\0\0\0\0\0\0\0\0\0\0\
@@ -282,9 +282,9 @@ pub(crate) const CAPTURE: &[u8] = b"BNDRCAP1\x08\0\0\0\0\0\0\0\
     \0\0\0\0\x04\0\0\0\x08\0\0\0body\0\0\0\0\0\0\0\0";
 
 /// A byte or two that are changed, and the first fault that the capture has then.
-pub(crate) type Change = (&'static [(usize, u8)], FaultKind, u64);
+type Change = (&'static [(usize, u8)], FaultKind, u64);
 
-pub(crate) const CHANGES: &[Change] = &[
+const CHANGES: &[Change] = &[
     (&[(7, 0x33)], FaultKind::HeaderMagic, 0),
     (&[(8, 7)], FaultKind::HeaderProtocol, 8),
     (&[(12, 1)], FaultKind::HeaderReserved, 12),
@@ -306,7 +306,7 @@ pub(crate) const CHANGES: &[Change] = &[
 ];
 
 /// So many bytes of the capture, and its first fault then.
-pub(crate) const CUTS: &[(usize, FaultKind, u64)] = &[
+const CUTS: &[(usize, FaultKind, u64)] = &[
     (0, FaultKind::HeaderShort, 0),
     (15, FaultKind::HeaderShort, 0),
     (17, FaultKind::FrameShort, 16),
@@ -316,11 +316,7 @@ pub(crate) const CUTS: &[(usize, FaultKind, u64)] = &[
 ];
 
 /// The capture with these bytes changed.
-pub(crate) fn changed(
-    rt: &impl Abort,
-    alloc: Global,
-    bytes: &[(usize, u8)],
-) -> Result<Vec<u8>, AllocError> {
+fn changed(rt: &impl Abort, alloc: Global, bytes: &[(usize, u8)]) -> Result<Vec<u8>, AllocError> {
     let mut capture = Vec::from_slice(alloc, CAPTURE)?;
     for (at, byte) in bytes {
         holds(rt, *at < capture.len());
