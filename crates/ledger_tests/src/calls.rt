@@ -1,5 +1,5 @@
-//! Threads that are written out record by record, in one piece and in every two and three parts:
-//! against answers from outside, and against matching pair by pair.
+//! Threads that are written out record by record, in one piece and in every two parts: against
+//! answers from outside, and against matching pair by pair.
 
 ghost use Rattle.summary_law.specs.Fits.{IsPlaced};
 ghost use Rattle.call_stacks.specs.Events.{view_place};
@@ -17,7 +17,7 @@ use std::alloc::{AllocError, Global};
 use std::process::Abort;
 use std::test::Fail;
 use summary_law::summary_of;
-use test_kit::{in_three_from_the_back, in_three_from_the_front, in_two, is_placed};
+use test_kit::{in_two, is_placed};
 
 /// A part of a thread in each of two frames, the places of its events, and its calls.
 #[derive(Clone, Copy)]
@@ -299,26 +299,8 @@ const EIGHT: [Record; 8] = [
     Record::Complete,
 ];
 
-/// The calls of the events in three parts, joined from either end.
-fn expect_in_three(
-    rt: &impl Abort,
-    alloc: Global,
-    events: &[Event<'_>],
-    found: Found<'_>,
-    index: usize,
-    next: usize,
-) -> Result<(), Fail>
-    requires placed { IsPlaced view_place events.now }
-{
-    let front: ThreadCalls<'_> = in_three_from_the_front(alloc, events, index, next)?;
-    expect_found(rt, events, found, &front.finish()?);
-    let back: ThreadCalls<'_> = in_three_from_the_back(alloc, events, index, next)?;
-    expect_found(rt, events, found, &back.finish()?);
-    Ok(())
-}
-
-/// The calls of the events in two parts, and in three of which the first is the same.
-fn expect_cut(
+/// The calls of the events in two parts.
+fn expect_in_two(
     rt: &impl Abort,
     alloc: Global,
     events: &[Event<'_>],
@@ -329,13 +311,10 @@ fn expect_cut(
 {
     let calls: ThreadCalls<'_> = in_two(alloc, events, index)?;
     expect_found(rt, events, found, &calls.finish()?);
-    for next in index..=events.len() {
-        expect_in_three(rt, alloc, events, found, index, next)?;
-    }
     Ok(())
 }
 
-/// The calls of the events in one piece, and in all pairs and triples of parts.
+/// The calls of the events in one piece, and in all pairs of parts.
 fn expect_in_parts(
     rt: &impl Abort,
     alloc: Global,
@@ -346,7 +325,7 @@ fn expect_in_parts(
     let whole: ThreadCalls<'_> = summary_of(alloc, events)?;
     expect_found(rt, events, found, &whole.finish()?);
     for index in 0..=events.len() {
-        expect_cut(rt, alloc, events, found, index)?;
+        expect_in_two(rt, alloc, events, found, index)?;
     }
     Ok(())
 }

@@ -7,7 +7,7 @@ use std::alloc::{AllocError, Global};
 use std::process::Abort;
 use std::test::Fail;
 use summary_law::summary_of;
-use test_kit::{in_three_from_the_front, is_placed};
+use test_kit::is_placed;
 
 /// Opens and closes of keys, whose places are 0, 1 and so on, and the places that they leave.
 #[derive(Clone, Copy)]
@@ -285,37 +285,8 @@ fn lists_of_short_lists(rt: HostRuntime) -> Result<(), Fail> {
     for asked in ASKED {
         expect_asked(&rt, rt.alloc(), asked)?;
     }
-    Ok(())
-}
-
-/// The lists of the three parts that end at these items, joined, are those of the whole.
-fn expect_parts(
-    rt: &impl Abort,
-    alloc: Global,
-    first: usize,
-    second: usize,
-) -> Result<(), AllocError> {
-    let items = deaths_of(alloc, &DOZEN)?;
-    assert!(rt; is_placed(items.as_slice()));
-    let deaths: Deaths = in_three_from_the_front(alloc, items.as_slice(), first, second)?;
-    expect_deaths(rt, &deaths, &DOZEN)?;
-    let items = buffers_of(alloc, &DOZEN)?;
-    assert!(rt; is_placed(items.as_slice()));
-    let buffers: Buffers = in_three_from_the_front(alloc, items.as_slice(), first, second)?;
-    expect_buffers(rt, &buffers, &DOZEN)?;
-    let items = requests_of(alloc, &DOZEN_ASKED)?;
-    assert!(rt; is_placed(items.as_slice()));
-    let requests: Requests = in_three_from_the_front(alloc, items.as_slice(), first, second)?;
-    expect_requests(rt, &requests, &DOZEN_ASKED)
-}
-
-#[test]
-fn every_split_has_the_lists_of_the_whole(rt: HostRuntime) -> Result<(), Fail> {
-    for second in 0..=DOZEN.steps.len() {
-        for first in 0..=second {
-            expect_parts(&rt, rt.alloc(), first, second)?;
-        }
-    }
+    expect_pairs(&rt, rt.alloc(), &DOZEN)?;
+    expect_asked(&rt, rt.alloc(), &DOZEN_ASKED)?;
     Ok(())
 }
 

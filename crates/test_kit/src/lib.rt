@@ -5,5 +5,5 @@
 mod parts;
 mod placed;
 
-pub use parts::{in_three_from_the_back, in_three_from_the_front, in_two};
+pub use parts::in_two;
 pub use placed::{Placed, is_placed};

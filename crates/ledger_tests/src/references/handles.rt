@@ -2,11 +2,8 @@
 
 use event_core::{HandleChange, HandleItem, Strength};
 use handle_ledger::{HandleLedger, HandleRow, HeldRow};
-use std::alloc::{AllocError, Global};
-use std::process::Abort;
 use std::test::Fail;
 use summary_law::{Count, Tally, summary_of};
-use test_kit::in_three_from_the_front;
 
 /// A handle, and what is done to its references of a strength.
 macro_rules! item {
@@ -100,30 +97,15 @@ const HELD_ROWS: &[HeldRow] = &[
     held_row!(row!(4294967295, 0, 0, 1, 0), 0, 0),
 ];
 
-/// The ledger of the three parts of the items that end at these has the rows of all, also beside what
-/// is held.
-fn expect_rows(
-    rt: &impl Abort,
-    alloc: Global,
-    first_end: usize,
-    second_end: usize,
-) -> Result<(), AllocError> {
-    let ledger: HandleLedger = in_three_from_the_front(alloc, ITEMS, first_end, second_end)?;
+/// The items have these rows, also beside what is held.
+#[test]
+fn rows_of_a_dozen_items(rt: HostRuntime) -> Result<(), Fail> {
+    let ledger: HandleLedger = summary_of(rt.alloc(), ITEMS)?;
     let rows = ledger.rows()?;
     assert!(rt; rows.as_slice() == ROWS);
-    let held: Tally<(u32, bool)> = summary_of(alloc, HELD)?;
+    let held: Tally<(u32, bool)> = summary_of(rt.alloc(), HELD)?;
     let rows = ledger.rows_held(&held)?;
     assert!(rt; rows.as_slice() == HELD_ROWS);
-    Ok(())
-}
-
-#[test]
-fn every_split_has_the_rows_of_the_whole(rt: HostRuntime) -> Result<(), Fail> {
-    for second in 0..=ITEMS.len() {
-        for first in 0..=second {
-            expect_rows(&rt, rt.alloc(), first, second)?;
-        }
-    }
     Ok(())
 }
 

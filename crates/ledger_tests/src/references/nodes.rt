@@ -2,11 +2,8 @@
 
 use event_core::{NodeChange, NodeItem, NodeKey, Strength};
 use handle_ledger::{NodeLedger, NodeRow};
-use std::alloc::{AllocError, Global};
-use std::process::Abort;
 use std::test::Fail;
-use summary_law::Count;
-use test_kit::in_three_from_the_front;
+use summary_law::{Count, summary_of};
 
 /// A node by its ptr and its cookie, and what is done to its references of a strength.
 macro_rules! item {
@@ -77,25 +74,11 @@ const ROWS: &[NodeRow] = &[
     row!(18446744073709551615, 18446744073709551615, 0, 0, 1, 0, 0, 0),
 ];
 
-/// The ledger of the three parts of the items that end at these has the rows of all.
-fn expect_rows(
-    rt: &impl Abort,
-    alloc: Global,
-    first_end: usize,
-    second_end: usize,
-) -> Result<(), AllocError> {
-    let ledger: NodeLedger = in_three_from_the_front(alloc, ITEMS, first_end, second_end)?;
+/// The items have these rows.
+#[test]
+fn rows_of_a_dozen_items(rt: HostRuntime) -> Result<(), Fail> {
+    let ledger: NodeLedger = summary_of(rt.alloc(), ITEMS)?;
     let rows = ledger.rows()?;
     assert!(rt; rows.as_slice() == ROWS);
-    Ok(())
-}
-
-#[test]
-fn every_split_has_the_rows_of_the_whole(rt: HostRuntime) -> Result<(), Fail> {
-    for second in 0..=ITEMS.len() {
-        for first in 0..=second {
-            expect_rows(&rt, rt.alloc(), first, second)?;
-        }
-    }
     Ok(())
 }
