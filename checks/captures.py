@@ -647,6 +647,43 @@ def threads_of_two_devices():
     )
 
 
+def sends_of_three_devices():
+    """Oneway sends of one thread number to one handle, of device 0 and of the greatest. Device 1 has
+    an error reply and no send; the greatest has one that refuses its own."""
+    def send(size):
+        return transaction(BC_TRANSACTION, target=2, flags=1, sizes=(size, 0))
+    return HEADER_2 + write(
+        1, 100, 101, send(8),
+    ) + write(
+        2, 100, 101, send(0), device=MAX_32,
+    ) + read(
+        3, 100, 101, transaction(BR_TRANSACTION, flags=1),
+    ) + read(
+        4, 100, 101, record(BR_FAILED_REPLY), device=1,
+    ) + read(
+        5, 100, 101, record(BR_FAILED_REPLY), device=MAX_32,
+    )
+
+
+def turns_of_two_devices():
+    """A served call on device 1 and a call on device 0 by turns, of one thread number: neither is
+    within the other. The thread serves another call on the greatest device, which stays open beside
+    a reply on device 0."""
+    return HEADER_2 + read(
+        1, 100, 101, transaction(BR_TRANSACTION, sender=200), device=1,
+    ) + write(
+        2, 100, 101, transaction(BC_TRANSACTION, target=1),
+    ) + write(
+        3, 100, 101, transaction(BC_REPLY), device=1,
+    ) + read(
+        4, 100, 101, transaction(BR_REPLY),
+    ) + read(
+        5, 100, 101, transaction(BR_TRANSACTION, sender=200), device=MAX_32,
+    ) + write(
+        6, 100, 101, transaction(BC_REPLY),
+    )
+
+
 def processes_of_devices():
     """Processes of several devices, in the order of neither number. Some have an empty first frame;
     device 1 with process 2 and device 2 with process 1 are two."""
@@ -799,6 +836,12 @@ CAPTURES = {
     # Two files between which three frames are missing.
     "sequence-5.cap": HEADER + write(5, 1, 1),
     "sequence-9-of-version-2.cap": HEADER_2 + write(9, 1, 1),
+    # A frame that may stand before each other one.
+    "sequence-0.cap": HEADER_2 + write(0, 100, 101, device=1),
+    # Deaths and clears of two processes in three files.
+    "deaths-1.cap": deaths_and_clears()[:312],
+    "deaths-2.cap": HEADER + deaths_and_clears()[312:400],
+    "deaths-3.cap": HEADER_2 + deaths_and_clears()[400:],
     # one handle of one process on two devices
     "handle-of-two-devices.cap": TWO_DEVICES,
     # the same bytes in version 1, where no device stands
@@ -807,6 +850,15 @@ CAPTURES = {
     "one-number-on-two-devices.cap": one_number_on_two_devices(),
     # two threads of one number on two devices of one process
     "threads-of-two-devices.cap": threads_of_two_devices(),
+    # oneway sends and error replies of one thread number on three devices
+    "sends-of-three-devices.cap": sends_of_three_devices(),
+    # calls of one thread number on several devices by turns
+    "turns-of-two-devices.cap": turns_of_two_devices(),
+    # a buffer is freed on another device, and then on its own
+    "freed-on-two-devices.cap": HEADER_2
+    + read(1, 100, 101, transaction(BR_TRANSACTION, flags=1, buffer=0x9000))
+    + write(2, 100, 101, *each_long(BC_FREE_BUFFER, 0x9000), device=1)
+    + write(3, 100, 102, *each_long(BC_FREE_BUFFER, 0x9000)),
     # the order of processes is that of their first frames, whatever the device
     "processes-of-devices.cap": processes_of_devices(),
     # each row that has a place has its device

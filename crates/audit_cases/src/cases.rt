@@ -9,8 +9,8 @@ use std::thread::Threads;
 /// Workers and pieces, beside 1 and 1, that a capture is reported with.
 const FURTHER: &[(u64, u64)] = &[(1, 256), (2, 1), (2, 256), (7, 1), (7, 256)];
 
-/// Prints a line, and the answer to it. For `all`, a tab and FILE that is the answer of all reports
-/// on the file, with a line more where they are not alike.
+/// Prints a line, and the answer to it. For `all`, a tab and one file or more, each behind a tab,
+/// that is the answer of all reports on the files, with a line more where they are not alike.
 pub(crate) fn run_case<T: Files + Threads + Sync, W: Write>(
     rt: &T,
     alloc: Global,

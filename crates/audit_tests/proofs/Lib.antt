@@ -1,4 +1,2 @@
-pub mod CaptureLaws
-pub mod HandleLists
 pub mod ListedThere
 pub mod Spacing

@@ -1,27 +1,13 @@
 //! What no clause says: the sections of a capture, typed by hand, of however many parts.
 
-mod built;
 mod captures;
-mod handle_lists;
 mod lookup;
-mod one_pass;
-mod pieces;
-mod small_captures;
-mod splits;
-mod two_devices;
 mod workers;
 
-ghost use Rattle.std.specs.Prelude.{◌≤◌, List, length};
-ghost use Rattle.transaction_view.specs.Grammar.{WholeFrame};
-ghost use Rattle.audit_join.specs.Audit.{IsAudited};
-ghost use Rattle.audit_findings.specs.Frames.{AreGoodFrames, Show};
-ghost use Rattle.event_core.specs.Events.{wholes_of};
-ghost use Rattle.audit_join.specs.declared.limits.TheConstants.{CAPTURE_LIMIT};
-
 use audit_join::{
-    AuditError, BadRow, CodeRow, Findings, OfProcess, RecordCounts, Sections, SortCounts, audit_one,
+    AuditError, BadRow, CodeRow, OfProcess, RecordCounts, Sections, SortCounts, audit_one,
 };
-use capture_frame::{Fault, FaultKind, Frame, Process};
+use capture_frame::{Fault, FaultKind, Process};
 use captures::{RETURN_IN_A_WRITE, within_limit};
 use handle_ledger::{HandleRow, HeldRow};
 use object_view::{BadObject, Cause};
@@ -173,16 +159,6 @@ fn expect_objects(rt: &impl Abort, sections: &Sections) {
     assert_eq!(rt; sections.events.objects, OBJECTS);
     assert_eq!(rt; sections.events.bad_objects.as_slice(), BAD_OBJECTS);
     assert_eq!(rt; sections.events.flags.as_slice(), FLAGS);
-}
-
-/// The frames of the findings of a capture.
-fn frames_of<'f, 'c>(capture: &'c [u8], found: &'f Findings<'c>) -> &'f [Frame<'c>]
-    requires limit { length capture.now ≤ CAPTURE_LIMIT }
-    requires audited { IsAudited capture.now found.now }
-    ensures good { AreGoodFrames result.now }
-    ensures shown { (wholes : List WholeFrame) × Show result.now (wholes_of wholes) }
-{
-    found.frames()
 }
 
 /// A malformed capture, and its first fault.

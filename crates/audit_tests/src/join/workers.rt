@@ -1,19 +1,14 @@
 //! That the answer is the same for every number of workers and every piece, and that workers share.
 
-ghost use Rattle.std.specs.Prelude.{◌≤◌, List, length};
-ghost use Rattle.transaction_view.specs.Grammar.{WholeFrame};
-ghost use Rattle.audit_findings.specs.Frames.{AreGoodFrames, Show};
-ghost use Rattle.event_core.specs.Events.{wholes_of};
+ghost use Rattle.std.specs.Prelude.{◌≤◌, length};
 ghost use Rattle.audit_join.specs.declared.limits.TheConstants.{CAPTURE_LIMIT};
 
 use super::captures::{eight_frames, within_limit};
-use super::one_pass::one_pass;
-use super::pieces::found_in_pieces;
-use super::{expect_sections, frames_of};
+use super::expect_sections;
 use crate::expected::{Expected, expect};
 use crate::meeting::{Meeting, RELEASE_FIRST};
-use audit_join::{AuditError, Findings, OfProcess, Piece, audit, audit_one};
-use capture_frame::{Fault, FaultKind, Frame, Process};
+use audit_join::{AuditError, Findings, OfProcess, Piece, audit};
+use capture_frame::{Fault, FaultKind, Process};
 use claim_board::{NoGate, Workers};
 use handle_ledger::{HandleRow, HeldRow};
 use std::alloc::{AllocError, Global};
@@ -27,7 +22,7 @@ const WORKERS: &[u64] = &[1, 3, 64];
 const PIECES: &[u64] = &[1, 3, 20];
 
 // So many workers, and so large a piece.
-pub(crate) fn shares(workers: u64, piece: u64) -> Result<(Workers, Piece), &'static str> {
+fn shares(workers: u64, piece: u64) -> Result<(Workers, Piece), &'static str> {
     let workers = Workers::new(workers).ok_or("workers")?;
     let piece = Piece::new(piece).ok_or("piece")?;
     Ok((workers, piece))
@@ -77,69 +72,9 @@ fn expect_pieces<T: Threads + Sync + Abort>(
     Ok(())
 }
 
-// They are, where the summaries of pieces of so many frames are joined.
-fn expect_eight_joined(
-    rt: &impl Abort,
-    alloc: Global,
-    frames: &[Frame<'_>],
-    piece: usize,
-) -> Result<(), AllocError>
-    requires good { AreGoodFrames frames.now }
-    requires shown { (wholes : List WholeFrame) × Show frames.now (wholes_of wholes) }
-    requires some { 1 ≤ piece }
-{
-    expect(found_in_pieces(alloc, frames, piece)?, &OfEight { rt });
-    Ok(())
-}
-
-/// Every piece up to their number.
-fn expect_joined(rt: &impl Abort, alloc: Global, frames: &[Frame<'_>]) -> Result<(), AllocError>
-    requires good { AreGoodFrames frames.now }
-    requires shown { (wholes : List WholeFrame) × Show frames.now (wholes_of wholes) }
-{
-    for piece in 1..9usize {
-        expect_eight_joined(rt, alloc, frames, piece)?;
-    }
-    Ok(())
-}
-
 #[test]
 fn pieces_change_nothing(rt: HostRuntime) -> Result<(), Fail> {
     expect_pieces(&rt, rt.alloc(), eight_frames(&rt))
-}
-
-#[test]
-fn joined_pieces_change_nothing(rt: HostRuntime) -> Result<(), Fail> {
-    let capture = eight_frames(&rt);
-    let found = audit_one(&rt, rt.alloc(), capture)?;
-    expect_joined(&rt, rt.alloc(), frames_of(capture, &found)).map_err(Fail::from)
-}
-
-fn expect_audit_one<T: Threads + Sync + Abort>(
-    rt: &T,
-    alloc: Global,
-    capture: &[u8],
-) -> Result<(), AuditError>
-    requires { length capture.now ≤ CAPTURE_LIMIT }
-{
-    expect(audit_one(rt, alloc, capture)?, &OfEight { rt });
-    Ok(())
-}
-
-fn expect_one_pass(rt: &impl Abort, alloc: Global, capture: &[u8]) -> Result<(), AuditError>
-    requires { length capture.now ≤ CAPTURE_LIMIT }
-{
-    expect(one_pass(alloc, capture)?, &OfEight { rt });
-    Ok(())
-}
-
-/// One pass gives what `audit_one` gives.
-#[test]
-fn one_pass_gives_the_same(rt: HostRuntime) -> Result<(), Fail> {
-    let capture = eight_frames(&rt);
-    expect_audit_one(&rt, rt.alloc(), capture)?;
-    expect_one_pass(&rt, rt.alloc(), capture)?;
-    Ok(())
 }
 
 const HEADER: &[u8] = b"BNDRCAP1\x08\0\0\0\0\0\0\0";
@@ -186,7 +121,7 @@ fn expect_fault_by<T: Threads + Sync + Abort>(
 }
 
 // By any workers and pieces it is.
-pub(crate) fn expect_fault<T: Threads + Sync + Abort>(
+fn expect_fault<T: Threads + Sync + Abort>(
     rt: &T,
     alloc: Global,
     capture: &[u8],

@@ -24,7 +24,8 @@ fn is_report<T: Threads + Sync, G: Gate + Sync>(
     Ok(written == Written::Report && out.as_slice().starts_with(beginning))
 }
 
-const OF_TWO: &[u8] = b"BINDER AUDIT 2\nframes 2 records 2 opaque 0 missing 0\n";
+/// How the report on `RELEASE_FIRST` begins.
+pub(super) const OF_TWO: &[u8] = b"BINDER AUDIT 2\nframes 2 records 2 opaque 0 missing 0\n";
 
 #[test]
 fn two_pieces_meet(rt: HostRuntime) -> Result<(), Fail> {
