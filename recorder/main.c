@@ -32,11 +32,11 @@ static void on_signal(int number)
 
 static void catch_signals(void)
 {
-	static const int numbers[] = { SIGINT, SIGTERM, SIGHUP };
 	struct sigaction action = { .sa_handler = on_signal }, before;
-	for (size_t i = 0; i < sizeof numbers / sizeof *numbers; i++)
-		if (!sigaction(numbers[i], NULL, &before) && before.sa_handler != SIG_IGN)
-			sigaction(numbers[i], &action, NULL);
+	sigaction(SIGINT, &action, NULL);
+	sigaction(SIGTERM, &action, NULL);
+	if (!sigaction(SIGHUP, NULL, &before) && before.sa_handler != SIG_IGN)	/* as under nohup */
+		sigaction(SIGHUP, &action, NULL);
 	signal(SIGPIPE, SIG_IGN);
 }
 
@@ -46,15 +46,14 @@ static void pause_for(u64 nanoseconds)
 	nanosleep(&time, NULL);
 }
 
-static void write_head(void)
+/* The line of the side list that says that the recording has begun. */
+static void tell_begin(void)
 {
 	struct utsname name;
 	struct timespec wall;
 	uname(&name);
 	clock_gettime(CLOCK_REALTIME, &wall);
-	side_text("binder side list 1\n");
 	side_line(now(), "begin realtime=%lld%09ld kernel=%s machine=%s", (long long)wall.tv_sec, wall.tv_nsec, name.release, name.machine);
-	side_line(now(), "file 1");
 }
 
 /* Makes the files, or ends: then neither is left. */
@@ -63,7 +62,8 @@ static void create_files(const struct options *options)
 	int error = side_create(options->out);
 	if (error)
 		fail("%s.side: %s", options->out, strerror(error));
-	write_head();
+	side_text("binder side list 1\n");
+	side_line(now(), "file 1");
 	error = side_flush();
 	if (error) {
 		side_remove();
@@ -217,13 +217,17 @@ int main(int count, char **words)
 	need_capabilities();
 	need_kernel();
 	need_driver();
+	catch_signals();
 	kernel_load(&options, &ring);
+	if (signal_got)
+		fail("a signal came before the recording began");
 	create_files(&options);
 	kernel_meet_openings();
-	catch_signals();
 	if (options.program)
 		program_prepare(options.program);
 	kernel_start();
+	tell_begin();
+	side_flush();
 	program_go();
 	int error = record(&ring);
 	finish(&ring);
