@@ -23,7 +23,6 @@
 #define LAST_WAIT (1000u * MILLISECOND)		/* for writes that the driver is not through with */
 
 static volatile sig_atomic_t signal_got;
-static u64 flushed_frames, flushed_lost, flushed_last;	/* as of the last flush that went well */
 
 static void on_signal(int number)
 {
@@ -77,18 +76,6 @@ static void create_files(const struct options *options)
 	}
 }
 
-/* Gives 0, or an errno. The side list goes first: so each frame of a capture has its lines. */
-static int flush(void)
-{
-	int error = side_flush(), other = parts_flush();
-	if (error || other)
-		return error ? error : other;
-	flushed_frames = window_frames();
-	flushed_lost = window_lost();
-	flushed_last = window_last();
-	return 0;
-}
-
 /* Takes what is in the ring. Gives how many messages that were. */
 static long take(struct ring *ring)
 {
@@ -115,7 +102,7 @@ static int record(struct ring *ring)
 		long count = take(ring);
 		u64 time = now();
 		if (time - flushed >= FLUSH_EVERY) {
-			error = flush();
+			error = parts_flush();
 			flushed = time;
 		}
 		if (is_terminal && time - told >= TELL_EVERY) {
@@ -175,7 +162,7 @@ static void add_count(char *text, size_t room, const char *what, u64 count)
 static void tell_end(const char *audit)
 {
 	char text[1000], commands[700];
-	snprintf(text, sizeof text, "%llu frames, %llu lost", (unsigned long long)flushed_frames, (unsigned long long)flushed_lost);
+	snprintf(text, sizeof text, "%llu frames, %llu lost", (unsigned long long)parts_frames(), (unsigned long long)window_lost());
 	add_reasons(text, sizeof text);
 	add_count(text, sizeof text, "calls without a number", kernel_calls_without_number());
 	add_count(text, sizeof text, "events missed", kernel_runs_missed());
@@ -231,10 +218,10 @@ int main(int count, char **words)
 	program_go();
 	int error = record(&ring);
 	finish(&ring);
-	int last_error = flush(), end_error = parts_end();
-	error = error ? error : last_error ? last_error : end_error;
+	int end_error = parts_end();
+	error = error ? error : end_error;
 	if (error)
-		complain("%s: %s; the recording ends after number %llu", parts_path(), strerror(error), (unsigned long long)flushed_last);
+		complain("%s: %s; the recording ends after number %llu", parts_path(), strerror(error), (unsigned long long)parts_last());
 	tell_end(audit_beside(words[0]));
 	int status = wait_for_program();
 	kernel_unload();
