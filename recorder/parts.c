@@ -12,6 +12,9 @@ static u64 most_bytes, bytes_before;
 static u64 *sizes;		/* of the files that are closed, and of the open one at the end */
 static u32 count;
 static int first_error;
+static u64 frames_added, last_added, frames_whole, last_whole;
+
+#define FLUSH_BYTES 65536u
 
 /* Whether the path is the prefix, a dash, digits and .cap. */
 static int is_part(const char *path)
@@ -89,8 +92,30 @@ int parts_have_room(u64 bytes)
 	return bytes <= most_bytes - FILE_HEAD;
 }
 
+/* All frames before this one are in the files. */
+static void frames_are_whole(void)
+{
+	frames_whole = frames_added;
+	last_whole = last_added;
+}
+
+int parts_flush(void)
+{
+	if (first_error)
+		return first_error;
+	first_error = side_flush();
+	if (first_error)
+		file_drop(&part, first_error);
+	else
+		first_error = file_flush(&part);
+	if (!first_error)
+		frames_are_whole();
+	return first_error;
+}
+
 static void close_part(void)
 {
+	parts_flush();
 	int error = file_close(&part);
 	sizes[count - 1] = part.bytes;
 	bytes_before += part.bytes;
@@ -98,16 +123,26 @@ static void close_part(void)
 		first_error = error;
 }
 
-void parts_next_frame(u64 time, u64 bytes)
+static void begin_next(u64 time)
 {
-	if (first_error || part.bytes + bytes <= most_bytes)
-		return;
 	close_part();
-	if (first_error)
-		return;
-	first_error = create_next();
+	if (!first_error)
+		first_error = create_next();
 	if (!first_error)
 		side_line(time, "file %u", count);
+}
+
+int parts_next_frame(u64 number, u64 time, u64 bytes)
+{
+	if (part.bytes + bytes > most_bytes && !first_error)
+		begin_next(time);
+	else if (part.waiting_bytes >= FLUSH_BYTES)
+		parts_flush();
+	if (first_error)
+		return first_error;
+	frames_added++;
+	last_added = number;
+	return 0;
 }
 
 void parts_add(const void *bytes, u64 number)
@@ -116,19 +151,21 @@ void parts_add(const void *bytes, u64 number)
 		file_add(&part, bytes, number);
 }
 
-int parts_flush(void)
-{
-	int error = first_error ? 0 : file_flush(&part);
-	if (error)
-		first_error = error;
-	return first_error;
-}
-
 int parts_end(void)
 {
 	if (part.descriptor >= 0)
 		close_part();
 	return first_error;
+}
+
+u64 parts_frames(void)
+{
+	return frames_whole;
+}
+
+u64 parts_last(void)
+{
+	return last_whole;
 }
 
 const char *parts_path(void)
