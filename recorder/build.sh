@@ -1,0 +1,38 @@
+#!/usr/bin/env bash
+# Builds the recorder into a folder: a static program, `record`.
+#
+#     recorder/build.sh [--sanitize] FOLDER
+#
+# With --sanitize it is a dynamic one under the address and undefined-behaviour sanitizers. CC names the compiler, gcc
+# where it is absent. It wants clang, bpftool, libbpf-dev, libelf-dev, zlib1g-dev and the kernel's headers for programs.
+set -euo pipefail
+
+here=$(dirname -- "$(readlink -f -- "${BASH_SOURCE[0]}")")
+link=(-static)
+flags=(-O2)
+if [[ ${1:-} == --sanitize ]]; then
+  link=(-fsanitize=address,undefined)
+  flags=(-O1 -g -fno-omit-frame-pointer -fsanitize=address,undefined)
+  shift
+fi
+folder=${1:?usage: recorder/build.sh [--sanitize] FOLDER}
+mkdir -p -- "$folder"
+machine=$(uname -m)
+case $machine in
+  x86_64) target=x86 ;;
+  aarch64) target=arm64 ;;
+  *) printf 'record: the recorder is made for x86_64 and aarch64, not for %s\n' "$machine" >&2; exit 1 ;;
+esac
+PATH=$PATH:/usr/sbin:/sbin
+
+sources=()
+for source in "$here"/*.c; do
+  if [[ $source != *.bpf.c ]]; then sources+=("$source"); fi
+done
+
+clang -O2 -g -target bpf -mcpu=v3 "-D__TARGET_ARCH_$target" "-I/usr/include/$machine-linux-gnu" -Wall -Werror \
+  -c "$here/record.bpf.c" -o "$folder/record.bpf.o"
+bpftool gen skeleton "$folder/record.bpf.o" name record >"$folder/record.skel.h"
+"${CC:-gcc}" "${flags[@]}" -std=gnu11 -Wall -Wextra -Werror "-I$here" -isystem "$folder" "${sources[@]}" -o "$folder/record.new" \
+  "${link[@]}" -lbpf -lelf -lz 2>"$folder/errors" || { cat -- "$folder/errors" >&2; exit 1; }
+mv -- "$folder/record.new" "$folder/record"

@@ -1,0 +1,171 @@
+#include "kernel.h"
+#include "messages.h"
+#include "names.h"
+#include "needs.h"
+#include "side.h"
+#include <bpf/bpf.h>
+#include <bpf/libbpf.h>
+#include <errno.h>
+#include <stdio.h>
+#include <string.h>
+#include <unistd.h>
+#include "record.skel.h"
+
+static struct record *program;
+static struct bpf_link *opens, *releases;
+static char last_words[512];
+
+/* Keeps the first line that libbpf says of a failure, for the line that the user gets. */
+static int keep_words(enum libbpf_print_level level, const char *format, va_list arguments)
+{
+	if (level == LIBBPF_WARN && !last_words[0]) {
+		vsnprintf(last_words, sizeof last_words, format, arguments);
+		last_words[strcspn(last_words, "\n")] = 0;
+	}
+	return 0;
+}
+
+static void fail_to_load(const char *what, int error)
+{
+	error = error < 0 ? -error : error;
+	if (error == EPERM || error == EACCES)
+		fail("the kernel does not let this process %s: root is needed, and no lockdown (%s)", what, last_words);
+	fail("the kernel could not %s: %s (%s)", what, strerror(error), last_words);
+}
+
+static void set_up(const struct options *options)
+{
+	bpf_program__set_autoattach(program->progs.at_open, false);
+	bpf_program__set_autoattach(program->progs.at_release, false);
+	bpf_program__set_autoattach(program->progs.meet_openings, false);
+	bpf_map__set_max_entries(program->maps.ring, (u32)options->ring);
+	bpf_map__set_max_entries(program->maps.scratches, (u32)libbpf_num_possible_cpus());
+	program->rodata->ring_limit = options->ring / 16 * 15;
+	program->rodata->no_attachments = (u32)options->no_attachments;
+	program->rodata->by_process = options->process_count != 0;
+	program->rodata->by_device = options->device_count != 0;
+}
+
+static void name_wanted(const struct options *options)
+{
+	u32 one = 1;
+	for (u32 i = 0; i < options->process_count; i++) {
+		need_process(options->processes[i]);
+		bpf_map__update_elem(program->maps.wanted_processes, &options->processes[i], sizeof one, &one, sizeof one, BPF_ANY);
+	}
+	for (u32 i = 0; i < options->device_count; i++) {
+		u32 device = need_device(options->devices[i]);
+		bpf_map__update_elem(program->maps.wanted_devices, &device, sizeof one, &one, sizeof one, BPF_ANY);
+	}
+}
+
+/* Without these two the beginnings and ends of openings are not seen, and all else is. */
+static void attach_probes(void)
+{
+	opens = bpf_program__attach(program->progs.at_open);
+	releases = bpf_program__attach(program->progs.at_release);
+	if (!opens || !releases)
+		complain("no kprobes: where openings begin and end is not seen");
+}
+
+void kernel_load(const struct options *options, struct ring *ring)
+{
+	libbpf_set_print(keep_words);
+	if (libbpf_num_possible_cpus() > (int)MOST_CPUS)
+		fail("the recorder is made for at most %u processors", MOST_CPUS);
+	program = record__open();
+	if (!program)
+		fail_to_load("open the recorder's program", errno);
+	set_up(options);
+	int error = record__load(program);
+	if (error)
+		fail_to_load("load the recorder's program", error);
+	name_wanted(options);
+	attach_probes();
+	error = record__attach(program);
+	if (error == -ENOENT)
+		fail("%s", need_driver_words);
+	if (error)
+		fail_to_load("attach the recorder's program", error);
+	error = ring_open(ring, bpf_map__fd(program->maps.ring), options->ring);
+	if (error)
+		fail_to_load("map the ring", error);
+}
+
+void kernel_meet_openings(void)
+{
+	struct bpf_link *link = bpf_program__attach(program->progs.meet_openings);
+	int descriptor = link ? bpf_iter_create(bpf_link__fd(link)) : -1;
+	struct met_opening met;
+	ssize_t bytes = 0;
+	while (descriptor >= 0 && (bytes = read(descriptor, &met, sizeof met)) == (ssize_t)sizeof met)
+		names_opening(met.opening, now(), (u32)met.device, (u32)met.process, met.start, met.name, MET_IN_MID_LIFE);
+	if (descriptor < 0 || bytes < 0)
+		complain("the openings that are there already could not be looked up: they are met at their first call");
+	if (descriptor >= 0)
+		close(descriptor);
+	bpf_link__destroy(link);
+}
+
+void kernel_start(void)
+{
+	__atomic_store_n(&program->data->stopped, 0, __ATOMIC_SEQ_CST);
+}
+
+void kernel_stop(void)
+{
+	__atomic_store_n(&program->data->stopped, 1, __ATOMIC_SEQ_CST);
+}
+
+void kernel_detach(void)
+{
+	record__detach(program);
+	bpf_link__destroy(opens);
+	bpf_link__destroy(releases);
+	opens = releases = NULL;
+}
+
+u64 kernel_last_number(void)
+{
+	return __atomic_load_n(&program->bss->last_number, __ATOMIC_SEQ_CST);
+}
+
+u64 kernel_bound(void)
+{
+	u64 bound = kernel_last_number();
+	__atomic_thread_fence(__ATOMIC_SEQ_CST);
+	for (u32 i = 0; i < MOST_CPUS; i++) {
+		u64 number = __atomic_load_n(&program->bss->taking[i].number, __ATOMIC_SEQ_CST);
+		if (number && number - 1 < bound)
+			bound = number - 1;
+	}
+	return bound;
+}
+
+u64 kernel_calls_32_bit(void)
+{
+	return program->bss->calls_32_bit;
+}
+
+u64 kernel_calls_without_number(void)
+{
+	return program->bss->calls_without_room + program->bss->calls_without_file;
+}
+
+u64 kernel_runs_missed(void)
+{
+	struct bpf_program *each;
+	u64 missed = 0;
+	bpf_object__for_each_program(each, program->obj) {
+		struct bpf_prog_info info = { 0 };
+		u32 length = sizeof info;
+		if (bpf_program__fd(each) >= 0 && !bpf_obj_get_info_by_fd(bpf_program__fd(each), &info, &length))
+			missed += info.recursion_misses;
+	}
+	return missed;
+}
+
+void kernel_unload(void)
+{
+	record__destroy(program);
+}

@@ -1,0 +1,238 @@
+/* Records the Binder traffic of a system into a capture and a side list. docs/RECORDER.md says how and why. */
+#include "common.h"
+#include "frame.h"
+#include "kernel.h"
+#include "needs.h"
+#include "options.h"
+#include "parts.h"
+#include "program.h"
+#include "side.h"
+#include "window.h"
+#include <signal.h>
+#include <stdio.h>
+#include <string.h>
+#include <sys/utsname.h>
+#include <time.h>
+#include <unistd.h>
+
+#define MILLISECOND 1000000u
+#define FLUSH_EVERY (250u * MILLISECOND)
+#define TELL_EVERY (1000u * MILLISECOND)
+#define LOOK_EVERY (2u * MILLISECOND)
+#define FEW_MESSAGES 256
+#define LAST_WAIT (1000u * MILLISECOND)		/* for writes that the driver is not through with */
+
+static volatile sig_atomic_t signal_got;
+static u64 flushed_frames, flushed_lost, flushed_last;	/* as of the last flush that went well */
+
+static void on_signal(int number)
+{
+	signal_got = number;
+}
+
+static void catch_signals(void)
+{
+	static const int numbers[] = { SIGINT, SIGTERM, SIGHUP };
+	struct sigaction action = { .sa_handler = on_signal }, before;
+	for (size_t i = 0; i < sizeof numbers / sizeof *numbers; i++)
+		if (!sigaction(numbers[i], NULL, &before) && before.sa_handler != SIG_IGN)
+			sigaction(numbers[i], &action, NULL);
+	signal(SIGPIPE, SIG_IGN);
+}
+
+static void pause_for(u64 nanoseconds)
+{
+	struct timespec time = { .tv_nsec = (long)nanoseconds };
+	nanosleep(&time, NULL);
+}
+
+static void write_head(void)
+{
+	struct utsname name;
+	struct timespec wall;
+	uname(&name);
+	clock_gettime(CLOCK_REALTIME, &wall);
+	side_text("binder side list 1\n");
+	side_line(now(), "begin realtime=%lld%09ld kernel=%s machine=%s", (long long)wall.tv_sec, wall.tv_nsec, name.release, name.machine);
+	side_line(now(), "file 1");
+}
+
+/* Makes the files, or ends: then neither is left. */
+static void create_files(const struct options *options)
+{
+	int error = side_create(options->out);
+	if (error)
+		fail("%s.side: %s", options->out, strerror(error));
+	write_head();
+	error = side_flush();
+	if (error) {
+		side_remove();
+		fail("%s.side: %s", options->out, strerror(error));
+	}
+	error = parts_begin(options->out, options->size);
+	if (error) {
+		side_remove();
+		parts_remove();
+		fail("%s-1.cap: %s", options->out, strerror(error));
+	}
+}
+
+/* Gives 0, or an errno. The side list goes first: so each frame of a capture has its lines. */
+static int flush(void)
+{
+	int error = side_flush(), other = parts_flush();
+	if (error || other)
+		return error ? error : other;
+	flushed_frames = window_frames();
+	flushed_lost = window_lost();
+	flushed_last = window_last();
+	return 0;
+}
+
+/* Takes what is in the ring. Gives how many messages that were. */
+static long take(struct ring *ring)
+{
+	u64 bound = kernel_bound();
+	long count = ring_drain(ring, window_hear);
+	if (count >= 0)
+		window_silent_until(bound);
+	window_settle();
+	return count;
+}
+
+static void tell_progress(void)
+{
+	fprintf(stderr, "\rrecord: %llu frames, %llu lost, %.1f MB\033[K", (unsigned long long)window_frames(),
+		(unsigned long long)window_lost(), (double)parts_bytes() / 1e6);
+}
+
+/* Records until the program ends or a signal comes. Gives 0, or the errno of a write that failed. */
+static int record(struct ring *ring)
+{
+	int is_terminal = isatty(STDERR_FILENO), error = 0;
+	u64 flushed = now(), told = flushed;
+	while (!signal_got && !error) {
+		long count = take(ring);
+		u64 time = now();
+		if (time - flushed >= FLUSH_EVERY) {
+			error = flush();
+			flushed = time;
+		}
+		if (is_terminal && time - told >= TELL_EVERY) {
+			tell_progress();
+			told = time;
+		}
+		if (program_is_there() && program_has_ended())
+			break;
+		if (count < FEW_MESSAGES)
+			pause_for(LOOK_EVERY);
+	}
+	if (is_terminal)
+		fprintf(stderr, "\r\033[K");
+	return error;
+}
+
+/* Takes what still comes: the writes of calls that are in the driver. */
+static void finish(struct ring *ring)
+{
+	u64 began = now();
+	kernel_stop();
+	for (int round = 0; now() - began < LAST_WAIT && (round < 3 || window_waiting()); round++) {
+		take(ring);
+		pause_for(LOOK_EVERY);
+	}
+	kernel_detach();
+	pause_for(10 * LOOK_EVERY);
+	while (take(ring) > 0 || (kernel_bound() < kernel_last_number() && now() - began < 2 * LAST_WAIT))
+		pause_for(LOOK_EVERY);
+	window_end(kernel_last_number());
+	side_line(now(), "end recording after=%llu frames=%llu lost=%llu", (unsigned long long)window_last(),
+		  (unsigned long long)window_frames(), (unsigned long long)window_lost());
+}
+
+static void add_reasons(char *text, size_t room)
+{
+	const char *between = " (";
+	for (u32 reason = 1; reason < REASON_END; reason++) {
+		size_t used = strlen(text);
+		if (!window_lost_because(reason))
+			continue;
+		snprintf(text + used, room - used, "%s%s %llu", between, reason_word(reason), (unsigned long long)window_lost_because(reason));
+		between = ", ";
+	}
+	if (between[0] == ',')
+		strncat(text, ")", room - strlen(text) - 1);
+}
+
+static void add_count(char *text, size_t room, const char *what, u64 count)
+{
+	size_t used = strlen(text);
+	if (count)
+		snprintf(text + used, room - used, "; %s %llu", what, (unsigned long long)count);
+}
+
+/* The last line: what came about, and the command that comes next. */
+static void tell_end(const char *audit)
+{
+	char text[1000], commands[700];
+	snprintf(text, sizeof text, "%llu frames, %llu lost", (unsigned long long)flushed_frames, (unsigned long long)flushed_lost);
+	add_reasons(text, sizeof text);
+	add_count(text, sizeof text, "calls without a number", kernel_calls_without_number());
+	add_count(text, sizeof text, "events missed", kernel_runs_missed());
+	add_count(text, sizeof text, "calls of 32-bit programs, not recorded", kernel_calls_32_bit());
+	parts_commands(audit, commands, sizeof commands);
+	complain("%s; %u file%s, %llu bytes; next: %s", text, parts_count(), parts_count() == 1 ? "" : "s",
+		 (unsigned long long)parts_bytes(), commands);
+}
+
+/* The auditor stands beside the script that was called. */
+static const char *audit_beside(const char *self)
+{
+	static char path[4100];
+	const char *slash = strrchr(self, '/');
+	snprintf(path, sizeof path, "%.*saudit", slash ? (int)(slash - self + 1) : 0, self);
+	return path;
+}
+
+/* The program goes on after a recording that a signal ended. A second signal ends the wait. */
+static int wait_for_program(void)
+{
+	if (program_has_ended())
+		return program_status();
+	complain("the recording has ended, and the program goes on: its end is waited for");
+	signal_got = 0;
+	while (!program_has_ended() && !signal_got)
+		program_wait();
+	return program_has_ended() ? program_status() : 128 + signal_got;
+}
+
+int main(int count, char **words)
+{
+	struct options options;
+	struct ring ring;
+	options_read(&options, count, words);
+	const char *path = parts_in_the_way(options.out);
+	if (path)
+		fail("%s is there already, and is not written over", path);
+	need_capabilities();
+	need_kernel();
+	need_driver();
+	kernel_load(&options, &ring);
+	create_files(&options);
+	kernel_meet_openings();
+	catch_signals();
+	if (options.program)
+		program_prepare(options.program);
+	kernel_start();
+	program_go();
+	int error = record(&ring);
+	finish(&ring);
+	int last_error = flush(), end_error = parts_end();
+	error = error ? error : last_error ? last_error : end_error;
+	if (error)
+		complain("%s: %s; the recording ends after number %llu", parts_path(), strerror(error), (unsigned long long)flushed_last);
+	tell_end(audit_beside(words[0]));
+	int status = wait_for_program();
+	kernel_unload();
+	return error ? 1 : status;
+}

@@ -1,0 +1,215 @@
+#include "names.h"
+#include "side.h"
+#include "table.h"
+#include <stdio.h>
+#include <stdlib.h>
+#include <string.h>
+
+/* Linux gives ids below this number alone. Those that would mean two things get numbers from here on. */
+#define FIRST_OWN_NUMBER 4194304u
+
+struct known_opening {
+	u32 system_device, process_id;
+	u64 start;
+	enum met met;
+	int known, numbered;
+	u32 device, process;
+	char name[NAME_BYTES];
+};
+
+struct known_thread {
+	u32 id, process_id;
+	u64 start;
+	char name[NAME_BYTES];
+	u32 *openings, opening_count;	/* those that it has a number for */
+};
+
+static struct known_opening *openings;
+static struct known_thread *threads;
+static u32 opening_room, thread_room;
+static u32 *devices, device_count;
+static u32 next_own_number = FIRST_OWN_NUMBER;
+static struct table process_numbers;	/* of device and number: 1 where it is used */
+static struct table thread_numbers;	/* of device, process and number: 1 where it is used */
+static struct table threads_of;		/* of opening and thread: the number in the capture, and 1 */
+
+static struct known_opening *opening_of(u32 opening)
+{
+	if (opening >= opening_room) {
+		u32 room = (opening + 64) * 2;
+		openings = resize(openings, room * sizeof *openings);
+		memset(openings + opening_room, 0, (room - opening_room) * sizeof *openings);
+		opening_room = room;
+	}
+	return openings + opening;
+}
+
+static struct known_thread *thread_of(u32 thread)
+{
+	if (thread >= thread_room) {
+		u32 room = (thread + 64) * 2;
+		threads = resize(threads, room * sizeof *threads);
+		memset(threads + thread_room, 0, (room - thread_room) * sizeof *threads);
+		thread_room = room;
+	}
+	return threads + thread;
+}
+
+void names_opening(u32 opening, u64 time, u32 device, u32 process, u64 start, const char *name, enum met met)
+{
+	struct known_opening *o = opening_of(opening);
+	o->system_device = device;
+	o->process_id = process;
+	o->start = start;
+	o->met = met;
+	o->known = 1;
+	memcpy(o->name, name, NAME_BYTES);
+	if (met == MET_IN_MID_LIFE) {
+		char clean[CLEAN_NAME_BYTES];
+		clean_name(clean, name, NAME_BYTES);
+		side_line(time, "met opening=%u pid=%u name=%s", opening, process, clean);
+	}
+}
+
+void names_thread(u32 thread, u32 id, u32 process, u64 start, const char *name)
+{
+	struct known_thread *t = thread_of(thread);
+	t->id = id;
+	t->process_id = process;
+	t->start = start;
+	memcpy(t->name, name, NAME_BYTES);
+}
+
+/* As the kernel keeps a device's number. */
+static u32 major_of(u32 device)
+{
+	return device >> 20;
+}
+
+static u32 minor_of(u32 device)
+{
+	return device & 0xfffff;
+}
+
+static void device_name(u32 device, char *name, size_t room)
+{
+	char path[80], line[128];
+	snprintf(path, sizeof path, "/sys/dev/char/%u:%u/uevent", major_of(device), minor_of(device));
+	snprintf(name, room, "?");
+	FILE *file = fopen(path, "r");
+	if (!file)
+		return;
+	while (fgets(line, sizeof line, file)) {
+		line[strcspn(line, "\n")] = 0;
+		if (!strncmp(line, "DEVNAME=", 8))
+			clean_name(name, line + 8, 100);
+	}
+	fclose(file);
+}
+
+static u32 device_number(u32 system_device, u64 time)
+{
+	for (u32 i = 0; i < device_count; i++)
+		if (devices[i] == system_device)
+			return i;
+	char name[CLEAN_NAME_BYTES];
+	device_name(system_device, name, sizeof name);
+	devices = resize(devices, (device_count + 1) * sizeof *devices);
+	devices[device_count] = system_device;
+	side_line(time, "device %u major=%u minor=%u name=%s", device_count, major_of(system_device), minor_of(system_device), name);
+	return device_count++;
+}
+
+/* The wanted number where it stands for nothing else yet, or one of the recorder's own. */
+static u32 free_number(struct table *used, u64 key, u32 wanted, int is_usable)
+{
+	u64 *taken = table_make(used, key, wanted);
+	u32 number = *taken || !is_usable ? next_own_number++ : wanted;
+	*taken = 1;
+	return number;
+}
+
+static struct known_opening *numbered(u32 opening, u64 time)
+{
+	struct known_opening *o = opening_of(opening);
+	if (o->numbered)
+		return o;
+	char clean[CLEAN_NAME_BYTES];
+	o->numbered = 1;
+	o->device = device_number(o->system_device, time);
+	o->process = free_number(&process_numbers, o->device, o->process_id, o->known);
+	clean_name(clean, o->name, NAME_BYTES);
+	side_line(time, "process %u %u pid=%u start=%llu opening=%u met=%s name=%s", o->device, o->process, o->process_id,
+		  (unsigned long long)o->start, opening, o->met == MET_FROM_START ? "from-start" : "in-mid-life", clean);
+	return o;
+}
+
+static void remember_opening(struct known_thread *t, u32 opening)
+{
+	t->openings = resize(t->openings, (t->opening_count + 1) * sizeof *t->openings);
+	t->openings[t->opening_count++] = opening;
+}
+
+struct who names_of(u32 opening, u32 thread, u64 time)
+{
+	struct known_opening *o = numbered(opening, time);
+	struct known_thread *t = thread_of(thread);
+	u64 *known = table_make(&threads_of, opening, thread);
+	if (*known)
+		return (struct who){ o->device, o->process, (u32)(*known - 1) };
+	u32 number = free_number(&thread_numbers, (u64)o->device << 32 | o->process, t->id, t->id != 0);
+	*known = (u64)number + 1;
+	remember_opening(t, opening);
+	char clean[CLEAN_NAME_BYTES];
+	clean_name(clean, t->name, NAME_BYTES);
+	side_line(time, "thread %u %u %u pid=%u tid=%u start=%llu name=%s", o->device, o->process, number, t->process_id, t->id,
+		  (unsigned long long)t->start, clean);
+	return (struct who){ o->device, o->process, number };
+}
+
+void names_closed(u32 opening, u64 time, u64 after)
+{
+	struct known_opening *o = opening_of(opening);
+	if (o->numbered)
+		later_line(time, after, "end opening %u %u after=%llu", o->device, o->process, (unsigned long long)after);
+}
+
+/* Ends the thread's number for the opening: its next call gets another one. */
+static void end_number(u32 opening, u32 thread, u64 time, u64 after, const char *why)
+{
+	struct known_opening *o = opening_of(opening);
+	u64 *known = table_find(&threads_of, opening, thread);
+	if (!known || !*known)
+		return;
+	later_line(time, after, "end thread %u %u %u after=%llu why=%s", o->device, o->process, (u32)(*known - 1),
+		   (unsigned long long)after, why);
+	*known = 0;
+}
+
+void names_left(u32 opening, u32 thread, u64 time, u64 after)
+{
+	end_number(opening, thread, time, after, "left");
+}
+
+void names_ended(u32 thread, u32 process, int is_last, u64 time, u64 after)
+{
+	if (thread) {
+		struct known_thread *t = thread_of(thread);
+		for (u32 i = 0; i < t->opening_count; i++)
+			end_number(t->openings[i], thread, time, after, "ended");
+		free(t->openings);
+		t->openings = NULL;
+		t->opening_count = 0;
+	}
+	if (is_last)
+		later_line(time, after, "end pid %u after=%llu", process, (unsigned long long)after);
+}
+
+void names_changed(u32 thread, const char *name, u64 time, u64 after)
+{
+	struct known_thread *t = thread_of(thread);
+	char clean[CLEAN_NAME_BYTES];
+	memcpy(t->name, name, NAME_BYTES);
+	clean_name(clean, name, NAME_BYTES);
+	later_line(time, after, "name pid=%u tid=%u after=%llu name=%s", t->process_id, t->id, (unsigned long long)after, clean);
+}

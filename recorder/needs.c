@@ -1,0 +1,66 @@
+#include "needs.h"
+#include <linux/capability.h>
+#include <stdio.h>
+#include <string.h>
+#include <sys/stat.h>
+#include <sys/syscall.h>
+#include <sys/sysmacros.h>
+#include <sys/utsname.h>
+#include <unistd.h>
+
+const char need_driver_words[] = "the kernel has no Binder driver; where it is a module: modprobe binder_linux";
+
+static int has_capability(const struct __user_cap_data_struct *data, u32 capability)
+{
+	return (data[capability / 32].effective >> capability % 32 & 1) != 0;
+}
+
+void need_capabilities(void)
+{
+	struct __user_cap_header_struct head = { .version = _LINUX_CAPABILITY_VERSION_3 };
+	struct __user_cap_data_struct data[2] = { { 0 } };
+	if (syscall(SYS_capget, &head, data))
+		fail("the capabilities of this process could not be read");
+	if (has_capability(data, CAP_SYS_ADMIN) || (has_capability(data, CAP_BPF) && has_capability(data, CAP_PERFMON)))
+		return;
+	fail("root is needed, or the capabilities CAP_BPF and CAP_PERFMON");
+}
+
+void need_kernel(void)
+{
+	struct utsname name;
+	unsigned major = 0, minor = 0;
+	if (uname(&name) || sscanf(name.release, "%u.%u", &major, &minor) != 2)
+		fail("the version of the kernel could not be read");
+	if (major < 5 || (major == 5 && minor < 17))
+		fail("the kernel is %s, and 5.17 or a later one is needed", name.release);
+	if (access("/sys/kernel/btf/vmlinux", R_OK))
+		fail("/sys/kernel/btf/vmlinux is not there: a kernel with CONFIG_DEBUG_INFO_BTF is needed, and sysfs");
+}
+
+void need_driver(void)
+{
+	if (access("/sys/module/binder_linux", F_OK) && access("/sys/module/binder", F_OK))
+		fail("%s", need_driver_words);
+}
+
+void need_process(u32 process)
+{
+	char path[32];
+	snprintf(path, sizeof path, "/proc/%u", process);
+	if (access(path, F_OK))
+		fail("--pid %u: there is no such process", process);
+}
+
+u32 need_device(const char *name)
+{
+	static const char *const folders[] = { "", "/dev/", "/dev/binderfs/" };
+	for (size_t i = 0; i < sizeof folders / sizeof *folders; i++) {
+		char path[4096];
+		struct stat status;
+		snprintf(path, sizeof path, "%s%s", folders[i], name);
+		if (path[0] == '/' && !stat(path, &status) && S_ISCHR(status.st_mode))
+			return major(status.st_rdev) << 20 | minor(status.st_rdev);
+	}
+	fail("--device %s: there is no such device", name);
+}

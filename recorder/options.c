@@ -1,0 +1,87 @@
+#include "options.h"
+#include "parts.h"
+#include <errno.h>
+#include <getopt.h>
+#include <stdio.h>
+#include <stdlib.h>
+#include <string.h>
+
+#define SMALLEST_FILE 65536u
+#define SMALLEST_RING 65536u
+#define LARGEST_RING (1u << 30)
+
+static const char usage[] =
+	"record [-o OUT] [--size BYTES] [--pid PID].. [--device NAME].. [--no-attachments] [-- PROGRAM ARGUMENT...]";
+
+static const char help[] =
+	"Records the Binder traffic of the whole system until PROGRAM ends, or until SIGINT or SIGTERM, into\n"
+	"OUT-1.cap, OUT-2.cap, .. and the side list OUT.side. Needs root. docs/RECORDER.md says more.\n"
+	"\n"
+	"-o OUT             the start of the files' names; `capture` where it is absent\n"
+	"--size BYTES       the most bytes of a file, 65536 to 1073741824; 268435456 where it is absent\n"
+	"--pid PID          records openings of this process alone; may be given again\n"
+	"--device NAME      records this device alone, as binder or /dev/binder; may be given again\n"
+	"--no-attachments   leaves out the data of transactions and replies\n"
+	"--ring BYTES       room for what is on its way from the kernel, a power of two; 67108864 where it is absent\n"
+	"\n"
+	"The exit status is that of PROGRAM, or 128 and its signal; 1 where no recording came about.\n";
+
+static u64 number(const char *name, const char *text, u64 least, u64 most)
+{
+	char *rest;
+	errno = 0;
+	u64 value = strtoull(text, &rest, 10);
+	if (errno || !*text || *rest || text[0] == '-' || text[0] == '+' || value < least || value > most)
+		fail("%s takes a number from %llu to %llu, not %s", name, (unsigned long long)least, (unsigned long long)most, text);
+	return value;
+}
+
+static void add_process(struct options *options, const char *text)
+{
+	if (options->process_count == MOST_NAMED)
+		fail("at most %d processes can be named", MOST_NAMED);
+	options->processes[options->process_count++] = (u32)number("--pid", text, 1, 4194304);
+}
+
+static void add_device(struct options *options, const char *text)
+{
+	if (options->device_count == MOST_NAMED)
+		fail("at most %d devices can be named", MOST_NAMED);
+	options->devices[options->device_count++] = text;
+}
+
+static void take(struct options *options, int letter)
+{
+	switch (letter) {
+	case 'o': options->out = optarg; break;
+	case 's': options->size = number("--size", optarg, SMALLEST_FILE, MOST_TOGETHER); break;
+	case 'p': add_process(options, optarg); break;
+	case 'd': add_device(options, optarg); break;
+	case 'a': options->no_attachments = 1; break;
+	case 'r': options->ring = number("--ring", optarg, SMALLEST_RING, LARGEST_RING); break;
+	case 'h': printf("%s\n\n%s", usage, help); exit(0);
+	default: fail("usage: %s", usage);
+	}
+}
+
+void options_read(struct options *options, int count, char **words)
+{
+	static const struct option names[] = {
+		{ "out", required_argument, NULL, 'o' }, { "size", required_argument, NULL, 's' },
+		{ "pid", required_argument, NULL, 'p' }, { "device", required_argument, NULL, 'd' },
+		{ "no-attachments", no_argument, NULL, 'a' }, { "ring", required_argument, NULL, 'r' },
+		{ "help", no_argument, NULL, 'h' }, { NULL, 0, NULL, 0 },
+	};
+	*options = (struct options){ .out = "capture", .size = 268435456, .ring = 67108864 };
+	opterr = 0;
+	for (int letter; (letter = getopt_long(count, words, "+o:h", names, NULL)) != -1;)
+		take(options, letter);
+	if (optind < count && strcmp(words[optind - 1], "--"))
+		fail("usage: %s", usage);
+	if (optind < count)
+		options->program = words + optind;
+	if (options->ring & (options->ring - 1))
+		fail("--ring takes a power of two, not %llu", (unsigned long long)options->ring);
+	if (!*options->out || strlen(options->out) > 4000)
+		fail("-o takes the start of the files' names");
+}

@@ -1,0 +1,21 @@
+/* The command line. */
+#ifndef RECORDER_OPTIONS_H
+#define RECORDER_OPTIONS_H
+#include "common.h"
+
+#define MOST_NAMED 256
+
+struct options {
+	const char *out;
+	u64 size;			/* the most bytes of a file */
+	u64 ring;			/* bytes */
+	u32 processes[MOST_NAMED], process_count;
+	const char *devices[MOST_NAMED];
+	u32 device_count;
+	int no_attachments;
+	char **program;			/* NULL: none */
+};
+
+/* Reads the command line, or ends: with status 0 after --help, with status 1 where it has another form. */
+void options_read(struct options *options, int count, char **words);
+#endif

@@ -1,0 +1,71 @@
+#define _GNU_SOURCE
+#include "program.h"
+#include "common.h"
+#include <errno.h>
+#include <fcntl.h>
+#include <signal.h>
+#include <stdio.h>
+#include <string.h>
+#include <sys/wait.h>
+#include <unistd.h>
+
+static pid_t process;
+static int gate[2], ended, status;
+
+static void run(char **words)
+{
+	char byte;
+	close(gate[1]);
+	signal(SIGPIPE, SIG_DFL);
+	if (read(gate[0], &byte, 1) != 1)
+		_exit(126);			/* there was no recording, and so there is no program */
+	execvp(words[0], words);
+	int error = errno;
+	complain("%s: %s", words[0], strerror(error));
+	_exit(error == ENOENT ? 127 : 126);
+}
+
+void program_prepare(char **words)
+{
+	if (pipe2(gate, O_CLOEXEC))
+		fail("no pipe: %s", strerror(errno));
+	process = fork();
+	if (process < 0)
+		fail("no process for %s: %s", words[0], strerror(errno));
+	if (process == 0)
+		run(words);
+	close(gate[0]);
+}
+
+void program_go(void)
+{
+	if (process && write(gate[1], "g", 1) != 1)
+		complain("the program could not be started");
+	if (process)
+		close(gate[1]);
+}
+
+int program_is_there(void)
+{
+	return process != 0;
+}
+
+int program_has_ended(void)
+{
+	if (process && !ended && waitpid(process, &status, WNOHANG) == process)
+		ended = 1;
+	return ended || !process;
+}
+
+void program_wait(void)
+{
+	if (process && !ended && waitpid(process, &status, 0) == process)
+		ended = 1;
+}
+
+int program_status(void)
+{
+	if (!ended)
+		return 0;
+	return WIFSIGNALED(status) ? 128 + WTERMSIG(status) : WEXITSTATUS(status);
+}

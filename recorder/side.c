@@ -1,0 +1,73 @@
+#include "side.h"
+#include "file.h"
+#include <stdarg.h>
+#include <stdio.h>
+#include <string.h>
+
+static struct file side;
+
+static const char *const reasons[REASON_END] = {
+	[REASON_NONE] = "none",
+	[REASON_CALL_UNREADABLE] = "call-unreadable",
+	[REASON_TOO_LARGE] = "too-large",
+	[REASON_UNREADABLE] = "unreadable",
+	[REASON_RING_FULL] = "ring-full",
+	[REASON_EFAULT] = "efault",
+	[REASON_OTHER_MEMORY] = "other-memory",
+	[REASON_BROKEN] = "broken",
+	[REASON_IN_FLIGHT] = "in-flight",
+	[REASON_HELD_TOO_LONG] = "held-too-long",
+	[REASON_FILE_TOO_SMALL] = "file-too-small",
+	[REASON_NOT_WRITTEN] = "not-written",
+};
+
+const char *reason_word(u32 reason)
+{
+	return reason < REASON_END ? reasons[reason] : "unknown";
+}
+
+int side_create(const char *out)
+{
+	char path[4096];
+	snprintf(path, sizeof path, "%s.side", out);
+	return file_create(&side, path);
+}
+
+void side_remove(void)
+{
+	file_remove(&side);
+}
+
+void side_text(const char *text)
+{
+	file_add(&side, text, strlen(text));
+}
+
+void side_line(u64 time, const char *format, ...)
+{
+	char line[1024];
+	int head = snprintf(line, sizeof line, "%llu ", (unsigned long long)time);
+	va_list arguments;
+	va_start(arguments, format);
+	vsnprintf(line + head, sizeof line - (size_t)head - 1, format, arguments);
+	va_end(arguments);
+	strcat(line, "\n");
+	side_text(line);
+}
+
+int side_flush(void)
+{
+	return file_flush(&side);
+}
+
+void clean_name(char *to, const char *from, u32 length)
+{
+	for (u32 i = 0; i < length && from[i]; i++) {
+		unsigned char byte = (unsigned char)from[i];
+		if (byte < 0x20 || byte == 0x7f || byte == '\\')
+			to += sprintf(to, "\\x%02x", byte);
+		else
+			*to++ = (char)byte;
+	}
+	*to = 0;
+}

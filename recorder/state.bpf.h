@@ -1,0 +1,171 @@
+/* What the BPF program keeps: its tables, the counter of numbers, and how a message goes into the ring. */
+#ifndef RECORDER_STATE_BPF_H
+#define RECORDER_STATE_BPF_H
+#include "kernel.bpf.h"
+#include "messages.h"
+
+#define MOST_LATE 4u
+
+struct opening {
+	u32 id;
+	u8 recorded, told;
+	u8 born;		/* it was opened after the recording began */
+	u8 unused;
+	u32 process, device;
+	u64 memory;		/* the mm of the process that opened it: the one where the device is mapped */
+	u64 start;
+	char name[NAME_BYTES];
+};
+
+/* An attachment whose memory was not there at entry. */
+struct late_attachment {
+	u64 data_from, offsets_from;
+	u32 data, offsets, record, unused;
+};
+
+/* A thread that has called a Binder device. */
+struct thread {
+	u32 id, opening;
+	u8 told, in_call, write_told, partial;	/* partial: not all of the write's bytes could be read at entry */
+	u32 commands;			/* that the driver began in this call */
+	u64 write_number;		/* 0: the call writes nothing */
+	u64 consumed;			/* bytes of those commands */
+	u64 had;			/* bytes of the write that were read */
+	u64 call;			/* the address of the binder_write_read */
+	u64 write_from, write_bytes;
+	u64 write_consumed, read_consumed, read_size, read_buffer;	/* at entry */
+	u64 reads_own_memory;
+	u32 late_count, process;
+	struct late_attachment late[MOST_LATE];
+	u64 start;
+	char name[NAME_BYTES];
+};
+
+/* An attachment that goes in pieces. */
+struct large {
+	u64 number, data_from, offsets_from;
+	u32 data, offsets, record, at, failed, opening, thread, direction;
+};
+
+/* A walk through the commands of a frame. */
+struct walk {
+	u64 number, from, left;		/* from, left: what is not read yet */
+	u32 base, at, bytes, have, end;	/* of the chunk: where it stands; the record; its bytes; those that were read; of the message */
+	u32 direction, opening, thread, reads_own_memory, last, late, failed, partial;
+};
+
+/* Memory for one run of a program: its stack has 512 bytes. */
+struct scratch {
+	struct large large;
+	struct walk walk;
+	u64 from, length, failed;
+	struct binder_write_read call;
+	struct chunk chunk;
+	u8 chunk_bytes[4 * CHUNK + 128];
+	struct piece piece;
+	u8 piece_bytes[2 * CHUNK];
+	struct event event;
+};
+
+struct { __uint(type, BPF_MAP_TYPE_RINGBUF); __uint(max_entries, 1 << 26); } ring SEC(".maps");
+
+/* One for each CPU. A map of a value for each CPU has no values of this size. */
+struct {
+	__uint(type, BPF_MAP_TYPE_ARRAY);
+	__uint(max_entries, 1);
+	__type(key, u32);
+	__type(value, struct scratch);
+} scratches SEC(".maps");
+
+#define TABLE(name, key_type, value_type) \
+	struct { \
+		__uint(type, BPF_MAP_TYPE_HASH); \
+		__uint(max_entries, 65536); \
+		__uint(map_flags, BPF_F_NO_PREALLOC); \
+		__type(key, key_type); \
+		__type(value, value_type); \
+	} name SEC(".maps")
+
+TABLE(threads, u32, struct thread);	/* by the thread's id */
+TABLE(openings, u64, struct opening);	/* by the address of the file */
+TABLE(processes, u32, u32);		/* those whose end is to be told */
+TABLE(wanted_processes, u32, u32);	/* of --pid */
+TABLE(wanted_devices, u32, u32);	/* of --device */
+
+/* Above this the ring is for events alone, which have the rest. */
+const volatile u64 ring_limit = 60 << 20;
+const volatile u32 by_process = 0, by_device = 0, no_attachments = 0;
+
+u32 stopped = 1;
+u64 last_number = 0;
+u32 last_thread = 0, last_opening = 0;
+u64 calls_32_bit = 0, calls_without_room = 0, calls_without_file = 0;
+
+/* For each CPU: no number below this one is without its message because of the program that runs there; 0: none runs. */
+struct { u64 number, unused[7]; } taking[MOST_CPUS];
+
+/* The loader looks by itself. A wake-up for each message costs much. */
+#define QUIETLY BPF_RB_NO_WAKEUP
+
+/* The verifier wants to see each bound where it is used: a mask that the compiler can't move. */
+#define BOUND(value, mask) asm volatile("%0 &= " #mask : "+r"(value))
+
+static __always_inline struct scratch *scratch(void)
+{
+	u32 cpu = bpf_get_smp_processor_id();
+	return bpf_map_lookup_elem(&scratches, &cpu);
+}
+
+/* Takes the next number. The loader reads `last_number` first and `taking` second: so it sees here each number that it
+ * read there and that has no message yet. */
+static __always_inline u64 take_number(void)
+{
+	u32 cpu = bpf_get_smp_processor_id() & (MOST_CPUS - 1);
+	*(volatile u64 *)&taking[cpu].number = *(volatile u64 *)&last_number + 1;
+	return __sync_fetch_and_add(&last_number, 1) + 1;
+}
+
+/* The message of the number that was taken is in the ring, or there was no room for it. */
+static __always_inline void number_is_told(void)
+{
+	u32 cpu = bpf_get_smp_processor_id() & (MOST_CPUS - 1);
+	*(volatile u64 *)&taking[cpu].number = 0;
+}
+
+static __always_inline int is_full(u64 bytes)
+{
+	return bpf_ringbuf_query(&ring, BPF_RB_AVAIL_DATA) + bytes > ring_limit;
+}
+
+/* Puts an event into the ring. Gives 0 where it had room. */
+static __always_inline long say(u32 type, u32 thread, u32 opening, u64 number, u64 a, u64 b, u64 c, const char *name)
+{
+	struct scratch *s = scratch();
+	if (!s)
+		return 1;
+	struct event *e = &s->event;
+	e->head.type = type;
+	e->head.direction = 0;
+	e->head.number = number;
+	e->head.time = bpf_ktime_get_ns();
+	e->head.opening = opening;
+	e->head.thread = thread;
+	e->a = a;
+	e->b = b;
+	e->c = c;
+	if (name)
+		__builtin_memcpy(e->name, name, NAME_BYTES);
+	return bpf_ringbuf_output(&ring, e, sizeof *e, QUIETLY);
+}
+
+/* Half of the room for events is left for those that can't be found out later. That a number has no message is seen. */
+static __noinline int lose(struct thread *t, u64 number, u64 reason)
+{
+	if (!t)
+		return 0;
+	if (reason == REASON_RING_FULL && bpf_ringbuf_query(&ring, BPF_RB_AVAIL_DATA) > ring_limit + ring_limit / 32)
+		return 0;
+	say(MESSAGE_LOST, t->id, t->opening, number, reason, 0, 0, 0);
+	return 0;
+}
+#endif

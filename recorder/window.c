@@ -1,0 +1,307 @@
+#include "window.h"
+#include "frame.h"
+#include "names.h"
+#include "side.h"
+#include <stdarg.h>
+#include <stdio.h>
+#include <stdlib.h>
+#include <string.h>
+
+#define MOST_SLOTS (1u << 22)			/* numbers that are not settled */
+#define MOST_MEMORY (256u << 20)		/* bytes of their frames */
+#define LONGEST_WAIT 10000000000u		/* nanoseconds that a write may hold later frames back */
+
+enum state { SILENT, WAITING, WHOLE, LOST };
+
+struct slot {
+	enum state state;
+	u32 reason;
+	int has_who;
+	struct who who;
+	struct frame *frame;
+	u64 consumed;
+	u64 since;				/* when it began to wait */
+	char *lines;				/* of the side list, that come after this number */
+};
+
+static struct slot *slots;
+static u64 room;
+static u64 next = 1, end = 1;			/* the numbers from `next` to before `end` have a slot */
+static u64 checked;				/* no number up to this one is silent */
+static u64 memory, waiting, frames, lost, lost_because[REASON_END];
+static u64 *waits_of;				/* by thread: the write that waits, or 0 */
+static u32 wait_room;
+
+u64 window_waiting(void) { return waiting; }
+u64 window_frames(void) { return frames; }
+u64 window_lost(void) { return lost; }
+u64 window_lost_because(enum reason reason) { return lost_because[reason]; }
+u64 window_last(void) { return next - 1; }
+
+static struct slot *at(u64 number)
+{
+	return slots + (number & (room - 1));
+}
+
+static void grow(u64 wanted)
+{
+	u64 larger = room ? room : 4096;
+	while (larger < wanted)
+		larger *= 2;
+	struct slot *old = slots;
+	u64 old_room = room;
+	slots = allocate(larger * sizeof *slots);
+	room = larger;
+	for (u64 number = next; number < end; number++)
+		*at(number) = old[number & (old_room - 1)];
+	free(old);
+}
+
+static void lose_slot(struct slot *slot, u32 reason)
+{
+	if (slot->state == WAITING)
+		waiting--;
+	slot->state = LOST;
+	slot->reason = reason < REASON_END ? reason : REASON_NONE;
+}
+
+/* The slot of a number, or NULL where the number is settled already. */
+static struct slot *slot_of(u64 number)
+{
+	if (number < next)
+		return NULL;
+	while (number - next >= MOST_SLOTS) {		/* too many to wait for: the lowest one is given up */
+		if (at(next)->state == SILENT || at(next)->state == WAITING)
+			lose_slot(at(next), REASON_HELD_TOO_LONG);
+		window_settle();
+	}
+	if (number - next >= room)
+		grow(number - next + 1);
+	for (; end <= number; end++)
+		*at(end) = (struct slot){ 0 };
+	return at(number);
+}
+
+static void write_lost(const struct slot *slot)
+{
+	u64 time = slot->frame && slot->frame->time ? slot->frame->time : slot->since ? slot->since : now();
+	unsigned long long number = next;
+	if (slot->has_who)
+		side_line(time, "lost %llu device=%u process=%u thread=%u why=%s", number, slot->who.device, slot->who.process,
+			  slot->who.thread, reason_word(slot->reason));
+	else
+		side_line(time, "lost %llu why=%s", number, reason_word(slot->reason));
+	lost++;
+	lost_because[slot->reason]++;
+}
+
+/* Writes what the slot of `next` has. */
+static void settle_slot(struct slot *slot)
+{
+	if (slot->state == WHOLE) {
+		enum reason reason = frame_write(slot->frame, slot->consumed);
+		if (reason)
+			lose_slot(slot, reason);
+		else
+			frames++;
+	}
+	if (slot->state == LOST)
+		write_lost(slot);
+	if (slot->lines)
+		side_text(slot->lines);
+	free(slot->lines);
+	if (slot->frame)
+		memory -= slot->frame->memory;
+	frame_free(slot->frame);
+	*slot = (struct slot){ 0 };
+}
+
+void window_settle(void)
+{
+	u64 limit = now() - LONGEST_WAIT;
+	while (next < end) {
+		struct slot *slot = at(next);
+		if (slot->state == WAITING && (slot->since < limit || memory > MOST_MEMORY))
+			lose_slot(slot, REASON_HELD_TOO_LONG);
+		if (slot->state != WHOLE && slot->state != LOST)
+			break;
+		settle_slot(slot);
+		next++;
+	}
+}
+
+void window_silent_until(u64 bound)
+{
+	if (bound < next)
+		return;
+	slot_of(bound);
+	for (u64 number = checked + 1 > next ? checked + 1 : next; number <= bound; number++)
+		if (at(number)->state == SILENT)
+			lose_slot(at(number), REASON_RING_FULL);
+	if (bound > checked)
+		checked = bound;
+}
+
+void window_end(u64 last_number)
+{
+	window_silent_until(last_number);
+	for (u64 number = next; number < end; number++)
+		if (at(number)->state == WAITING)
+			lose_slot(at(number), REASON_IN_FLIGHT);
+	window_settle();
+}
+
+void later_line(u64 time, u64 after, const char *format, ...)
+{
+	char line[1024];
+	va_list arguments;
+	va_start(arguments, format);
+	vsnprintf(line, sizeof line, format, arguments);
+	va_end(arguments);
+	struct slot *slot = slot_of(after);
+	if (!slot) {
+		side_line(time, "%s", line);
+		return;
+	}
+	u64 before = slot->lines ? strlen(slot->lines) : 0, more = strlen(line) + 32;
+	slot->lines = resize(slot->lines, before + more);
+	snprintf(slot->lines + before, more, "%llu %s\n", (unsigned long long)time, line);
+}
+
+static struct frame *frame_of(struct slot *slot, u64 number)
+{
+	if (!slot->frame) {
+		slot->frame = frame_make(number);
+		memory += slot->frame->memory;
+	}
+	return slot->frame;
+}
+
+static u64 *wait_of(u32 thread)
+{
+	if (thread >= wait_room) {
+		u32 larger = (thread + 64) * 2;
+		waits_of = resize(waits_of, larger * sizeof *waits_of);
+		memset(waits_of + wait_room, 0, (larger - wait_room) * sizeof *waits_of);
+		wait_room = larger;
+	}
+	return waits_of + thread;
+}
+
+/* A thread that begins something else is through with the write before, though the ring had no room to say so. */
+static void end_wait(u32 thread, u64 but_not)
+{
+	u64 *number = wait_of(thread);
+	if (!*number || *number == but_not)
+		return;
+	struct slot *slot = slot_of(*number);
+	if (slot && slot->state == WAITING)
+		lose_slot(slot, REASON_RING_FULL);
+	*number = 0;
+}
+
+static void hear_chunk(const struct chunk *chunk)
+{
+	const struct message *head = &chunk->head;
+	end_wait(head->thread, head->number);
+	struct who who = names_of(head->opening, head->thread, head->time);
+	struct slot *slot = slot_of(head->number);
+	if (!slot || slot->state == LOST || slot->state == WHOLE)
+		return;
+	struct frame *frame = frame_of(slot, head->number);
+	memory -= frame->memory;
+	frame->who = slot->who = who;
+	frame->direction = head->direction;
+	slot->has_who = 1;
+	int is_last = frame_add_chunk(frame, chunk);
+	memory += frame->memory;
+	if (!is_last || slot->state != SILENT)
+		return;
+	slot->consumed = frame->bytes;
+	slot->state = WHOLE;
+	if (head->direction == DIRECTION_WRITE) {
+		slot->state = WAITING;
+		slot->since = now();
+		waiting++;
+		*wait_of(head->thread) = head->number;
+	}
+}
+
+static void hear_piece(const struct piece *piece)
+{
+	struct slot *slot = slot_of(piece->head.number);
+	if (!slot || slot->state == LOST || slot->state == WHOLE)
+		return;
+	struct frame *frame = frame_of(slot, piece->head.number);
+	memory -= frame->memory;
+	frame_add_piece(frame, piece);
+	memory += frame->memory;
+}
+
+static void hear_written(const struct event *event)
+{
+	struct slot *slot = slot_of(event->head.number);
+	*wait_of(event->head.thread) = 0;
+	if (!slot || slot->state != WAITING)
+		return;
+	waiting--;
+	slot->state = WHOLE;
+	slot->consumed = event->a;
+}
+
+static void hear_lost(const struct event *event)
+{
+	struct who who = names_of(event->head.opening, event->head.thread, event->head.time);
+	struct slot *slot = slot_of(event->head.number);
+	if (!slot || slot->state == LOST || slot->state == WHOLE)
+		return;
+	slot->who = who;
+	slot->has_who = 1;
+	if (!slot->since)
+		slot->since = event->head.time;
+	lose_slot(slot, (u32)event->a);
+}
+
+static void hear_note(const struct event *event, u32 reason)
+{
+	struct slot *slot = slot_of(event->head.number);
+	if (!slot || slot->state == LOST || slot->state == WHOLE)
+		return;
+	frame_add_note(frame_of(slot, event->head.number), (u32)event->b, reason);
+}
+
+static void hear_event(const struct event *event)
+{
+	const struct message *head = &event->head;
+	switch (head->type) {
+	case MESSAGE_WRITTEN: hear_written(event); break;
+	case MESSAGE_LOST: hear_lost(event); break;
+	case MESSAGE_UNATTACHED: hear_note(event, (u32)event->a); break;
+	case MESSAGE_LATE: hear_note(event, REASON_NONE); break;
+	case MESSAGE_OPENING:
+		names_opening(head->opening, head->time, (u32)event->a, (u32)event->b, event->c, event->name,
+			      head->thread ? MET_FROM_START : MET_IN_MID_LIFE);
+		break;
+	case MESSAGE_THREAD: names_thread(head->thread, (u32)event->a, (u32)event->b, event->c, event->name); break;
+	case MESSAGE_NAME: names_changed(head->thread, event->name, head->time, head->number); break;
+	case MESSAGE_CLOSED: names_closed(head->opening, head->time, head->number); break;
+	case MESSAGE_LEFT: names_left(head->opening, head->thread, head->time, head->number); break;
+	case MESSAGE_ENDED:
+		end_wait(head->thread, 0);
+		names_ended(head->thread, (u32)event->b, (int)event->c, head->time, head->number);
+		break;
+	}
+}
+
+void window_hear(const void *message, u64 bytes)
+{
+	const struct message *head = message;
+	if (bytes < sizeof *head)
+		return;
+	if (head->type == MESSAGE_CHUNK)
+		hear_chunk(message);
+	else if (head->type == MESSAGE_PIECE)
+		hear_piece(message);
+	else
+		hear_event(message);
+}

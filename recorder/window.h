@@ -1,0 +1,22 @@
+/* The numbers that are not settled yet. A frame is written as soon as all lower numbers are written or lost. */
+#ifndef RECORDER_WINDOW_H
+#define RECORDER_WINDOW_H
+#include "common.h"
+#include "messages.h"
+
+/* A message of the ring. */
+void window_hear(const void *message, u64 bytes);
+/* All numbers up to `bound` have their messages: of those that are silent the ring had no room for one. */
+void window_silent_until(u64 bound);
+/* Writes what can be written. */
+void window_settle(void);
+/* The recording has ended with this number. */
+void window_end(u64 last_number);
+/* How many writes wait to hear what the driver consumed. */
+u64 window_waiting(void);
+u64 window_frames(void);
+u64 window_lost(void);
+u64 window_lost_because(enum reason reason);
+/* The last number that is settled. */
+u64 window_last(void);
+#endif
