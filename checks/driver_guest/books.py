@@ -10,7 +10,7 @@ TRANSACTION = re.compile(
     r"(?: context \S+)? code ([0-9a-f]+) flags ([0-9a-f]+)")
 NODE = re.compile(r"node (\d+): u([0-9a-f]+) c([0-9a-f]+) (?:pri \d+:\d+ )?hs (\d+) hw (\d+) ls (-?\d+) lw (-?\d+)")
 REF = re.compile(r"ref \d+: desc (\d+) (dead )?node \d+ s (-?\d+) w (-?\d+) d ([0-9a-f]+|\(____ptrval____\))")
-BUFFER = re.compile(r"buffer \d+: ([0-9a-f]+) size (\d+):(\d+):(\d+) (active|delivered)")
+BUFFER = re.compile(r"buffer (\d+): ([0-9a-f]+) size (\d+):(\d+):(\d+) (active|delivered)")
 LOG = re.compile(r"(\d+): (async|call |reply) from (-?\d+):(-?\d+) to (-?\d+):(-?\d+) context (\S+) node (-?\d+)"
                  r" handle (-?\d+) size (-?\d+):(-?\d+) ret (\d+)/(-?\d+)")
 
@@ -28,7 +28,7 @@ class Opening:
     def __init__(self, pid):
         self.pid, self.context = pid, ""
         self.handles, self.requests = {}, []
-        self.nodes, self.buffers = {}, []
+        self.nodes, self.buffers = {}, {}
         self.outgoing, self.incoming, self.pending = [], [], []
         self.deaths = self.clears = self.cleared_and_dead = 0
         self.completions = 0
@@ -47,7 +47,7 @@ class Opening:
             if found[5].strip("0"):
                 self.requests.append(int(found[1]))
         elif found := BUFFER.match(word):
-            self.buffers.append((int(found[1], 16), int(found[2])))
+            self.buffers[int(found[1])] = int(found[2], 16), int(found[3])
         elif word == "has delivered dead binder":
             self.deaths += 1
         elif word == "has cleared death notification":
@@ -102,21 +102,31 @@ def failed(text):
     return [Failed(int(m[1]), m[2].strip(), int(m[3]), int(m[4]), int(m[5]), m[7]) for m in LOG.finditer(text)]
 
 
+NAMES = ("state", "stats", "stats.before", "failed_transaction_log", "failed_transaction_log.before", "moment")
+
+
+def texts(folder):
+    return {name: (pathlib.Path(folder) / name).read_text() for name in NAMES}
+
+
 class Books:
     """The books of one scenario: what stands in them at its end, and what they counted since its beginning."""
 
-    def __init__(self, folder):
-        def text(name):
-            return (pathlib.Path(folder) / name).read_text()
-        self.openings = state(text("state"))
-        before, _ = stats(text("stats.before"))
-        whole, each = stats(text("stats"))
+    def __init__(self, text):
+        self.openings = state(text["state"])
+        before, _ = stats(text["stats.before"])
+        whole, each = stats(text["stats"])
         self.codes = Counter({name: whole[name] - before[name] for name in whole if whole[name] != before[name]})
         for opening, (pid, counts) in zip(self.openings, each, strict=True):
             if opening.pid != pid:
                 raise ValueError("stats and state list other processes")
             opening.codes = counts
-        old = {entry.number for entry in failed(text("failed_transaction_log.before"))}
-        every = failed(text("failed_transaction_log"))
-        self.failed = [entry for entry in every if entry.number not in old]
+        old = {entry.number for entry in failed(text["failed_transaction_log.before"])}
+        self.failed = [entry for entry in failed(text["failed_transaction_log"]) if entry.number not in old]
         self.log_is_full = len(self.failed) >= 32
+        moment, *mappings = text["moment"].splitlines()
+        self.moment = int(moment)
+        self.mapping = {}
+        for line in mappings:
+            pid, device, address = line.split()
+            self.mapping.setdefault((device, int(pid)), int(address, 16))

@@ -47,20 +47,36 @@ class Recording:
         self.captures = sorted(folder.glob("capture-*.cap"), key=lambda path: int(path.stem.split("-")[1]))
         self.frames = [frame for path in self.captures for frame in frames_of(path.read_bytes()[16:])]
         self.side = (folder / "capture.side").read_text() if (folder / "capture.side").exists() else ""
-        self.devices = dict((int(a), b) for a, b in re.findall(r"^\S+ device (\d+) .*name (\S+)", self.side, re.M))
-        self.lost = [int(number) for number in re.findall(r"^\S+ lost (\d+)", self.side, re.M)]
-        self.open_processes = self._open_processes()
+        self.devices = {int(a): b for a, b in re.findall(r"^\d+ device (\d+) .*name=(\S+)", self.side, re.M)}
+        self.lost = [(int(n), why) for n, why in re.findall(r"^\d+ lost (\d+) .*why=(\S+)", self.side, re.M)]
+        self.names, self.pids, self.tids = {}, {}, {}
+        for device, number, pid, name in re.findall(
+                r"^\d+ process (\d+) (\d+) pid=(\d+) .*name=(.*)$", self.side, re.M):
+            self.names[int(device), int(number)] = name
+            self.pids[int(device), int(number)] = int(pid)
+        for device, number, thread, tid in re.findall(
+                r"^\d+ thread (\d+) (\d+) (\d+) pid=\d+ tid=(\d+)", self.side, re.M):
+            self.tids[int(device), int(number), int(thread)] = int(tid)
 
-    def _open_processes(self):
-        """Of each device and process id the numbers of its openings that were not closed, the latest first."""
-        numbers = defaultdict(list)
-        for word, device, number, pid in re.findall(r"^\S+ (process|end process) (\d+) (\d+) pid (\d+)", self.side, re.M):
-            here = numbers[self.devices[int(device)], int(pid)]
-            if word == "process":
-                here.insert(0, (int(device), int(number)))
-            elif (int(device), int(number)) in here:
-                here.remove((int(device), int(number)))
+    def open_at(self, moment):
+        """The openings that were not closed by then, by device and process id, the latest first."""
+        numbers, ends = defaultdict(list), {}
+        for time, device, number in re.findall(r"^(\d+) end opening (\d+) (\d+) after", self.side, re.M):
+            ends[int(device), int(number)] = int(time)
+        for key, pid in self.pids.items():
+            if ends.get(key, moment) >= moment:
+                numbers[self.devices[key[0]], pid].insert(0, key)
         return numbers
+
+    def records(self):
+        """Of each record its place in the joined capture, its offset in its frame, the frame, its code word, its payload."""
+        place = 16
+        for frame in self.frames:
+            offset = 0
+            for word, payload in records_of(frame.commands):
+                yield place + HEADER.size + offset, offset, frame, word, payload
+                offset += 4 + len(payload)
+            place += HEADER.size + len(frame.commands) + len(frame.attached)
 
     def record_counts(self):
         """The code words of each device and process, counted."""

@@ -35,7 +35,7 @@ int main(int count, char **words)
 		return 64;
 	}
 	scale = count > 3 ? atoi(words[3]) : 0;
-	shared = mmap(NULL, 4096, PROT_READ | PROT_WRITE, MAP_SHARED | MAP_ANONYMOUS, -1, 0);
+	shared = mmap(NULL, SHARED_SIZE, PROT_READ | PROT_WRITE, MAP_SHARED | MAP_ANONYMOUS, -1, 0);
 	if (shared == MAP_FAILED) fail("mmap");
 	sigaction(SIGUSR1, &interrupted, NULL);
 	in_directory(words[2]);
