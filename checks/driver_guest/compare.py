@@ -88,6 +88,11 @@ def lost_differences(recording):
     unused = set(range(1, used[-1] + 1)) - set(used) if used else set()
     if not unused <= told:
         yield "lost", "all", "untold", len(unused - told), 0
+    for why, count in sorted(Counter(why for _, why in recording.lost).items()):
+        yield "lost", "all", why, count, 0
+
+
+PARTIAL = {"late", "killed", "stopped"}		# the recorder was not there from the beginning to the end
 
 
 class Scenario:
@@ -103,12 +108,17 @@ class Scenario:
     def differences(self, texts=None):
         """All that is not as it should be, and the sections that were looked at."""
         if self.report is None:
-            return [("capture", "all", self.text.strip(), 0, 0)], set()
+            return [("capture", "all", self.text.strip(), 0, 0)], {"capture"}
+        if self.how in PARTIAL:
+            found = [item for item in lost_differences(self.recording) if item[2] in ("untold", "broken", "not-written")]
+            if not self.recording.frames:
+                found.append(("capture", "all", "frames", 0, 1))
+            return found, {"capture", "lost"}
         sides = both(self.recording, self.report, books_of.Books(texts or self.books))
         found = list(sides.differences())
         found += purpose_differences(self.name, self.report)
         found += lost_differences(self.recording)
-        seen = sides.seen | {"purpose", "lost"}
+        seen = sides.seen | {"purpose", "lost", "capture"}
         if self.how == "both":
             found += witness_differences(self.recording, self.folder)
             seen.add("witness")
@@ -156,7 +166,7 @@ def unfound(scenarios):
     for section in WRONG:
         tried = found = 0
         for scenario in scenarios:
-            if tried == 3 or scenario.report is None:
+            if tried == 3 or scenario.report is None or scenario.how in PARTIAL:
                 continue
             texts = wrong(scenario.books, section)
             if texts is None:

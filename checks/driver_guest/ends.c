@@ -86,16 +86,19 @@ static void endless_client(void)
 	for (;;) call(&exchange, handle, PAUSE);
 }
 
-static void client_of_ending(void)
+static void client_of(uint32_t code)
 {
 	struct exchange exchange;
 	struct opening opening = open_device("binder");
 	begin(&exchange, &opening);
 	uint32_t handle = look_up(&exchange);
-	if (call(&exchange, handle, shared->served % 2 ? LEAVE : END) != BR_DEAD_REPLY) fail("ends: a reply came");
-	call(&exchange, handle, ECHO);
+	if (call(&exchange, handle, code) != BR_DEAD_REPLY) fail("ends: a reply came");
+	if (code == END) call(&exchange, handle, ECHO);
 	ready_to_rest(&exchange);
 }
+
+static void client_of_ended(void) { client_of(END); }
+static void client_of_left(void) { client_of(LEAVE); }
 
 static void ends(void)
 {
@@ -107,16 +110,12 @@ static void ends(void)
 		kill(caller, SIGKILL);
 		waitpid(caller, NULL, 0);
 	}
-	shared->served = 0;
-	usleep(100000);
-	shared->served = 0;
-	start("client-of-ended", client_of_ending);
+	start("client-of-ended", client_of_ended);
 	wait_until(&shared->resting, 1);
 	start("leaves", service);
 	wait_until(&shared->ready, 3);
-	shared->served = 1;
-	start("client-of-left", client_of_ending);
-	usleep(300000);
+	start("client-of-left", client_of_left);
+	wait_until(&shared->resting, 2);
 }
 
 /* ---- freeze */

@@ -21,6 +21,7 @@ pid_t start(const char *name, void (*process)(void))
 	if (started < 0) fail("fork");
 	if (!started) {
 		prctl(PR_SET_NAME, name);
+		prctl(PR_SET_PDEATHSIG, SIGKILL);
 		alarm(300);
 		process();
 		_exit(0);
@@ -31,8 +32,9 @@ pid_t start(const char *name, void (*process)(void))
 
 void wait_until(_Atomic int *counter, int least)
 {
-	for (int tries = 0; *counter < least; tries++) {
-		if (tries > 60000) fail("a process of the scenario did not come so far");
+	time_t began = time(NULL);
+	while (*counter < least) {
+		if (time(NULL) > began + 20) fail("a process of the scenario did not come so far");
 		usleep(1000);
 	}
 }
