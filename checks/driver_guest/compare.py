@@ -1,2 +1,218 @@
 #!/usr/bin/env python3
-print("none")
+"""Compares what the guest left: compare.py AUDITOR FOLDER
+
+Each folder in FOLDER is a scenario. The capture has to be well formed, and what the recorder lost has to be in the side
+list. The report is compared with the driver's books by sections.py, and, where the witness was there too, the two
+recordings frame by frame. A difference that is explained stands in the list `explained`, with its reason; any other one
+is named, and the status is then 1. So it is where wrong books are not found: of each section one count is changed.
+"""
+
+import pathlib
+import re
+import sys
+from collections import Counter, defaultdict
+
+import books as books_of
+from recording import Recording, Report, frames_of, report_on
+from sections import both
+
+HERE = pathlib.Path(__file__).resolve().parent
+
+
+def lines_of(name):
+    """The lines of a list in words; the comment in front of a line is its reason."""
+    reason = ""
+    for line in (HERE / name).read_text().splitlines():
+        if line.startswith("#"):
+            reason = line[1:].strip()
+        elif line.strip():
+            yield line.split(), reason
+
+
+def explained():
+    return {tuple(words): reason for words, reason in lines_of("explained")}
+
+
+def row_of(scenario, difference):
+    """A difference as a row of the list: no spaces in it, numbers of processes by their names."""
+    return (scenario, *(re.sub(r"[ ()']", "", str(part)).replace("byprocess", "-by-process") for part in difference))
+
+
+# ---- what a scenario did on purpose, which the books do not have
+
+def purposes(scenario):
+    """The heads that the report has to have: those that are named, and else nothing that went wrong."""
+    heads = {("strays", "strays"): 0, ("frees", "stray"): 0, ("flags", "flags"): 0, ("objects", "bad"): 0}
+    for words, _ in lines_of("purposes"):
+        if words[0] == scenario:
+            section, name, number = words[1:]
+            heads[section, name] = None if number == "any" else int(number)
+    return heads
+
+
+def purpose_differences(scenario, report):
+    for (section, name), number in purposes(scenario).items():
+        if number is not None and report.head(section, name) != number:
+            yield section, "all", name, report.head(section, name), number
+
+
+# ---- the two recordings
+
+def threads(frames):
+    out = defaultdict(list)
+    for frame in frames:
+        if frame.commands:
+            out[frame.device, frame.process, frame.thread].append(frame)
+    return out
+
+
+def witness_differences(recording, folder):
+    """Frames by device, process and thread, in their order: the same bytes, and where both have them the same data."""
+    data = (folder / "frames").read_bytes()
+    other = threads(sorted(frames_of(data), key=lambda frame: frame.sequence))
+    mine = threads(recording.frames)
+    for key in sorted(set(mine) | set(other)):
+        one, two = mine.get(key, []), other.get(key, [])
+        same = sum(1 for a, b in zip(one, two) if (a.direction, a.commands, a.attached) == (b.direction, b.commands, b.attached))
+        if not same == len(one) == len(two):
+            name = recording.names.get(key[:2], "?").replace(" ", "-")
+            yield "witness", name, key[2] - key[1] if key[2] >= key[1] else key[2], len(one), len(two)
+
+
+# ---- one scenario
+
+def lost_differences(recording):
+    """Each number that goes unused has its line in the side list."""
+    told = {number for number, _ in recording.lost}
+    used = [frame.sequence for frame in recording.frames]
+    unused = set(range(1, used[-1] + 1)) - set(used) if used else set()
+    if not unused <= told:
+        yield "lost", "all", "untold", len(unused - told), 0
+    for why, count in sorted(Counter(why for _, why in recording.lost).items()):
+        yield "lost", "all", why, count, 0
+
+
+PARTIAL = {"late", "killed", "stopped"}		# the recorder was not there from the beginning to the end
+
+
+class Scenario:
+    def __init__(self, auditor, folder):
+        self.name, self.folder = folder.name, folder
+        self.recording = Recording(folder)
+        self.status, self.how = (folder / "status").read_text().split()[:2] if (folder / "status").exists() else ("0", "stored")
+        code, text = report_on(auditor, self.recording.captures)
+        self.text = text
+        self.report = Report(text) if code == 0 else None
+        self.books = books_of.texts(folder)
+
+    def differences(self, texts=None):
+        """All that is not as it should be, and the sections that were looked at."""
+        if self.report is None:
+            return [("capture", "all", self.text.strip(), 0, 0)], {"capture"}
+        if self.how in PARTIAL:
+            found = [item for item in lost_differences(self.recording) if item[2] in ("untold", "broken", "not-written")]
+            if not self.recording.frames:
+                found.append(("capture", "all", "frames", 0, 1))
+            return found, {"capture", "lost"}
+        sides = both(self.recording, self.report, books_of.Books(texts or self.books))
+        found = list(sides.differences())
+        found += purpose_differences(self.name, self.report)
+        found += lost_differences(self.recording)
+        seen = sides.seen | {"purpose", "lost", "capture"}
+        if self.how == "both":
+            found += witness_differences(self.recording, self.folder)
+            seen.add("witness")
+        if self.status != "0":
+            found.append(("status", "all", "program", self.status, 0))
+        return found, seen
+
+
+# ---- wrong books
+
+WRONG = {	# of each section a count in a file of the books
+    "codes": ("stats", r"^(BC_REPLY: )(\d+)"),
+    "codes by process": ("stats", r"^(  BC_FREE_BUFFER: )(\d+)"),
+    "handles": ("state", r"(  ref \d+: desc \d+ (?:dead )?node \d+ s )(\d+)"),
+    "nodes": ("state", r"(  node \d+: u[0-9a-f]*[1-9a-f]0* c\w+ (?:pri \S+ )?hs )(\d+)"),
+    "due": ("state", r"(  node \d+: u[0-9a-f]*[1-9a-f]0* .* ls )(\d+)"),
+    "buffers": ("state", r"(  buffer \d+: [0-9a-f]+ size )(\d+)"),
+    "calls": ("state", r"(outgoing transaction .* code )(\d+)"),
+    "served": ("state", r"(incoming transaction .* code )(\d+)"),
+    "requests": ("state", r"(  ref \d+: .* d 0*)(0)$"),
+    "deaths": ("state", r"^(  has )(delivered dead binder)"),
+    "clears": ("state", r"^(  has )(cleared death notification)"),
+    "refused": ("failed_transaction_log", r"^(\d+: async from \d+:)(\d+)"),
+    "oneway": ("state", r"(pending async transaction .* flags )(\d+)"),
+}
+
+
+def wrong(text, section):
+    """The books with one count changed, or None where they have none of the section."""
+    name, pattern = WRONG[section]
+
+    def change(found):
+        return found[1] + (str(int(found[2], 16) + 1) if re.fullmatch(r"[0-9a-f]+", found[2]) else "lost")
+    head, mark, rest = text[name].partition("\nproc ")	# nodes without a process come first, and no row is about them
+    if section in ("nodes", "due"):
+        rest, times = re.subn(pattern, change, rest, count=1, flags=re.M)
+        changed = head + mark + rest
+    else:
+        changed, times = re.subn(pattern, change, text[name], count=1, flags=re.M)
+    return {**text, name: changed} if times else None
+
+
+def unfound(scenarios):
+    """The sections whose wrong books no scenario finds, with how many it was tried in."""
+    for section in WRONG:
+        tried = found = 0
+        for scenario in scenarios:
+            if tried == 3 or scenario.report is None or scenario.how in PARTIAL:
+                continue
+            texts = wrong(scenario.books, section)
+            if texts is None:
+                continue
+            right = scenario.differences()[0]
+            tried += 1
+            found += any(item[0] == section and item not in right for item in scenario.differences(texts)[0])
+        yield section, tried, found
+
+
+# ---- the table
+
+def main(auditor, folder):
+    folder = pathlib.Path(folder)
+    reasons, table, failed, used = explained(), defaultdict(Counter), False, set()
+    scenarios = [Scenario(auditor, path) for path in sorted(folder.iterdir()) if (path / "capture-1.cap").exists()]
+    if not scenarios:
+        sys.exit(f"compare.py: {folder} has no capture")
+    for scenario in scenarios:
+        found, seen = scenario.differences()
+        verdicts = {section: "agree" for section in seen}
+        for difference in found:
+            row = row_of(scenario.name, difference)
+            if row in reasons:
+                used.add(row)
+                verdicts[difference[0]] = max(verdicts.get(difference[0], "agree"), "explained")
+                continue
+            verdicts[difference[0]] = "unexplained"
+            print("not explained:", *row)
+            failed = True
+        for section, verdict in verdicts.items():
+            table[section][verdict] += 1
+    kernel = (folder / "kernel").read_text().strip() if (folder / "kernel").exists() else "stored"
+    print(f"kernel {kernel}, {len(scenarios)} captures")
+    print(f"{'section':20}{'agree':>8}{'explained':>11}{'not':>6}{'wrong books found':>20}")
+    changes = {section: f"{found} of {tried}" for section, tried, found in unfound(scenarios)}
+    for section in sorted(set(table) | set(changes)):
+        counts = table[section]
+        print(f"{section:20}{counts['agree']:8}{counts['explained']:11}{counts['unexplained']:6}{changes.get(section, '-'):>20}")
+        if section in changes:
+            found, tried = changes[section].split(" of ")
+            if found != tried or found == "0":
+                print("wrong books were not found:", section)
+                failed = True
+    sys.exit(1 if failed else 0)
+
+
+if __name__ == "__main__":
+    main(*sys.argv[1:])

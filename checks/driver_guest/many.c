@@ -1,3 +1,77 @@
+/* The load: many calls and oneway sends by several threads. */
+#include <pthread.h>
+#include <stdlib.h>
+#include <unistd.h>
+#include "service.h"
 #include "scenarios.h"
 
-const struct scenario many_scenarios[] = {{0}};
+static uint32_t service_handle;
+
+/* Of four transactions one is a oneway send; every other call has an object. */
+static void *work_in_thread(void *opening)
+{
+	struct exchange *exchange = malloc(sizeof *exchange);
+	if (!exchange) fail("malloc");
+	begin(exchange, opening);
+	for (int i = 0; i < scale; i++) {
+		struct parcel parcel = {0};
+		long answer;
+		parcel.size = 64 + i % 64 * 4;
+		if (i % 8 == 1) put_flat(&parcel, BINDER_TYPE_HANDLE, service_handle, 0, 0);
+		do {
+			answer = send_parcel(exchange, service_handle, ECHO, i % 4 == 3 ? TF_ONE_WAY : 0, &parcel, NULL);
+		} while (answer == BR_FAILED_REPLY && usleep(1000) == 0);	/* no room for oneway sends */
+		if (answer != BR_REPLY && answer != BR_TRANSACTION_COMPLETE) fail("load: call");
+	}
+	turn(exchange, false);
+	return NULL;
+}
+
+static void working_client(int threads)
+{
+	struct exchange exchange;
+	struct opening opening = open_device("binder");
+	pthread_t thread[8];
+	opening.serve = serve;
+	begin(&exchange, &opening);
+	service_handle = look_up(&exchange);
+	for (int i = 0; i < threads; i++)
+		if (pthread_create(&thread[i], NULL, work_in_thread, &opening)) fail("pthread_create");
+	for (int i = 0; i < threads; i++) pthread_join(thread[i], NULL);
+	let_go(&exchange, service_handle);
+	ready_to_rest(&exchange);
+}
+
+static void four_threads(void) { working_client(4); }
+static void one_thread(void) { working_client(1); }
+
+static void serving_pool(void)
+{
+	start("manager", manager);
+	wait_until(&shared->ready, 1);
+	start("service", service);
+	wait_until(&shared->ready, 2);
+}
+
+/* However long it takes: a load is no scenario that hangs. */
+static void wait_for_rest(int clients)
+{
+	while (shared->resting < clients) usleep(10000);
+}
+
+static void load(void)
+{
+	serving_pool();
+	start("client", four_threads);
+	start("client", four_threads);
+	wait_for_rest(2);
+}
+
+static void load_of_one(void)
+{
+	serving_pool();
+	start("client", one_thread);
+	wait_for_rest(1);
+}
+
+const struct scenario many_scenarios[] = {{"load", load}, {"load-of-one", load_of_one}, {0}};

@@ -8,6 +8,7 @@
 #include <sys/prctl.h>
 #include <sys/syscall.h>
 #include <sys/wait.h>
+#include <time.h>
 #include <unistd.h>
 #include "raw.h"
 
@@ -20,6 +21,7 @@ pid_t start(const char *name, void (*process)(void))
 	if (started < 0) fail("fork");
 	if (!started) {
 		prctl(PR_SET_NAME, name);
+		prctl(PR_SET_PDEATHSIG, SIGKILL);
 		alarm(300);
 		process();
 		_exit(0);
@@ -30,8 +32,9 @@ pid_t start(const char *name, void (*process)(void))
 
 void wait_until(_Atomic int *counter, int least)
 {
-	for (int tries = 0; *counter < least; tries++) {
-		if (tries > 60000) fail("a process of the scenario did not come so far");
+	time_t began = time(NULL);
+	while (*counter < least) {
+		if (time(NULL) > began + 20) fail("a process of the scenario did not come so far");
 		usleep(1000);
 	}
 }
@@ -53,6 +56,21 @@ void in_directory(const char *name)
 	directory = name;
 }
 
+/* When the books were saved, and where the devices are mapped. */
+static void write_moment(const char *suffix)
+{
+	char path[300];
+	struct timespec now;
+	snprintf(path, sizeof path, "%s/moment%s", directory, suffix);
+	FILE *file = fopen(path, "w");
+	if (!file) fail(path);
+	clock_gettime(CLOCK_MONOTONIC, &now);
+	fprintf(file, "%lld\n", now.tv_sec * 1000000000LL + now.tv_nsec);
+	for (int i = 0; i < shared->mappings && i < 1024; i++)
+		fprintf(file, "%d %s %#lx\n", shared->mapping[i].process, shared->mapping[i].device, shared->mapping[i].address);
+	if (fclose(file)) fail(path);
+}
+
 void dump_books(const char *suffix)
 {
 	static const char *const books[] = {"state", "stats", "transactions", "failed_transaction_log"};
@@ -62,6 +80,7 @@ void dump_books(const char *suffix)
 		snprintf(to, sizeof to, "%s/%s%s", directory, books[i], suffix);
 		copy_file(from, to);
 	}
+	write_moment(suffix);
 }
 
 /* Interrupts each thread that waits in the driver: it then has no call under way, and makes no other. */

@@ -27,6 +27,10 @@ struct opening open_device(const char *name)
 	if (opening.descriptor < 0) fail(path);
 	opening.mapping = mmap(NULL, MAPPING_SIZE, PROT_READ, MAP_PRIVATE | MAP_NORESERVE, opening.descriptor, 0);
 	if (opening.mapping == MAP_FAILED) fail("mmap");
+	int here = shared->mappings++ % 1024;
+	shared->mapping[here].process = getpid();
+	shared->mapping[here].address = (uint64_t)opening.mapping;
+	snprintf(shared->mapping[here].device, sizeof shared->mapping[here].device, "%s", name);
 	return opening;
 }
 

@@ -35,8 +35,10 @@ struct shared {
 	_Atomic int ending;	/* a call that a signal interrupts is not made again: its thread does nothing more */
 	_Atomic int processes;
 	pid_t process[256];
-	_Atomic uint32_t handle;
+	_Atomic int mappings;
+	struct { pid_t process; uint64_t address; char device[16]; } mapping[1024];
 };
+#define SHARED_SIZE (1 << 16)
 extern struct shared *shared;
 
 void fail(const char *what) __attribute__((noreturn));

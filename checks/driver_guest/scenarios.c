@@ -34,8 +34,13 @@ int main(int count, char **words)
 		fprintf(stderr, "usage: scenarios NAME DIRECTORY [NUMBER]\n");
 		return 64;
 	}
+	if (!strcmp(words[1], "once")) {	/* a call by a program that another one started; there are no books of it alone */
+		shared = mmap(NULL, SHARED_SIZE, PROT_READ | PROT_WRITE, MAP_SHARED | MAP_ANONYMOUS, -1, 0);
+		scenario->run();
+		return 0;
+	}
 	scale = count > 3 ? atoi(words[3]) : 0;
-	shared = mmap(NULL, 4096, PROT_READ | PROT_WRITE, MAP_SHARED | MAP_ANONYMOUS, -1, 0);
+	shared = mmap(NULL, SHARED_SIZE, PROT_READ | PROT_WRITE, MAP_SHARED | MAP_ANONYMOUS, -1, 0);
 	if (shared == MAP_FAILED) fail("mmap");
 	sigaction(SIGUSR1, &interrupted, NULL);
 	in_directory(words[2]);

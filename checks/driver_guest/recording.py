@@ -1,0 +1,112 @@
+"""What a recording left: the frames of a capture, the names of its side list, the report on it."""
+
+import pathlib
+import re
+import struct
+import subprocess
+from collections import Counter, defaultdict
+from typing import NamedTuple
+
+HEADER = struct.Struct("<QIIIIII")
+
+
+class Frame(NamedTuple):
+    sequence: int
+    device: int
+    process: int
+    thread: int
+    direction: int
+    commands: bytes
+    attached: bytes
+
+
+def frames_of(data):
+    at = 0
+    while len(data) - at >= HEADER.size:
+        sequence, process, thread, direction, size, more, device = HEADER.unpack_from(data, at)
+        at += HEADER.size
+        yield Frame(sequence, device, process, thread, direction, data[at:at + size], data[at + size:at + size + more])
+        at += size + more
+
+
+def records_of(commands):
+    """Of each record its code word and its payload."""
+    at = 0
+    while at < len(commands):
+        word, = struct.unpack_from("<I", commands, at)
+        end = at + 4 + (word >> 16 & 0x3fff)
+        yield word, commands[at + 4:end]
+        at = end
+
+
+class Recording:
+    """The captures and the side list that a recorder left in a folder."""
+
+    def __init__(self, folder):
+        folder = pathlib.Path(folder)
+        self.captures = sorted(folder.glob("capture-*.cap"), key=lambda path: int(path.stem.split("-")[1]))
+        self.frames = [frame for path in self.captures for frame in frames_of(path.read_bytes()[16:])]
+        self.side = (folder / "capture.side").read_text() if (folder / "capture.side").exists() else ""
+        self.devices = {int(a): b for a, b in re.findall(r"^\d+ device (\d+) .*name=(\S+)", self.side, re.M)}
+        self.lost = [(int(n), why) for n, why in re.findall(r"^\d+ lost (\d+) .*why=(\S+)", self.side, re.M)]
+        self.names, self.pids, self.tids = {}, {}, {}
+        for device, number, pid, name in re.findall(
+                r"^\d+ process (\d+) (\d+) pid=(\d+) .*name=(.*)$", self.side, re.M):
+            self.names[int(device), int(number)] = name
+            self.pids[int(device), int(number)] = int(pid)
+        for device, number, thread, tid in re.findall(
+                r"^\d+ thread (\d+) (\d+) (\d+) pid=\d+ tid=(\d+)", self.side, re.M):
+            self.tids[int(device), int(number), int(thread)] = int(tid)
+
+    def open_at(self, moment):
+        """The openings that were not closed by then, by device and process id, the latest first."""
+        numbers, ends = defaultdict(list), {}
+        for time, device, number in re.findall(r"^(\d+) end opening (\d+) (\d+) after", self.side, re.M):
+            ends[int(device), int(number)] = int(time)
+        for key, pid in self.pids.items():
+            if ends.get(key, moment) >= moment:
+                numbers[self.devices[key[0]], pid].insert(0, key)
+        return numbers
+
+    def records(self):
+        """Of each record its place in the joined capture, its offset in its frame, the frame, its code word, its payload."""
+        place = 16
+        for frame in self.frames:
+            offset = 0
+            for word, payload in records_of(frame.commands):
+                yield place + HEADER.size + offset, offset, frame, word, payload
+                offset += 4 + len(payload)
+            place += HEADER.size + len(frame.commands) + len(frame.attached)
+
+    def record_counts(self):
+        """The code words of each device and process, counted."""
+        counts = defaultdict(Counter)
+        for frame in self.frames:
+            for word, _ in records_of(frame.commands):
+                counts[frame.device, frame.process][word] += 1
+        return counts
+
+
+class Report:
+    """A report by its sections: of each the numbers of its head by name, and its rows."""
+
+    def __init__(self, text):
+        self.heads, self.rows, section = {}, defaultdict(list), None
+        for line in text.splitlines():
+            words = line.split()
+            if not line.startswith(" "):
+                section = words[0]
+                self.heads[section] = words
+            else:
+                self.rows[section].append(words)
+
+    def head(self, section, name):
+        words = self.heads[section]
+        if name == section:
+            return int(words[1])
+        return int(words[words.index(name, 1) + 1])
+
+
+def report_on(auditor, captures):
+    done = subprocess.run([auditor, "report", *map(str, captures)], capture_output=True, text=True)
+    return done.returncode, done.stdout + done.stderr
