@@ -45,9 +45,6 @@ impl Balance for NodeRow {
     ghost unbalanced = { is_unbalanced_node };
 
     fn is_unbalanced(&self) -> bool {
-        self.strong.sum != 0
-            || self.weak.sum != 0
-            || self.strong_due != 0
-            || self.weak_due != 0
+        self.strong.sum != 0 || self.weak.sum != 0 || self.strong_due != 0 || self.weak_due != 0
     }
 }

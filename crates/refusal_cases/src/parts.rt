@@ -57,7 +57,9 @@ fn parts_of<'c>(alloc: Global, input: &'c [u8]) -> Result<Vec<&'c [u8]>, NoAnswe
             rest = behind;
         }
     }
-    if !rest.is_empty() || parts.len() > MOST_PARTS || !are_within(parts.as_slice(), CAPTURE_LIMIT)
+    if !rest.is_empty()
+        || parts.len() > MOST_PARTS
+        || !are_within(parts.as_slice(), CAPTURE_LIMIT)
     {
         return Err(NoAnswer::Unfit);
     }
