@@ -95,11 +95,11 @@ class Failed(NamedTuple):
     process: int
     thread: int
     target: int
-    context: str
+    error: int
 
 
 def failed(text):
-    return [Failed(int(m[1]), m[2].strip(), int(m[3]), int(m[4]), int(m[5]), m[7]) for m in LOG.finditer(text)]
+    return [Failed(int(m[1]), m[2].strip(), int(m[3]), int(m[4]), int(m[5]), int(m[12])) for m in LOG.finditer(text)]
 
 
 NAMES = ("state", "stats", "stats.before", "failed_transaction_log", "failed_transaction_log.before", "moment")

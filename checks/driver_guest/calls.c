@@ -170,6 +170,7 @@ static void sends(void)
 static void late_reader(void)
 {
 	struct exchange exchange;
+	mapping_size = 1 << 16;
 	struct opening opening = registered(&exchange);
 	exchange.opening = &opening;
 	uint32_t on = 1;

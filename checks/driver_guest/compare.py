@@ -103,7 +103,7 @@ class Scenario:
         code, text = report_on(auditor, self.recording.captures)
         self.text = text
         self.report = Report(text) if code == 0 else None
-        self.books = books_of.texts(folder)
+        self.books = books_of.texts(folder) if (folder / "state").exists() else None
 
     def differences(self, texts=None):
         """All that is not as it should be, and the sections that were looked at."""
@@ -114,11 +114,13 @@ class Scenario:
             if not self.recording.frames:
                 found.append(("capture", "all", "frames", 0, 1))
             return found, {"capture", "lost"}
+        if self.books is None:
+            return [("status", "all", "no books", self.status, 0)], {"status"}
         sides = both(self.recording, self.report, books_of.Books(texts or self.books))
         found = list(sides.differences())
         found += purpose_differences(self.name, self.report)
         found += lost_differences(self.recording)
-        seen = sides.seen | {"purpose", "lost", "capture"}
+        seen = sides.seen | {"purpose", "lost", "capture", "status"}
         if self.how == "both":
             found += witness_differences(self.recording, self.folder)
             seen.add("witness")
@@ -166,7 +168,7 @@ def unfound(scenarios):
     for section in WRONG:
         tried = found = 0
         for scenario in scenarios:
-            if tried == 3 or scenario.report is None or scenario.how in PARTIAL:
+            if tried == 3 or not scenario.report or not scenario.books or scenario.how in PARTIAL:
                 continue
             texts = wrong(scenario.books, section)
             if texts is None:

@@ -44,6 +44,7 @@ static void object_client(void)
 	int descriptors[2] = {open("/proc/version", O_RDONLY), open("/proc/uptime", O_RDONLY)};
 	begin(&exchange, &opening);
 	uint32_t handle = look_up(&exchange);
+	number_command(&exchange, BC_ACQUIRE, MANAGER);
 	put_bytes(&parcel, "odd", 3);
 	put_flat(&parcel, BINDER_TYPE_BINDER, 0x7000, 0x7001, 0);
 	put_flat(&parcel, BINDER_TYPE_WEAK_BINDER, 0x7010, 0x7011, 0);

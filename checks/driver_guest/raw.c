@@ -11,6 +11,7 @@
 #include "raw.h"
 
 struct shared *shared;
+size_t mapping_size = 1 << 20;
 
 void fail(const char *what)
 {
@@ -25,7 +26,7 @@ struct opening open_device(const char *name)
 	snprintf(path, sizeof path, "/dev/%s", name);
 	opening.descriptor = open(path, O_RDWR | O_CLOEXEC);
 	if (opening.descriptor < 0) fail(path);
-	opening.mapping = mmap(NULL, MAPPING_SIZE, PROT_READ, MAP_PRIVATE | MAP_NORESERVE, opening.descriptor, 0);
+	opening.mapping = mmap(NULL, mapping_size, PROT_READ, MAP_PRIVATE | MAP_NORESERVE, opening.descriptor, 0);
 	if (opening.mapping == MAP_FAILED) fail("mmap");
 	int here = shared->mappings++ % 1024;
 	shared->mapping[here].process = getpid();
@@ -36,7 +37,7 @@ struct opening open_device(const char *name)
 
 void close_device(struct opening *opening)
 {
-	munmap(opening->mapping, MAPPING_SIZE);
+	munmap(opening->mapping, mapping_size);
 	close(opening->descriptor);
 }
 

@@ -7,7 +7,7 @@
 #include <sys/types.h>
 #include <linux/android/binder.h>
 
-#define MAPPING_SIZE (1 << 20)
+extern size_t mapping_size;	/* the room for what an opening gets */
 
 struct exchange;
 typedef struct binder_transaction_data transaction;

@@ -6,6 +6,7 @@ from collections import Counter, defaultdict
 
 JOINED = {"BR_TRANSACTION_SEC_CTX": "BR_TRANSACTION"}	# one number in the driver's counts
 UNCOUNTED = {"BR_NOOP"}		# the driver does not count it
+FAILED_REPLY = 0x7211	# of a sent reply without a target: there was no call; a caller that had ended is BR_DEAD_REPLY
 
 
 class Sides:
@@ -187,7 +188,7 @@ def refused(sides, recording, report, books, pairs):
         thread = recording.tids[int(row[1]), int(row[2]), int(row[3])]
         sides.report("refused", "all", thread, sides.values["refused", "all", thread][0] + 1)
     for entry in books.failed:
-        if entry.kind == "async" or entry.kind == "reply" and not entry.target:
+        if entry.kind == "async" or entry.kind == "reply" and not entry.target and entry.error == FAILED_REPLY:
             sides.books("refused", "all", entry.thread, sides.values["refused", "all", entry.thread][1] + 1)
     sides.seen.add("refused")
 

@@ -1,0 +1,35 @@
+#!/usr/bin/env python3
+"""store.py AUDITOR FROM TO: keeps the small scenarios of a guest, with their books and the report on each."""
+
+import pathlib
+import shutil
+import sys
+
+import books
+from recording import Recording, report_on
+
+LARGEST = 60_000	# bytes of a capture with its side list
+
+
+def main(auditor, source, to):
+    to = pathlib.Path(to)
+    for folder in sorted(pathlib.Path(source).iterdir()):
+        captures = Recording(folder).captures if folder.is_dir() else []
+        files = [*captures, folder / "capture.side"]
+        if len(captures) != 1 or sum(path.stat().st_size for path in files) > LARGEST:
+            continue
+        if (folder / "status").read_text().split()[1] not in ("both", "record"):
+            continue
+        status, text = report_on(auditor, captures)
+        if status:
+            sys.exit(f"store.py: {folder}: {text}")
+        kept = to / folder.name
+        shutil.rmtree(kept, ignore_errors=True)
+        kept.mkdir(parents=True)
+        for path in (*files, *(folder / name for name in books.NAMES)):
+            shutil.copyfile(path, kept / path.name)
+        (kept / "report.txt").write_text(text)
+
+
+if __name__ == "__main__":
+    main(*sys.argv[1:])
