@@ -161,15 +161,16 @@ static void add_count(char *text, size_t room, const char *what, u64 count)
 /* The last line: what came about, and the command that comes next. */
 static void tell_end(const char *audit)
 {
-	char text[1000], commands[700];
+	static char commands[65536];
+	char text[1000];
 	snprintf(text, sizeof text, "%llu frames, %llu lost", (unsigned long long)parts_frames(), (unsigned long long)window_lost());
 	add_reasons(text, sizeof text);
 	add_count(text, sizeof text, "calls without a number", kernel_calls_without_number());
 	add_count(text, sizeof text, "events missed", kernel_runs_missed());
 	add_count(text, sizeof text, "calls of 32-bit programs, not recorded", kernel_calls_32_bit());
 	parts_commands(audit, commands, sizeof commands);
-	complain("%s; %u file%s, %llu bytes; next: %s", text, parts_count(), parts_count() == 1 ? "" : "s",
-		 (unsigned long long)parts_bytes(), commands);
+	fprintf(stderr, "record: %s; %u file%s, %llu bytes; next: %s\n", text, parts_count(), parts_count() == 1 ? "" : "s",
+		(unsigned long long)parts_bytes(), commands);
 }
 
 /* The auditor stands beside the script that was called. */

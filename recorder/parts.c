@@ -1,3 +1,4 @@
+#define _GNU_SOURCE
 #include "parts.h"
 #include "file.h"
 #include "side.h"
@@ -15,6 +16,7 @@ static int first_error;
 static u64 frames_added, last_added, frames_whole, last_whole;
 
 #define FLUSH_BYTES 65536u
+#define LONGEST_PATH 4096u
 
 /* Whether the path is the prefix, a dash, digits and .cap. */
 static int is_part(const char *path)
@@ -183,13 +185,34 @@ u32 parts_count(void)
 	return count;
 }
 
+/* The word as a shell takes it. */
+static void quote(char *to, u64 room, const char *word)
+{
+	static const char plain[] = "ABCDEFGHIJKLMNOPQRSTUVWXYZabcdefghijklmnopqrstuvwxyz0123456789_./,:+@%-";
+	const char *end = to + room - 6;	/* room for one more quote in the word, and the last ones */
+	if (!word[strspn(word, plain)]) {
+		snprintf(to, room, "%s", word);
+		return;
+	}
+	*to++ = '\'';
+	for (; *word && to < end; word++) {
+		if (*word == '\'')
+			to = stpcpy(to, "'\\'");
+		*to++ = *word;
+	}
+	strcpy(to, "'");
+}
+
 static u64 add_command(char *text, u64 room, const char *audit, u32 first, u32 last)
 {
+	static char program[4 * LONGEST_PATH], out[4 * LONGEST_PATH];
 	int length;
+	quote(program, sizeof program, audit);
+	quote(out, sizeof out, prefix);
 	if (first == last)
-		length = snprintf(text, room, "%s report %s-%u.cap", audit, prefix, first);
+		length = snprintf(text, room, "%s report %s-%u.cap", program, out, first);
 	else
-		length = snprintf(text, room, "%s report %s-{%u..%u}.cap", audit, prefix, first, last);
+		length = snprintf(text, room, "%s report %s-{%u..%u}.cap", program, out, first, last);
 	return (u64)length < room ? (u64)length : room - 1;
 }
 
@@ -200,12 +223,12 @@ void parts_commands(const char *audit, char *text, u64 room)
 		u64 together = sizes[first];
 		for (last = first + 1; last < count && last - first < MOST_FILES_TOGETHER && together + sizes[last] <= MOST_TOGETHER; last++)
 			together += sizes[last];
-		if (first)
-			used += (u64)snprintf(text + used, room - used, "; then ");
-		used += add_command(text + used, room - used, audit, first + 1, last);
-		if (room - used < 512) {
+		if (first && room - used < room / 4) {
 			snprintf(text + used, room - used, "; and so on");
 			return;
 		}
+		if (first)
+			used += (u64)snprintf(text + used, room - used, "; then ");
+		used += add_command(text + used, room - used, audit, first + 1, last);
 	}
 }
