@@ -27,15 +27,20 @@ void file_add(struct file *file, const void *bytes, u64 count)
 	file->bytes += count;
 }
 
+void file_drop(struct file *file, int error)
+{
+	file->error = error;
+	file->bytes = file->whole;
+	file->waiting_bytes = 0;
+}
+
 /* After a write that failed the file ends where the last flush ended: so no frame in it is cut. */
 static int cut_off(struct file *file, int error)
 {
-	file->error = error;
+	file_drop(file, error);
 	if (ftruncate(file->descriptor, (off_t)file->whole))
 		file->error = errno;
-	file->bytes = file->whole;
-	file->waiting_bytes = 0;
-	return error;
+	return file->error;
 }
 
 int file_flush(struct file *file)

@@ -17,7 +17,9 @@ int file_create(struct file *file, const char *path);
 void file_add(struct file *file, const void *bytes, u64 count);
 /* Hands to the system all that was added. Gives 0 or an errno. What could not be written whole is cut off again. */
 int file_flush(struct file *file);
-/* The same, and closes it. */
+/* Forgets what was not handed over. Nothing more is written. */
+void file_drop(struct file *file, int error);
+/* Flushes and closes it. */
 int file_close(struct file *file);
 /* Closes and removes it. */
 void file_remove(struct file *file);

@@ -201,7 +201,8 @@ enum reason frame_write(struct frame *frame, u64 consumed)
 		attached = 0;
 	if (!parts_have_room(FRAME_HEAD + consumed))
 		return REASON_FILE_TOO_SMALL;
-	parts_next_frame(frame->time, FRAME_HEAD + consumed + attached);
+	if (parts_next_frame(frame->number, frame->time, FRAME_HEAD + consumed + attached))
+		return REASON_NOT_WRITTEN;
 	write_head(frame, consumed, attached);
 	if (attached)
 		write_entries(frame, consumed);

@@ -23,7 +23,6 @@
 #define LAST_WAIT (1000u * MILLISECOND)		/* for writes that the driver is not through with */
 
 static volatile sig_atomic_t signal_got;
-static u64 flushed_frames, flushed_lost, flushed_last;	/* as of the last flush that went well */
 
 static void on_signal(int number)
 {
@@ -32,11 +31,11 @@ static void on_signal(int number)
 
 static void catch_signals(void)
 {
-	static const int numbers[] = { SIGINT, SIGTERM, SIGHUP };
 	struct sigaction action = { .sa_handler = on_signal }, before;
-	for (size_t i = 0; i < sizeof numbers / sizeof *numbers; i++)
-		if (!sigaction(numbers[i], NULL, &before) && before.sa_handler != SIG_IGN)
-			sigaction(numbers[i], &action, NULL);
+	sigaction(SIGINT, &action, NULL);
+	sigaction(SIGTERM, &action, NULL);
+	if (!sigaction(SIGHUP, NULL, &before) && before.sa_handler != SIG_IGN)	/* as under nohup */
+		sigaction(SIGHUP, &action, NULL);
 	signal(SIGPIPE, SIG_IGN);
 }
 
@@ -46,15 +45,14 @@ static void pause_for(u64 nanoseconds)
 	nanosleep(&time, NULL);
 }
 
-static void write_head(void)
+/* The line of the side list that says that the recording has begun. */
+static void tell_begin(void)
 {
 	struct utsname name;
 	struct timespec wall;
 	uname(&name);
 	clock_gettime(CLOCK_REALTIME, &wall);
-	side_text("binder side list 1\n");
 	side_line(now(), "begin realtime=%lld%09ld kernel=%s machine=%s", (long long)wall.tv_sec, wall.tv_nsec, name.release, name.machine);
-	side_line(now(), "file 1");
 }
 
 /* Makes the files, or ends: then neither is left. */
@@ -63,7 +61,8 @@ static void create_files(const struct options *options)
 	int error = side_create(options->out);
 	if (error)
 		fail("%s.side: %s", options->out, strerror(error));
-	write_head();
+	side_text("binder side list 1\n");
+	side_line(now(), "file 1");
 	error = side_flush();
 	if (error) {
 		side_remove();
@@ -75,18 +74,6 @@ static void create_files(const struct options *options)
 		parts_remove();
 		fail("%s-1.cap: %s", options->out, strerror(error));
 	}
-}
-
-/* Gives 0, or an errno. The side list goes first: so each frame of a capture has its lines. */
-static int flush(void)
-{
-	int error = side_flush(), other = parts_flush();
-	if (error || other)
-		return error ? error : other;
-	flushed_frames = window_frames();
-	flushed_lost = window_lost();
-	flushed_last = window_last();
-	return 0;
 }
 
 /* Takes what is in the ring. Gives how many messages that were. */
@@ -115,7 +102,7 @@ static int record(struct ring *ring)
 		long count = take(ring);
 		u64 time = now();
 		if (time - flushed >= FLUSH_EVERY) {
-			error = flush();
+			error = parts_flush();
 			flushed = time;
 		}
 		if (is_terminal && time - told >= TELL_EVERY) {
@@ -174,15 +161,16 @@ static void add_count(char *text, size_t room, const char *what, u64 count)
 /* The last line: what came about, and the command that comes next. */
 static void tell_end(const char *audit)
 {
-	char text[1000], commands[700];
-	snprintf(text, sizeof text, "%llu frames, %llu lost", (unsigned long long)flushed_frames, (unsigned long long)flushed_lost);
+	static char commands[65536];
+	char text[1000];
+	snprintf(text, sizeof text, "%llu frames, %llu lost", (unsigned long long)parts_frames(), (unsigned long long)window_lost());
 	add_reasons(text, sizeof text);
 	add_count(text, sizeof text, "calls without a number", kernel_calls_without_number());
 	add_count(text, sizeof text, "events missed", kernel_runs_missed());
 	add_count(text, sizeof text, "calls of 32-bit programs, not recorded", kernel_calls_32_bit());
 	parts_commands(audit, commands, sizeof commands);
-	complain("%s; %u file%s, %llu bytes; next: %s", text, parts_count(), parts_count() == 1 ? "" : "s",
-		 (unsigned long long)parts_bytes(), commands);
+	fprintf(stderr, "record: %s; %u file%s, %llu bytes; next: %s\n", text, parts_count(), parts_count() == 1 ? "" : "s",
+		(unsigned long long)parts_bytes(), commands);
 }
 
 /* The auditor stands beside the script that was called. */
@@ -217,20 +205,24 @@ int main(int count, char **words)
 	need_capabilities();
 	need_kernel();
 	need_driver();
+	catch_signals();
 	kernel_load(&options, &ring);
+	if (signal_got)
+		fail("a signal came before the recording began");
 	create_files(&options);
 	kernel_meet_openings();
-	catch_signals();
 	if (options.program)
 		program_prepare(options.program);
 	kernel_start();
+	tell_begin();
+	side_flush();
 	program_go();
 	int error = record(&ring);
 	finish(&ring);
-	int last_error = flush(), end_error = parts_end();
-	error = error ? error : last_error ? last_error : end_error;
+	int end_error = parts_end();
+	error = error ? error : end_error;
 	if (error)
-		complain("%s: %s; the recording ends after number %llu", parts_path(), strerror(error), (unsigned long long)flushed_last);
+		complain("%s: %s; the recording ends after number %llu", parts_path(), strerror(error), (unsigned long long)parts_last());
 	tell_end(audit_beside(words[0]));
 	int status = wait_for_program();
 	kernel_unload();

@@ -1,4 +1,5 @@
 #include "names.h"
+#include "devices.h"
 #include "side.h"
 #include "table.h"
 #include <stdio.h>
@@ -80,43 +81,16 @@ void names_thread(u32 thread, u32 id, u32 process, u64 start, const char *name)
 	memcpy(t->name, name, NAME_BYTES);
 }
 
-/* As the kernel keeps a device's number. */
-static u32 major_of(u32 device)
-{
-	return device >> 20;
-}
-
-static u32 minor_of(u32 device)
-{
-	return device & 0xfffff;
-}
-
-static void device_name(u32 device, char *name, size_t room)
-{
-	char path[80], line[128];
-	snprintf(path, sizeof path, "/sys/dev/char/%u:%u/uevent", major_of(device), minor_of(device));
-	snprintf(name, room, "?");
-	FILE *file = fopen(path, "r");
-	if (!file)
-		return;
-	while (fgets(line, sizeof line, file)) {
-		line[strcspn(line, "\n")] = 0;
-		if (!strncmp(line, "DEVNAME=", 8))
-			clean_name(name, line + 8, 100);
-	}
-	fclose(file);
-}
-
 static u32 device_number(u32 system_device, u64 time)
 {
 	for (u32 i = 0; i < device_count; i++)
 		if (devices[i] == system_device)
 			return i;
 	char name[CLEAN_NAME_BYTES];
-	device_name(system_device, name, sizeof name);
+	device_name(system_device, name);
 	devices = resize(devices, (device_count + 1) * sizeof *devices);
 	devices[device_count] = system_device;
-	side_line(time, "device %u major=%u minor=%u name=%s", device_count, major_of(system_device), minor_of(system_device), name);
+	side_line(time, "device %u major=%u minor=%u name=%s", device_count, device_major(system_device), device_minor(system_device), name);
 	return device_count++;
 }
 

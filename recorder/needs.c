@@ -1,10 +1,8 @@
 #include "needs.h"
+#include "devices.h"
 #include <linux/capability.h>
 #include <stdio.h>
-#include <string.h>
-#include <sys/stat.h>
 #include <sys/syscall.h>
-#include <sys/sysmacros.h>
 #include <sys/utsname.h>
 #include <unistd.h>
 
@@ -54,13 +52,8 @@ void need_process(u32 process)
 
 u32 need_device(const char *name)
 {
-	static const char *const folders[] = { "", "/dev/", "/dev/binderfs/" };
-	for (size_t i = 0; i < sizeof folders / sizeof *folders; i++) {
-		char path[4096];
-		struct stat status;
-		snprintf(path, sizeof path, "%s%s", folders[i], name);
-		if (path[0] == '/' && !stat(path, &status) && S_ISCHR(status.st_mode))
-			return major(status.st_rdev) << 20 | minor(status.st_rdev);
-	}
-	fail("--device %s: there is no such device", name);
+	u32 device = device_by_name(name);
+	if (!device)
+		fail("--device %s: there is no such device", name);
+	return device;
 }

@@ -1,3 +1,4 @@
+#define _GNU_SOURCE
 #include "parts.h"
 #include "file.h"
 #include "side.h"
@@ -12,6 +13,10 @@ static u64 most_bytes, bytes_before;
 static u64 *sizes;		/* of the files that are closed, and of the open one at the end */
 static u32 count;
 static int first_error;
+static u64 frames_added, last_added, frames_whole, last_whole;
+
+#define FLUSH_BYTES 65536u
+#define LONGEST_PATH 4096u
 
 /* Whether the path is the prefix, a dash, digits and .cap. */
 static int is_part(const char *path)
@@ -89,8 +94,30 @@ int parts_have_room(u64 bytes)
 	return bytes <= most_bytes - FILE_HEAD;
 }
 
+/* All frames before this one are in the files. */
+static void frames_are_whole(void)
+{
+	frames_whole = frames_added;
+	last_whole = last_added;
+}
+
+int parts_flush(void)
+{
+	if (first_error)
+		return first_error;
+	first_error = side_flush();
+	if (first_error)
+		file_drop(&part, first_error);
+	else
+		first_error = file_flush(&part);
+	if (!first_error)
+		frames_are_whole();
+	return first_error;
+}
+
 static void close_part(void)
 {
+	parts_flush();
 	int error = file_close(&part);
 	sizes[count - 1] = part.bytes;
 	bytes_before += part.bytes;
@@ -98,16 +125,26 @@ static void close_part(void)
 		first_error = error;
 }
 
-void parts_next_frame(u64 time, u64 bytes)
+static void begin_next(u64 time)
 {
-	if (first_error || part.bytes + bytes <= most_bytes)
-		return;
 	close_part();
-	if (first_error)
-		return;
-	first_error = create_next();
+	if (!first_error)
+		first_error = create_next();
 	if (!first_error)
 		side_line(time, "file %u", count);
+}
+
+int parts_next_frame(u64 number, u64 time, u64 bytes)
+{
+	if (part.bytes + bytes > most_bytes && !first_error)
+		begin_next(time);
+	else if (part.waiting_bytes >= FLUSH_BYTES)
+		parts_flush();
+	if (first_error)
+		return first_error;
+	frames_added++;
+	last_added = number;
+	return 0;
 }
 
 void parts_add(const void *bytes, u64 number)
@@ -116,19 +153,21 @@ void parts_add(const void *bytes, u64 number)
 		file_add(&part, bytes, number);
 }
 
-int parts_flush(void)
-{
-	int error = first_error ? 0 : file_flush(&part);
-	if (error)
-		first_error = error;
-	return first_error;
-}
-
 int parts_end(void)
 {
 	if (part.descriptor >= 0)
 		close_part();
 	return first_error;
+}
+
+u64 parts_frames(void)
+{
+	return frames_whole;
+}
+
+u64 parts_last(void)
+{
+	return last_whole;
 }
 
 const char *parts_path(void)
@@ -146,13 +185,34 @@ u32 parts_count(void)
 	return count;
 }
 
+/* The word as a shell takes it. */
+static void quote(char *to, u64 room, const char *word)
+{
+	static const char plain[] = "ABCDEFGHIJKLMNOPQRSTUVWXYZabcdefghijklmnopqrstuvwxyz0123456789_./,:+@%-";
+	const char *end = to + room - 6;	/* room for one more quote in the word, and the last ones */
+	if (!word[strspn(word, plain)]) {
+		snprintf(to, room, "%s", word);
+		return;
+	}
+	*to++ = '\'';
+	for (; *word && to < end; word++) {
+		if (*word == '\'')
+			to = stpcpy(to, "'\\'");
+		*to++ = *word;
+	}
+	strcpy(to, "'");
+}
+
 static u64 add_command(char *text, u64 room, const char *audit, u32 first, u32 last)
 {
+	static char program[4 * LONGEST_PATH], out[4 * LONGEST_PATH];
 	int length;
+	quote(program, sizeof program, audit);
+	quote(out, sizeof out, prefix);
 	if (first == last)
-		length = snprintf(text, room, "%s report %s-%u.cap", audit, prefix, first);
+		length = snprintf(text, room, "%s report %s-%u.cap", program, out, first);
 	else
-		length = snprintf(text, room, "%s report %s-{%u..%u}.cap", audit, prefix, first, last);
+		length = snprintf(text, room, "%s report %s-{%u..%u}.cap", program, out, first, last);
 	return (u64)length < room ? (u64)length : room - 1;
 }
 
@@ -163,12 +223,12 @@ void parts_commands(const char *audit, char *text, u64 room)
 		u64 together = sizes[first];
 		for (last = first + 1; last < count && last - first < MOST_FILES_TOGETHER && together + sizes[last] <= MOST_TOGETHER; last++)
 			together += sizes[last];
-		if (first)
-			used += (u64)snprintf(text + used, room - used, "; then ");
-		used += add_command(text + used, room - used, audit, first + 1, last);
-		if (room - used < 512) {
+		if (first && room - used < room / 4) {
 			snprintf(text + used, room - used, "; and so on");
 			return;
 		}
+		if (first)
+			used += (u64)snprintf(text + used, room - used, "; then ");
+		used += add_command(text + used, room - used, audit, first + 1, last);
 	}
 }

@@ -14,14 +14,19 @@ int parts_begin(const char *out, u64 most_bytes);
 void parts_remove(void);
 /* Whether a file of the largest size takes a frame of so many bytes. */
 int parts_have_room(u64 bytes);
-/* Makes room for a frame of so many bytes, in a next file where this one is full. */
-void parts_next_frame(u64 time, u64 bytes);
+/* Makes room for a frame of so many bytes, in a next file where this one is full. Gives 0, or the errno of the first
+ * failure: then the frame is not written. */
+int parts_next_frame(u64 number, u64 time, u64 bytes);
 void parts_add(const void *bytes, u64 count);
-/* Hands to the system what was added. Gives 0, or the errno of the first failure. */
+/* Hands to the system what was added, the side list first: so each frame of the capture has its lines there. Gives 0, or
+ * the errno of the first failure of one of the two; after that nothing more is written. */
 int parts_flush(void);
 int parts_end(void);
-/* The path of the file that failed, or of the last one. */
+/* The path of the capture that failed, or of the last one. */
 const char *parts_path(void);
+/* How many frames are in the files for sure, and the number of the last one. */
+u64 parts_frames(void);
+u64 parts_last(void);
 u64 parts_bytes(void);
 u32 parts_count(void);
 /* Writes into `text` which files are audited together, as commands. */

@@ -69,14 +69,18 @@ static __noinline int add_opening(struct task_struct *task, struct file *file)
 
 static __noinline int add_thread(struct task_struct *task, u32 id, u32 process)
 {
-	struct thread t = {};
+	struct scratch *s = scratch();
 	u32 one = 1;
-	t.id = __sync_fetch_and_add(&last_thread, 1) + 1;
-	t.process = process;
-	t.start = BPF_CORE_READ(task, start_boottime);
-	bpf_get_current_comm(t.name, sizeof t.name);
+	if (!s)
+		return 1;
+	struct thread *t = &s->new_thread;	/* all that is not set here is 0, or set before it is read */
+	t->id = __sync_fetch_and_add(&last_thread, 1) + 1;
+	t->process = process;
+	t->start = BPF_CORE_READ(task, start_boottime);
+	__builtin_memset(t->name, 0, sizeof t->name);
+	bpf_get_current_comm(t->name, sizeof t->name);
 	bpf_map_update_elem(&processes, &process, &one, BPF_ANY);
-	return bpf_map_update_elem(&threads, &id, &t, BPF_NOEXIST);
+	return bpf_map_update_elem(&threads, &id, t, BPF_NOEXIST);
 }
 
 /* Tells of the opening and of the thread, where that is still to be done. Gives 0 where both are told. */

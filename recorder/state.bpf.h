@@ -4,7 +4,7 @@
 #include "kernel.bpf.h"
 #include "messages.h"
 
-#define MOST_LATE 4u
+#define MOST_LATE 16u
 
 struct opening {
 	u32 id;
@@ -65,6 +65,7 @@ struct scratch {
 	struct piece piece;
 	u8 piece_bytes[2 * CHUNK];
 	struct event event;
+	struct thread new_thread;
 };
 
 struct { __uint(type, BPF_MAP_TYPE_RINGBUF); __uint(max_entries, 1 << 26); } ring SEC(".maps");

@@ -65,21 +65,28 @@ static void lose_slot(struct slot *slot, u32 reason)
 	slot->reason = reason < REASON_END ? reason : REASON_NONE;
 }
 
+/* Makes slots up to this number, which is not below `next`. Gives its slot. */
+static struct slot *add_slots(u64 number)
+{
+	if (number - next >= room)
+		grow(number - next + 1);
+	for (; end <= number; end++)
+		*at(end) = (struct slot){ 0 };
+	return at(number);
+}
+
 /* The slot of a number, or NULL where the number is settled already. */
 static struct slot *slot_of(u64 number)
 {
 	if (number < next)
 		return NULL;
 	while (number - next >= MOST_SLOTS) {		/* too many to wait for: the lowest one is given up */
-		if (at(next)->state == SILENT || at(next)->state == WAITING)
-			lose_slot(at(next), REASON_HELD_TOO_LONG);
+		struct slot *lowest = next < end ? at(next) : add_slots(next);
+		if (lowest->state == SILENT || lowest->state == WAITING)
+			lose_slot(lowest, REASON_HELD_TOO_LONG);
 		window_settle();
 	}
-	if (number - next >= room)
-		grow(number - next + 1);
-	for (; end <= number; end++)
-		*at(end) = (struct slot){ 0 };
-	return at(number);
+	return add_slots(number);
 }
 
 static void write_lost(const struct slot *slot)

@@ -1,0 +1,12 @@
+/* The character devices of the system: their numbers, as the kernel keeps them, and their names. */
+#ifndef RECORDER_DEVICES_H
+#define RECORDER_DEVICES_H
+#include "common.h"
+
+u32 device_major(u32 device);
+u32 device_minor(u32 device);
+/* The number of a device by its path, or by its name in /dev or /dev/binderfs; 0 where there is none. */
+u32 device_by_name(const char *name);
+/* Writes the device's name into `name`, which has CLEAN_NAME_BYTES; a question mark where it has none. */
+void device_name(u32 device, char *name);
+#endif
