@@ -7,7 +7,7 @@ from typing import NamedTuple
 
 TRANSACTION = re.compile(
     r"(outgoing|incoming|bad|pending|pending async) transaction (\d+): \S+ from (-?\d+):(-?\d+) to (-?\d+):(-?\d+)"
-    r"(?: context \S+)? code ([0-9a-f]+) flags ([0-9a-f]+)")
+    r"(?: context \S+)? code ([0-9a-f]+) flags ([0-9a-f]+)(?:.* node (\d+) )?")
 NODE = re.compile(r"node (\d+): u([0-9a-f]+) c([0-9a-f]+) (?:pri \d+:\d+ )?hs (\d+) hw (\d+) ls (-?\d+) lw (-?\d+)")
 REF = re.compile(r"ref \d+: desc (\d+) (dead )?node \d+ s (-?\d+) w (-?\d+) d ([0-9a-f]+|\(____ptrval____\))")
 BUFFER = re.compile(r"buffer (\d+): ([0-9a-f]+) size (\d+):(\d+):(\d+) (active|delivered)")
@@ -20,6 +20,7 @@ class Transaction(NamedTuple):
     thread: int
     code: int
     flags: int
+    node: int
 
 
 class Opening:
@@ -28,7 +29,7 @@ class Opening:
     def __init__(self, pid):
         self.pid, self.context = pid, ""
         self.handles, self.requests = {}, []
-        self.nodes, self.buffers = {}, {}
+        self.nodes, self.node_numbers, self.buffers = {}, {}, {}
         self.outgoing, self.incoming, self.pending = [], [], []
         self.deaths = self.clears = self.cleared_and_dead = 0
         self.completions = 0
@@ -37,11 +38,13 @@ class Opening:
         word = line.strip()
         if found := TRANSACTION.match(word):
             kind, number = found[1], int(found[2])
-            item = Transaction(number, thread, int(found[7], 16), int(found[8], 16))
+            item = Transaction(number, thread, int(found[7], 16), int(found[8], 16), int(found[9] or 0))
             lists = {"outgoing": self.outgoing, "incoming": self.incoming}
             lists.get(kind, self.pending).append(item)
         elif found := NODE.match(word):
-            self.nodes[int(found[2], 16), int(found[3], 16)] = tuple(int(found[k]) for k in (4, 5, 6, 7))
+            node = int(found[2], 16), int(found[3], 16)
+            self.nodes[node] = tuple(int(found[k]) for k in (4, 5, 6, 7))
+            self.node_numbers[node] = int(found[1])
         elif found := REF.match(word):
             self.handles[int(found[1])] = int(found[3]), int(found[4])
             if found[5].strip("0"):

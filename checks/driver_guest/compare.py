@@ -58,25 +58,38 @@ def purpose_differences(scenario, report):
 
 # ---- the two recordings
 
-def threads(frames):
+def threads(frames, openings):
+    """The frames of each thread, in their order; of each opening its device, its process id and which of them it is."""
     out = defaultdict(list)
     for frame in frames:
         if frame.commands:
-            out[frame.device, frame.process, frame.thread].append(frame)
+            out[openings[frame.device, frame.process], frame.thread].append(frame)
+    return out
+
+
+def numbered(devices, processes):
+    """Openings by device, process id and place among those: the two recorders number devices by other orders."""
+    counts, out = Counter(), {}
+    for device, number, pid in processes:
+        counts[device, pid] += 1
+        out[device, number] = devices[device], pid, counts[device, pid]
     return out
 
 
 def witness_differences(recording, folder):
     """Frames by device, process and thread, in their order: the same bytes, and where both have them the same data."""
-    data = (folder / "frames").read_bytes()
-    other = threads(sorted(frames_of(data), key=lambda frame: frame.sequence))
-    mine = threads(recording.frames)
-    for key in sorted(set(mine) | set(other)):
-        one, two = mine.get(key, []), other.get(key, [])
-        same = sum(1 for a, b in zip(one, two) if (a.direction, a.commands, a.attached) == (b.direction, b.commands, b.attached))
+    names = (folder / "names").read_text()
+    devices = {int(a): b for a, b in re.findall(r"^device (\d+) name (\S+)", names, re.M)}
+    openings = numbered(devices, [tuple(map(int, m)) for m in re.findall(r"^process (\d+) (\d+) pid (\d+)", names, re.M)])
+    frames = sorted(frames_of((folder / "frames").read_bytes()), key=lambda frame: frame.sequence)
+    theirs = threads(frames, openings)
+    mine = threads(recording.frames, numbered(recording.devices, [(*key, pid) for key, pid in recording.pids.items()]))
+    for key in sorted(set(mine) | set(theirs)):
+        one, two = mine.get(key, []), theirs.get(key, [])
+        same = sum((a.direction, a.commands, a.attached) == (b.direction, b.commands, b.attached) for a, b in zip(one, two))
         if not same == len(one) == len(two):
-            name = recording.names.get(key[:2], "?").replace(" ", "-")
-            yield "witness", name, key[2] - key[1] if key[2] >= key[1] else key[2], len(one), len(two)
+            (device, pid, _), thread = key
+            yield "witness", f"{device}-{pid}", thread, f"{same}-of-{len(one)}", len(two)
 
 
 # ---- one scenario
@@ -137,7 +150,7 @@ WRONG = {	# of each section a count in a file of the books
     "handles": ("state", r"(  ref \d+: desc \d+ (?:dead )?node \d+ s )(\d+)"),
     "nodes": ("state", r"(  node \d+: u[0-9a-f]*[1-9a-f]0* c\w+ (?:pri \S+ )?hs )(\d+)"),
     "due": ("state", r"(  node \d+: u[0-9a-f]*[1-9a-f]0* .* ls )(\d+)"),
-    "buffers": ("state", r"(  buffer \d+: [0-9a-f]+ size )(\d+)"),
+    "buffers": ("state", r"(  buffer \d+: [0-9a-f]+ size )(\d+)(?=.* delivered)"),
     "calls": ("state", r"(outgoing transaction .* code )(\d+)"),
     "served": ("state", r"(incoming transaction .* code )(\d+)"),
     "requests": ("state", r"(  ref \d+: .* d 0*)(0)$"),
@@ -159,7 +172,8 @@ def wrong(text, section):
         rest, times = re.subn(pattern, change, rest, count=1, flags=re.M)
         changed = head + mark + rest
     else:
-        changed, times = re.subn(pattern, change, text[name], count=1, flags=re.M)
+        every = section == "refused"	# the log has older entries too
+        changed, times = re.subn(pattern, change, text[name], count=0 if every else 1, flags=re.M)
     return {**text, name: changed} if times else None
 
 

@@ -124,7 +124,8 @@ def nodes(sides, recording, report, books, pairs):
         for node, (has_strong, has_weak, local_strong, local_weak) in opening.nodes.items():
             mine = 1 if node == (0, 0) else 0	# a context manager's node has the driver's own references from the start
             sides.books("nodes", who, node, (has_strong - mine, has_weak - mine))
-            sides.books("due", who, node, (local_strong, local_weak))
+            unread = sum(1 for item in opening.pending if item.node == opening.node_numbers[node])
+            sides.books("due", who, node, (local_strong - unread, local_weak))
             packed = struct.pack("<QQ", *node)
             strong, weak = due.get((who, node), (0, 0))
             sides.report("due", who, node, (strong + mine + strong_held[*keys[who], packed],
@@ -149,13 +150,19 @@ def buffers(sides, recording, report, books, pairs):
 def calls(sides, recording, report, books, pairs, section="calls", listed="outgoing"):
     for who, row in of_openings(report, section, pairs, 1):
         if row[6] == "open":
-            key = recording.tids[int(row[1]), int(row[2]), int(row[3])], int(row[5])
+            key = thread_name(recording, row), int(row[5])
             sides.report(section, who, key, sides.values[section, who, key][0] + 1)
     for opening, _, who in pairs:
         for item in getattr(opening, listed):
-            key = item.thread, item.code
+            key = "first" if item.thread == opening.pid else "other", item.code
             sides.books(section, who, key, sides.values[section, who, key][1] + 1)
     sides.seen.add(section)
+
+
+def thread_name(recording, row):
+    """Whether the thread of a row is the first one of its process."""
+    device, process, thread = (int(word) for word in row[1:4])
+    return "first" if recording.tids[device, process, thread] == recording.pids[device, process] else "other"
 
 
 def served(sides, recording, report, books, pairs):
@@ -184,12 +191,14 @@ def refused(sides, recording, report, books, pairs):
     """What the driver's log of failed transactions has, of the last 32: refused sends and sent replies by their thread."""
     if books.log_is_full:
         return
+    names = {pid: recording.names[key] for key, pid in recording.pids.items()}
     for row in report.rows["refused"]:
-        thread = recording.tids[int(row[1]), int(row[2]), int(row[3])]
-        sides.report("refused", "all", thread, sides.values["refused", "all", thread][0] + 1)
+        who = recording.names[int(row[1]), int(row[2])], thread_name(recording, row)
+        sides.report("refused", *who, sides.values["refused", *who][0] + 1)
     for entry in books.failed:
         if entry.kind == "async" or entry.kind == "reply" and not entry.target and entry.error == FAILED_REPLY:
-            sides.books("refused", "all", entry.thread, sides.values["refused", "all", entry.thread][1] + 1)
+            who = names.get(entry.process, "?"), "first" if entry.thread == entry.process else "other"
+            sides.books("refused", *who, sides.values["refused", *who][1] + 1)
     sides.seen.add("refused")
 
 

@@ -75,7 +75,7 @@ static bool work(struct exchange *exchange, transaction *delivered)
 void serve(struct exchange *exchange, transaction *delivered)
 {
 	work(exchange, delivered);
-	shared->served++;
+	if (delivered->code != REGISTER && delivered->code != LOOK_UP) shared->served++;
 	if (!(delivered->flags & TF_ONE_WAY)) {
 		switch (delivered->code) {
 		case GIVE:
