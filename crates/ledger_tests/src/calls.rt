@@ -2,7 +2,7 @@
 //! answers from outside, and against matching pair by pair.
 
 ghost use Rattle.summary_law.specs.Fits.{IsPlaced};
-ghost use Rattle.call_stacks.specs.Events.{view_place};
+ghost use Rattle.call_stacks.specs.Calls.{view_reads};
 
 mod captures;
 mod found;
@@ -307,7 +307,7 @@ fn expect_in_two(
     found: Found<'_>,
     index: usize,
 ) -> Result<(), Fail>
-    requires placed { IsPlaced view_place events.now }
+    requires placed { IsPlaced view_reads.place events.now }
 {
     let calls: ThreadCalls<'_> = in_two(alloc, events, index)?;
     expect_found(rt, events, found, &calls.finish()?);

@@ -2,7 +2,7 @@
 
 ghost use Rattle.std.specs.Bool.{OnTrue, OnFalse};
 ghost use Rattle.std.specs.Prelude.{◌≡◌, ℕ};
-ghost use Rattle.call_stacks.specs.Events.{view_place};
+ghost use Rattle.call_stacks.specs.Calls.{view_reads};
 ghost use Rattle.pending_ledger.specs.Ledgers.{buffer_place};
 ghost use Rattle.pending_ledger.specs.Pending.{place_of};
 ghost use Rattle.pending_ledger.specs.Requests.{request_place};
@@ -45,7 +45,7 @@ impl Placed for RequestItem {
 }
 
 impl<'c> Placed for Event<'c> {
-    ghost place_in = { view_place };
+    ghost place_in = { view_reads.place };
 
     fn place(self) -> u64 {
         self.place
