@@ -172,8 +172,12 @@ def wrong(text, section):
         rest, times = re.subn(pattern, change, rest, count=1, flags=re.M)
         changed = head + mark + rest
     else:
-        every = section == "refused"	# the log has older entries too
-        changed, times = re.subn(pattern, change, text[name], count=0 if every else 1, flags=re.M)
+        old = set(text.get(name + ".before", "").splitlines())	# what the log has of earlier scenarios
+        lines, times = text[name].splitlines(), 0
+        for at, line in enumerate(lines):
+            if line not in old and not times:
+                lines[at], times = re.subn(pattern, change, line, count=1)
+        changed = "\n".join(lines) + "\n"
     return {**text, name: changed} if times else None
 
 
