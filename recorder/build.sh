@@ -1,23 +1,33 @@
 #!/usr/bin/env bash
 # Builds the recorder into a folder: a static program, `record`.
 #
-#     recorder/build.sh [--sanitize] FOLDER
+#     recorder/build.sh [--sanitize] [--machine MACHINE] FOLDER
 #
-# With --sanitize it is a dynamic one under the address and undefined-behaviour sanitizers. CC names the compiler, gcc
+# With --sanitize it is a dynamic one under the address and undefined-behaviour sanitizers. MACHINE is x86_64 or aarch64,
+# the one that it is built on where it is absent; CC is then to name a compiler for it that finds the libraries. CC is gcc
 # where it is absent. It wants clang, bpftool, libbpf-dev, libelf-dev, zlib1g-dev and the kernel's headers for programs.
 set -euo pipefail
 
 here=$(dirname -- "$(readlink -f -- "${BASH_SOURCE[0]}")")
 link=(-static)
 flags=(-O2)
-if [[ ${1:-} == --sanitize ]]; then
-  link=(-fsanitize=address,undefined)
-  flags=(-O1 -g -fno-omit-frame-pointer -fsanitize=address,undefined)
-  shift
-fi
-folder=${1:?usage: recorder/build.sh [--sanitize] FOLDER}
-mkdir -p -- "$folder"
 machine=$(uname -m)
+while [[ ${1:-} == --* ]]; do
+  case $1 in
+    --sanitize)
+      link=(-fsanitize=address,undefined)
+      flags=(-O1 -g -fno-omit-frame-pointer -fsanitize=address,undefined)
+      ;;
+    --machine)
+      machine=${2:?--machine takes a name}
+      shift
+      ;;
+    *) printf 'record: build.sh has no option %s\n' "$1" >&2; exit 1 ;;
+  esac
+  shift
+done
+folder=${1:?usage: recorder/build.sh [--sanitize] [--machine MACHINE] FOLDER}
+mkdir -p -- "$folder"
 case $machine in
   x86_64) target=x86 ;;
   aarch64) target=arm64 ;;
@@ -30,7 +40,8 @@ for source in "$here"/*.c; do
   if [[ $source != *.bpf.c ]]; then sources+=("$source"); fi
 done
 
-clang -O2 -g -target bpf -mcpu=v3 "-D__TARGET_ARCH_$target" "-I/usr/include/$machine-linux-gnu" -Wall -Werror \
+clang -O2 -g -target bpf -mcpu=v3 "-D__TARGET_ARCH_$target" "-I/usr/include/$machine-linux-gnu" \
+  "-I/usr/$machine-linux-gnu/include" -Wall -Werror \
   -c "$here/record.bpf.c" -o "$folder/record.bpf.o"
 bpftool gen skeleton "$folder/record.bpf.o" name record >"$folder/record.skel.h"
 "${CC:-gcc}" "${flags[@]}" -std=gnu11 -Wall -Wextra -Werror "-I$here" -isystem "$folder" "${sources[@]}" -o "$folder/record.new" \

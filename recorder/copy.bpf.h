@@ -11,6 +11,18 @@
 #define TRANSACTION_BYTES 64u
 #define ENTRY_HEAD 12u
 
+/* Copies memory of the process. On arm64 the topmost byte of an address can be a tag, with which some kernels take an
+ * address for none of a process: then it is read without. */
+static __always_inline long read_memory(void *to, u64 bytes, u64 from)
+{
+	long failed = bpf_probe_read_user(to, bytes, (void *)from);
+#ifdef __TARGET_ARCH_arm64
+	if (failed && from >> 56)
+		failed = bpf_probe_read_user(to, bytes, (void *)(from & ~(0xffull << 56)));
+#endif
+	return failed;
+}
+
 static long try_chunk(u32 i, void *unused)
 {
 	struct scratch *s = scratch();
@@ -18,7 +30,7 @@ static long try_chunk(u32 i, void *unused)
 		return 1;
 	u64 length = s->length;
 	BOUND(length, 0xffff);
-	s->failed = bpf_probe_read_user(s->chunk_bytes, length, (void *)s->from);
+	s->failed = read_memory(s->chunk_bytes, length, s->from);
 	return s->failed == 0;
 }
 
@@ -27,7 +39,7 @@ static long try_call(u32 i, void *unused)
 	struct scratch *s = scratch();
 	if (!s)
 		return 1;
-	s->failed = bpf_probe_read_user(&s->call, sizeof s->call, (void *)s->from);
+	s->failed = read_memory(&s->call, sizeof s->call, s->from);
 	return s->failed == 0;
 }
 
@@ -38,7 +50,7 @@ static __noinline int read_call(u64 call)
 	if (!s)
 		return 1;
 	s->from = call;
-	if (!bpf_probe_read_user(&s->call, sizeof s->call, (void *)call))
+	if (!read_memory(&s->call, sizeof s->call, call))
 		return 0;
 	bpf_loop(TRIES, try_call, 0, 0);
 	return s->failed != 0;
@@ -78,7 +90,7 @@ static long copy_piece(u32 i, void *unused)
 	p->offsets = l->offsets;
 	p->at = at;
 	p->bytes = bytes;
-	if (bpf_probe_read_user(s->piece_bytes, length, (void *)from))
+	if (read_memory(s->piece_bytes, length, from))
 		l->failed = REASON_UNREADABLE;
 	else if (is_full(bytes) || bpf_ringbuf_output(&ring, p, sizeof *p + length, QUIETLY))
 		l->failed = REASON_RING_FULL;
@@ -151,9 +163,9 @@ static __always_inline int attach(struct scratch *s, struct walk *w, struct plac
 	((u32 *)entry)[0] = w->base + at;
 	((u32 *)entry)[1] = data;
 	((u32 *)entry)[2] = offsets;
-	if (data_length && bpf_probe_read_user(entry + ENTRY_HEAD, data_length, (void *)place->data_from))
+	if (data_length && read_memory(entry + ENTRY_HEAD, data_length, place->data_from))
 		return REASON_UNREADABLE;
-	if (offsets_length && bpf_probe_read_user(entry + ENTRY_HEAD + data_length, offsets_length, (void *)place->offsets_from))
+	if (offsets_length && read_memory(entry + ENTRY_HEAD + data_length, offsets_length, place->offsets_from))
 		return REASON_UNREADABLE;
 	w->end = end + ENTRY_HEAD + data + offsets;
 	return 0;
@@ -206,7 +218,7 @@ static __always_inline u32 read_pages(struct scratch *s, u64 from, u32 length)
 		u64 bytes = page, at = got;
 		BOUND(bytes, 0x1fff);
 		BOUND(at, 0xffff);
-		if (bpf_probe_read_user(s->chunk_bytes + at, bytes, (void *)(from + got)))
+		if (read_memory(s->chunk_bytes + at, bytes, from + got))
 			break;
 		got += page;
 	}
@@ -222,7 +234,7 @@ static __always_inline void read_chunk(struct scratch *s, struct walk *w)
 	BOUND(length, 0xffff);
 	w->bytes = bytes;
 	w->have = bytes + beyond;
-	if (!bpf_probe_read_user(s->chunk_bytes, length, (void *)w->from))
+	if (!read_memory(s->chunk_bytes, length, w->from))
 		return;
 	w->have = bytes;
 	s->from = w->from;

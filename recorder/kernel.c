@@ -30,6 +30,8 @@ static void fail_to_load(const char *what, int error)
 	error = error < 0 ? -error : error;
 	if (error == EPERM || error == EACCES)
 		fail("the kernel does not let this process %s: root is needed, and no lockdown (%s)", what, last_words);
+	if (error == EINVAL)
+		fail("the kernel could not %s: it is too old, or locked down (%s)", what, last_words);
 	fail("the kernel could not %s: %s (%s)", what, strerror(error), last_words);
 }
 

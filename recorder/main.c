@@ -204,6 +204,7 @@ int main(int count, char **words)
 		fail("%s is there already, and is not written over", path);
 	need_capabilities();
 	need_kernel();
+	need_no_lockdown();
 	need_driver();
 	catch_signals();
 	kernel_load(&options, &ring);

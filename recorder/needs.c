@@ -2,6 +2,7 @@
 #include "devices.h"
 #include <linux/capability.h>
 #include <stdio.h>
+#include <string.h>
 #include <sys/syscall.h>
 #include <sys/utsname.h>
 #include <unistd.h>
@@ -34,6 +35,18 @@ void need_kernel(void)
 		fail("the kernel is %s, and 5.17 or a later one is needed", name.release);
 	if (access("/sys/kernel/btf/vmlinux", R_OK))
 		fail("/sys/kernel/btf/vmlinux is not there: a kernel with CONFIG_DEBUG_INFO_BTF is needed, and sysfs");
+}
+
+/* Where securityfs is not mounted nothing is known of a lockdown, and loading fails. */
+void need_no_lockdown(void)
+{
+	char line[128] = "";
+	FILE *file = fopen("/sys/kernel/security/lockdown", "r");
+	int is_read = file && fgets(line, sizeof line, file);
+	if (file)
+		fclose(file);
+	if (is_read && strstr(line, "[confidentiality]"))
+		fail("the kernel is locked down for confidentiality: it lets no program read its memory");
 }
 
 void need_driver(void)

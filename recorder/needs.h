@@ -7,6 +7,7 @@ extern const char need_driver_words[];
 
 void need_capabilities(void);
 void need_kernel(void);
+void need_no_lockdown(void);
 void need_driver(void);
 void need_process(u32 process);
 /* The number of a Binder device, as the kernel keeps it. */
