@@ -1,5 +1,5 @@
 #!/usr/bin/env python3
-"""Compares what the guest left: compare.py AUDITOR FOLDER
+"""Compares what the guest left: compare.py AUDITOR FOLDER [whole]
 
 Each folder in FOLDER is a scenario. The capture has to be well formed, and what the recorder lost has to be in the side
 list. The report is compared with the driver's books by sections.py, and, where the witness was there too, the two
@@ -172,8 +172,12 @@ def wrong(text, section):
         rest, times = re.subn(pattern, change, rest, count=1, flags=re.M)
         changed = head + mark + rest
     else:
-        every = section == "refused"	# the log has older entries too
-        changed, times = re.subn(pattern, change, text[name], count=0 if every else 1, flags=re.M)
+        old = set(text.get(name + ".before", "").splitlines())	# what the log has of earlier scenarios
+        lines, times = text[name].splitlines(), 0
+        for at, line in enumerate(lines):
+            if line not in old and not times:
+                lines[at], times = re.subn(pattern, change, line, count=1)
+        changed = "\n".join(lines) + "\n"
     return {**text, name: changed} if times else None
 
 
@@ -195,7 +199,7 @@ def unfound(scenarios):
 
 # ---- the table
 
-def main(auditor, folder):
+def main(auditor, folder, whole=""):
     folder = pathlib.Path(folder)
     reasons, table, failed, used = explained(), defaultdict(Counter), False, set()
     scenarios = [Scenario(auditor, path) for path in sorted(folder.iterdir()) if (path / "capture-1.cap").exists()]
@@ -216,7 +220,8 @@ def main(auditor, folder):
         for section, verdict in verdicts.items():
             table[section][verdict] += 1
     kernel = (folder / "kernel").read_text().strip() if (folder / "kernel").exists() else "stored"
-    print(f"kernel {kernel}, {len(scenarios)} captures")
+    words = (folder / "words").read_text().strip() if (folder / "words").exists() else ""
+    print(f"kernel {kernel}{words and ', ' + words}, {len(scenarios)} captures")
     print(f"{'section':20}{'agree':>8}{'explained':>11}{'not':>6}{'wrong books found':>20}")
     changes = {section: f"{found} of {tried}" for section, tried, found in unfound(scenarios)}
     for section in sorted(set(table) | set(changes)):
@@ -224,7 +229,7 @@ def main(auditor, folder):
         print(f"{section:20}{counts['agree']:8}{counts['explained']:11}{counts['unexplained']:6}{changes.get(section, '-'):>20}")
         if section in changes:
             found, tried = changes[section].split(" of ")
-            if found != tried or found == "0":
+            if found != tried or whole and tried == "0":
                 print("wrong books were not found:", section)
                 failed = True
     sys.exit(1 if failed else 0)

@@ -8,7 +8,7 @@ import sys
 import books
 from recording import Recording, report_on
 
-LARGEST = 60_000	# bytes of a capture with its side list
+LARGEST = 200_000	# bytes of a capture with its side list
 
 
 def main(auditor, source, to):
