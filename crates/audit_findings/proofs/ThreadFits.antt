@@ -1,10 +1,9 @@
 -- What is fed of few events can be summarised under their threads.
 use Rattle.std.proofs.Common.{◌≡◌, ◌<◌, ◌≤◌, Bool, true, false, cond, List, [], ◌∷◌, ◌++◌, length, map, filter, ap, subst, ◌∙◌, arith}
-use Rattle.std.specs.Prelude.{⊤}
 use Rattle.std.proofs.lemmas.List.{length-map, map-append}
 use Rattle.std.proofs.lemmas.List.Elements.{filter-append}
-use Rattle.call_stacks.specs.Calls.{event_place, CallsSum}
-use Rattle.call_stacks.specs.declared.call_event.CallEvent.{CallEvent}
+use Rattle.call_stacks.specs.Calls.{event_place, CallsSum, event_reads}
+use Rattle.call_stacks.specs.declared.call_record.CallEvent.{CallEvent}
 use Rattle.call_stacks.specs.declared.calls.Calls.{Calls}
 use Rattle.event_core.specs.Events.{EventText}
 use Rattle.pending_ledger.proofs.GatherLaws.{items_rise}
@@ -19,12 +18,12 @@ use Rattle.audit_findings.specs.ThreadLedger.{fed_call, fed_calls, leaves_mark}
 use Rattle.audit_findings.proofs.Rising.{pairs_map, rising_kept}
 
 -- what is fed of each thread can be summarised
-abbrev pub FitThreads : List (Thread × CallEvent ⊤) → Type 0
+abbrev pub FitThreads : List (Thread × CallEvent) → Type 0
 FitThreads fed = EachFits same_thread (IsPlaced event_place) fed
 
 -- and these entries sum it
-abbrev pub SumsFedCalls : List (Thread × Calls ⊤) → List (Thread × CallEvent ⊤) → Type 0
-SumsFedCalls entries fed = SumsInOrder same_thread CallsSum entries fed
+abbrev pub SumsFedCalls : List (Thread × Calls CallEvent) → List (Thread × CallEvent) → Type 0
+SumsFedCalls entries fed = SumsInOrder same_thread (CallsSum event_reads) entries fed
 
 pub filter_short : {X : Type 0} (test : X → Bool) (xs : List X) → length (filter test xs) ≤ length xs
 filter_short test [] = omega arith
@@ -40,8 +39,8 @@ fit_calls events placed key =
     let long = length-map marked fed_call in
     let read = length-read (under same_thread key) fed in
     let short = placed.0 in
-    let rise : PlacesRise (λ (e : Thread × CallEvent ⊤). e.1.place) fed
-    = pairs_map (λ (a b : Thread × CallEvent ⊤). a.1.place < b.1.place) fed_call marked
+    let rise : PlacesRise (λ (e : Thread × CallEvent). e.1.place) fed
+    = pairs_map (λ (a b : Thread × CallEvent). a.1.place < b.1.place) fed_call marked
     (rising_kept (λ (e : EventText). e.place) leaves_mark events placed.1) in
     (omega (arith, fewer, long, read, short), items_rise same_thread key event_place fed rise)
 

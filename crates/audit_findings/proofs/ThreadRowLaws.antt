@@ -1,6 +1,6 @@
 -- The calls of each thread, as those of all threads.
 use Rattle.std.proofs.Common.{◌≡◌, ◌≢◌, ℕ, ◌<◌, Bool, true, false, cond, List, [], ◌∷◌, ◌++◌, map, filter, Some, None, refl, sym, ap, ap₂, subst, ◌∙◌, ⊎_elim, inl, inr, arith}
-use Rattle.std.specs.Prelude.{◌↔◌, ◌^◌, All, Contains, count_by, ⊤}
+use Rattle.std.specs.Prelude.{◌↔◌, ◌^◌, All, Contains, count_by}
 use Rattle.std.proofs.lemmas.Bool.{cases_Bool}
 use Rattle.std.proofs.lemmas.List.{length-map}
 use Rattle.std.proofs.lemmas.List.Concat.{flat_map-cons}
@@ -19,7 +19,7 @@ use Rattle.call_stacks.specs.declared.opener.Opener.{Opener}
 use Rattle.call_stacks.specs.declared.findings.RefusedSend.{RefusedSend}
 use Rattle.call_stacks.specs.Matching.{ListsInOrder}
 use Rattle.call_stacks.specs.declared.findings.CallFindings.{CallFindings}
-use Rattle.call_stacks.specs.declared.call_event.CallEvent.{CallEvent}
+use Rattle.call_stacks.specs.declared.call_record.CallEvent.{CallEvent}
 use Rattle.call_stacks.specs.declared.calls.Calls.{Calls}
 use Rattle.pending_ledger.proofs.ListLaws.{one_place}
 use Rattle.summary_law.specs.Fits.{IsPlaced}
@@ -73,22 +73,22 @@ pub texts_alike : ReadAlike text_reads event_reads text_call
 texts_alike = record { place = λ e. refl; kind = λ e. refl; oneway = λ e. refl }
 
 -- what is fed under a key is of its thread's events, where they leave a mark
-pub calls_fed : (key : Thread) (events : List EventText) → items_of same_thread key (fed_calls events) ≡ filter marked (map text_call (texts_of key events))
+pub calls_fed : (key : Thread) (events : List EventText) → items_of same_thread key (fed_calls events) ≡ filter (marked event_reads) (map text_call (texts_of key events))
 calls_fed key [] = refl
 calls_fed key (e ∷ events) =
     let rest = calls_fed key events in
     let fed = items_of same_thread key (fed_calls events) in
-    let own = filter marked (map text_call (texts_of key events)) in
+    let own = filter (marked event_reads) (map text_call (texts_of key events)) in
     elim (leaves_mark e) as (λ m. (leaves_mark e ≡ m) → items_of same_thread key (map fed_call (cond m (e ∷ filter leaves_mark events) (filter leaves_mark events)))
-    ≡ filter marked (map text_call (cond (same_thread key (thread_of e)) (e ∷ texts_of key events) (texts_of key events)))) [
+    ≡ filter (marked event_reads) (map text_call (cond (same_thread key (thread_of e)) (e ∷ texts_of key events) (texts_of key events)))) [
       | true ↦ λ is.
           elim (same_thread key (thread_of e)) as (λ b. cons_option (cond b (Some (text_call e)) None) fed
-          ≡ filter marked (map text_call (cond b (e ∷ texts_of key events) (texts_of key events)))) [
-            | true ↦ ap (λ (l : List (CallEvent ⊤)). text_call e ∷ l) rest ∙ sym (ap (λ (b : Bool). cond b (text_call e ∷ own) own) is)
+          ≡ filter (marked event_reads) (map text_call (cond b (e ∷ texts_of key events) (texts_of key events)))) [
+            | true ↦ ap (λ (l : List CallEvent). text_call e ∷ l) rest ∙ sym (ap (λ (b : Bool). cond b (text_call e ∷ own) own) is)
             | false ↦ rest
           ]
       | false ↦ λ is.
-          elim (same_thread key (thread_of e)) as (λ b. fed ≡ filter marked (map text_call (cond b (e ∷ texts_of key events) (texts_of key events)))) [
+          elim (same_thread key (thread_of e)) as (λ b. fed ≡ filter (marked event_reads) (map text_call (cond b (e ∷ texts_of key events) (texts_of key events)))) [
             | true ↦ rest ∙ sym (ap (λ (b : Bool). cond b (text_call e ∷ own) own) is)
             | false ↦ rest
           ]
@@ -105,7 +105,7 @@ placed_calls : (events : List EventText) → IsPlaced (λ (e : EventText). e.pla
 placed_calls events placed =
     let long = length-map events text_call in
     let short = placed.0 in
-    (omega (arith, long, short), pairs_map (λ (a b : CallEvent ⊤). a.place < b.place) text_call events placed.1)
+    (omega (arith, long, short), pairs_map (λ (a b : CallEvent). a.place < b.place) text_call events placed.1)
 
 -- ---- something of the events of each thread
 
@@ -129,7 +129,7 @@ module _ {X : Type 0} (event : X → EventText) (IsIn : List (JudgedOf EventText
       let keys : key ≡ other = first.1 ∙ ap thread_of one ∙ sym second.1 in
       subst (λ (k : Thread). same_thread key k ≡ true) keys (same_thread_equiv.refl key)
 
-  module _ (entries : List (Thread × Calls ⊤)) (events : List EventText) (sums : SumsThreads entries events)
+  module _ (entries : List (Thread × Calls CallEvent)) (events : List EventText) (sums : SumsThreads entries events)
       (marks : (events : List EventText) (x : X) → IsIn (judged_of text_reads events) x → leaves_mark (event x) ≡ true) where
     -- a thread with an event that leaves a mark has an entry
     key_there : (e : EventText) → Contains (texts_of (thread_of e) events) e → leaves_mark e ≡ true → Contains (keys_of entries) (thread_of e)
@@ -138,20 +138,20 @@ module _ {X : Type 0} (event : X → EventText) (IsIn : List (JudgedOf EventText
         ⊎_elim
         (λ (found : list_any (same_thread key) (keys_of entries) ≡ true). Contains-from_any same_thread_eq key (keys_of entries) found)
         (λ (missing : list_any (same_thread key) (keys_of entries) ≡ false).
-        let none = none_else same_thread_equiv CallsSum entries (fed_calls events) sums.sums key missing in
+        let none = none_else same_thread_equiv (CallsSum event_reads) entries (fed_calls events) sums.sums key missing in
         let texts = texts_of key events in
-        let kept : In (text_call e) (filter marked (map text_call texts))
-        = kept_in marked (map text_call texts) (text_call e) (map-in text_call texts e (in_list texts e c)) is in
+        let kept : In (text_call e) (filter (marked event_reads) (map text_call texts))
+        = kept_in (marked event_reads) (map text_call texts) (text_call e) (map-in text_call texts e (in_list texts e c)) is in
         absurd (subst (In (text_call e)) (sym (calls_fed key events) ∙ none) kept))
         (cases_Bool (list_any (same_thread key) (keys_of entries)))
 
     -- what is so of the thread of its own event is so of an entry's thread
-    pub of_entries : (x : X) → IsOfOwn event IsIn events x ↔ ((e : Thread × Calls ⊤) × In e entries × IsOfKey IsIn events e.0 x)
+    pub of_entries : (x : X) → IsOfOwn event IsIn events x ↔ ((e : Thread × Calls CallEvent) × In e entries × IsOfKey IsIn events e.0 x)
     of_entries x = (
       λ is.
           let key = thread_of (event x) in
           let there = key_there (event x) (stands (texts_of key events) x is) (marks (texts_of key events) x is) in
-          let found = in-map (λ (e : Thread × Calls ⊤). e.0) entries key (in_list (keys_of entries) key there) in
+          let found = in-map (λ (e : Thread × Calls CallEvent). e.0) entries key (in_list (keys_of entries) key there) in
           (found.0, found.1, subst (λ (k : Thread). IsOfKey IsIn events k x) found.2 is),
       λ some.
           let key = some.0.0 in
@@ -197,47 +197,47 @@ stray_stands events e is = stands_judged text_reads events is.position is.there 
 send_stands : (events : List EventText) (s : RefusedSend EventText) → IsRefusedSend (judged_of text_reads events) s → Contains events s.event
 send_stands events s is = stands_judged text_reads events is.position is.there s.event is.stands is.event
 
-module _ (entries : List (Thread × Calls ⊤)) (events : List EventText) (sums : SumsThreads entries events) (rise : RiseInPlace events) where
+module _ (entries : List (Thread × Calls CallEvent)) (events : List EventText) (sums : SumsThreads entries events) (rise : RiseInPlace events) where
   -- the events of an entry's thread
-  abbrev own_texts : Thread × Calls ⊤ → List EventText
+  abbrev own_texts : Thread × Calls CallEvent → List EventText
   own_texts e = texts_of e.0 events
 
-  abbrev own_fed : Thread × Calls ⊤ → List (CallEvent ⊤)
+  abbrev own_fed : Thread × Calls CallEvent → List CallEvent
   own_fed e = items_of same_thread e.0 (fed_calls events)
 
-  abbrev SumsOwn : Thread × Calls ⊤ → Type 0
-  SumsOwn e = (own_fed e ≢ []) × CallsSum e.1 (own_fed e)
+  abbrev SumsOwn : Thread × Calls CallEvent → Type 0
+  SumsOwn e = (own_fed e ≢ []) × CallsSum event_reads e.1 (own_fed e)
 
-  abbrev Gives : Thread × Calls ⊤ → CallFindings (CallEvent ⊤) → Type 0
-  Gives e found = GivesFindings e.1 found
+  abbrev Gives : Thread × Calls CallEvent → CallFindings CallEvent → Type 0
+  Gives e found = GivesFindings event_reads e.1 found
 
-  own_rise : (e : Thread × Calls ⊤) → RiseInPlace (own_texts e)
+  own_rise : (e : Thread × Calls CallEvent) → RiseInPlace (own_texts e)
   own_rise e = rising_kept (λ (t : EventText). t.place) (λ t. same_thread e.0 (thread_of t)) events rise
 
   -- what is found of each entry's thread is found of all of its events
-  own_found : (e : Thread × Calls ⊤) (found : CallFindings (CallEvent ⊤)) → SumsOwn e → Gives e found
+  own_found : (e : Thread × Calls CallEvent) (found : CallFindings CallEvent) → SumsOwn e → Gives e found
       → AreFindings event_reads (map text_call (own_texts e)) found
   own_found e found own gives =
       gives (map text_call (own_texts e))
-      (with_unmarked e.1 (map text_call (own_texts e)) (placed_calls (own_texts e) (placed_texts e.0 events sums.placed))
-      (subst (CallsSum e.1) (calls_fed e.0 events) own.1))
+      (with_unmarked event_reads e.1 (map text_call (own_texts e)) (placed_calls (own_texts e) (placed_texts e.0 events sums.placed))
+      (subst (CallsSum event_reads e.1) (calls_fed e.0 events) own.1))
 
   -- the lists of each entry's thread, told in the words of the events
-  openers_told : (e : Thread × Calls ⊤) (found : CallFindings (CallEvent ⊤)) → SumsOwn e → Gives e found
+  openers_told : (e : Thread × Calls CallEvent) (found : CallFindings CallEvent) → SumsOwn e → Gives e found
       → (said : List (Opener EventText)) × ListsInOrder (λ o. o.event.place) (IsOfKey (IsOpener text_reads) events e.0) said
       × (map found_opener found.openers.items ≡ map opener_row said)
   openers_told e found own gives =
       let told = openers_of text_reads event_reads text_call texts_alike (own_texts e) (own_rise e) found (own_found e found own gives) in
       (told.0, told.1, ap (map found_opener) told.2 ∙ map-map found_opener (told_opener text_call) told.0)
 
-  strays_told : (e : Thread × Calls ⊤) (found : CallFindings (CallEvent ⊤)) → SumsOwn e → Gives e found
+  strays_told : (e : Thread × Calls CallEvent) (found : CallFindings CallEvent) → SumsOwn e → Gives e found
       → (said : List EventText) × ListsInOrder (λ t. t.place) (IsOfKey IsStrayEvent events e.0) said
       × (map event_place found.strays.items ≡ map (λ t. t.place) said)
   strays_told e found own gives =
       let told = strays_of text_reads event_reads text_call texts_alike (own_texts e) (own_rise e) found (own_found e found own gives) in
       (told.0, told.1, ap (map event_place) told.2 ∙ map-map event_place text_call told.0)
 
-  sends_told : (e : Thread × Calls ⊤) (found : CallFindings (CallEvent ⊤)) → SumsOwn e → Gives e found
+  sends_told : (e : Thread × Calls CallEvent) (found : CallFindings CallEvent) → SumsOwn e → Gives e found
       → (said : List (RefusedSend EventText)) × ListsInOrder (λ s. s.event.place) (IsOfKey IsRefusedSend events e.0) said
       × (map found_send found.refused.items ≡ map send_row said)
   sends_told e found own gives =
@@ -246,10 +246,10 @@ module _ (entries : List (Thread × Calls ⊤)) (events : List EventText) (sums 
       (said, sends_listed text_reads (own_texts e) (own_rise e), ap (map found_send) told ∙ map-map found_send (told_send text_call) said)
 
   each_own : All SumsOwn entries
-  each_own = each_sums same_thread_equiv CallsSum entries (fed_calls events) sums.sums
+  each_own = each_sums same_thread_equiv (CallsSum event_reads) entries (fed_calls events) sums.sums
 
   keys_differ : IsDistinct same_thread (keys_of entries)
-  keys_differ = entries_distinct same_thread_equiv CallsSum entries (fed_calls events) sums.sums
+  keys_differ = entries_distinct same_thread_equiv (CallsSum event_reads) entries (fed_calls events) sums.sums
 
   module _ (gathered rows : ThreadRows) (in_turn : AreGatheredRows entries gathered) (sorted : AreSortedRows gathered rows) where
     -- all calls, in rising place
@@ -260,7 +260,7 @@ module _ (entries : List (Thread × Calls ⊤)) (events : List EventText) (sums 
     IsListed Is o = Is o × (is_listed (opener_row o) ≡ true)
 
     -- the listed calls of a thread
-    listed_told : (e : Thread × Calls ⊤) (found : CallFindings (CallEvent ⊤)) → SumsOwn e → Gives e found
+    listed_told : (e : Thread × Calls CallEvent) (found : CallFindings CallEvent) → SumsOwn e → Gives e found
         → (said : List (Opener EventText)) × ListsInOrder (λ o. o.event.place) (IsListed (IsOfKey (IsOpener text_reads) events e.0)) said
         × (listed_in found ≡ map opener_row said)
     listed_told e found own gives =
@@ -271,13 +271,13 @@ module _ (entries : List (Thread × Calls ⊤)) (events : List EventText) (sums 
           ap (filter is_listed) told.2 ∙ filter_rows told.0,
         )
 
-    one_of_threads : (e other : Thread × Calls ⊤) (x y : Opener EventText) → IsOfKey (IsOpener text_reads) events e.0 x
+    one_of_threads : (e other : Thread × Calls CallEvent) (x y : Opener EventText) → IsOfKey (IsOpener text_reads) events e.0 x
         → IsOfKey (IsOpener text_reads) events other.0 y → x.event.place ≡ y.event.place → same_thread e.0 other.0 ≡ true
     one_of_threads e other x y is_first is_other same =
         one_thread (λ (o : Opener EventText). o.event) (IsOpener text_reads) opener_stands events rise e.0 other.0 x y is_first is_other same
 
     of_threads : (o : Opener EventText) → IsOfOwn (λ o. o.event) (IsOpener text_reads) events o
-        ↔ ((e : Thread × Calls ⊤) × In e entries × IsOfKey (IsOpener text_reads) events e.0 o)
+        ↔ ((e : Thread × Calls CallEvent) × In e entries × IsOfKey (IsOpener text_reads) events e.0 o)
     of_threads = of_entries (λ (o : Opener EventText). o.event) (IsOpener text_reads) opener_stands entries events sums (opener_marks text_reads)
 
     kept_listed : AreListedOf all_openers.0 rows.listed.items
@@ -288,7 +288,7 @@ module _ (entries : List (Thread × Calls ⊤)) (events : List EventText) (sums 
         let test : Opener EventText → Bool = λ o. is_listed (opener_row o) in
         let told = all_told SumsOwn Gives (λ e. IsListed (IsOfKey Is events e.0)) rank opener_row listed_in listed_told
         entries in_turn.founds each_own in_turn.are in
-        let found = gathered_rows same_thread (λ (e : Thread × Calls ⊤). e.0) (λ e. IsListed (IsOfKey Is events e.0))
+        let found = gathered_rows same_thread (λ (e : Thread × Calls CallEvent). e.0) (λ e. IsListed (IsOfKey Is events e.0))
         (λ (said : List (Opener EventText)). said) opener_row (λ (r : OpenerRow). r.row.place)
         (λ e other x y is_first is_other same. one_of_threads e other x y is_first.0 is_other.0 same)
         entries told.0 told.1 keys_differ (IsListed Own)
@@ -307,7 +307,7 @@ module _ (entries : List (Thread × Calls ⊤)) (events : List EventText) (sums 
         let told = all_told SumsOwn Gives (λ e o. IsOfKey Is events e.0 o) (λ o. o.event.place) opener_row openers_in openers_told
         entries in_turn.founds each_own in_turn.are in
         ap (count_by test) told.2
-        ∙ gathered_count same_thread (λ (e : Thread × Calls ⊤). e.0) (λ e o. IsOfKey Is events e.0 o) (λ (said : List (Opener EventText)). said)
+        ∙ gathered_count same_thread (λ (e : Thread × Calls CallEvent). e.0) (λ e o. IsOfKey Is events e.0 o) (λ (said : List (Opener EventText)). said)
         opener_row (λ (r : OpenerRow). r.row.place) one_of_threads entries told.0 told.1 keys_differ (IsOfOwn (λ o. o.event) Is events) of_threads
         test all_openers.0 all_openers.1
 
@@ -345,7 +345,7 @@ module _ (entries : List (Thread × Calls ⊤)) (events : List EventText) (sums 
         let event : EventText → EventText = λ e. e in
         let told = all_told SumsOwn Gives (λ e t. IsOfKey IsStrayEvent events e.0 t) (λ t. t.place) (λ t. t.place) strays_in strays_told
         entries in_turn.founds each_own in_turn.are in
-        gathered_rows same_thread (λ (e : Thread × Calls ⊤). e.0) (λ e t. IsOfKey IsStrayEvent events e.0 t) (λ (said : List EventText). said)
+        gathered_rows same_thread (λ (e : Thread × Calls CallEvent). e.0) (λ e t. IsOfKey IsStrayEvent events e.0 t) (λ (said : List EventText). said)
         (λ (e : EventText). e.place) (λ (n : ℕ). n)
         (λ e other x y is_first is_other same. one_thread event IsStrayEvent stray_stands events rise e.0 other.0 x y is_first is_other same)
         entries told.0 told.1 keys_differ
@@ -357,7 +357,7 @@ module _ (entries : List (Thread × Calls ⊤)) (events : List EventText) (sums 
         let event : RefusedSend EventText → EventText = λ s. s.event in
         let told = all_told SumsOwn Gives (λ e s. IsOfKey IsRefusedSend events e.0 s) (λ s. s.event.place) send_row sends_in sends_told
         entries in_turn.founds each_own in_turn.are in
-        gathered_rows same_thread (λ (e : Thread × Calls ⊤). e.0) (λ e s. IsOfKey IsRefusedSend events e.0 s) (λ (said : List (RefusedSend EventText)). said)
+        gathered_rows same_thread (λ (e : Thread × Calls CallEvent). e.0) (λ e s. IsOfKey IsRefusedSend events e.0 s) (λ (said : List (RefusedSend EventText)). said)
         send_row (λ (r : SendRow). r.place)
         (λ e other x y is_first is_other same. one_thread event IsRefusedSend send_stands events rise e.0 other.0 x y is_first is_other same)
         entries told.0 told.1 keys_differ

@@ -4,11 +4,10 @@ use Rattle.std.specs.Prelude.{count_by}
 use Rattle.std.specs.List.{flat_map}
 use Rattle.std.proofs.lemmas.List.Sums.{sum_by-append}
 use Rattle.std.proofs.lemmas.List.{append-nil}
-use Rattle.std.specs.Prelude.{⊤}
 use Rattle.std.proofs.lemmas.List.Concat.{flat_map-cons}
-use Rattle.call_stacks.specs.Calls.{GivesFindings}
+use Rattle.call_stacks.specs.Calls.{GivesFindings, event_reads}
 use Rattle.call_stacks.specs.declared.findings.CallFindings.{CallFindings}
-use Rattle.call_stacks.specs.declared.call_event.CallEvent.{CallEvent}
+use Rattle.call_stacks.specs.declared.call_record.CallEvent.{CallEvent}
 use Rattle.call_stacks.specs.declared.calls.Calls.{Calls}
 use Rattle.capture_frame.specs.declared.process.Thread.{Thread}
 use Rattle.audit_findings.specs.declared.opener_row.OpenerRow.{OpenerRow}
@@ -32,7 +31,7 @@ no_threads = record {
 }
 
 -- a count with that of a thread in front
-more_in_front : (end : End) (verdict : Verdict) (found : CallFindings (CallEvent ⊤)) (founds : List (CallFindings (CallEvent ⊤))) (number : ℕ)
+more_in_front : (end : End) (verdict : Verdict) (found : CallFindings CallEvent) (founds : List (CallFindings CallEvent)) (number : ℕ)
     → IsCountIfSmall number (count_by (is_of end verdict) (flat_map openers_in founds))
     → IsCountIfSmall (count_in end verdict found + number) (count_by (is_of end verdict) (flat_map openers_in (found ∷ founds)))
 more_in_front end verdict found founds number holds few =
@@ -43,8 +42,8 @@ more_in_front end verdict found founds number holds few =
     omega (arith, both, rest)
 
 -- one thread more, in front
-pub thread_in_front : (e : Thread × Calls ⊤) (entries : List (Thread × Calls ⊤)) (found : CallFindings (CallEvent ⊤)) (listed : List OpenerRow)
-    (answered replied : ℕ) (strays : List ℕ) (sends : List SendRow) → GivesFindings e.1 found → AreRowsInTurn entries listed answered replied strays sends
+pub thread_in_front : (e : Thread × Calls CallEvent) (entries : List (Thread × Calls CallEvent)) (found : CallFindings CallEvent) (listed : List OpenerRow)
+    (answered replied : ℕ) (strays : List ℕ) (sends : List SendRow) → GivesFindings event_reads e.1 found → AreRowsInTurn entries listed answered replied strays sends
     → AreRowsInTurn (e ∷ entries) (listed_in found ++ listed) (count_in Caller Answered found + answered) (count_in Server Replied found + replied)
     (strays_in found ++ strays) (sends_in found ++ sends)
 thread_in_front e entries found listed answered replied strays sends gives rows = record {
@@ -64,7 +63,7 @@ added old own new more count is holds few =
     omega (arith, is, whole, few)
 
 -- rows that a thread's were taken over into, with those to come
-pub taken_over : (entries : List (Thread × Calls ⊤)) (old new : ThreadRows) (found : CallFindings (CallEvent ⊤)) (listed : List OpenerRow)
+pub taken_over : (entries : List (Thread × Calls CallEvent)) (old new : ThreadRows) (found : CallFindings CallEvent) (listed : List OpenerRow)
     (answered replied : ℕ) (strays : List ℕ) (sends : List SendRow) → TakesOver old found new
     → AreRowsInTurn entries (old.listed.items ++ (listed_in found ++ listed)) (old.answered + (count_in Caller Answered found + answered))
     (old.replied + (count_in Server Replied found + replied)) (old.strays.items ++ (strays_in found ++ strays))
@@ -87,7 +86,7 @@ none_more number count holds few =
     omega (arith, whole)
 
 -- rows with none to come
-pub all_turned : (entries : List (Thread × Calls ⊤)) (rows : ThreadRows)
+pub all_turned : (entries : List (Thread × Calls CallEvent)) (rows : ThreadRows)
     → AreRowsInTurn entries (rows.listed.items ++ []) (rows.answered + 0) (rows.replied + 0) (rows.strays.items ++ []) (rows.sends.items ++ [])
     → AreGatheredRows entries rows
 all_turned entries rows are = record {

@@ -1,13 +1,13 @@
 -- The rows of the calls of all threads, and what is kept of them.
-use Rattle.std.specs.Prelude.{◌≡◌, ℕ, ◌+◌, ◌-◌, ◌<◌, ◌^◌, min, ◌++◌, ◌&&◌, ◌||◌, if◌then◌else◌, not, Bool, true, false, List, map, filter, count_by, None, ⊤}
+use Rattle.std.specs.Prelude.{◌≡◌, ℕ, ◌+◌, ◌-◌, ◌<◌, ◌^◌, min, ◌++◌, ◌&&◌, ◌||◌, if◌then◌else◌, not, Bool, true, false, List, map, filter, count_by, None}
 use Rattle.std.specs.List.{AllZip, flat_map}
 use Rattle.std.specs.List.Sorted.{IsPermutation, IsNonDecreasingBy}
 use Rattle.event_core.specs.Events.{EventText}
-use Rattle.call_stacks.specs.Calls.{GivesFindings, bracket_by, event_place}
+use Rattle.call_stacks.specs.Calls.{GivesFindings, bracket_read, event_reads, event_place}
 use Rattle.call_stacks.specs.declared.opener.Opener.{Opener}
 use Rattle.call_stacks.specs.declared.findings.RefusedSend.{RefusedSend}
 use Rattle.call_stacks.specs.declared.findings.CallFindings.{CallFindings}
-use Rattle.call_stacks.specs.declared.call_event.CallEvent.{CallEvent}
+use Rattle.call_stacks.specs.declared.call_record.CallEvent.{CallEvent}
 use Rattle.call_stacks.specs.declared.calls.Calls.{Calls}
 use Rattle.call_stacks.specs.declared.verdict.Verdict.{Verdict}
 use Rattle.call_stacks.specs.declared.verdict.Verdict.TheVariants.{Answered, Failed, Replied, Crossed, Open}
@@ -29,16 +29,16 @@ abbrev pub send_row : RefusedSend EventText → SendRow
 send_row s = record { place = s.event.place; oneway = s.oneway }
 
 -- the same of what is found of a thread
-abbrev pub found_call : Opener (CallEvent ⊤) → CallRow
+abbrev pub found_call : Opener CallEvent → CallRow
 found_call o = record { place = o.event.place; verdict = o.verdict; closer = o.closer }
 
-abbrev pub found_opener : Opener (CallEvent ⊤) → OpenerRow
+abbrev pub found_opener : Opener CallEvent → OpenerRow
 found_opener o = record {
-  end = if is_call_bracket (bracket_by None o.event) then Caller else Server;
+  end = if is_call_bracket (bracket_read event_reads None o.event) then Caller else Server;
   row = found_call o;
 }
 
-abbrev pub found_send : RefusedSend (CallEvent ⊤) → SendRow
+abbrev pub found_send : RefusedSend CallEvent → SendRow
 found_send s = record { place = s.event.place; oneway = s.oneway }
 
 -- whether the thread of a call is at this end
@@ -69,25 +69,25 @@ abbrev pub is_listed : OpenerRow → Bool
 is_listed o = is_but Caller Answered o || is_but Server Replied o
 
 -- the calls of a thread, as rows
-abbrev pub openers_in : CallFindings (CallEvent ⊤) → List OpenerRow
+abbrev pub openers_in : CallFindings CallEvent → List OpenerRow
 openers_in found = map found_opener found.openers.items
 
 -- those of them that are listed, and how many have their thread at this end and this verdict
-abbrev pub listed_in : CallFindings (CallEvent ⊤) → List OpenerRow
+abbrev pub listed_in : CallFindings CallEvent → List OpenerRow
 listed_in found = filter is_listed (openers_in found)
 
-abbrev pub count_in : End → Verdict → CallFindings (CallEvent ⊤) → ℕ
+abbrev pub count_in : End → Verdict → CallFindings CallEvent → ℕ
 count_in end verdict found = count_by (is_of end verdict) (openers_in found)
 
 -- its strays and its refused sends
-abbrev pub strays_in : CallFindings (CallEvent ⊤) → List ℕ
+abbrev pub strays_in : CallFindings CallEvent → List ℕ
 strays_in found = map event_place found.strays.items
 
-abbrev pub sends_in : CallFindings (CallEvent ⊤) → List SendRow
+abbrev pub sends_in : CallFindings CallEvent → List SendRow
 sends_in found = map found_send found.refused.items
 
 -- the rows are the old ones with those of a thread behind them, and what is counted are both together
-pub record TakesOver (old : ThreadRows) (found : CallFindings (CallEvent ⊤)) (new : ThreadRows) : Type 0 where
+pub record TakesOver (old : ThreadRows) (found : CallFindings CallEvent) (new : ThreadRows) : Type 0 where
   pub listed : new.listed.items ≡ old.listed.items ++ listed_in found
   pub answered : new.answered ≡ min (old.answered + count_in Caller Answered found) (2 ^ 64 - 1)
   pub replied : new.replied ≡ min (old.replied + count_in Server Replied found) (2 ^ 64 - 1)
@@ -99,17 +99,17 @@ abbrev pub IsCountIfSmall : ℕ → ℕ → Type 0
 IsCountIfSmall number count = count < 2 ^ 64 → number ≡ count
 
 -- the rows of the threads of some entries, one thread behind another, and how many of their calls are not listed
-pub record AreRowsInTurn (entries : List (Thread × Calls ⊤)) (listed : List OpenerRow) (answered replied : ℕ)
+pub record AreRowsInTurn (entries : List (Thread × Calls CallEvent)) (listed : List OpenerRow) (answered replied : ℕ)
     (strays : List ℕ) (sends : List SendRow) : Type 0 where
-  pub founds : List (CallFindings (CallEvent ⊤))
-  pub are : AllZip (λ (e : Thread × Calls ⊤) found. GivesFindings e.1 found) entries founds
+  pub founds : List (CallFindings CallEvent)
+  pub are : AllZip (λ (e : Thread × Calls CallEvent) found. GivesFindings event_reads e.1 found) entries founds
   pub listed_are : listed ≡ flat_map listed_in founds
   pub answered_is : IsCountIfSmall answered (count_by (is_of Caller Answered) (flat_map openers_in founds))
   pub replied_is : IsCountIfSmall replied (count_by (is_of Server Replied) (flat_map openers_in founds))
   pub strays_are : strays ≡ flat_map strays_in founds
   pub sends_are : sends ≡ flat_map sends_in founds
 
-abbrev pub AreGatheredRows : List (Thread × Calls ⊤) → ThreadRows → Type 0
+abbrev pub AreGatheredRows : List (Thread × Calls CallEvent) → ThreadRows → Type 0
 AreGatheredRows entries rows =
     AreRowsInTurn entries rows.listed.items rows.answered rows.replied rows.strays.items rows.sends.items
 

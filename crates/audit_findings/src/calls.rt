@@ -24,7 +24,7 @@ pub struct CallRow {
 }
 
 impl CallRow {
-    pub(crate) fn of(opener: &Opener<CallEvent<()>>) -> Self
+    pub(crate) fn of(opener: &Opener<CallEvent>) -> Self
         ensures { result ≡ found_call opener.now }
     {
         CallRow {

@@ -4,7 +4,7 @@ ghost use Rattle.std.specs.Prelude.{◌≡◌, map, filter, count_by, IfOk};
 ghost use Rattle.audit_findings.specs.ThreadRows.{found_opener, is_of, is_but, is_listed};
 
 use crate::calls::CallRow;
-use call_stacks::{CallEvent, Opener, Verdict};
+use call_stacks::{CallEvent, CallRecord, Opener, Verdict};
 use event_core::Bracket;
 use std::alloc::{AllocError, Global};
 
@@ -25,7 +25,7 @@ pub(crate) struct OpenerRow {
 }
 
 impl OpenerRow {
-    pub fn of(opener: &Opener<CallEvent<()>>) -> Self
+    pub fn of(opener: &Opener<CallEvent>) -> Self
         ensures { result ≡ found_opener opener.now }
     {
         let end = match opener.event.bracket(None) {

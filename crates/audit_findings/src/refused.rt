@@ -44,7 +44,7 @@ pub(crate) struct SendRow {
 }
 
 impl SendRow {
-    pub fn of(sent: &RefusedSend<CallEvent<()>>) -> Self
+    pub fn of(sent: &RefusedSend<CallEvent>) -> Self
         ensures { result ≡ found_send sent.now }
     {
         SendRow {

@@ -6,7 +6,7 @@ ghost use Rattle.summary_law.specs.Summary.{CanAdd, Adds, CanJoin, Joins};
 ghost use Rattle.audit_findings.specs.Ledgers.{AreFewEvents};
 ghost use Rattle.audit_findings.specs.ThreadLedger.{SumsThreadCalls};
 
-use call_stacks::{CallEvent, Calls};
+use call_stacks::{CallEvent, CallRecord, Calls};
 use capture_frame::Thread;
 use event_core::Event;
 use std::alloc::{AllocError, Global};
@@ -16,7 +16,7 @@ use summary_law::{InOrder, Summary};
 /// calls go by.
 #[derive(Drop)]
 pub(crate) struct ThreadLedger {
-    pub threads: InOrder<Thread, Calls<()>>,
+    pub threads: InOrder<Thread, Calls<CallEvent>>,
 }
 
 impl ThreadLedger {
@@ -34,7 +34,7 @@ impl ThreadLedger {
         ensures { OnOk result
             (Adds SumsThreadCalls AreFewEvents self.old (event_text event.entry) self.new) }
     {
-        let call = CallEvent::of(event, ());
+        let call = CallEvent::of(event);
         match call.mark() {
             Some(_) => self.threads.add((event.of_thread(), call)),
             None => Ok(()),

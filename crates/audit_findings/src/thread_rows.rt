@@ -64,7 +64,7 @@ impl ThreadRows {
 
     /// Takes over the calls of a thread. The numbers never get to 2^64, as no capture has so many
     /// records; that is known to the caller alone, so they are sums that stop there.
-    fn take_over(&mut self, found: &CallFindings<CallEvent<()>>) -> Result<(), AllocError>
+    fn take_over(&mut self, found: &CallFindings<CallEvent>) -> Result<(), AllocError>
         ensures { OnOk result (TakesOver self.old found.now self.new) }
     {
         let openers = found.openers.as_slice();
@@ -88,7 +88,7 @@ impl ThreadRows {
 }
 
 /// How many calls have their thread at this end and this verdict.
-fn count_found(openers: &[Opener<CallEvent<()>>], end: End, verdict: Verdict) -> u64
+fn count_found(openers: &[Opener<CallEvent>], end: End, verdict: Verdict) -> u64
     ensures { result ≡ count_by (is_of end verdict) (map found_opener openers.now) }
 {
     openers
@@ -97,10 +97,7 @@ fn count_found(openers: &[Opener<CallEvent<()>>], end: End, verdict: Verdict) ->
         .count() as u64
 }
 
-fn push_listed(
-    rows: &mut Vec<OpenerRow>,
-    openers: &[Opener<CallEvent<()>>],
-) -> Result<(), AllocError>
+fn push_listed(rows: &mut Vec<OpenerRow>, openers: &[Opener<CallEvent>]) -> Result<(), AllocError>
     ensures { OnOk result (rows.new.items ≡
         rows.old.items ++ filter is_listed (map found_opener openers.now)) }
 {
@@ -113,7 +110,7 @@ fn push_listed(
     Ok(())
 }
 
-fn push_places(places: &mut Vec<u64>, events: &[CallEvent<()>]) -> Result<(), AllocError>
+fn push_places(places: &mut Vec<u64>, events: &[CallEvent]) -> Result<(), AllocError>
     ensures { OnOk result (places.new.items ≡
         places.old.items ++ map event_place events.now) }
 {
@@ -123,10 +120,7 @@ fn push_places(places: &mut Vec<u64>, events: &[CallEvent<()>]) -> Result<(), Al
     Ok(())
 }
 
-fn push_sends(
-    rows: &mut Vec<SendRow>,
-    sends: &[RefusedSend<CallEvent<()>>],
-) -> Result<(), AllocError>
+fn push_sends(rows: &mut Vec<SendRow>, sends: &[RefusedSend<CallEvent>]) -> Result<(), AllocError>
     ensures { OnOk result (rows.new.items ≡
         rows.old.items ++ map found_send sends.now) }
 {
