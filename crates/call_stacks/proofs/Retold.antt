@@ -1,11 +1,10 @@
 -- The calls of events that are told in another form, in which what their calls go by reads the same.
-use Rattle.std.proofs.Common.{◌≡◌, ℕ, ◌<◌, Bool, true, false, cond, Option, Some, None, refl, sym, ap, ap₂, subst, ◌∙◌, inl, inr, arith}
+use Rattle.std.proofs.Common.{◌≡◌, ℕ, ◌<◌, Bool, true, false, cond, Option, Some, None, refl, sym, ap, ap₂, subst, ◌∙◌, inl, inr}
 use Rattle.std.proofs.Common.{List, [], ◌∷◌, map, filter_map}
-use Rattle.std.proofs.lemmas.Option.{slice_get-map}
 use Rattle.std.proofs.lemmas.Simd.{map-map}
 use Rattle.std.specs.List.{cons_option}
 use Rattle.std.specs.Option.{option_or}
-use Rattle.std.specs.Prelude.{Contains, slice_get, option_map}
+use Rattle.std.specs.Prelude.{Contains, slice_get}
 use Rattle.event_core.specs.Brackets.{mark_of, bracket_of}
 use Rattle.event_core.specs.declared.marks.Bracket.{Bracket}
 use Rattle.event_core.specs.declared.marks.Mark.{Mark}
@@ -14,57 +13,16 @@ use Rattle.summary_law.specs.Fits.{PlacesRise}
 use Rattle.call_stacks.specs.declared.findings.CallFindings.{CallFindings}
 use Rattle.call_stacks.specs.declared.findings.RefusedSend.{RefusedSend}
 use Rattle.call_stacks.specs.declared.opener.Opener.{Opener}
-use Rattle.call_stacks.specs.Calls.{Reads, JudgedOf, bracket_read, mark_behind_by, judged_with, judged_of, sides_of, verdict_read}
-use Rattle.call_stacks.specs.Calls.{HasVerdict, closed_by, left_open, IsOpener, IsStrayEvent, IsRefusedSend, is_refused, is_oneway_mark}
+use Rattle.call_stacks.specs.Calls.{Reads, JudgedOf, bracket_read, mark_behind_by, judged_with, judged_of, verdict_read}
+use Rattle.call_stacks.specs.Calls.{opener_place, IsOpener, IsStrayEvent, IsRefusedSend, is_refused, is_oneway_mark}
 use Rattle.call_stacks.specs.Calls.{refused_send, refused_of, AreFindings}
-use Rattle.call_stacks.specs.Matching.{Side, Match, IsStray, ListsInOrder}
+use Rattle.call_stacks.specs.Matching.{Side, ListsInOrder}
 use Rattle.call_stacks.specs.Verdicts.{side_of, verdict_of}
 use Rattle.call_stacks.specs.declared.verdict.Verdict.{Verdict}
-use Rattle.call_stacks.proofs.Lists.{judged_events}
-use Rattle.call_stacks.proofs.Members.{In, in_list, contained, in-map, map-in, in_get, get_in, Rises, rises_from_pairs, pairs_from_rises, map-rises, listed}
-
--- ---- a list in rising order of what is told of some things, as one of these things
-
--- of each thing of a list, one that it is told of
-origins : {X Y : Type 0} (tell : X → Y) (Is : X → Type 0) (ys : List Y) → ((y : Y) → In y ys → (x : X) × Is x × (y ≡ tell x))
-    → (xs : List X) × (ys ≡ map tell xs) × ((x : X) → In x xs → Is x)
-origins tell Is [] from = ([], refl, λ x here. absurd here)
-origins {X} {Y} tell Is (y ∷ ys) from =
-    let first = from y (inl refl) in
-    let rest = origins tell Is ys (λ z there. from z (inr there)) in (
-      first.0 ∷ rest.0,
-      ap₂ (λ (z : Y) zs. z ∷ zs) first.2 rest.1,
-      λ x here. elim here [
-        | inl same ↦ subst Is (sym same) first.1
-        | inr there ↦ rest.2 x there
-      ],
-    )
-
--- where what is told of things tells them apart, and is listed, the things that it is told of are
-pub listed_of : {X Y : Type 0} (rank : X → ℕ) (other : Y → ℕ) (tell : X → Y) (Is : X → Type 0) (Are : Y → Type 0)
-    → ((x : X) → other (tell x) ≡ rank x) → ((x z : X) → Is x → Is z → tell x ≡ tell z → x ≡ z)
-    → ((x : X) → Is x → Are (tell x)) → ((y : Y) → Are y → (x : X) × Is x × (y ≡ tell x))
-    → (ys : List Y) → ListsInOrder other Are ys → (xs : List X) × ListsInOrder rank Is xs × (ys ≡ map tell xs)
-listed_of {X} {Y} rank other tell Is Are same apart to from ys lists =
-    let made = origins tell Is ys (λ y there. from y ((lists.exact y).0 (contained ys y there))) in
-    let xs = made.0 in
-    let rises = subst (Rises other) made.1 (rises_from_pairs other ys lists.rising) in (
-      xs,
-      listed rank Is xs (rises_alike (λ x. other (tell x)) rank same xs (map-rises tell other xs rises)) made.2
-          (λ x is.
-          let there : In (tell x) (map tell xs)
-          = subst (In (tell x)) made.1 (in_list ys (tell x) ((lists.exact (tell x)).1 (to x is))) in
-          let own = in-map tell xs (tell x) there in
-          subst (λ (z : X). In z xs) (sym (apart x own.0 is (made.2 own.0 own.1) own.2)) own.1),
-      made.1,
-    )
-  where
-    rises_alike : (first second : X → ℕ) → ((x : X) → first x ≡ second x) → (items : List X) → Rises first items → Rises second items
-    rises_alike first second alike [] rises = tt
-    rises_alike first second alike (x ∷ items) rises = (
-      λ y there. subst (λ (n : ℕ). n < second y) (alike x) (subst (λ (n : ℕ). first x < n) (alike y) (rises.0 y there)),
-      rises_alike first second alike items rises.1,
-    )
+use Rattle.call_stacks.proofs.Judging.{pair, side}
+use Rattle.call_stacks.proofs.Lists.{found, event_of, openers_found, strays_found, openers_listed, strays_listed, judged_events}
+use Rattle.call_stacks.proofs.Model.{both, openers, strays, openers-map, strays-map}
+use Rattle.call_stacks.proofs.Members.{In, contained, map-in, in_get, get_in, Rises, rises_from_pairs, pairs_from_rises, rises-map, map-rises, listed, only_list}
 
 -- ---- judged events
 
@@ -82,21 +40,6 @@ told_opener tell call = record { event = tell call.event; verdict = call.verdict
 
 abbrev pub told_send : {E F : Type 0} → (E → F) → RefusedSend E → RefusedSend F
 told_send tell sent = record { event = tell sent.event; oneway = sent.oneway }
-
--- what stands at a position
-there_told : {X Y : Type 0} (tell : X → Y) (xs : List X) (i : ℕ) (x : X) → slice_get xs i ≡ Some x → slice_get (map tell xs) i ≡ Some (tell x)
-there_told tell xs i x is = slice_get-map tell xs i ∙ ap (option_map tell) is
-
-some_told : {X Y : Type 0} (tell : X → Y) (o : Option X) (y : Y) → option_map tell o ≡ Some y → (x : X) × (o ≡ Some x) × (y ≡ tell x)
-some_told tell None y is = let no : ⊥ = cc in absurd no
-some_told tell (Some x) y is = (x, refl, let same : y ≡ tell x = cc in same)
-
-from_told : {X Y : Type 0} (tell : X → Y) (xs : List X) (i : ℕ) (y : Y) → slice_get (map tell xs) i ≡ Some y
-    → (x : X) × (slice_get xs i ≡ Some x) × (y ≡ tell x)
-from_told tell xs i y is = some_told tell (slice_get xs i) y (sym (slice_get-map tell xs i) ∙ is)
-
-sides_told : {E F : Type 0} (tell : E → F) (items : List (JudgedOf E)) → sides_of (map (told_judged tell) items) ≡ sides_of items
-sides_told {E} {F} tell items = map-map (λ (found : JudgedOf F). side_of found.bracket) (told_judged tell) items
 
 -- an event of a thread, by what stands at a position of its judged ones
 pub stands_judged : {E : Type 0} (reads : Reads E) (events : List E) (position : ℕ) (there : JudgedOf E) (e : E)
@@ -129,90 +72,44 @@ module _ {E F : Type 0} (from : Reads E) (into : Reads F) (tell : E → F) (alik
   verdict_told : (call answer : E) → verdict_read into (tell call) (tell answer) ≡ verdict_read from call answer
   verdict_told call answer = ap₂ verdict_of (bracket_told None call) (bracket_told None answer)
 
-  -- ---- openers
+  -- ---- openers and strays
 
-  verdict_into : (items : List (JudgedOf E)) (i : ℕ) (call : Opener E) → HasVerdict from items i call
-      → HasVerdict into (map (told_judged tell) items) i (told_opener tell call)
-  verdict_into items i call (closed_by j answer match stands verdict place) =
-      closed_by j (told_judged tell answer)
-      (subst (λ (sides : List Side). Match sides i j) (sym (sides_told tell items)) match)
-      (there_told (told_judged tell) items j answer stands)
-      (verdict ∙ sym (verdict_told call.event answer.event))
-      (place ∙ ap (λ (n : ℕ). Some n) (sym (alike.place answer.event)))
-  verdict_into items i call (left_open none verdict place) =
-      left_open (λ j match. none j (subst (λ (sides : List Side). Match sides i j) (sides_told tell items) match)) verdict place
+  abbrev told_pair : E × Side → F × Side
+  told_pair p = (tell p.0, p.1)
 
-  -- the opener that one tells of
-  abbrev opener_with : E → Opener F → Opener E
-  opener_with e call = record { event = e; verdict = call.verdict; closer = call.closer }
+  pairs_told : (items : List (JudgedOf E)) → map pair (map (told_judged tell) items) ≡ map told_pair (map pair items)
+  pairs_told [] = refl
+  pairs_told (j ∷ items) = ap (λ ps. (tell j.event, side_of j.bracket) ∷ ps) (pairs_told items)
 
-  verdict_back : (items : List (JudgedOf E)) (i : ℕ) (e : E) (call : Opener F) → call.event ≡ tell e
-      → HasVerdict into (map (told_judged tell) items) i call → HasVerdict from items i (opener_with e call)
-  verdict_back items i e call same (closed_by j answer match stands verdict place) =
-      let own = from_told (told_judged tell) items j answer stands in
-      let event : answer.event ≡ tell own.0.event = ap (λ (found : JudgedOf F). found.event) own.2 in
-      closed_by j own.0
-      (subst (λ (sides : List Side). Match sides i j) (sides_told tell items) match)
-      own.1
-      (verdict ∙ ap₂ (verdict_read into) same event ∙ verdict_told e own.0.event)
-      (place ∙ ap (λ (n : ℕ). Some n) (ap into.place event ∙ alike.place own.0.event))
-  verdict_back items i e call same (left_open none verdict place) =
-      left_open (λ j match. none j (subst (λ (sides : List Side). Match sides i j) (sym (sides_told tell items)) match)) verdict place
+  found_told : (p : (E × Side) × Option (E × Side)) → found into (both told_pair p) ≡ told_opener tell (found from p)
+  found_told (p, None) = refl
+  found_told (p, Some answer) =
+      let with : Verdict → ℕ → Opener F = λ v n. record { event = tell p.0; verdict = v; closer = Some n } in
+      ap₂ with (verdict_told p.0 answer.0) (alike.place answer.0)
 
-  opener_into : (items : List (JudgedOf E)) (call : Opener E) → IsOpener from items call
-      → IsOpener into (map (told_judged tell) items) (told_opener tell call)
-  opener_into items call is = record {
-    position = is.position;
-    there = told_judged tell is.there;
-    stands = there_told (told_judged tell) items is.position is.there is.stands;
-    opens = is.opens;
-    event = ap tell is.event;
-    verdict = verdict_into items is.position call is.verdict;
-  }
+  all_told : (ps : List ((E × Side) × Option (E × Side))) → map (found into) (map (both told_pair) ps) ≡ map (told_opener tell) (map (found from) ps)
+  all_told [] = refl
+  all_told (p ∷ ps) = ap₂ (λ (call : Opener F) calls. call ∷ calls) (found_told p) (all_told ps)
 
-  opener_back : (items : List (JudgedOf E)) (call : Opener F) → IsOpener into (map (told_judged tell) items) call
-      → (own : Opener E) × IsOpener from items own × (call ≡ told_opener tell own)
-  opener_back items call is =
-      let found = from_told (told_judged tell) items is.position is.there is.stands in
-      let event : call.event ≡ tell found.0.event = is.event ∙ ap (λ (j : JudgedOf F). j.event) found.2 in
-      let with : F → Opener F = λ e. record { event = e; verdict = call.verdict; closer = call.closer } in (
-        opener_with found.0.event call,
-        record {
-          position = is.position;
-          there = found.0;
-          stands = found.1;
-          opens = sym (ap (λ (j : JudgedOf F). side_of j.bracket) found.2) ∙ is.opens;
-          event = refl;
-          verdict = verdict_back items is.position found.0.event call event is.verdict;
-        },
-        ap with event,
-      )
+  openers_told : (items : List (JudgedOf E)) → openers_found into (map (told_judged tell) items) ≡ map (told_opener tell) (openers_found from items)
+  openers_told items =
+      ap (λ ps. map (found into) (openers side ps)) (pairs_told items)
+      ∙ ap (map (found into)) (openers-map told_pair side (map pair items))
+      ∙ all_told (openers side (map pair items))
 
-  -- ---- strays
+  strays_told : (items : List (JudgedOf E)) → strays_found (map (told_judged tell) items) ≡ map tell (strays_found items)
+  strays_told items =
+      ap (λ ps. map event_of (strays side ps)) (pairs_told items)
+      ∙ ap (map event_of) (strays-map told_pair side (map pair items))
+      ∙ map-map event_of told_pair (strays side (map pair items))
+      ∙ sym (map-map tell event_of (strays side (map pair items)))
 
-  stray_into : (items : List (JudgedOf E)) (answer : E) → IsStrayEvent items answer → IsStrayEvent (map (told_judged tell) items) (tell answer)
-  stray_into items answer is = record {
-    position = is.position;
-    there = told_judged tell is.there;
-    stands = there_told (told_judged tell) items is.position is.there is.stands;
-    stray = subst (λ (sides : List Side). IsStray sides is.position) (sym (sides_told tell items)) is.stray;
-    event = ap tell is.event;
-  }
-
-  stray_back : (items : List (JudgedOf E)) (answer : F) → IsStrayEvent (map (told_judged tell) items) answer
-      → (own : E) × IsStrayEvent items own × (answer ≡ tell own)
-  stray_back items answer is =
-      let found = from_told (told_judged tell) items is.position is.there is.stands in (
-        found.0.event,
-        record {
-          position = is.position;
-          there = found.0;
-          stands = found.1;
-          stray = subst (λ (sides : List Side). IsStray sides is.position) (sides_told tell items) is.stray;
-          event = refl;
-        },
-        is.event ∙ ap (λ (j : JudgedOf F). j.event) found.2,
-      )
+  rises_told : (events : List E) → Rises from.place events → Rises (λ e. into.place (tell e)) events
+  rises_told [] rises = tt
+  rises_told (e ∷ events) rises = (
+    λ x there. subst (λ (n : ℕ). n < into.place (tell x)) (sym (alike.place e)) (subst (λ (n : ℕ). from.place e < n) (sym (alike.place x)) (rises.0 x there)),
+    rises_told events rises.1,
+  )
 
 -- ---- refused sends
 
@@ -291,61 +188,40 @@ refused_told {E} {F} tell (j ∷ items) =
 
 -- ---- the findings of a thread whose events are told in another form, as those of the events themselves
 
--- things of one rank are the same where ranks rise
-pub one_of_rank : {X : Type 0} (rank : X → ℕ) (xs : List X) (x y : X) → Rises rank xs → In x xs → In y xs → rank x ≡ rank y → x ≡ y
-one_of_rank rank [] x y rises here there same = absurd here
-one_of_rank rank (z ∷ xs) x y rises (inl first) (inl second) same = first ∙ sym second
-one_of_rank rank (z ∷ xs) x y rises (inl first) (inr later) same =
-    let below = rises.0 y later in
-    let is = ap rank first in
-    let no : ⊥ = omega arith in
-    absurd no
-one_of_rank rank (z ∷ xs) x y rises (inr later) (inl first) same =
-    let below = rises.0 x later in
-    let is = ap rank first in
-    let no : ⊥ = omega arith in
-    absurd no
-one_of_rank rank (z ∷ xs) x y rises (inr a) (inr b) same = one_of_rank rank xs x y rises.1 a b same
-
 module _ {E F : Type 0} (from : Reads E) (into : Reads F) (tell : E → F) (alike : ReadAlike from into tell) (events : List E)
     (rise : PlacesRise from.place events) (findings : CallFindings F) (are : AreFindings into (map tell events) findings) where
-  -- events that are told alike are the same
-  told_apart : (e other : E) → Contains events e → Contains events other → tell e ≡ tell other → e ≡ other
-  told_apart e other first second same =
-      one_of_rank from.place events e other (rises_from_pairs from.place events rise) (in_list events e first) (in_list events other second)
-      (sym (alike.place e) ∙ ap into.place same ∙ alike.place other)
+  own_rise : Rises from.place events
+  own_rise = rises_from_pairs from.place events rise
 
-  abbrev IsOwn : Opener E → Type 0
-  IsOwn = IsOpener from (judged_of from events)
+  rise_told : Rises into.place (map tell events)
+  rise_told = rises-map tell into.place events (rises_told from into tell alike events own_rise)
 
-  openers_apart : (call other : Opener E) → IsOwn call → IsOwn other → told_opener tell call ≡ told_opener tell other → call ≡ other
-  openers_apart call other first second same =
-      let event : call.event ≡ other.event
-      = told_apart call.event other.event (stands_judged from events first.position first.there call.event first.stands first.event)
-      (stands_judged from events second.position second.there other.event second.stands second.event) (ap (λ (o : Opener F). o.event) same) in
-      let with : Verdict → Option ℕ → E → Opener E = λ v p e. record { event = e; verdict = v; closer = p } in
-      ap (with call.verdict call.closer) event
-      ∙ ap (λ v. with v call.closer other.event) (ap (λ (o : Opener F). o.verdict) same)
-      ∙ ap (λ p. with other.verdict p other.event) (ap (λ (o : Opener F). o.closer) same)
+  abbrev items : List (JudgedOf E)
+  items = judged_of from events
 
-  pub openers_of : (openers : List (Opener E)) × ListsInOrder (λ o. from.place o.event) IsOwn openers
+  abbrev told_items : List (JudgedOf F)
+  told_items = judged_of into (map tell events)
+
+  pub openers_of : (openers : List (Opener E)) × ListsInOrder (opener_place from) (IsOpener from items) openers
       × (findings.openers.items ≡ map (told_opener tell) openers)
-  openers_of =
-      listed_of (λ (o : Opener E). from.place o.event) (λ (o : Opener F). into.place o.event) (told_opener tell) IsOwn
-      (IsOpener into (map (told_judged tell) (judged_of from events)))
-      (λ call. alike.place call.event) openers_apart (opener_into from into tell alike (judged_of from events))
-      (λ call is. opener_back from into tell alike (judged_of from events) call is) findings.openers.items
-      (subst (λ items. ListsInOrder (λ o. into.place o.event) (IsOpener into items) findings.openers.items)
-      (judged_told from into tell alike events) are.openers)
+  openers_of = (
+    openers_found from items,
+    openers_listed from (bracket_read from) None events own_rise,
+    only_list (opener_place into) (IsOpener into told_items) findings.openers.items (openers_found into told_items) are.openers
+        (openers_listed into (bracket_read into) None (map tell events) rise_told)
+        ∙ ap (openers_found into) (judged_told from into tell alike events)
+        ∙ openers_told from into tell alike items,
+  )
 
-  pub strays_of : (strays : List E) × ListsInOrder from.place (IsStrayEvent (judged_of from events)) strays × (findings.strays.items ≡ map tell strays)
-  strays_of =
-      listed_of from.place into.place tell (IsStrayEvent (judged_of from events)) (IsStrayEvent (map (told_judged tell) (judged_of from events)))
-      alike.place
-      (λ e other first second same. told_apart e other (stands_judged from events first.position first.there e first.stands first.event)
-      (stands_judged from events second.position second.there other second.stands second.event) same)
-      (stray_into from into tell alike (judged_of from events)) (stray_back from into tell alike (judged_of from events)) findings.strays.items
-      (subst (λ items. ListsInOrder into.place (IsStrayEvent items) findings.strays.items) (judged_told from into tell alike events) are.strays)
+  pub strays_of : (strays : List E) × ListsInOrder from.place (IsStrayEvent items) strays × (findings.strays.items ≡ map tell strays)
+  strays_of = (
+    strays_found items,
+    strays_listed from (bracket_read from) None events own_rise,
+    only_list into.place (IsStrayEvent told_items) findings.strays.items (strays_found told_items) are.strays
+        (strays_listed into (bracket_read into) None (map tell events) rise_told)
+        ∙ ap (λ (found : List (JudgedOf F)). strays_found found) (judged_told from into tell alike events)
+        ∙ strays_told from into tell alike items,
+  )
 
-  pub sends_of : findings.refused.items ≡ map (told_send tell) (refused_of (judged_of from events))
-  sends_of = are.refused ∙ ap refused_of (judged_told from into tell alike events) ∙ refused_told tell (judged_of from events)
+  pub sends_of : findings.refused.items ≡ map (told_send tell) (refused_of items)
+  sends_of = are.refused ∙ ap refused_of (judged_told from into tell alike events) ∙ refused_told tell items
