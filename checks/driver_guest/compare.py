@@ -105,7 +105,7 @@ def lost_differences(recording):
         yield "lost", "all", why, count, 0
 
 
-PARTIAL = {"late", "killed", "stopped"}		# the recorder was not there from the beginning to the end
+PARTIAL = {"late", "killed", "stopped", "full"}		# the recorder was not there from the beginning to the end
 
 
 class Scenario:
@@ -124,6 +124,8 @@ class Scenario:
             return [("capture", "all", self.text.strip(), 0, 0)], {"capture"}
         if self.how in PARTIAL:
             found = [item for item in lost_differences(self.recording) if item[2] in ("untold", "broken", "not-written")]
+            if self.how == "full" and "ring-full" not in {why for _, why in self.recording.lost}:
+                found.append(("lost", "all", "ring-full", 0, "some"))
             if not self.recording.frames:
                 found.append(("capture", "all", "frames", 0, 1))
             return found, {"capture", "lost"}

@@ -53,10 +53,10 @@ static void serving_pool(void)
 	wait_until(&shared->ready, 2);
 }
 
-/* However long it takes: a load is no scenario that hangs. */
-static void wait_for_rest(int clients)
+/* However long it takes: a load is no scenario that hangs. The oneway sends are served after their senders rest. */
+static void wait_for_rest(int clients, int threads)
 {
-	while (shared->resting < clients) usleep(10000);
+	while (shared->resting < clients || shared->served < clients * threads * scale) usleep(10000);
 }
 
 static void load(void)
@@ -64,14 +64,14 @@ static void load(void)
 	serving_pool();
 	start("client", four_threads);
 	start("client", four_threads);
-	wait_for_rest(2);
+	wait_for_rest(2, 4);
 }
 
 static void load_of_one(void)
 {
 	serving_pool();
 	start("client", one_thread);
-	wait_for_rest(1);
+	wait_for_rest(1, 1);
 }
 
 const struct scenario many_scenarios[] = {{"load", load}, {"load-of-one", load_of_one}, {0}};

@@ -13,6 +13,8 @@ LARGEST = 200_000	# bytes of a capture with its side list
 
 def main(auditor, source, to):
     to = pathlib.Path(to)
+    if to.resolve() == pathlib.Path(source).resolve():
+        sys.exit("store.py: the captures are there already")
     for folder in sorted(pathlib.Path(source).iterdir()):
         captures = Recording(folder).captures if folder.is_dir() else []
         files = [*captures, folder / "capture.side"]
