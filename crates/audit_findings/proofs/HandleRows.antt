@@ -18,24 +18,20 @@ use Rattle.process_ledgers.specs.declared.processes.Processes.{Processes}
 use Rattle.summary_law.specs.declared.nothing.Nothing.{Nothing}
 use Rattle.transaction_view.specs.Grammar.{WholeFrame}
 use Rattle.handle_ledger.specs.declared.held_row.HeldRow.{HeldRow}
-use Rattle.event_core.specs.declared.pending.PendingItem.{PendingItem}
-use Rattle.pending_ledger.specs.Pending.{ArePlacesOf, IsOutstanding}
-use Rattle.pending_ledger.specs.Sums.{GivesLeaked}
+use Rattle.pending_ledger.specs.Pending.{ArePlacesOf}
 use Rattle.process_ledgers.proofs.ItemPlaces.{pending_keeps}
-use Rattle.process_ledgers.specs.declared.process_ledgers.ProcessLedgers.{ProcessLedgers}
-use Rattle.std.specs.Ordering.{eq_by_cmp, nat_cmp}
-use Rattle.process_ledgers.specs.Items.{buffer_item_of, buffer_pending_of}
-use Rattle.process_ledgers.specs.OfProcess.{AreLedgersOf, AreOfProcesses}
-use Rattle.process_ledgers.specs.Processes.{items_of_process, processes_of}
+use Rattle.process_ledgers.specs.Items.{buffer_pending_of}
+use Rattle.process_ledgers.specs.OfProcess.{AreOfProcesses}
+use Rattle.process_ledgers.specs.Processes.{processes_of}
 use Rattle.audit_findings.specs.declared.in_turn.OfProcess.{OfProcess}
-use Rattle.audit_findings.specs.HeldCounts.{AreChosen}
+use Rattle.audit_findings.specs.Entries.{AreChosen}
 use Rattle.audit_findings.specs.Kept.{places_of}
 use Rattle.audit_findings.specs.Places.{AreEventsAt, IsOpenIn, RiseInPlace}
 use Rattle.audit_findings.proofs.EventsAt.{HasEventAt}
 use Rattle.audit_findings.proofs.Listings.{in_kept, kept_in}
 use Rattle.audit_findings.proofs.Rising.{pairs_map, rising_kept}
 use Rattle.audit_findings.proofs.SameMembers.{same_members}
-use Rattle.audit_findings.proofs.StandLaws.{open_stands, pending_made}
+use Rattle.audit_findings.proofs.StandLaws.{open_stands}
 
 -- ---- the events at some places, chosen from all
 
@@ -93,13 +89,6 @@ events_chosen IsSo events places are chosen = record {
   places = subst (ArePlacesOf IsSo) (chosen ∙ append-nil (places_of (filter (is_at places) events))) are;
 }
 
--- what a ledger of deliveries and frees gives as outstanding
-pub open_places : (events : List EventText) (process : Process) (ledgers : ProcessLedgers) (places : List ℕ) → GivesLeaked ledgers.buffers.own places
-    → AreLedgersOf ledgers events process → ArePlacesOf (IsOpenIn buffer_pending_of events process) places
-open_places events process ledgers places gives of =
-    subst (λ (items : List (PendingItem ℕ)). ArePlacesOf (IsOutstanding (eq_by_cmp nat_cmp) items) places) (sym (pending_made process events))
-    (gives (items_of_process buffer_item_of process events) of.buffers)
-
 -- an event stands at each of these places
 pub chosen_open : (events : List EventText) → RiseInPlace events → (process : Process) (places : List ℕ)
     → ArePlacesOf (IsOpenIn buffer_pending_of events process) places → AreChosen (is_at places) events [] places
@@ -123,22 +112,23 @@ pub entry_at : (processes : Processes) (wholes : List (Placed WholeFrame)) (numb
 entry_at processes wholes number e of is d =
     ap (λ (ps : List Process). slice_index_or ps number d) (sym of.order) ∙ key_is (λ (x : Process × Nothing). x.0) processes.order.now.entries.entries number e d is
 
--- ---- lists, one behind another
+-- ---- lists, one after another
 
 abbrev pub ListOfRows : Type 0
 ListOfRows = Vec (OfProcess HeldRow) Global
 
-abbrev pub lists_of : List ListOfRows → List (List (OfProcess HeldRow))
-lists_of lists = map (λ (list : ListOfRows). list.items) lists
+abbrev pub lists_of : {R : Type 0} → List (Vec R Global) → List (List R)
+lists_of {R} lists = map (λ (list : Vec R Global). list.items) lists
 
 -- the first of these lists
-abbrev pub joined_to : List ListOfRows → ℕ → List (OfProcess HeldRow)
-joined_to lists n = flat_map (λ list. list) (map (λ (list : ListOfRows). list.items) (take n lists))
+abbrev pub joined_to : {R : Type 0} → List (Vec R Global) → ℕ → List R
+joined_to {R} lists n = flat_map (λ list. list) (map (λ (list : Vec R Global). list.items) (take n lists))
 
-pub joined_next : (lists : List ListOfRows) (n : ℕ) (d : ListOfRows) → n < length lists → joined_to lists (n + 1) ≡ joined_to lists n ++ (get_or lists n d).items
-joined_next lists n d within =
+pub joined_next : {R : Type 0} (lists : List (Vec R Global)) (n : ℕ) (d : Vec R Global) → n < length lists
+    → joined_to lists (n + 1) ≡ joined_to lists n ++ (get_or lists n d).items
+joined_next {R} lists n d within =
     let one : n + 1 ≡ suc n = omega arith in
-    let items = λ (list : ListOfRows). list.items in
+    let items = λ (list : Vec R Global). list.items in
     let last = get_or lists n d in
     ap (λ m. joined_to lists m) one ∙ ap (λ ls. flat_map (λ list. list) (map items ls)) (take-suc lists n d within)
     ∙ ap (flat_map (λ list. list)) (map-append items (take n lists) (last ∷ []))

@@ -1,27 +1,29 @@
 -- The references that attachments hold, and tallies of them.
-use Rattle.std.proofs.Common.{◌≡◌, ℕ, ◌+◌, ◌^◌, ◌≤◌, List, [], ◌∷◌, ◌++◌, length, Option, Some, None, refl, sym, ap, ap₂, subst, ◌∙◌, append_assoc, length-append, arith}
-use Rattle.std.specs.List.{filter_map}
-use Rattle.std.specs.Option.{option_map_or}
+use Rattle.std.proofs.Common.{◌≡◌, ℕ, suc, drop, ◌+◌, ◌<◌, ◌^◌, ◌≤◌, List, [], ◌∷◌, ◌++◌, length, map, Option, Some, None, refl, sym, ap, subst, ◌∙◌, append_assoc, length-append, arith, get_or, take}
+use Rattle.std.specs.List.{AllZip, filter_map, flat_map}
 use Rattle.std.proofs.lemmas.Grind.{flat_map-append}
-use Rattle.std.proofs.lemmas.List.{append-nil, map-append}
-use Rattle.std.proofs.lemmas.List.Elements.{All-append, All-nil, filter_map-append}
-use Rattle.event_core.specs.declared.event.Event.{Event}
+use Rattle.std.proofs.lemmas.List.{append-nil, map-append, take_more}
+use Rattle.std.proofs.lemmas.List.Concat.{flat_map-cons}
+use Rattle.std.proofs.lemmas.List.Elements.{All-cons, All-nil, filter_map-append}
+use Rattle.std.proofs.lemmas.List.Sums.{sum_by-append, sum_by-cons}
+use Rattle.std.proofs.Math.Seq.{split_at}
+use Rattle.indexmap.proofs.SetLemmas.{AllZip-push}
 use Rattle.event_core.specs.Events.{AttachmentText, EventText}
-use Rattle.event_core.specs.Reading.{event_text, entry_attachment}
+use Rattle.event_core.specs.Reading.{entry_attachment}
 use Rattle.handle_ledger.specs.Held.{Held, held_cmp}
-use Rattle.object_view.specs.Objects.{ObjectText}
+use Rattle.object_view.specs.Objects.{ObjectText, AreObjects}
 use Rattle.object_view.proofs.ListLaws.{objects_short}
-use Rattle.std.specs.Option.{option_map}
 use Rattle.summary_law.proofs.ReadLaws.{length-read}
 use Rattle.summary_law.proofs.TallyLaws.{weighted_map}
 use Rattle.summary_law.specs.Tally.{AreWeighted, TallySums}
 use Rattle.summary_law.specs.declared.tally.Tally.{Tally}
 use Rattle.transaction_view.specs.declared.entry.Entry.{Entry}
+use Rattle.audit_findings.specs.Entries.{carried_by, list_bytes}
 use Rattle.audit_findings.specs.Held.{AreHeldBy, held_in, unweighed}
-use Rattle.audit_findings.specs.HeldCounts.{CountsEvents, CountsHeld, CountsMore, CountsObjects}
-use Rattle.audit_findings.specs.Ledgers.{offset_bytes_of}
-use Rattle.audit_findings.specs.Objects.{Attached, Outcome, IsOutcome, attachments_of, good_objects}
-use Rattle.audit_findings.proofs.OutcomeLaws.{attachments-append, outcome_of, one_outcome}
+use Rattle.audit_findings.specs.HeldCounts.{AreGoodObjects, CountsEntries, CountsHeld, CountsMore, CountsObjects, HasRoom}
+use Rattle.audit_findings.specs.Objects.{Attached, Outcome, IsOutcome, attachments_of}
+use Rattle.audit_findings.proofs.FrameLaws.{first_same}
+use Rattle.audit_findings.proofs.OutcomeLaws.{gives_none, gives_some}
 
 -- ---- one reference more
 
@@ -42,7 +44,7 @@ gives_no_last objects o is =
     let none : filter_map held_in (o ∷ []) ≡ [] = rw is refl in
     filter_map-append held_in objects (o ∷ []) ∙ ap (λ (t : List Held). filter_map held_in objects ++ t) none ∙ append-nil (filter_map held_in objects)
 
--- there is room for one more behind those of these objects
+-- there is room for one more after those of these objects
 pub room_for_last : (held : List Held) (objects : List ObjectText) (reference : Held) (n : ℕ) → length held + n ≤ 2 ^ 32 → length objects + 1 ≤ n
     → AreWeighted (unweighed (held ++ filter_map held_in objects) ++ (reference, 0) ∷ [])
 room_for_last held objects reference n room few =
@@ -66,70 +68,104 @@ counts_last held objects o reference tally is sums =
     append_assoc held more (reference ∷ []) ∙ ap (λ (t : List Held). held ++ t) (sym (gives_last objects o reference is)) in
     subst (CountsHeld tally) all (subst (TallySums held_cmp tally) one sums)
 
--- ---- those of events, and of events behind them
+-- ---- the entries so far
 
 -- no more references
 pub counts_none : (tally : Tally Held) (n : ℕ) → CountsMore tally n [] tally
 counts_none tally n held counts room = subst (CountsHeld tally) (sym (append-nil held)) counts
 
--- some more, and then others
-pub counts_both : (old middle new : Tally Held) (n m : ℕ) (more others : List Held) → CountsMore old n more middle → CountsMore middle m others new
-    → length more + m ≤ n → CountsMore old n (more ++ others) new
-counts_both old middle new n m more others first second within held counts room =
-    let long = length-append held more in
-    subst (CountsHeld new) (append_assoc held more others)
-    (second (held ++ more) (first held counts room) (omega (arith, long, room, within)))
+-- the references among these objects of attachments
+abbrev pub held_among : List (List ObjectText) → List Held
+held_among objects = filter_map held_in (flat_map (λ own. own) objects)
 
-pub held_both : (events later : List EventText) (held more : List Held) → AreHeldBy events held → AreHeldBy later more → AreHeldBy (events ++ later) (held ++ more)
-held_both events later held more first second =
-    let good : good_objects (first.0 ++ second.0) ≡ good_objects first.0 ++ good_objects second.0 =
-    flat_map-append (λ (o : Outcome). o.objects) first.0 second.0 in (
-      first.0 ++ second.0,
+-- the list of offsets of an entry
+abbrev list_long : Entry → ℕ
+list_long entry = length entry.offsets.now
+
+held_few : (entries : List Entry) (objects : List (List ObjectText)) → AllZip AreGoodObjects entries objects
+    → length (held_among objects) ≤ list_bytes entries
+held_few [] [] are = omega arith
+held_few [] (own ∷ objects) are = absurd are
+held_few (e ∷ entries) [] are = absurd are
+held_few (e ∷ entries) (own ∷ objects) are =
+    let first = objects_short e.body.now e.offsets.now own are.0.0 are.0.1 in
+    let read = length-read held_in own in
+    let rest = held_few entries objects are.1 in
+    let parts = ap (filter_map held_in) (flat_map-cons (λ (o : List ObjectText). o) own objects)
+    ∙ filter_map-append held_in own (flat_map (λ o. o) objects) in
+    let long = ap length parts ∙ length-append (filter_map held_in own) (held_among objects) in
+    let all = sum_by-cons list_long e entries in
+    omega (arith, first, read, rest, long, all)
+
+module _ (entries : List Entry) (few : list_bytes entries ≤ 2 ^ 32) (i : ℕ) (entry : Entry) (within : i < length entries) (is : entry ≡ get_or entries i entry)
+    (tally : Tally Held) (counts : CountsEntries (take i entries) tally) where
+  room_left : length (held_among counts.0) + length entry.offsets.now ≤ 2 ^ 32
+  room_left =
+      let held = held_few (take i entries) counts.0 counts.1 in
+      let split = ap list_bytes (split_at entries i entry within) ∙ sum_by-append list_long (take i entries) (get_or entries i entry ∷ drop (suc i) entries) in
+      let one = sum_by-cons list_long (get_or entries i entry) (drop (suc i) entries) in
+      let same = ap list_long is in
+      omega (arith, held, few, split, one, same)
+
+  -- there is room for the references of the next entry
+  pub room_for_entry : HasRoom tally (length entry.offsets.now)
+  room_for_entry = (held_among counts.0, counts.2, room_left)
+
+  -- which are counted besides
+  pub counts_next : (new : Tally Held) → CountsObjects tally entry.body.now entry.offsets.now new → CountsEntries (take (i + 1) entries) new
+  counts_next new more =
+      let objects = counts.0 in
+      let taken : take (i + 1) entries ≡ take i entries ++ entry ∷ [] =
+      take_more entries i entry within ∙ ap (λ (e : Entry). take i entries ++ e ∷ []) (sym is) in
+      let joined : held_among (objects ++ more.0 ∷ []) ≡ held_among objects ++ filter_map held_in more.0 =
+      ap (filter_map held_in) (flat_map-append (λ (o : List ObjectText). o) objects (more.0 ∷ [])
+      ∙ ap (λ os. flat_map (λ o. o) objects ++ os) (append-nil more.0))
+      ∙ filter_map-append held_in (flat_map (λ o. o) objects) more.0 in (
+        objects ++ more.0 ∷ [],
+        subst (λ es. AllZip AreGoodObjects es (objects ++ more.0 ∷ [])) (sym taken)
+            (AllZip-push AreGoodObjects (take i entries) objects entry more.0 counts.1 (more.1, more.2)),
+        subst (CountsHeld new) (sym joined) (more.3 (held_among objects) counts.2 room_left),
+      )
+
+-- ---- whose attachments they are
+
+-- the entry that an event has, as an attachment of its own
+first_of : (e : EventText) (attachment : Option AttachmentText) → e.entry ≡ attachment → (events : List EventText) (entries : List Entry)
+    (objects : List (List ObjectText)) → map entry_attachment entries ≡ carried_by (e ∷ events) → AllZip AreGoodObjects entries objects
+    → ((rest : List Entry) (others : List (List ObjectText)) → map entry_attachment rest ≡ carried_by events → AllZip AreGoodObjects rest others
+    → AreHeldBy events (held_among others))
+    → AreHeldBy (e ∷ events) (held_among objects)
+first_of e None is events entries objects show are later =
+    let same = gives_none (λ (x : EventText). x.entry) e events is in
+    let rest = later entries objects (show ∙ same) are in
+    let no_more : attachments_of (e ∷ events) ≡ attachments_of events = rw is refl in
+    (rest.0, record { each = rest.1.each ∙ sym no_more; are_objects = rest.1.are_objects }, rest.2)
+first_of e (Some a) is events [] objects show are later =
+    let wrong = show ∙ gives_some (λ (x : EventText). x.entry) e events a is in absurd (cc)
+first_of e (Some a) is events (entry ∷ entries) [] show are later = absurd are
+first_of e (Some a) is events (entry ∷ entries) (own ∷ objects) show are later =
+    let both = show ∙ gives_some (λ (x : EventText). x.entry) e events a is in
+    let heads = first_same (entry_attachment entry) a (map entry_attachment entries) (carried_by events) both in
+    let rest = later entries objects heads.1 are.1 in
+    let outcome : Outcome = record { of = record { owner = e; attachment = a }; objects = own; bad = are.0.0 } in
+    let one : attachments_of (e ∷ events) ≡ outcome.of ∷ attachments_of events = rw is refl in (
+      outcome ∷ rest.0,
       record {
-        each = map-append (λ (o : Outcome). o.of) first.0 second.0
-            ∙ ap₂ (λ (us vs : List Attached). us ++ vs) first.1.each second.1.each ∙ sym (attachments-append events later);
-        are_objects = All-append IsOutcome first.0 second.0 first.1.are_objects second.1.are_objects;
+        each = ap (λ (us : List Attached). outcome.of ∷ us) rest.1.each ∙ sym one;
+        are_objects = All-cons IsOutcome outcome rest.0
+            (subst (λ (x : AttachmentText). AreObjects x.body x.offset_bytes own are.0.0) heads.0 are.0.1) rest.1.are_objects;
       },
-      ap₂ (λ (us vs : List Held). us ++ vs) first.2 second.2
-          ∙ sym (filter_map-append held_in (good_objects first.0) (good_objects second.0)) ∙ ap (filter_map held_in) (sym good),
+      ap (filter_map held_in) (flat_map-cons (λ (o : List ObjectText). o) own objects) ∙ filter_map-append held_in own (flat_map (λ o. o) objects)
+          ∙ ap (λ hs. filter_map held_in own ++ hs) rest.2
+          ∙ sym (filter_map-append held_in own (flat_map (λ (o : Outcome). o.objects) rest.0))
+          ∙ ap (filter_map held_in) (sym (flat_map-cons (λ (o : Outcome). o.objects) outcome rest.0)),
     )
 
--- events without an attachment hold nothing
-pub held_none : (events : List EventText) → attachments_of events ≡ [] → AreHeldBy events []
-held_none events none = ([], record { each = sym none; are_objects = All-nil IsOutcome }, refl)
-
--- ---- one event
-
--- how long the list of offsets of an event is
-list_of : (e : Event) (found : Entry) → e.entry ≡ Some found → offset_bytes_of (event_text e) ≡ length found.offsets.now
-list_of e found is =
-    ap (λ (o : Option Entry). option_map_or (λ (a : AttachmentText). length a.offset_bytes) (option_map entry_attachment o) 0) is
-
-pub counts_event : (old new : Tally Held) (e : Event) (found : Entry) → e.entry ≡ Some found
-    → CountsObjects old found.body.now found.offsets.now new → CountsEvents old (offset_bytes_of (event_text e)) (event_text e ∷ []) new
-counts_event old new e found is counts =
-    let objects = counts.0 in
-    let bad = counts.1 in
-    let more = filter_map held_in objects in
-    let long = list_of e found is in
-    let few = objects_short found.body.now found.offsets.now objects bad counts.2 in
-    let read = length-read held_in objects in (
-      more,
-      (
-        outcome_of e found objects bad ∷ [],
-        one_outcome e found objects bad is counts.2,
-        ap (filter_map held_in) (sym (append-nil objects)),
-      ),
-      omega (arith, long, few, read),
-      λ held counted room. counts.3 held counted (omega (arith, long, room)),
-    )
-
-pub counts_no_event : (tally : Tally Held) (e : Event) → e.entry ≡ None → CountsEvents tally (offset_bytes_of (event_text e)) (event_text e ∷ []) tally
-counts_no_event tally e is =
-    let none : attachments_of (event_text e ∷ []) ≡ [] = rw is refl in
-    ([], held_none (event_text e ∷ []) none, omega arith, counts_none tally (offset_bytes_of (event_text e)))
-
--- the room for an event with an attachment
-pub room_for_event : (e : Event) (found : Entry) → e.entry ≡ Some found → (held : List Held) → length held + offset_bytes_of (event_text e) ≤ 2 ^ 32
-    → length held + length found.offsets.now ≤ 2 ^ 32
-room_for_event e found is held room = let long = list_of e found is in omega (arith, long, room)
+-- what entries hold, events hold whose attachments they show
+pub held_by_events : (events : List EventText) (entries : List Entry) (objects : List (List ObjectText))
+    → map entry_attachment entries ≡ carried_by events → AllZip AreGoodObjects entries objects → AreHeldBy events (held_among objects)
+held_by_events [] [] [] show are = ([], record { each = refl; are_objects = All-nil IsOutcome }, refl)
+held_by_events [] [] (own ∷ objects) show are = absurd are
+held_by_events [] (e ∷ entries) objects show are = absurd (cc)
+held_by_events (e ∷ events) entries objects show are =
+    first_of e e.entry refl events entries objects show are (held_by_events events)

@@ -5,9 +5,9 @@ pub mod SequenceLaws
 pub mod CodeLaws
 pub mod FrameLaws
 pub mod HeldLaws
-pub mod HeldFrames
-pub mod HeldWalk
-pub mod HeldAhead
+pub mod ListSizes
+pub mod EntryWalk
+pub mod EntriesAhead
 pub mod HandleRows
 pub mod EventSizes
 pub mod PieceLaws

@@ -98,10 +98,10 @@ abbrev HasSmall : EventText → Type 0
 HasSmall e = offset_bytes_of e < 2 ^ 32
 
 -- what an element gives stands before what the others give
-gives_none : {X Y : Type 0} (f : X → Option Y) (x : X) (xs : List X) → f x ≡ None → filter_map f (x ∷ xs) ≡ filter_map f xs
+pub gives_none : {X Y : Type 0} (f : X → Option Y) (x : X) (xs : List X) → f x ≡ None → filter_map f (x ∷ xs) ≡ filter_map f xs
 gives_none f x xs is = rw is refl
 
-gives_some : {X Y : Type 0} (f : X → Option Y) (x : X) (xs : List X) (y : Y) → f x ≡ Some y → filter_map f (x ∷ xs) ≡ y ∷ filter_map f xs
+pub gives_some : {X Y : Type 0} (f : X → Option Y) (x : X) (xs : List X) (y : Y) → f x ≡ Some y → filter_map f (x ∷ xs) ≡ y ∷ filter_map f xs
 gives_some f x xs y is = rw is refl
 
 first_attachment : (e : EventText) (events : List EventText) (entry : Option AttachmentText) → e.entry ≡ entry → HasSmall e

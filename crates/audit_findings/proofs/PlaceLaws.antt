@@ -1,5 +1,5 @@
 -- The places that the ledgers of all processes list, gathered and sorted, and the events that stand at them.
-use Rattle.std.proofs.Common.{◌≡◌, ◌≢◌, ℕ, suc, ◌⊎◌, ⊎_elim, inl, inr, true, Decides, List, [], ◌∷◌, ◌++◌, length, map, All, AllPairs, Contains, Option, refl, sym, ap, subst, append_assoc, ◌∙◌, arith}
+use Rattle.std.proofs.Common.{◌≡◌, ◌≢◌, ℕ, suc, ◌⊎◌, ⊎_elim, inl, inr, true, Decides, List, [], ◌∷◌, ◌++◌, length, map, All, AllPairs, Contains, Option, refl, sym, ap, subst, ◌∙◌, arith}
 use Rattle.std.proofs.Common.{IsPermutation, IsSorted, nat_cmp}
 use Rattle.std.specs.List.Sorted.{IsStrictlyIncreasing}
 use Rattle.capture_frame.proofs.ProcessLaws.{same_process_equiv, same_process_eq, same_process_self}
@@ -9,7 +9,7 @@ use Rattle.std.proofs.lemmas.List.Elements.{All-append, All-contains, All-head, 
 use Rattle.std.proofs.lemmas.List.Kept.{AllPairs-from_increasing}
 use Rattle.std.proofs.lemmas.Map.Made.{AllPairs-from_IsDistinct}
 use Rattle.std.proofs.lemmas.Map.Views.{Contains-from_any}
-use Rattle.std.specs.List.{list_any}
+use Rattle.std.specs.List.{AllZip, flat_map, list_any}
 use Rattle.capture_frame.specs.Units.{Placed, placed_at}
 use Rattle.transaction_view.specs.Grammar.{WholeFrame}
 use Rattle.event_core.specs.Events.{EventText, event_of, events_of_whole, events_of_wholes, placed_records, process_of}
@@ -19,14 +19,10 @@ use Rattle.pending_ledger.proofs.ListLaws.{contains_none, contains_here, contain
 use Rattle.pending_ledger.specs.Pending.{ArePlacesOf, place_of}
 use Rattle.process_ledgers.specs.Items.{KeepsPlace}
 use Rattle.capture_frame.specs.declared.process.Process.{Process}
-use Rattle.process_ledgers.specs.declared.process_ledgers.ProcessLedgers.{ProcessLedgers}
-use Rattle.process_ledgers.specs.declared.processes.Processes.{Processes}
-use Rattle.summary_law.specs.declared.nothing.Nothing.{Nothing}
 use Rattle.audit_findings.specs.declared.open_and_stray.OpenAndStray.{OpenAndStray}
 use Rattle.audit_findings.specs.Kept.{KeepsOpenAndStray}
-use Rattle.audit_findings.specs.Places.{IsOpenStill, IsStrayClose, RiseInPlace, SomeProcess, StandsInProcess, OpenAndStrayText, AreOpenAndStray}
+use Rattle.audit_findings.specs.Places.{AreListsOf, IsOpenStill, IsStrayClose, RiseInPlace, SomeProcess, StandsInProcess, OpenAndStrayText, AreOpenAndStray}
 use Rattle.process_ledgers.specs.Processes.{process_of_whole, processes_of}
-use Rattle.process_ledgers.specs.OfProcess.{AreOfProcesses, GivesOf, ledgers_in}
 use Rattle.summary_law.proofs.InOrderLaws.{each_among_firsts, firsts_distinct}
 use Rattle.audit_findings.proofs.EventsAt.{events_at}
 use Rattle.audit_findings.proofs.StandLaws.{apart, open_stands, stray_stands}
@@ -36,15 +32,9 @@ rising_apart : (places : List ℕ) → IsStrictlyIncreasing places → AllPairs 
 rising_apart places rising i j d below within =
     λ same. let less = AllPairs-from_increasing places rising i j d below within in absurd (omega arith)
 
--- places with more behind them
+-- places with more after them
 pub extended_by : (places own longer : List ℕ) {more : List ℕ} → longer ≡ places ++ more → more ≡ own → longer ≡ places ++ own
 extended_by places own longer is same = is ∙ ap (λ (t : List ℕ). places ++ t) same
-
--- places with more behind them, one list and then another
-pub longer_list : (places own behind longer : List ℕ) {more : List ℕ} → longer ≡ places ++ more → more ≡ own
-    → places ++ (own ++ behind) ≡ longer ++ behind
-longer_list places own behind longer is same =
-    sym (ap (λ (t : List ℕ). t ++ behind) (extended_by places own longer is same) ∙ append_assoc places own behind)
 
 -- ---- the places at which something is so of each of some keys, one list behind another
 
@@ -53,6 +43,14 @@ module _ {K : Type 0} (Is : K → ℕ → Type 0) where
   AreBlocks [] places = places ≡ []
   AreBlocks (key ∷ keys) places =
       (own : List ℕ) × (rest : List ℕ) × (places ≡ own ++ rest) × ArePlacesOf (Is key) own × AreBlocks keys rest
+
+  -- the list of each key
+  pub blocks : (keys : List K) (lists : List (List ℕ)) → AllZip (λ key own. ArePlacesOf (Is key) own) keys lists → AreBlocks keys (flat_map (λ own. own) lists)
+  blocks [] [] are = refl
+  blocks [] (own ∷ lists) are = absurd are
+  blocks (key ∷ keys) [] are = absurd are
+  blocks (key ∷ keys) (own ∷ lists) are =
+      (own, flat_map (λ own. own) lists, flat_map-cons (λ (own : List ℕ). own) own lists, are.0, blocks keys lists are.1)
 
   from_blocks : (keys : List K) (places : List ℕ) → AreBlocks keys places → (p : ℕ) → Contains places p → (key : K) × Contains keys key × Is key p
   from_blocks [] places none p c = absurd (contains_none p (subst (λ (t : List ℕ). Contains t p) none c))
@@ -101,29 +99,6 @@ module _ {K : Type 0} (Is : K → ℕ → Type 0) where
         (λ p c. let found = from_blocks keys gathered blocks p c in (found.0, found.2))
         (λ p is. into_blocks keys gathered blocks is.0 p (among is.0 p is.1) is.1)
 
--- ---- the places of the ledgers of some processes, one list behind another
-
-module _ (IsSo : List EventText → Process → ℕ → Type 0) where
-  -- the places of whatever process the ledgers are of
-  abbrev pub GivesOwn : ProcessLedgers → List ℕ → Type 0
-  GivesOwn ledgers own = GivesOf (λ events process places. ArePlacesOf (IsSo events process) places) ledgers own
-
-  abbrev pub AreGathered : Processes → List (Process × Nothing) → List ℕ → Type 0
-  AreGathered processes [] places = places ≡ []
-  AreGathered processes (entry ∷ entries) places =
-      (own : List ℕ) × (rest : List ℕ) × (places ≡ own ++ rest) × GivesOwn (ledgers_in processes entry.0) own × AreGathered processes entries rest
-
-  blocks_of : (processes : Processes) (wholes : List (Placed WholeFrame)) → AreOfProcesses processes wholes → (entries : List (Process × Nothing)) (places : List ℕ)
-      → AreGathered processes entries places → AreBlocks (IsSo (events_of_wholes wholes)) (map (λ (e : Process × Nothing). e.0) entries) places
-  blocks_of processes wholes of [] places none = none
-  blocks_of processes wholes of (e ∷ entries) places gathered = (
-    gathered.0,
-    gathered.1,
-    gathered.2,
-    gathered.3 (events_of_wholes wholes) e.0 (of.each e.0),
-    blocks_of processes wholes of entries gathered.1 gathered.4,
-  )
-
 -- the process of each event of these frames is one of those of the frames
 each_known : (known : List Process) (wholes : List (Placed WholeFrame)) → All (Contains known) (map process_of_whole wholes)
     → All (λ (e : EventText). Contains known (process_of e)) (events_of_wholes wholes)
@@ -152,12 +127,11 @@ decides_process process other = (
   λ same. subst (λ (p : Process). same_process process p ≡ true) same (same_process_self process),
 )
 
--- what is gathered from the ledgers of all processes, sorted
-pub gathered_sorted : (IsSo : List EventText → Process → ℕ → Type 0) → StandsInProcess IsSo → (processes : Processes)
-    (wholes : List (Placed WholeFrame)) → AreOfProcesses processes wholes → RiseInPlace (events_of_wholes wholes) → (gathered places : List ℕ)
-    → AreGathered IsSo processes processes.order.now.entries.entries gathered → IsPermutation gathered places → IsSorted nat_cmp places
-    → ArePlacesOf (SomeProcess (IsSo (events_of_wholes wholes))) places
-gathered_sorted IsSo stands own wholes of rise gathered places are moved sorted =
+-- the lists of all processes, gathered and sorted
+pub gathered_sorted : (IsSo : List EventText → Process → ℕ → Type 0) → StandsInProcess IsSo → (wholes : List (Placed WholeFrame))
+    → RiseInPlace (events_of_wholes wholes) → (lists : List (List ℕ)) (places : List ℕ) → AreListsOf IsSo wholes lists
+    → IsPermutation (flat_map (λ own. own) lists) places → IsSorted nat_cmp places → ArePlacesOf (SomeProcess (IsSo (events_of_wholes wholes))) places
+gathered_sorted IsSo stands wholes rise lists places are moved sorted =
     let events = events_of_wholes wholes in
     let processes = processes_of wholes in
     let one : (process other : Process) (place : ℕ) → IsSo events process place → IsSo events other place → process ≡ other
@@ -170,9 +144,9 @@ gathered_sorted IsSo stands own wholes of rise gathered places are moved sorted 
     = λ process place is.
     let a = stands events process place is in
     subst (Contains processes) a.2 (All-contains (λ (e : EventText). Contains processes (process_of e)) events a.0 (each_among wholes) a.1) in
-    blocks_sorted (IsSo events) one processes gathered places
+    blocks_sorted (IsSo events) one processes (flat_map (λ own. own) lists) places
     (AllPairs-from_IsDistinct decides_process processes (firsts_distinct same_process_equiv (map process_of_whole wholes))) among
-    (subst (λ (keys : List Process). AreBlocks (IsSo events) keys gathered) of.order (blocks_of IsSo own wholes of own.order.now.entries.entries gathered are)) moved sorted
+    (blocks (IsSo events) processes lists are) moved sorted
 
 -- ---- the events at places
 

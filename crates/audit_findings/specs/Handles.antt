@@ -1,6 +1,6 @@
 -- The section `handles`: the references that each process holds by handle, those that it took itself and those that its
 -- deliveries hold (docs/REPORT.md).
-use Rattle.std.specs.Prelude.{◌||◌, Bool, List}
+use Rattle.std.specs.Prelude.{◌||◌, ℕ, Bool, List}
 use Rattle.std.specs.List.{AllZip}
 use Rattle.capture_frame.specs.declared.frame.Frame.{Frame}
 use Rattle.capture_frame.specs.declared.process.Process.{Process}
@@ -15,6 +15,7 @@ use Rattle.process_ledgers.specs.Processes.{processes_of, read_of}
 use Rattle.process_ledgers.specs.declared.process_ledgers.ProcessLedgers.{ProcessLedgers}
 use Rattle.audit_findings.specs.declared.in_turn.OfProcess.{OfProcess}
 use Rattle.audit_findings.specs.declared.references.References.{References}
+use Rattle.audit_findings.specs.Buffers.{AreUnfreedIn}
 use Rattle.audit_findings.specs.Frames.{Show}
 use Rattle.audit_findings.specs.Held.{AreHeldIn, unweighed}
 use Rattle.audit_findings.specs.InTurn.{AreRowsOf}
@@ -40,9 +41,11 @@ AreHandleFindings wholes said =
 abbrev pub AreListedHandles : List (Placed WholeFrame) → List (List (OfProcess HeldRow)) → Type 0
 AreListedHandles wholes lists = AllZip (AreRowsOf (AreHandlesOf (events_of_wholes wholes))) (processes_of wholes) lists
 
--- the ledgers may be those of any process of the frames that these views show: the rows are that process's
-abbrev pub GivesHandles : ProcessLedgers → List Frame → List HeldRow → Type 0
-GivesHandles ledgers frames rows =
+-- the ledgers may be those of any process of the frames that these views show, and the places those of the deliveries
+-- that it never frees: the rows are that process's
+abbrev pub GivesHandles : ProcessLedgers → List Frame → List ℕ → List HeldRow → Type 0
+GivesHandles ledgers frames unfreed rows =
     (wholes : List (Placed WholeFrame)) (process : Process) → Show frames wholes
     → AreLedgersOf ledgers (events_of_wholes wholes) process
+    → AreUnfreedIn (events_of_wholes wholes) process unfreed
     → AreHandlesOf (events_of_wholes wholes) process rows

@@ -21,6 +21,7 @@ use Rattle.audit_findings.specs.Codes.{is_opaque}
 use Rattle.audit_findings.specs.Findings.{FindingsText, AreFindings, last_sequence}
 use Rattle.audit_findings.specs.Flags.{flagged}
 use Rattle.audit_findings.specs.Frames.{Show}
+use Rattle.audit_findings.specs.Buffers.{AreUnfreed}
 use Rattle.audit_findings.specs.Handles.{AreListedHandles}
 use Rattle.audit_findings.specs.declared.in_turn.OfProcess.{OfProcess}
 use Rattle.handle_ledger.specs.declared.held_row.HeldRow.{HeldRow}
@@ -125,12 +126,12 @@ Takes old frames new =
 abbrev pub AreOfFew : Ledgers → Type 0
 AreOfFew ledgers = (wholes : List (Placed WholeFrame)) × SumsLedgers ledgers wholes × AreFewFrames wholes
 
--- whatever few frames the ledgers are those of, whose processes have these rows of handles, the sections keep their
--- findings
-abbrev pub GiveSections : Ledgers → List (List (OfProcess HeldRow)) → Sections → Type 0
-GiveSections ledgers handles sections =
+-- whatever few frames the ledgers are those of, whose processes have these unfreed deliveries and rows of handles, the
+-- sections keep their findings
+abbrev pub GiveSections : Ledgers → List (List ℕ) → List (List (OfProcess HeldRow)) → Sections → Type 0
+GiveSections ledgers unfreed handles sections =
     (wholes : List (Placed WholeFrame)) → SumsLedgers ledgers wholes → AreFewFrames wholes
-    → AreListedHandles wholes handles → (said : FindingsText) × AreFindings wholes said × Keep sections said
+    → AreUnfreed wholes unfreed → AreListedHandles wholes handles → (said : FindingsText) × AreFindings wholes said × Keep sections said
 
 -- the key and the count of a tally's row
 abbrev pub row_of : ℕ × ℕ × ℕ → CodeRow

@@ -9,6 +9,7 @@ pub mod References
 pub mod Handles
 pub mod Held
 pub mod HeldCounts
+pub mod Entries
 pub mod Nodes
 pub mod Buffers
 pub mod Requests

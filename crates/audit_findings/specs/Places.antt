@@ -1,13 +1,16 @@
 -- Rows that are events, in rising place over all processes; among them the opens of a process that it never closes
 -- later, and the closes of what is not open (docs/REPORT.md).
 use Rattle.std.specs.Prelude.{◌≡◌, ℕ, List, length, map, All, Contains, Option, ◌⊎◌}
+use Rattle.std.specs.List.{AllZip}
 use Rattle.std.specs.Ordering.{eq_by_cmp, nat_cmp}
 use Rattle.capture_frame.specs.declared.process.Process.{Process}
-use Rattle.event_core.specs.Events.{EventText, process_of}
+use Rattle.capture_frame.specs.Units.{Placed}
+use Rattle.transaction_view.specs.Grammar.{WholeFrame}
+use Rattle.event_core.specs.Events.{EventText, events_of_wholes, process_of}
 use Rattle.event_core.specs.declared.pending.PendingItem.{PendingItem}
 use Rattle.pending_ledger.specs.Pending.{ArePlacesOf, IsOutstanding, IsStray}
 use Rattle.summary_law.specs.Fits.{PlacesRise}
-use Rattle.process_ledgers.specs.Processes.{items_of_process}
+use Rattle.process_ledgers.specs.Processes.{items_of_process, processes_of}
 
 -- what is said are some of the events: those at the places at which something is so, in rising place
 pub record AreEventsAt (IsSo : ℕ → Type 0) (events said : List EventText) : Type 0 where
@@ -21,6 +24,11 @@ IsCountOfPlaces IsSo count = (places : List ℕ) × ArePlacesOf IsSo places × (
 -- something is so of some process at the place
 abbrev pub SomeProcess : (Process → ℕ → Type 0) → ℕ → Type 0
 SomeProcess IsSo place = (process : Process) × IsSo process place
+
+-- the lists are those of the processes of these frames, each with the places at which something is so of its process
+abbrev pub AreListsOf : (List EventText → Process → ℕ → Type 0) → List (Placed WholeFrame) → List (List ℕ) → Type 0
+AreListsOf IsSo wholes lists =
+    AllZip (λ process places. ArePlacesOf (IsSo (events_of_wholes wholes) process) places) (processes_of wholes) lists
 
 -- among the opens and closes of this process the one at the place is an open, and no later close has its key
 abbrev pub IsOpenIn : (EventText → Option (PendingItem ℕ)) → List EventText → Process → ℕ → Type 0

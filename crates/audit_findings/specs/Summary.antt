@@ -10,6 +10,7 @@ use Rattle.transaction_view.specs.Grammar.{WholeFrame}
 use Rattle.audit_findings.specs.declared.findings.Sections.{Sections}
 use Rattle.audit_findings.specs.declared.piece_summary.PieceSummary.{PieceSummary}
 use Rattle.audit_findings.specs.Findings.{FindingsText, AreFindings}
+use Rattle.audit_findings.specs.Buffers.{AreUnfreed, AreUnfreedIn}
 use Rattle.audit_findings.specs.Frames.{Show, AreGoodFrames}
 use Rattle.audit_findings.specs.Handles.{AreHandlesOf, AreListedHandles}
 use Rattle.audit_findings.specs.InTurn.{AreRowsOf}
@@ -25,19 +26,24 @@ SumsPiece summary frames = (wholes : List (Placed WholeFrame)) → Show frames w
 abbrev pub process_count : PieceSummary → ℕ
 process_count summary = length summary.ledgers.order.entries.entries
 
--- whatever whole frames these views show, the rows are those of the handles of their process with this number
-abbrev pub AreHandlesAt : List Frame → ℕ → List (OfProcess HeldRow) → Type 0
-AreHandlesAt frames number rows =
-    (wholes : List (Placed WholeFrame)) (d : Process) → Show frames wholes
+-- whatever frames the summary sums, the lists are the places of the deliveries that each of their processes never frees
+abbrev pub GivesUnfreed : PieceSummary → List (List ℕ) → Type 0
+GivesUnfreed summary lists =
+    (frames : List Frame) (wholes : List (Placed WholeFrame)) → SumsPiece summary frames → Show frames wholes
+    → AreUnfreed wholes lists
+
+-- if the summary is that of these views, and the places are those of the deliveries that the process with this number
+-- never frees, the rows are those of the process's handles
+abbrev pub GivesHandlesAt : PieceSummary → List Frame → ℕ → List ℕ → List (OfProcess HeldRow) → Type 0
+GivesHandlesAt summary frames number unfreed rows =
+    SumsPiece summary frames → (wholes : List (Placed WholeFrame)) (d : Process) → Show frames wholes
+    → AreUnfreedIn (events_of_wholes wholes) (slice_index_or (processes_of wholes) number d) unfreed
     → AreRowsOf (AreHandlesOf (events_of_wholes wholes)) (slice_index_or (processes_of wholes) number d) rows
 
--- the same, if the summary is that of these views
-abbrev pub GivesHandlesAt : PieceSummary → List Frame → ℕ → List (OfProcess HeldRow) → Type 0
-GivesHandlesAt summary frames number rows = SumsPiece summary frames → AreHandlesAt frames number rows
-
--- whatever frames it sums, whose processes have these rows of handles, the sections keep their findings
-abbrev pub GiveSectionsOf : PieceSummary → List (List (OfProcess HeldRow)) → Sections → Type 0
-GiveSectionsOf summary handles sections =
+-- whatever frames it sums, whose processes have these unfreed deliveries and rows of handles, the sections keep their
+-- findings
+abbrev pub GiveSectionsOf : PieceSummary → List (List ℕ) → List (List (OfProcess HeldRow)) → Sections → Type 0
+GiveSectionsOf summary unfreed handles sections =
     (frames : List Frame) (wholes : List (Placed WholeFrame)) → SumsPiece summary frames → AreGoodFrames frames
-    → Show frames wholes → AreListedHandles wholes handles
+    → Show frames wholes → AreUnfreed wholes unfreed → AreListedHandles wholes handles
     → (said : FindingsText) × AreFindings wholes said × Keep sections said

@@ -6,7 +6,8 @@ ghost use Rattle.transaction_view.specs.Grammar.{WholeFrame};
 ghost use Rattle.audit_findings.specs.Frames.{AreGoodFrames};
 ghost use Rattle.audit_findings.specs.Handles.{AreHandleFindings, AreListedHandles, GivesHandles};
 
-use crate::held::held_at;
+use crate::entries::entries_at;
+use crate::held::held_by;
 use crate::in_turn::OfProcess;
 use crate::references::{Balance, References, references_of};
 use capture_frame::Frame;
@@ -14,18 +15,20 @@ use handle_ledger::HeldRow;
 use process_ledgers::ProcessLedgers;
 use std::alloc::{AllocError, Global};
 
-/// The rows of the handles of one process. What those of its deliveries hold that it never frees is
-/// read again from the frames.
+/// The rows of the handles of one process. What its deliveries hold that it never frees, which are
+/// at these places, is read again from the frames.
 pub(crate) fn handles_of_process(
     alloc: Global,
     frames: &[Frame<'_>],
     ledgers: &ProcessLedgers<'_>,
+    unfreed: &[u64],
 ) -> Result<Vec<HeldRow>, AllocError>
     requires { AreGoodFrames frames.now }
-    ensures { IfOk result (λ rows. GivesHandles ledgers.now frames.now rows.items) }
+    ensures { IfOk result
+        (λ rows. GivesHandles ledgers.now frames.now unfreed.now rows.items) }
 {
-    let unfreed = ledgers.buffers.own.outstanding()?;
-    let held = held_at(alloc, frames, unfreed.as_slice())?;
+    let entries = entries_at(alloc, frames, unfreed)?;
+    let held = held_by(alloc, entries.as_slice())?;
     ledgers.handles.own.rows_held(&held)
 }
 

@@ -1,15 +1,9 @@
-//! The references that deliveries hold.
+//! The references that attachments hold.
 
-ghost use Rattle.std.specs.Prelude.{◌≡◌, ◌≢◌, ◌≤◌, [], ◌∷◌, ℕ, List, drop, length, IfOk, IfSome, IfNone, OnOk};
-ghost use Rattle.capture_frame.specs.Envelope.{frame_text};
-ghost use Rattle.event_core.specs.Reading.{event_text};
-ghost use Rattle.transaction_view.specs.FirstFault.{HasGoodContent};
-ghost use Rattle.audit_findings.specs.Frames.{AreGoodFrames};
-ghost use Rattle.audit_findings.specs.HeldCounts.{CountsAt, CountsEvents, CountsFrame, CountsObjects, GrowsBy, HasRoom};
-ghost use Rattle.audit_findings.specs.Ledgers.{offset_bytes_of};
+ghost use Rattle.std.specs.Prelude.{◌≤◌, ◌^◌, length, IfOk, OnOk};
+ghost use Rattle.audit_findings.specs.Entries.{list_bytes};
+ghost use Rattle.audit_findings.specs.HeldCounts.{CountsEntries, CountsObjects, HasRoom};
 
-use capture_frame::{Frame, count_begun};
-use event_core::{Event, Events};
 use object_view::{Objects, held_step};
 use std::alloc::{AllocError, Global};
 use summary_law::{Summary, Tally};
@@ -18,85 +12,16 @@ use transaction_view::Entry;
 /// Held references by handle, strong and weak ones apart.
 pub(crate) type HeldTally = Tally<(u32, bool)>;
 
-/// Counts what the deliveries at these places hold; the places rise. A frame is gone through once
-/// for all places in it.
-pub(crate) fn held_at(
-    alloc: Global,
-    frames: &[Frame<'_>],
-    places: &[u64],
-) -> Result<HeldTally, AllocError>
-    requires { AreGoodFrames frames.now }
-    ensures { IfOk result (CountsAt frames.now places.now) }
+/// Counts the references that the attachments of these entries hold.
+pub(crate) fn held_by(alloc: Global, entries: &[Entry<'_>]) -> Result<HeldTally, AllocError>
+    requires { list_bytes entries.now ≤ 2 ^ 32 }
+    ensures { IfOk result (CountsEntries entries.now) }
 {
     let mut held = Tally::empty(alloc);
-    let mut ahead = frames;
-    let mut rest = places;
-    while let Some(first) = rest.first() {
-        // Where a record begins, the last frame that has begun holds it.
-        let count = count_begun(ahead, *first);
-        if count == 0 {
-            break;
-        }
-        rest = add_frame(&mut held, ahead[count - 1], rest)?;
-        ahead = without_first(ahead, count);
+    for entry in entries {
+        add_objects(&mut held, *entry)?;
     }
     Ok(held)
-}
-
-/// These frames without the first ones.
-fn without_first<'f, 'c>(frames: &'f [Frame<'c>], count: usize) -> &'f [Frame<'c>]
-    requires { count ≤ length frames.now }
-    ensures { result.now ≡ drop count frames.entry.now }
-{
-    let (_, others) = frames.split_at(count);
-    others
-}
-
-/// Adds what those deliveries of a frame hold that stand at the first of these places. The places
-/// behind them are given.
-fn add_frame<'p>(
-    held: &mut HeldTally,
-    frame: Frame<'_>,
-    places: &'p [u64],
-) -> Result<&'p [u64], AllocError>
-    requires good { HasGoodContent (frame_text frame) }
-    requires room { HasRoom held.old (length frame.attachments.now) }
-    ensures grows { OnOk result (GrowsBy held.old (length frame.entry.attachments.now) held.new) }
-    ensures counts { IfOk result
-        (λ rest. CountsFrame held.old frame.entry places.entry.now held.new rest.now) }
-{
-    let mut rest = places;
-    let mut events = Events::of(frame);
-    while let Some(event) = events.next_event() {
-        if let Some(others) = behind(rest, event.place) {
-            add_event(held, event)?;
-            rest = others;
-        }
-    }
-    Ok(rest)
-}
-
-/// The places behind the first one, where that is this place.
-fn behind(places: &[u64], place: u64) -> Option<&[u64]>
-    ensures some { IfSome result (λ others. places.entry.now ≡ place ∷ others.now) }
-    ensures none { IfNone result ((others : List ℕ) → places.entry.now ≢ place ∷ others) }
-{
-    match places.split_first() {
-        Some((first, others)) if *first == place => Some(others),
-        _ => None,
-    }
-}
-
-/// Adds what the attachment of an event holds.
-fn add_event(held: &mut HeldTally, event: Event<'_>) -> Result<(), AllocError>
-    requires { HasRoom held.old (offset_bytes_of (event_text event)) }
-    ensures { OnOk result (CountsEvents held.old (offset_bytes_of (event_text event.entry))
-        (event_text event.entry ∷ []) held.new) }
-{
-    match event.entry {
-        Some(entry) => add_objects(held, entry),
-        None => Ok(()),
-    }
 }
 
 /// Adds the references among the objects of an attachment, up to the first bad one.

@@ -76,17 +76,20 @@ impl<'c> Ledgers<'c> {
         }
     }
 
-    /// What the findings keep of the frames, whose processes have these lists of handles.
+    /// What the findings keep of the frames, whose processes have these unfreed deliveries and rows
+    /// of handles.
     pub fn sections(
         self,
         alloc: Global,
+        unfreed: &[Vec<u64>],
         handles: &[Vec<OfProcess<HeldRow>>],
     ) -> Result<Sections, AllocError>
         requires { AreOfFew self }
-        ensures { IfOk result (GiveSections self.entry (map (λ list. list.items) handles.now)) }
+        ensures { IfOk result (GiveSections self.entry (map (λ list. list.items) unfreed.now)
+            (map (λ list. list.items) handles.now)) }
     {
         let none = ProcessLedgers::empty(alloc);
-        let processes = ProcessSections::of(alloc, self.processes(&none), handles)?;
+        let processes = ProcessSections::of(alloc, self.processes(&none), unfreed, handles)?;
         let missing = self.sequences.missing();
         let of_events = self.of_events;
         let calls = CallSections::of(alloc, of_events.threads)?;

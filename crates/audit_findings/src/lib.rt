@@ -7,6 +7,7 @@ mod calls;
 mod clears;
 mod codes;
 mod deaths;
+mod entries;
 mod event_ledgers;
 mod event_sections;
 mod event_sums;

@@ -1,14 +1,17 @@
 //! The summary of some frames of a capture.
 
-ghost use Rattle.std.specs.Prelude.{◌≡◌, ◌<◌, List, map, IfOk};
+ghost use Rattle.std.specs.Prelude.{◌≡◌, ◌<◌, List, length, map, IfOk};
 ghost use Rattle.capture_frame.specs.declared.frame.Frame.{Frame};
 ghost use Rattle.audit_findings.specs.Frames.{AreGoodFrames, good_frames_parts};
-ghost use Rattle.audit_findings.specs.Summary.{SumsPiece, GivesHandlesAt, GiveSectionsOf, process_count};
+ghost use Rattle.audit_findings.specs.Summary.{SumsPiece, GivesHandlesAt, GivesUnfreed, GiveSectionsOf, process_count};
 
+use crate::buffers::BufferPairs;
 use crate::findings::Sections;
 use crate::handles::handles_of_process;
 use crate::in_turn::{OfProcess, push_rows_of};
 use crate::ledgers::Ledgers;
+use crate::paired::Unclosed;
+use crate::places::lists_of;
 use capture_frame::Frame;
 use handle_ledger::HeldRow;
 use process_ledgers::ProcessLedgers;
@@ -32,34 +35,53 @@ impl<'c> PieceSummary<'c> {
         self.ledgers.order.entries.len()
     }
 
+    /// The places of the deliveries that each process never frees, rising; the processes in the
+    /// order of first frames.
+    pub fn unfreed(&self) -> Result<Vec<Vec<u64>>, AllocError>
+        ensures count { IfOk result (λ lists. length lists.items ≡ process_count self.now) }
+        ensures places { IfOk result
+            (λ lists. GivesUnfreed self.now (map (λ list. list.items) lists.items)) }
+    {
+        let none = ProcessLedgers::empty(self.alloc);
+        lists_of::<Unclosed<BufferPairs>>(self.alloc, self.ledgers.processes(&none))
+    }
+
     /// The rows of handles of a process by its number, in the order of first frames, where these
-    /// are the frames that are summarised.
+    /// are the frames that are summarised, and these the places of its unfreed deliveries.
     pub fn handles(
         &self,
         frames: &[Frame<'_>],
         number: usize,
+        unfreed: &[u64],
     ) -> Result<Vec<OfProcess<HeldRow>>, AllocError>
         requires good { AreGoodFrames frames.now }
         requires within { number < process_count self.now }
-        ensures { IfOk result (λ rows. GivesHandlesAt self.now frames.now number rows.items) }
+        ensures { IfOk result
+            (λ rows. GivesHandlesAt self.now frames.now number unfreed.now rows.items) }
     {
         let (process, _nothing) = self.ledgers.order.entries.get_index(number).unwrap();
         let none = ProcessLedgers::empty(self.alloc);
         let mut guess = number;
         let ledgers = self.ledgers.processes(&none).ledgers(*process, &mut guess);
-        let own = handles_of_process(self.alloc, frames, ledgers)?;
+        let own = handles_of_process(self.alloc, frames, ledgers, unfreed)?;
         let mut rows = Vec::new(self.alloc);
         push_rows_of(&mut rows, *process, own.as_slice())?;
         Ok(rows)
     }
 
-    /// What the findings keep of the frames, whose processes have these rows of handles.
-    pub fn sections(self, handles: &[Vec<OfProcess<HeldRow>>]) -> Result<Sections, AllocError>
+    /// What the findings keep of the frames, whose processes have these unfreed deliveries and rows
+    /// of handles.
+    pub fn sections(
+        self,
+        unfreed: &[Vec<u64>],
+        handles: &[Vec<OfProcess<HeldRow>>],
+    ) -> Result<Sections, AllocError>
         requires { (frames : List Frame) × SumsPiece self frames × AreGoodFrames frames }
         ensures { IfOk result
-            (GiveSectionsOf self.entry (map (λ list. list.items) handles.now)) }
+            (GiveSectionsOf self.entry (map (λ list. list.items) unfreed.now)
+            (map (λ list. list.items) handles.now)) }
     {
-        self.ledgers.sections(self.alloc, handles)
+        self.ledgers.sections(self.alloc, unfreed, handles)
     }
 }
 

@@ -5,6 +5,7 @@ ghost use Rattle.capture_frame.specs.Units.{Placed};
 ghost use Rattle.transaction_view.specs.Grammar.{WholeFrame};
 ghost use Rattle.event_core.specs.Events.{events_of_wholes};
 ghost use Rattle.process_ledgers.specs.OfProcess.{AreOfProcesses};
+ghost use Rattle.audit_findings.specs.Buffers.{AreUnfreed};
 ghost use Rattle.audit_findings.specs.Findings.{ProcessSectionsText, AreProcessSections};
 ghost use Rattle.audit_findings.specs.Handles.{AreListedHandles};
 ghost use Rattle.audit_findings.specs.Places.{RiseInPlace};
@@ -18,7 +19,7 @@ use crate::nodes::nodes_of;
 use crate::oneway::{OnewayRow, oneway_rows};
 use crate::open_and_stray::OpenAndStray;
 use crate::paired::{Strays, Unclosed, open_and_stray_of};
-use crate::places::places_of;
+use crate::places::{gathered, places_of};
 use crate::references::References;
 use crate::requests::Standing;
 use crate::rows::Rows;
@@ -51,14 +52,16 @@ pub struct ProcessSections {
 impl ProcessSections {
     ghost use Rattle.audit_findings.specs.Kept.{KeepProcessSections};
 
-    /// Those of all processes, whose rows of handles are these lists.
+    /// Those of all processes, whose unfreed deliveries and rows of handles are these lists.
     pub(crate) fn of(
         alloc: Global,
         processes: Processes<'_, '_>,
+        unfreed: &[Vec<u64>],
         handles: &[Vec<OfProcess<HeldRow>>],
     ) -> Result<Self, AllocError>
         ensures { IfOk result (λ kept. (wholes : List (Placed WholeFrame)) →
             AreOfProcesses processes.entry wholes →
+            AreUnfreed wholes (map (λ list. list.items) unfreed.now) →
             AreListedHandles wholes (map (λ list. list.items) handles.now) →
             RiseInPlace (events_of_wholes wholes) →
             (said : ProcessSectionsText) × AreProcessSections wholes said
@@ -67,7 +70,7 @@ impl ProcessSections {
         Ok(ProcessSections {
             handles: handles_of(alloc, handles)?,
             nodes: nodes_of(alloc, processes)?,
-            leaked: Rows::of(places_of::<Unclosed<BufferPairs>>(alloc, processes)?),
+            leaked: Rows::of(gathered::<Unclosed<BufferPairs>>(alloc, unfreed)?),
             stray_frees: Rows::of(places_of::<Strays<BufferPairs>>(alloc, processes)?),
             standing: Rows::of(places_of::<Standing>(alloc, processes)?),
             deaths: open_and_stray_of::<DeathPairs>(alloc, processes)?,

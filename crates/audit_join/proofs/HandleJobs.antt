@@ -1,5 +1,6 @@
 -- The jobs that processes are, and what they give together.
-use Rattle.std.proofs.Common.{◌≡◌, ℕ, zero, suc, ◌+◌, ◌^◌, ◌<◌, ◌≤◌, Bool, not, List, [], ◌∷◌, length, map, Option, Some, None, refl, sym, ap, ◌∙◌, arith, get_or}
+use Rattle.std.proofs.Common.{◌≡◌, ℕ, zero, suc, ◌+◌, ◌^◌, ◌<◌, ◌≤◌, Bool, not, List, [], ◌∷◌, length, map, Option, Some, None, Vec, Global, refl, sym, ap, ◌∙◌, arith, get_or}
+use Rattle.std.specs.Option.{unwrap_or}
 use Rattle.std.specs.Prelude.{All, IfSome, slice_get, slice_index_or}
 use Rattle.std.specs.List.{AllZip, range_with_len}
 use Rattle.std.proofs.Math.Logic.{∥∥₁_elim, ∥∥₁_map}
@@ -28,6 +29,7 @@ use Rattle.transaction_view.specs.Grammar.{WholeFrame}
 use Rattle.audit_findings.proofs.EventSizes.{few_frames}
 use Rattle.audit_findings.proofs.FrameLaws.{good_shown}
 use Rattle.audit_findings.proofs.HandleRows.{ListOfRows, lists_of}
+use Rattle.audit_findings.specs.Buffers.{AreUnfreed, AreUnfreedIn}
 use Rattle.audit_findings.specs.Frames.{AreGoodFrames, Show}
 use Rattle.audit_findings.specs.Handles.{AreHandlesOf, AreListedHandles}
 use Rattle.audit_findings.specs.InTurn.{AreRowsOf}
@@ -133,22 +135,34 @@ no_least n x least = let found = least.found in no_fault_from 0 n found.0 found.
 
 -- ---- what they give
 
-listed : (AreOf : Process → List HeldRow → Type 0) (processes : List Process) (lists : List ListOfRows) → length lists ≡ length processes
-    → ((i : ℕ) (list : ListOfRows) → slice_get lists i ≡ Some list → (d : Process) → AreRowsOf AreOf (slice_index_or processes i d) list.items)
+-- an element that is there, by its number
+pub got : {X : Type 0} (xs : List X) (n : ℕ) (x d : X) → slice_get xs n ≡ Some x → get_or xs n d ≡ x
+got [] n x d is = let wrong : None ≡ Some x = is in absurd (cc)
+got (y ∷ xs) zero x d is = ap (λ o. unwrap_or o y) is
+got (y ∷ xs) (suc n) x d is = got xs n x d is
+
+listed : (AreOf : Process → List HeldRow → Type 0) (AreUnfreedOf : Process → List ℕ → Type 0) (processes : List Process) (unfreed : List (Vec ℕ Global))
+    (lists : List ListOfRows) → length lists ≡ length processes → AllZip AreUnfreedOf processes (lists_of unfreed)
+    → ((i : ℕ) (list : ListOfRows) → slice_get lists i ≡ Some list → (own : Vec ℕ Global) → slice_get unfreed i ≡ Some own → (d : Process)
+    → AreUnfreedOf (slice_index_or processes i d) own.items → AreRowsOf AreOf (slice_index_or processes i d) list.items)
     → AllZip (AreRowsOf AreOf) processes (lists_of lists)
-listed AreOf [] [] long each = tt
-listed AreOf [] (l ∷ lists) long each = absurd (omega (arith, long))
-listed AreOf (p ∷ processes) [] long each = absurd (omega (arith, long))
-listed AreOf (p ∷ processes) (l ∷ lists) long each =
-    (each zero l refl p, listed AreOf processes lists (omega (arith, long)) (λ i list is d. each (suc i) list is d))
+listed AreOf AreUnfreedOf [] unfreed [] long zip each = tt
+listed AreOf AreUnfreedOf [] unfreed (l ∷ lists) long zip each = absurd (omega (arith, long))
+listed AreOf AreUnfreedOf (p ∷ processes) unfreed [] long zip each = absurd (omega (arith, long))
+listed AreOf AreUnfreedOf (p ∷ processes) [] (l ∷ lists) long zip each = absurd zip
+listed AreOf AreUnfreedOf (p ∷ processes) (own ∷ unfreed) (l ∷ lists) long zip each = (
+  each zero l refl own refl p zip.0,
+  listed AreOf AreUnfreedOf processes unfreed lists (omega (arith, long)) zip.1 (λ i list is own there d mine. each (suc i) list is own there d mine),
+)
 
 -- the lists of all processes
-pub all_listed : (summary : PieceSummary) (frames : List Frame) (lists : List ListOfRows) → SumsPiece summary frames
-    → AreInOrder (λ i (list : ListOfRows). GivesHandlesAt summary frames i list.items) (length (process_jobs (process_count summary))) lists
-    → (wholes : List (Placed WholeFrame)) → Show frames wholes → AreListedHandles wholes (lists_of lists)
-all_listed summary frames lists sums are wholes show =
+pub all_listed : (summary : PieceSummary) (frames : List Frame) (unfreed : List (Vec ℕ Global)) (lists : List ListOfRows) → SumsPiece summary frames
+    → AreInOrder (λ i (list : ListOfRows). (own : Vec ℕ Global) → slice_get unfreed i ≡ Some own → GivesHandlesAt summary frames i own.items list.items)
+    (length (process_jobs (process_count summary))) lists
+    → (wholes : List (Placed WholeFrame)) → Show frames wholes → AreUnfreed wholes (lists_of unfreed) → AreListedHandles wholes (lists_of lists)
+all_listed summary frames unfreed lists sums are wholes show zip =
     let number = process_number summary frames wholes sums show in
     let count = are.count in
     let long = jobs_long (process_count summary) in
-    listed (AreHandlesOf (events_of_wholes wholes)) (processes_of wholes) lists (omega (arith, number, count, long))
-    (λ i list is d. are.each i list is sums wholes d show)
+    listed (AreHandlesOf (events_of_wholes wholes)) (AreUnfreedIn (events_of_wholes wholes)) (processes_of wholes) unfreed lists
+    (omega (arith, number, count, long)) zip (λ i list is own there d mine. are.each i list is own there sums wholes d show mine)

@@ -1,16 +1,17 @@
 //! From a capture, or from its parts, to its findings.
 
-ghost use Rattle.std.specs.Prelude.{◌<◌, ◌≤◌, ◌^◌, List, length, map, IfErr, IfOk};
+ghost use Rattle.std.specs.Prelude.{◌≡◌, ◌<◌, ◌≤◌, ◌^◌, List, length, map, IfErr, IfOk};
 ghost use Rattle.std.specs.List.{sum_by};
 ghost use Rattle.capture_frame.specs.declared.fault.Fault.{Fault};
 ghost use Rattle.transaction_view.specs.Grammar.{WholeFrame};
 ghost use Rattle.capture_frame.specs.Units.{Placed};
+ghost use Rattle.audit_findings.specs.Buffers.{AreUnfreed};
 ghost use Rattle.audit_findings.specs.Frames.{Show};
 ghost use Rattle.event_core.specs.Events.{wholes_of};
 ghost use Rattle.audit_findings.specs.Findings.{FindingsText};
 ghost use Rattle.audit_findings.specs.Handles.{AreListedHandles};
 ghost use Rattle.audit_findings.specs.Kept.{Tell};
-ghost use Rattle.audit_findings.specs.Summary.{SumsPiece};
+ghost use Rattle.audit_findings.specs.Summary.{SumsPiece, process_count};
 ghost use Rattle.audit_join.specs.Audit.{IsAudited, IsMalformed};
 ghost use Rattle.audit_join.specs.Jobs.{AreCut, AreSound, IsFirstIn};
 ghost use Rattle.audit_join.specs.Parts.{AreAudited, AreMalformed, IsFirstOfParts};
@@ -133,28 +134,43 @@ fn findings_of<'c, T: Threads + Sync>(
         (said : FindingsText) × Tell wholes said found.frames found.sections) }
 {
     let whole: PieceSummary<'c> = sum_shares(rt, alloc, frames.as_slice(), workers.get())?;
-    let handles = look_again(rt, alloc, frames.as_slice(), &whole, workers)?;
-    let sections = whole.sections(handles.as_slice())?;
+    let unfreed = whole.unfreed()?;
+    let handles = look_again(
+        rt,
+        alloc,
+        frames.as_slice(),
+        &whole,
+        unfreed.as_slice(),
+        workers,
+    )?;
+    let sections = whole.sections(unfreed.as_slice(), handles.as_slice())?;
     Ok(Findings::new(frames, sections))
 }
 
-/// The rows of handles of each process. What deliveries hold that are never freed is known only
-/// when all frames are summed. So it is read from them a second time, by workers that take a
-/// process at a time.
+/// The rows of handles of each process. Which deliveries are never freed is known only when all
+/// frames are summed. So what they hold is read from the frames a second time, by workers that take
+/// a process at a time.
 fn look_again<'c, T: Threads + Sync>(
     rt: &T,
     alloc: Global,
     frames: &[Frame<'c>],
     whole: &PieceSummary<'c>,
+    unfreed: &[Vec<u64>],
     workers: Workers,
 ) -> Result<Vec<Vec<OfProcess<HeldRow>>>, AllocError>
     requires cut { AreCut frames.now }
     requires sound { AreSound frames.now }
     requires sums { SumsPiece whole.now frames.now }
+    requires each { length unfreed.now ≡ process_count whole.now }
     ensures { IfOk result (λ lists. (wholes : List (Placed WholeFrame)) → Show frames.now wholes →
+        AreUnfreed wholes (map (λ list. list.items) unfreed.now) →
         AreListedHandles wholes (map (λ list. list.items) lists.items)) }
 {
-    let work = HandleWork { whole, frames };
+    let work = HandleWork {
+        whole,
+        frames,
+        unfreed,
+    };
     match run_all(rt, alloc, &work, workers, &NoGate) {
         Ok(lists) => Ok(lists),
         Err(Stop::Memory) => Err(AllocError),

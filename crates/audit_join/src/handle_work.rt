@@ -1,6 +1,6 @@
 //! What a worker does with a process.
 
-ghost use Rattle.std.specs.Prelude.{◌≤◌, ◌^◌};
+ghost use Rattle.std.specs.Prelude.{◌≡◌, ◌≤◌, ◌^◌, length};
 ghost use Rattle.audit_findings.specs.Summary.{process_count};
 ghost use Rattle.audit_join.specs.Jobs.{AreCut, AreSound};
 
@@ -15,12 +15,17 @@ use std::alloc::Global;
 pub(crate) struct HandleWork<'f, 'c> {
     pub whole: &'f PieceSummary<'c>,
     pub frames: &'f [Frame<'c>],
+    /// The places of each process's unfreed deliveries.
+    pub unfreed: &'f [Vec<u64>],
     ghost cut: { AreCut frames.now },
     ghost sound: { ∥ AreSound frames.now ∥₁ },
     ghost few: { process_count whole.now ≤ 2 ^ 32 },
+    ghost each: { length unfreed.now ≡ process_count whole.now },
 }
 
 impl<'f, 'c> Work for HandleWork<'f, 'c> {
+    ghost use Rattle.std.specs.Global.{Global};
+    ghost use Rattle.std.specs.Prelude.{◌≡◌, ℕ, Some, Vec, slice_get};
     ghost use Rattle.audit_findings.specs.Summary.{GivesHandlesAt, process_count};
     ghost use Rattle.audit_join.specs.Processes.{process_jobs};
 
@@ -28,7 +33,9 @@ impl<'f, 'c> Work for HandleWork<'f, 'c> {
 
     ghost listed = { λ me. process_jobs (process_count me.whole.now) };
 
-    ghost gives = { λ me i rows. GivesHandlesAt me.whole.now me.frames.now i rows.items };
+    ghost gives = { λ me i rows. (unfreed : Vec ℕ Global) →
+        slice_get me.unfreed.now i ≡ Some unfreed →
+        GivesHandlesAt me.whole.now me.frames.now i unfreed.items rows.items };
 
     fn jobs(&self) -> u64 {
         self.whole.process_count() as u64
@@ -39,7 +46,9 @@ impl<'f, 'c> Work for HandleWork<'f, 'c> {
     }
 
     fn run(&self, _alloc: Global, i: u64) -> Result<Vec<OfProcess<HeldRow>>, JobStop> {
-        match self.whole.handles(self.frames, i as usize) {
+        let number = i as usize;
+        let unfreed = self.unfreed[number].as_slice();
+        match self.whole.handles(self.frames, number, unfreed) {
             Ok(rows) => Ok(rows),
             Err(_) => Err(JobStop::Memory),
         }

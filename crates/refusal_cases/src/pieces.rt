@@ -61,12 +61,13 @@ fn tell<'c, W: Write>(
     requires good { AreGoodFrames frames.now }
     requires sums { SumsPiece summary frames.now }
 {
+    let unfreed = summary.unfreed()?;
     let mut handles = Vec::new(alloc);
     for number in 0..summary.process_count() {
-        let rows = summary.handles(frames, number)?;
+        let rows = summary.handles(frames, number, unfreed[number].as_slice())?;
         handles.push(rows).map_err(AllocError::from)?;
     }
-    let sections = summary.sections(handles.as_slice())?;
+    let sections = summary.sections(unfreed.as_slice(), handles.as_slice())?;
     told::sections(&sections, out)
 }
 

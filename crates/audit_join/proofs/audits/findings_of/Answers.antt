@@ -1,7 +1,8 @@
-use Rattle.std.proofs.Common.{List, sym, subst}
+use Rattle.std.proofs.Common.{ℕ, List, Vec, Global, length, sym, ap, subst, ◌∙◌}
 use Rattle.capture_frame.specs.declared.frame.Frame.{Frame}
 use Rattle.event_core.specs.Events.{wholes_of}
 use Rattle.audit_findings.proofs.HandleRows.{ListOfRows, lists_of}
+use Rattle.audit_findings.specs.Buffers.{AreUnfreed}
 use Rattle.audit_findings.specs.Frames.{AreGoodFrames, Show}
 use Rattle.audit_findings.specs.Handles.{AreListedHandles}
 use Rattle.audit_findings.specs.Summary.{SumsPiece}
@@ -16,6 +17,9 @@ sum_shares-requires-after_bounds g c κs within =
 pub look_again-requires-clause-sound : goal.look_again-requires-clause-sound
 look_again-requires-clause-sound g c κs within = subst AreSound (sym c.as_slice-2.ensures.value) c.requires.sound
 
+pub look_again-requires-clause-each : goal.look_again-requires-clause-each
+look_again-requires-clause-each g c κs within = ap length c.as_slice-3.ensures.value ∙ c.in_ok-unfreed.ensures.count
+
 pub sections-requires : goal.sections-requires
 sections-requires g c =
     let frames = c.args.frames.items in
@@ -28,9 +32,12 @@ new-requires g c =
     let sums = subst (SumsPiece c.in_ok-whole.whole) c.as_slice.ensures.value c.in_ok-whole.ensures in
     let shown = c.requires.shown in
     let wholes = wholes_of shown.0 in
-    let listed = c.in_ok-handles.ensures wholes (subst (λ (fs : List Frame). Show fs wholes) (sym c.as_slice-2.ensures.value) shown.1) in
+    let unfreed = c.in_ok-unfreed.ensures.places frames wholes sums shown.1 in
+    let listed = c.in_ok-handles.ensures wholes (subst (λ (fs : List Frame). Show fs wholes) (sym c.as_slice-2.ensures.value) shown.1)
+    (subst (λ (lists : List (Vec ℕ Global)). AreUnfreed wholes (lists_of lists)) (sym c.as_slice-3.ensures.value) unfreed) in
     let said = c.in_ok-sections.ensures frames wholes sums (good_cut frames c.requires.cut c.requires.sound) shown.1
-    (subst (λ (lists : List ListOfRows). AreListedHandles wholes (lists_of lists)) (sym c.as_slice-3.ensures.value) listed) in
+    (subst (λ (lists : List (Vec ℕ Global)). AreUnfreed wholes (lists_of lists)) (sym c.as_slice-4.ensures.value) unfreed)
+    (subst (λ (lists : List ListOfRows). AreListedHandles wholes (lists_of lists)) (sym c.as_slice-5.ensures.value) listed) in
     (shown.0, said.0, record { show = shown.1; are = said.1; keep = said.2 })
 
 pub returns : goal.returns
@@ -38,7 +45,10 @@ returns g c units show =
     let frames = c.args.frames.items in
     let sums = subst (SumsPiece c.in_ok-whole.whole) c.as_slice.ensures.value c.in_ok-whole.ensures in
     let wholes = wholes_of units in
-    let listed = c.in_ok-handles.ensures wholes (subst (λ (fs : List Frame). Show fs wholes) (sym c.as_slice-2.ensures.value) show) in
+    let unfreed = c.in_ok-unfreed.ensures.places frames wholes sums show in
+    let listed = c.in_ok-handles.ensures wholes (subst (λ (fs : List Frame). Show fs wholes) (sym c.as_slice-2.ensures.value) show)
+    (subst (λ (lists : List (Vec ℕ Global)). AreUnfreed wholes (lists_of lists)) (sym c.as_slice-3.ensures.value) unfreed) in
     let said = c.in_ok-sections.ensures frames wholes sums (good_cut frames c.requires.cut c.requires.sound) show
-    (subst (λ (lists : List ListOfRows). AreListedHandles wholes (lists_of lists)) (sym c.as_slice-3.ensures.value) listed) in
+    (subst (λ (lists : List (Vec ℕ Global)). AreUnfreed wholes (lists_of lists)) (sym c.as_slice-4.ensures.value) unfreed)
+    (subst (λ (lists : List ListOfRows). AreListedHandles wholes (lists_of lists)) (sym c.as_slice-5.ensures.value) listed) in
     (said.0, rw c.new.ensures (record { show = show; are = said.1; keep = said.2 }))

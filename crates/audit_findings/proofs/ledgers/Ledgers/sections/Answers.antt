@@ -6,10 +6,10 @@ use Rattle.event_core.specs.Events.{events_of_wholes}
 use Rattle.audit_findings.proofs.ledgers.Ledgers.sections.Goals as goal
 
 pub returns : goal.returns
-returns c wholes sums few listed =
+returns c wholes sums few unfreed listed =
     let events = events_of_wholes wholes in
     let rise = few.1.0.1 in
-    let processes = c.in_ok-processes.ensures wholes (c.processes.ensures.gives wholes sums c.empty-none.ensures) listed rise in
+    let processes = c.in_ok-processes.ensures wholes (c.processes.ensures.gives wholes sums c.empty-none.ensures) unfreed listed rise in
     let calls = c.in_ok-calls.ensures events (subst (SumsThreadCalls c.args.self.of_events.threads) sums.are_all sums.sums.threads) rise in
     let counted = c.in_ok-events.ensures events (subst (SumsEvents c.args.self.of_events.all) sums.are_all sums.sums.all) in
     let said : FindingsText = record {

@@ -14,6 +14,7 @@ sections-requires c =
 
 pub returns : goal.returns
 returns c =
-    IfOk-weaker c.sections.result (GiveSections c.args.self.ledgers (lists_of c.args.handles.now)) (GiveSectionsOf c.args.self (lists_of c.args.handles.now))
-    (λ sections give frames wholes sums good show listed. give wholes (sums wholes show) (few_frames frames wholes good show) listed)
+    IfOk-weaker c.sections.result (GiveSections c.args.self.ledgers (lists_of c.args.unfreed.now) (lists_of c.args.handles.now))
+    (GiveSectionsOf c.args.self (lists_of c.args.unfreed.now) (lists_of c.args.handles.now))
+    (λ sections give frames wholes sums good show unfreed listed. give wholes (sums wholes show) (few_frames frames wholes good show) unfreed listed)
     c.sections.ensures

@@ -8,15 +8,15 @@ use Rattle.audit_findings.proofs.StandLaws.{open_stands, request_stands, stray_s
 use Rattle.audit_findings.proofs.process_sections.ProcessSections.of.Goals as goal
 
 pub returns : goal.returns
-returns c wholes of listed rise =
+returns c wholes of unfreed listed rise =
     let events = events_of_wholes wholes in
     let leaked_stand = open_stands buffer_pending_of pending_keeps in
     let strays_stand = stray_stands buffer_pending_of pending_keeps in
     let leaked = events_at _ events (stands_somewhere _ leaked_stand events) _
-    (c.in_ok-places_of.ensures leaked_stand wholes of rise) in
+    (c.in_ok-gathered.ensures leaked_stand wholes rise unfreed) in
     let strays = events_at _ events (stands_somewhere _ strays_stand events) _
-    (c.in_ok-places_of-2.ensures strays_stand wholes of rise) in
-    let standing = events_at _ events (stands_somewhere _ request_stands events) _ (c.in_ok-places_of-3.ensures request_stands wholes of rise) in
+    (c.in_ok-places_of.ensures strays_stand wholes of rise) in
+    let standing = events_at _ events (stands_somewhere _ request_stands events) _ (c.in_ok-places_of-2.ensures request_stands wholes of rise) in
     let deaths = c.in_ok-open_and_stray_of.ensures death_keeps wholes of rise in
     let clears = c.in_ok-open_and_stray_of-2.ensures clear_keeps wholes of rise in
     let said : ProcessSectionsText = record {

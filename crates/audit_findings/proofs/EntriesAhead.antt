@@ -1,5 +1,5 @@
 -- The frame of the first place that is left, among whole frames that views show.
-use Rattle.std.proofs.Common.{◌≡◌, ℕ, suc, ◌+◌, ◌-◌, ◌*◌, ◌^◌, ◌<◌, ◌≤◌, inl, inr, Bool, List, [], ◌∷◌, ◌++◌, length, take, drop, All, Option, Some, None, refl, sym, ap, ap₂, subst, ◌∙◌, append_assoc, length-append, arith, get_or}
+use Rattle.std.proofs.Common.{◌≡◌, ℕ, suc, ◌+◌, ◌-◌, ◌*◌, ◌^◌, ◌<◌, ◌≤◌, inl, inr, Bool, List, [], ◌∷◌, ◌++◌, length, map, take, drop, All, Option, Some, None, refl, sym, ap, ap₂, subst, ◌∙◌, append_assoc, length-append, arith, get_or}
 use Rattle.std.proofs.Math.Seq.{drop-append-add, get_or-append_seam, split_at}
 use Rattle.std.proofs.lemmas.Bool.{cases_lt}
 use Rattle.std.specs.Prelude.{AllPairs, filter, slice_get}
@@ -7,24 +7,22 @@ use Rattle.std.specs.Option.{unwrap_or}
 use Rattle.std.specs.List.{sum_by}
 use Rattle.std.proofs.lemmas.List.{append-nil, map-append}
 use Rattle.std.proofs.lemmas.List.Concat.{flat_map-cons}
-use Rattle.std.proofs.lemmas.List.Elements.{All-cons, All-filter, All-head, All-map, All-nil, All-tail, filter-append}
+use Rattle.std.proofs.lemmas.List.Elements.{All-cons, All-filter, All-head, All-map, All-nil, All-tail, filter-append, filter_map-append}
 use Rattle.std.proofs.lemmas.List.Sums.{sum_by-append, sum_by-cons}
 use Rattle.capture_frame.specs.declared.frame.Frame.{Frame}
 use Rattle.capture_frame.specs.Envelope.{FrameText, frame_text, placed_frame}
 use Rattle.capture_frame.specs.Lookup.{Holds, IsSplitAt, StandApart, span_of}
 use Rattle.capture_frame.specs.Units.{Placed}
 use Rattle.event_core.specs.Events.{EventText, events_of_whole, events_of_wholes, placed_text}
-use Rattle.handle_ledger.specs.Held.{Held}
-use Rattle.summary_law.specs.declared.tally.Tally.{Tally}
+use Rattle.event_core.specs.Reading.{entry_attachment}
 use Rattle.transaction_view.specs.FirstFault.{HasGoodContent}
 use Rattle.transaction_view.specs.Grammar.{WholeFrame}
+use Rattle.transaction_view.specs.declared.entry.Entry.{Entry}
+use Rattle.audit_findings.specs.Entries.{AddsEntries, AreChosen, AreEntriesAt, AreEventsOfFrame, Rise, ShowAttachments, carried_by, list_bytes}
 use Rattle.audit_findings.specs.Frames.{AreGoodFrames, IsWhole, Show}
-use Rattle.audit_findings.specs.Held.{AreHeldBy}
-use Rattle.audit_findings.specs.HeldCounts.{AreChosen, AreEventsOfFrame, CountsAt, CountsFrame, CountsHeld, GrowsBy, HasRoom, Rise}
 use Rattle.audit_findings.specs.Kept.{places_of}
 use Rattle.audit_findings.proofs.EventSizes.{few_frames}
 use Rattle.audit_findings.proofs.FrameLaws.{events-append, first_same, none_shown, shown_first, whole_events}
-use Rattle.audit_findings.proofs.HeldLaws.{held_both, held_none}
 use Rattle.audit_findings.proofs.PlacesRise.{StandsWithin, whole_within, within_span}
 use Rattle.audit_findings.proofs.Rising.{pairs_head, pairs_map, pairs_tail, pairs_unmap, rising_kept}
 use Rattle.std.proofs.lemmas.List.Kept.{AllPairs-cons}
@@ -32,15 +30,9 @@ use Rattle.summary_law.specs.Fits.{PlacesRise, all_parts, pairs_parts, rising_pa
 
 -- ---- views of whole frames that stand one behind others
 
-abbrev pub attached_bytes : Placed WholeFrame → ℕ
-attached_bytes w = length w.unit.frame.attachments
-
 -- how many attachment bytes a frame has
 abbrev pub attachment_bytes : Frame → ℕ
 attachment_bytes frame = length frame.attachments.now
-
-abbrev pub Attaches : List Frame → List (Placed WholeFrame) → Type 0
-Attaches frames wholes = sum_by attached_bytes wholes ≤ sum_by span_of frames
 
 -- views of whole frames that are split are split as well
 record ShownApart (frames : List Frame) (first second : List (Placed WholeFrame)) : Type 0 where
@@ -207,16 +199,14 @@ next_frame frames ahead show choice place rest left =
 
 -- ---- frames that are passed
 
--- the tally counts no more than the attachment bytes of the frames that are passed
-pub record HasPassed (frames ahead : List Frame) (tally : Tally Held) : Type 0 where
+-- the lists of offsets of the entries are no longer than the attachment bytes of the frames that are passed
+pub record HasPassed (frames ahead : List Frame) (entries : List Entry) : Type 0 where
   pub passed : List Frame
   pub are : frames ≡ passed ++ ahead
-  pub held : List Held
-  pub counts : CountsHeld tally held
-  pub few : length held ≤ sum_by attachment_bytes passed
+  pub few : list_bytes entries ≤ sum_by attachment_bytes passed
 
-pub passed_at_start : (frames : List Frame) (tally : Tally Held) → CountsHeld tally [] → HasPassed frames frames tally
-passed_at_start frames tally counts = record { passed = []; are = refl; held = []; counts = counts; few = omega arith }
+pub passed_at_start : (frames : List Frame) (entries : List Entry) → entries ≡ [] → HasPassed frames frames entries
+passed_at_start frames entries none = record { passed = []; are = refl; few = let no_bytes = ap list_bytes none in omega (arith, no_bytes) }
 
 attached_within : (frames : List Frame) → sum_by attachment_bytes frames + 32 * length frames ≤ sum_by span_of frames
 attached_within [] = omega arith
@@ -227,7 +217,7 @@ attached_within (f ∷ frames) =
     let long : length (f ∷ frames) ≡ length frames + 1 = omega arith in
     omega (arith, rest, attached, spans, long)
 
-module _ (frames ahead : List Frame) (good : AreGoodFrames frames) (tally : Tally Held) (passed : HasPassed frames ahead tally) where
+module _ (frames ahead : List Frame) (good : AreGoodFrames frames) (entries : List Entry) (passed : HasPassed frames ahead entries) where
   pub apart_ahead : AllPairs StandApart ahead
   apart_ahead = (pairs_parts StandApart passed.passed ahead (subst (AllPairs StandApart) passed.are good.apart)).1
 
@@ -268,32 +258,24 @@ module _ (frames ahead : List Frame) (good : AreGoodFrames frames) (tally : Tall
         let one = sum_by-cons attachment_bytes frame_there [] in
         omega (arith, parts, more, one)
 
-    enough : length passed.held + length frame_there.attachments.now ≤ 2 ^ 32
-    enough =
-        let more = attached_there in
-        let few = passed.few in
-        let total = good.few in
-        let all = attached_within frames in
-        let parts = ap (sum_by attachment_bytes) passed_there
-        ∙ sum_by-append attachment_bytes (passed.passed ++ (take (count - 1) ahead ++ frame_there ∷ [])) (drop count ahead) in
-        omega (arith, more, few, total, all, parts)
-
-    pub room_there : HasRoom tally (length frame_there.attachments.now)
-    room_there = (passed.held, passed.counts, enough)
-
-    pub passed_further : (new : Tally Held) → GrowsBy tally (length frame_there.attachments.now) new → HasPassed frames (drop count ahead) new
+    pub passed_further : (new : List Entry) → list_bytes new ≤ list_bytes entries + length frame_there.attachments.now → HasPassed frames (drop count ahead) new
     passed_further new grows =
-        let more = grows passed.held passed.counts enough in
         let attached = attached_there in
         let few = passed.few in
-        let few_more = more.2 in
         record {
           passed = passed.passed ++ (take (count - 1) ahead ++ frame_there ∷ []);
           are = passed_there;
-          held = more.0;
-          counts = more.1;
-          few = omega (arith, attached, few, few_more);
+          few = omega (arith, attached, few, grows);
         }
+
+  -- all of them have no more than frames may have together
+  pub few_bytes : list_bytes entries ≤ 2 ^ 32
+  few_bytes =
+      let few = passed.few in
+      let all = attached_within frames in
+      let total = good.few in
+      let parts = ap (sum_by attachment_bytes) passed.are ∙ sum_by-append attachment_bytes passed.passed ahead in
+      omega (arith, few, all, total, parts)
 
 -- a list whose first element is known
 pub begins_with : (numbers : List ℕ) (first : ℕ) → Some first ≡ slice_get numbers 0 → (rest : List ℕ) × (numbers ≡ first ∷ rest)
@@ -306,64 +288,47 @@ begins_with_none (n ∷ numbers) is = let wrong : None ≡ Some n = is in absurd
 
 -- ---- so far
 
--- the chosen events of the frames that are done are counted, and the places of those of the frames ahead are left
-pub record Stands (wholes : List (Placed WholeFrame)) (choice : EventText → Bool) (frames : List Frame) (left : List ℕ) (tally : Tally Held) :
+-- the entries show the attachments of the chosen events of the frames that are done, and the places of those of the
+-- frames ahead are left
+pub record Stands (wholes : List (Placed WholeFrame)) (choice : EventText → Bool) (frames : List Frame) (left : List ℕ) (entries : List Entry) :
     Type 0 where
   pub done : List (Placed WholeFrame)
   pub ahead : List (Placed WholeFrame)
-  pub held : List Held
   pub are : wholes ≡ done ++ ahead
   pub show_ahead : Show frames ahead
   pub left_is : left ≡ places_of (filter choice (events_of_wholes ahead))
-  pub hold : AreHeldBy (filter choice (events_of_wholes done)) held
-  pub few : length held ≤ sum_by attached_bytes done
-  pub counts : CountsHeld tally held
+  pub shown : ShowAttachments entries (carried_by (filter choice (events_of_wholes done)))
 
--- however events of these frames are chosen that stand at the places
-abbrev pub StandsFor : List Frame → List ℕ → List Frame → List ℕ → Tally Held → Type 0
-StandsFor frames places ahead left tally =
+-- however events of these frames are chosen that are at the places
+abbrev pub StandsFor : List Frame → List ℕ → List Frame → List ℕ → List Entry → Type 0
+StandsFor frames places ahead left entries =
     (wholes : List (Placed WholeFrame)) (choice : EventText → Bool) → Show frames wholes → AreChosen choice (events_of_wholes wholes) [] places
-    → Stands wholes choice ahead left tally
+    → Stands wholes choice ahead left entries
 
-pub stands_at_start : (frames : List Frame) (places : List ℕ) (tally : Tally Held) → CountsHeld tally [] → StandsFor frames places frames places tally
-stands_at_start frames places tally counts wholes choice show chosen = record {
+pub stands_at_start : (frames : List Frame) (places : List ℕ) (entries : List Entry) → entries ≡ [] → StandsFor frames places frames places entries
+stands_at_start frames places entries none wholes choice show chosen = record {
   done = [];
   ahead = wholes;
-  held = [];
   are = refl;
   show_ahead = show;
   left_is = chosen ∙ append-nil (places_of (filter choice (events_of_wholes wholes)));
-  hold = held_none [] refl;
-  few = omega arith;
-  counts = counts;
+  shown = ap (map entry_attachment) none;
 }
 
-pub counted_at_end : (frames : List Frame) (places : List ℕ) (ahead : List Frame) (tally : Tally Held) → StandsFor frames places ahead [] tally
-    → CountsAt frames places tally
-counted_at_end frames places ahead tally stands wholes choice show chosen =
+pub all_at_end : (frames : List Frame) (places : List ℕ) (ahead : List Frame) (entries : List Entry) → StandsFor frames places ahead [] entries
+    → AreEntriesAt frames places entries
+all_at_end frames places ahead entries stands wholes choice show chosen =
     let s = stands wholes choice show chosen in
     let none = no_places (filter choice (events_of_wholes s.ahead)) s.left_is in
     let all : filter choice (events_of_wholes s.done) ≡ filter choice (events_of_wholes wholes) =
     sym (ap (λ ws. filter choice (events_of_wholes ws)) s.are ∙ ap (filter choice) (events-append s.done s.ahead)
     ∙ filter-append choice (events_of_wholes s.done) (events_of_wholes s.ahead) ∙ ap (λ es. filter choice (events_of_wholes s.done) ++ es) none
     ∙ append-nil (filter choice (events_of_wholes s.done))) in
-    (s.held, subst (λ es. AreHeldBy es s.held) all s.hold, s.counts)
+    s.shown ∙ ap carried_by all
   where
     no_places : (events : List EventText) → [] ≡ places_of events → events ≡ []
     no_places [] none = refl
     no_places (e ∷ events) none = let wrong : [] ≡ e.place ∷ places_of events = none in absurd (cc)
-
-attach_all : (frames : List Frame) (wholes : List (Placed WholeFrame)) → Show frames wholes → Attaches frames wholes
-attach_all frames [] show = omega arith
-attach_all [] (w ∷ wholes) show = let wrong = ap length show.stand in absurd (omega (arith, wrong))
-attach_all (f ∷ frames) (w ∷ wholes) show =
-    let one = shown_first f frames (w ∷ wholes) show in
-    let same = first_same w one.0 wholes one.1 one.2 in
-    let rest = attach_all frames wholes (subst (Show frames) (sym same.1) one.5) in
-    let bytes = ap (λ (p : Placed FrameText). length p.unit.attachments) (one.3 ∙ ap placed_text (sym same.0)) in
-    let spans = sum_by-cons span_of f frames in
-    let attached = sum_by-cons attached_bytes w wholes in
-    omega (arith, rest, bytes, spans, attached)
 
 -- where the places of events rise, so do those of the first ones and of the chosen others
 rise_part : (choice : EventText → Bool) (events later : List EventText) → Rise (places_of (events ++ later))
@@ -392,8 +357,8 @@ rise_part choice (e ∷ events) later rise =
         (all_part us (All-tail (λ p. e.place < p) u.place (places_of (us ++ later)) above))
 
 module _ (frames : List Frame) (good : AreGoodFrames frames) (wholes : List (Placed WholeFrame)) (choice : EventText → Bool) (show : Show frames wholes)
-    (ahead : List Frame) (apart : AllPairs StandApart ahead) (place : ℕ) (rest : List ℕ) (tally : Tally Held)
-    (s : Stands wholes choice ahead (place ∷ rest) tally) (count : ℕ) (begun : IsSplitAt ahead place count) where
+    (ahead : List Frame) (apart : AllPairs StandApart ahead) (place : ℕ) (rest : List ℕ) (entries : List Entry)
+    (s : Stands wholes choice ahead (place ∷ rest) entries) (count : ℕ) (begun : IsSplitAt ahead place count) where
   next : NextFrame ahead choice s.ahead place
   next = next_frame ahead s.ahead s.show_ahead choice place rest s.left_is
 
@@ -448,16 +413,6 @@ module _ (frames : List Frame) (good : AreGoodFrames frames) (wholes : List (Pla
       rise_part choice (events_of_whole w) (events_of_wholes behind)
       (pairs_map (λ a b. a < b) (λ (e : EventText). e.place) (events_of_whole w ++ events_of_wholes behind) later.1)
 
-  enough_room : length s.held + attached_bytes next.chosen.whole ≤ 2 ^ 32
-  enough_room =
-      let all = attach_all frames wholes show in
-      let parts = ap (sum_by attached_bytes) split ∙ sum_by-append attached_bytes (s.done ++ next.chosen.front) (next.chosen.whole ∷ next.chosen.behind) in
-      let front = sum_by-append attached_bytes s.done next.chosen.front in
-      let here = sum_by-cons attached_bytes next.chosen.whole next.chosen.behind in
-      let few = s.few in
-      let total = good.few in
-      omega (arith, all, parts, front, here, few, total)
-
   module _ (frame : Frame) (d : Frame) (is : frame ≡ get_or ahead (count - 1) d) where
     same : placed_frame frame ≡ placed_text next.chosen.whole
     same = ap placed_frame (is ∙ the_frame d) ∙ next.view.same
@@ -468,36 +423,25 @@ module _ (frames : List Frame) (good : AreGoodFrames frames) (wholes : List (Pla
         (of.0, of.1, of.2, of.3, sym (append-nil (events_of_whole next.chosen.whole)) ∙ of.4)
 
     -- the frame is done
-    pub stands_behind : (new : Tally Held) (left : List ℕ) → CountsFrame tally frame (place ∷ rest) new left
+    pub stands_after : (new : List Entry) (left : List ℕ) → AddsEntries entries frame (place ∷ rest) new left
         → Stands wholes choice (drop count ahead) left new
-    stands_behind new left counts =
+    stands_after new left adds =
         let w = next.chosen.whole in
         let before = s.done ++ next.chosen.front in
-        let c = counts (events_of_whole w) choice others events_of_it rising left_here in
-        let held_before : AreHeldBy (filter choice (events_of_wholes before)) s.held =
-        subst (λ es. AreHeldBy es s.held)
-        (sym (ap (filter choice) (events-append s.done next.chosen.front) ∙ filter-append choice (events_of_wholes s.done) (events_of_wholes next.chosen.front)
-        ∙ ap (λ es. filter choice (events_of_wholes s.done) ++ es) next.chosen.none ∙ append-nil (filter choice (events_of_wholes s.done)))) s.hold in
+        let more = adds (events_of_whole w) choice others events_of_it rising left_here in
+        let chosen_before : filter choice (events_of_wholes s.done) ≡ filter choice (events_of_wholes before) =
+        sym (ap (filter choice) (events-append s.done next.chosen.front) ∙ filter-append choice (events_of_wholes s.done) (events_of_wholes next.chosen.front)
+        ∙ ap (λ es. filter choice (events_of_wholes s.done) ++ es) next.chosen.none ∙ append-nil (filter choice (events_of_wholes s.done))) in
         let all : filter choice (events_of_wholes before) ++ filter choice (events_of_whole w) ≡ filter choice (events_of_wholes (before ++ w ∷ [])) =
         sym (ap (filter choice) (events-append before (w ∷ []) ∙ ap (λ es. events_of_wholes before ++ es) (append-nil (events_of_whole w)))
         ∙ filter-append choice (events_of_wholes before) (events_of_whole w)) in
-        let bytes = ap (λ (p : Placed FrameText). length p.unit.attachments) same in
-        let long = length-append s.held c.1.0 in
-        let few = s.few in
-        let few_more = c.1.2 in
-        let front = sum_by-append attached_bytes s.done next.chosen.front in
-        let here = sum_by-append attached_bytes before (w ∷ []) in
-        let one = sum_by-cons attached_bytes w [] in
-        let room = enough_room in
         record {
           done = before ++ w ∷ [];
           ahead = next.chosen.behind;
-          held = s.held ++ c.1.0;
           are = split ∙ sym (append_assoc before (w ∷ []) next.chosen.behind);
           show_ahead = subst (λ fs. Show fs next.chosen.behind) (sym later_ahead) next.view.show_behind;
-          left_is = c.0;
-          hold = subst (λ es. AreHeldBy es (s.held ++ c.1.0)) all
-              (held_both (filter choice (events_of_wholes before)) (filter choice (events_of_whole w)) s.held c.1.0 held_before c.1.1);
-          few = omega (arith, bytes, long, few, few_more, front, here, one);
-          counts = c.1.3 s.held s.counts (omega (arith, bytes, room));
+          left_is = more.0;
+          shown = more.1 ∙ ap (λ us. us ++ carried_by (filter choice (events_of_whole w))) (s.shown ∙ ap carried_by chosen_before)
+              ∙ sym (filter_map-append (λ (e : EventText). e.entry) (filter choice (events_of_wholes before)) (filter choice (events_of_whole w)))
+              ∙ ap carried_by all;
         }

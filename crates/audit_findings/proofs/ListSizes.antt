@@ -20,7 +20,7 @@ use Rattle.event_core.specs.Reading.{Reading, event_text}
 use Rattle.event_core.specs.declared.event.Event.{Event}
 use Rattle.event_core.proofs.EntryPlaces.{find-here, find-other}
 use Rattle.event_core.proofs.EventsGiven.{Given, given_first}
-use Rattle.audit_findings.specs.HeldCounts.{AreEventsOfFrame, Rise}
+use Rattle.audit_findings.specs.Entries.{AreEventsOfFrame, Rise}
 use Rattle.audit_findings.specs.Kept.{places_of}
 use Rattle.audit_findings.specs.Ledgers.{offset_bytes_of}
 use Rattle.audit_findings.proofs.EventSizes.{bytes_of}
