@@ -6,8 +6,9 @@ use Rattle.capture_frame.proofs.PartLaws.{of_one_part, parts_joined, fault_of_on
 use Rattle.transaction_view.specs.Grammar.{WholeFrame, whole_format}
 use Rattle.transaction_view.proofs.GrammarLaws.{whole_decided, whole_wide}
 use Rattle.audit_findings.specs.Kept.{KeptFindings, Tell}
-use Rattle.audit_join.specs.declared.parts_error.PartsError.{PartsError}
-use Rattle.audit_join.specs.declared.parts_error.PartsError.TheVariants.{Memory, Malformed}
+use Rattle.capture_frame.specs.declared.fault.PartFault.{PartFault}
+use Rattle.audit_join.specs.declared.audit_error.AuditError.{AuditError}
+use Rattle.audit_join.specs.declared.audit_error.AuditError.TheVariants.{Memory, Malformed}
 use Rattle.audit_join.specs.Audit.{IsAudited, IsMalformed}
 use Rattle.audit_join.specs.Parts.{AreAudited, AreMalformed, error_of_capture}
 
@@ -23,6 +24,6 @@ capture_found capture found (readable, (wholes, said, is, tell)) =
     )
 
 -- and so is the first fault
-pub capture_malformed : (capture : List ℕ) (error : PartsError) → AreMalformed (capture ∷ []) error → IsMalformed capture (error_of_capture error)
+pub capture_malformed : (capture : List ℕ) (error : AuditError PartFault) → AreMalformed (capture ∷ []) error → IsMalformed capture (error_of_capture error)
 capture_malformed capture Memory first = first
 capture_malformed capture (Malformed found) first = (fault_of_one_part whole_format capture found first).1

@@ -1,5 +1,6 @@
 -- What an audit answers.
 use Rattle.std.specs.Prelude.{ℕ, List, ⊤}
+use Rattle.capture_frame.specs.declared.fault.Fault.{Fault}
 use Rattle.transaction_view.specs.Grammar.{WholeFrame, IsInGrammar, HasFirstFault}
 use Rattle.audit_join.specs.declared.audit_error.AuditError.{AuditError}
 use Rattle.audit_join.specs.declared.audit_error.AuditError.TheVariants.{Memory, Malformed}
@@ -12,7 +13,11 @@ IsAudited capture found =
     (wholes : List WholeFrame) × (said : FindingsText) × IsInGrammar capture wholes
     × Tell wholes said found.frames found.sections
 
--- a fault is the capture's first; of want of memory nothing is said
-abbrev pub IsMalformed : List ℕ → AuditError → Type 0
-IsMalformed capture Memory = ⊤
-IsMalformed capture (Malformed fault) = HasFirstFault capture fault
+-- a fault is one that is first; of want of memory nothing is said
+abbrev pub NamesFirst : {F : Type 0} → (F → Type 0) → AuditError F → Type 0
+NamesFirst IsFirst Memory = ⊤
+NamesFirst IsFirst (Malformed fault) = IsFirst fault
+
+-- a fault is the capture's first
+abbrev pub IsMalformed : List ℕ → AuditError Fault → Type 0
+IsMalformed capture error = NamesFirst (HasFirstFault capture) error

@@ -1,5 +1,5 @@
 -- What an audit of a capture that is read in parts answers.
-use Rattle.std.specs.Prelude.{◌≡◌, ℕ, ◌+◌, ◌<◌, ◌≤◌, List, ◌∷◌, ◌++◌, length, ⊤}
+use Rattle.std.specs.Prelude.{◌≡◌, ℕ, ◌+◌, ◌<◌, ◌≤◌, List, ◌∷◌, ◌++◌, length}
 use Rattle.capture_frame.specs.declared.fault.Fault.{Fault}
 use Rattle.capture_frame.specs.declared.fault.PartFault.{PartFault}
 use Rattle.capture_frame.specs.Envelope.{file_header_length}
@@ -7,24 +7,21 @@ use Rattle.capture_frame.specs.Parts.{joined}
 use Rattle.transaction_view.specs.Grammar.{AreReadable, HasFirstPartFault}
 use Rattle.audit_findings.specs.Kept.{KeptFindings}
 use Rattle.audit_join.specs.declared.audit_error.AuditError.{AuditError}
-use Rattle.audit_join.specs.declared.audit_error.AuditError.TheVariants as audit_error
-use Rattle.audit_join.specs.declared.parts_error.PartsError.{PartsError}
-use Rattle.audit_join.specs.declared.parts_error.PartsError.TheVariants.{Memory, Malformed}
-use Rattle.audit_join.specs.Audit.{IsAudited}
+use Rattle.audit_join.specs.declared.audit_error.AuditError.TheVariants.{Memory, Malformed}
+use Rattle.audit_join.specs.Audit.{IsAudited, NamesFirst}
 
 -- the parts are in the grammar, and the findings are those of their joined capture
 abbrev pub AreAudited : List (List ℕ) → KeptFindings → Type 0
 AreAudited parts found = AreReadable parts × IsAudited (joined parts) found
 
--- a fault is the first of the parts; of want of memory nothing is said
-abbrev pub AreMalformed : List (List ℕ) → PartsError → Type 0
-AreMalformed parts Memory = ⊤
-AreMalformed parts (Malformed found) = HasFirstPartFault parts found
+-- a fault is the first of the parts
+abbrev pub AreMalformed : List (List ℕ) → AuditError PartFault → Type 0
+AreMalformed parts error = NamesFirst (HasFirstPartFault parts) error
 
--- the same error of a single part, which is a capture
-abbrev pub error_of_capture : PartsError → AuditError
-error_of_capture Memory = audit_error.Memory
-error_of_capture (Malformed found) = audit_error.Malformed found.fault
+-- the error of a single part, as that of the capture which the part is
+abbrev pub error_of_capture : AuditError PartFault → AuditError Fault
+error_of_capture Memory = Memory
+error_of_capture (Malformed found) = Malformed found.fault
 
 -- a fault of the joined capture is this one of a part: it is of the same kind, and stands behind the part's file header,
 -- in whose place the joined capture has the parts before it

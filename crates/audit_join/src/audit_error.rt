@@ -1,18 +1,21 @@
 //! Why there are no findings.
 
-use capture_frame::Fault;
+use capture_frame::{Fault, PartFault};
 use std::alloc::AllocError;
 
 /// Why there are no findings of a capture.
 #[derive(Clone, Copy, Debug, PartialEq, Eq)]
-pub enum AuditError {
+pub enum AuditError<F = Fault> {
     /// Memory ran out.
     Memory,
     /// The capture is malformed, and this is its first fault.
-    Malformed(Fault),
+    Malformed(F),
 }
 
-impl From<AllocError> for AuditError {
+/// Why there are no findings of a capture that is read in parts.
+pub type PartsError = AuditError<PartFault>;
+
+impl<F> From<AllocError> for AuditError<F> {
     ghost use Rattle.std.specs.Prelude.{◌≡◌};
     ghost use Rattle.audit_join.specs.declared.audit_error.AuditError.TheVariants.{Memory};
 
@@ -31,5 +34,20 @@ impl From<Fault> for AuditError {
 
     fn from(fault: Fault) -> Self {
         AuditError::Malformed(fault)
+    }
+}
+
+/// The same of a single part, which is a capture.
+impl From<PartsError> for AuditError {
+    ghost use Rattle.std.specs.Prelude.{◌≡◌};
+    ghost use Rattle.audit_join.specs.Parts.{error_of_capture};
+
+    ghost from_gives = { λ error e. e ≡ error_of_capture error };
+
+    fn from(error: PartsError) -> Self {
+        match error {
+            AuditError::Memory => AuditError::Memory,
+            AuditError::Malformed(found) => AuditError::Malformed(found.fault),
+        }
     }
 }

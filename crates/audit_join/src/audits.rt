@@ -17,13 +17,12 @@ ghost use Rattle.audit_join.specs.Jobs.{AreCut, AreSound, IsFirstIn};
 ghost use Rattle.audit_join.specs.Parts.{AreAudited, AreMalformed, IsFirstOfParts};
 ghost use Rattle.audit_join.specs.declared.limits.TheConstants.{CAPTURE_LIMIT};
 
-use crate::audit_error::AuditError;
+use crate::audit_error::{AuditError, PartsError};
 use crate::handle_work::HandleWork;
 use crate::judging::judge;
 use crate::limits::CAPTURE_LIMIT;
 use crate::part_bytes::take_bytes;
 use crate::part_places::part_of;
-use crate::parts_error::PartsError;
 use crate::piece::Piece;
 use crate::shares::sum_shares;
 use audit_findings::{Findings, OfProcess, PieceSummary};

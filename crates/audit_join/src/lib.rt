@@ -9,14 +9,13 @@ pub mod laws;
 mod limits;
 mod part_bytes;
 mod part_places;
-mod parts_error;
 mod piece;
 mod piece_work;
 mod plan;
 mod run_checks;
 mod shares;
 
-pub use audit_error::AuditError;
+pub use audit_error::{AuditError, PartsError};
 pub use audit_findings::{
     BadRow, CallRow, CallSections, Calls, CodeRow, EventSections, Findings, OfProcess,
     OnewayCounts, OnewayRow, OpenAndStray, PieceSummary, ProcessSections, RecordCounts, References,
@@ -24,6 +23,5 @@ pub use audit_findings::{
 };
 pub use audits::{audit, audit_one, audit_parts};
 pub use limits::CAPTURE_LIMIT;
-pub use parts_error::PartsError;
 pub use piece::Piece;
 pub use plan::Plan;

@@ -5,4 +5,3 @@ pub use Rattle.audit_streams.specs.KnownBytes
 pub use Rattle.audit_streams.specs.Parts
 pub use Rattle.audit_streams.specs.RunError
 pub use Rattle.report_text.specs.Answers
-pub use Rattle.report_text.specs.PartAnswers

@@ -1,14 +1,10 @@
 -- What a run about parts comes to: what reading gave, and which answers go with it.
-use Rattle.std.specs.Prelude.{◌≡◌, ℕ, ◌≤◌, List, length, All, Option, Some, None, Result, Ok, Err, ⊤}
+use Rattle.std.specs.Prelude.{◌≡◌, ℕ, ◌≤◌, List, length, All, Option, Result, Ok, Err, ⊤}
 use Rattle.capture_frame.specs.Units.{IsBytes}
-use Rattle.capture_frame.specs.declared.fault.PartFault.{PartFault}
-use Rattle.transaction_view.specs.Grammar.{AreReadable, HasFirstPartFault}
 use Rattle.audit_join.specs.declared.limits.TheConstants.{CAPTURE_LIMIT}
 use Rattle.audit_streams.specs.Parts.{bytes_of, AreRead, ArePastLimit}
 use Rattle.audit_streams.specs.declared.run_error.RunError.{RunError}
 use Rattle.audit_streams.specs.declared.run_error.RunError.TheVariants.{Memory, TooLarge, Read, Write, Open}
-use Rattle.audit_run.specs.declared.part_runs.PartsWritten.{PartsWritten}
-use Rattle.audit_run.specs.declared.part_runs.PartsWritten.TheVariants.{Report, Malformed}
 
 -- what readers give that had these bytes, each where they are known: a part from each, of bytes, all together within the
 -- limit; or no parts, of which TooLarge comes only where all bytes are known and pass it, or some are not
@@ -31,13 +27,3 @@ abbrev pub IsOpeningFault : RunError → Type 0
 IsOpeningFault Memory = ⊤
 IsOpeningFault Open = ⊤
 IsOpeningFault _ = ⊥
-
--- a report is answered of parts in the grammar alone, and a fault where it is their first
-abbrev pub GoWithWritten : List (List ℕ) → PartsWritten → Type 0
-GoWithWritten parts Report = AreReadable parts
-GoWithWritten parts (Malformed found) = HasFirstPartFault parts found
-
--- no fault is answered of parts in the grammar alone, and a fault where it is their first
-abbrev pub GoWithFault : List (List ℕ) → Option PartFault → Type 0
-GoWithFault parts None = AreReadable parts
-GoWithFault parts (Some found) = HasFirstPartFault parts found

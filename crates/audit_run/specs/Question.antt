@@ -2,7 +2,7 @@
 use Rattle.std.specs.Prelude.{◌≡◌, ℕ, List}
 use Rattle.capture_frame.specs.declared.fault.PartFault.{PartFault}
 use Rattle.transaction_view.specs.Grammar.{AreReadable, HasFirstPartFault}
-use Rattle.report_text.specs.PartAnswers.{IsTextOfParts, IsLineOnParts}
+use Rattle.report_text.specs.Answers.{IsTextOfParts, IsLineOnParts}
 use Rattle.audit_run.specs.declared.answers.Question.{Question}
 use Rattle.audit_run.specs.declared.answers.Question.TheVariants.{Report, FirstFault}
 

@@ -3,14 +3,12 @@
 use Rattle.std.specs.Prelude.{◌≡◌, ℕ, ◌≤◌, ◌<◌, List, length, Option, Some, None, IfSome, Result, Ok, Err, ⊤}
 use Rattle.std.specs.Io.KnownBytes.{Appends, Keeps}
 use Rattle.capture_frame.specs.Units.{IsBytes}
-use Rattle.capture_frame.specs.declared.fault.Fault.{Fault}
-use Rattle.transaction_view.specs.Grammar.{IsReadable, HasFirstFault}
 use Rattle.audit_join.specs.declared.limits.TheConstants.{CAPTURE_LIMIT}
 use Rattle.audit_streams.specs.KnownBytes.{AppendsPrefix}
 use Rattle.audit_streams.specs.declared.run_error.RunError.{RunError}
 use Rattle.audit_streams.specs.declared.run_error.RunError.TheVariants.{Memory, TooLarge, Read, Write, Open}
-use Rattle.audit_run.specs.declared.runs.Written.{Written}
-use Rattle.audit_run.specs.declared.runs.Written.TheVariants.{Report, Malformed}
+use Rattle.audit_run.specs.declared.written.Written.{Written}
+use Rattle.audit_run.specs.declared.written.Written.TheVariants.{Report, Malformed}
 
 -- what a reader gives that had these bytes, where they are known: all of them, within the limit, and in any case some
 -- bytes; or no capture, of which TooLarge comes only where they pass the limit
@@ -65,12 +63,12 @@ pub data Runs {C A : Type 0} (Gives : Result C RunError → Type 0) (IsOn : C �
   none_given : (error : RunError) → Gives (Err error) → result ≡ Err error → Keeps old new
       → Runs Gives IsOn GoesWith old new result
 
--- a report is answered of a capture in the grammar alone, and a fault where it is the first
-abbrev pub GoesWithWritten : List ℕ → Written → Type 0
-GoesWithWritten capture Report = IsReadable capture
-GoesWithWritten capture (Malformed fault) = HasFirstFault capture fault
+-- a report is answered of what is in the grammar alone, and a fault where it is the first
+abbrev pub GoesWithWritten : {C F : Type 0} → (C → Type 0) → (C → F → Type 0) → C → Written F → Type 0
+GoesWithWritten IsGood HasFirst capture Report = IsGood capture
+GoesWithWritten IsGood HasFirst capture (Malformed fault) = HasFirst capture fault
 
--- no fault is answered of a capture in the grammar alone, and a fault where it is the first
-abbrev pub GoesWithFault : List ℕ → Option Fault → Type 0
-GoesWithFault capture None = IsReadable capture
-GoesWithFault capture (Some fault) = HasFirstFault capture fault
+-- no fault is answered of what is in the grammar alone, and a fault where it is the first
+abbrev pub GoesWithFault : {C F : Type 0} → (C → Type 0) → (C → F → Type 0) → C → Option F → Type 0
+GoesWithFault IsGood HasFirst capture None = IsGood capture
+GoesWithFault IsGood HasFirst capture (Some fault) = HasFirst capture fault

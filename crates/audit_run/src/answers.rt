@@ -4,7 +4,8 @@ ghost use Rattle.audit_run.specs.PartRuns.{FilesGive, IsOpeningFault, ReadersGiv
 ghost use Rattle.audit_run.specs.Question.{GoWithStatus, IsAnswer};
 ghost use Rattle.audit_run.specs.Run.{Runs};
 
-use crate::part_runs::{PartsWritten, run_first_fault_parts, run_parts};
+use crate::part_runs::{run_first_fault_parts, run_parts};
+use crate::written::PartsWritten;
 use audit_join::Piece;
 use audit_streams::RunError;
 use claim_board::{NoGate, Workers};

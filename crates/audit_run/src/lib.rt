@@ -5,10 +5,12 @@
 mod answers;
 mod part_runs;
 mod runs;
+mod written;
 
 pub use crate::answers::{Question, Request, answer, answer_files};
-pub use crate::part_runs::{PartsWritten, run_first_fault_parts, run_parts};
-pub use crate::runs::{Written, run, run_first_fault, run_gated, write_first_fault};
+pub use crate::part_runs::{run_first_fault_parts, run_parts};
+pub use crate::runs::{run, run_first_fault, run_gated, write_first_fault};
+pub use crate::written::{PartsWritten, Written};
 pub use audit_join::{CAPTURE_LIMIT, Piece};
 pub use audit_streams::{RunError, read_capture, read_parts, write_text};
 pub use claim_board::{Gate, NoGate, Workers};

@@ -4,19 +4,20 @@ ghost use Rattle.std.specs.Prelude.{◌≡◌, ◌<◌, ◌≤◌, ◌^◌, List
 ghost use Rattle.std.specs.Io.KnownBytes.{Appends};
 ghost use Rattle.capture_frame.specs.Parts.{joined};
 ghost use Rattle.capture_frame.specs.Units.{IsBytes};
-ghost use Rattle.transaction_view.specs.Grammar.{WholeFrame, AreReadable};
+ghost use Rattle.transaction_view.specs.Grammar.{WholeFrame, AreReadable, HasFirstPartFault};
 ghost use Rattle.audit_findings.specs.Findings.{FindingsText};
 ghost use Rattle.audit_findings.specs.Kept.{Tell};
 ghost use Rattle.audit_join.specs.Parts.{AreMalformed};
 ghost use Rattle.audit_join.specs.declared.limits.TheConstants.{CAPTURE_LIMIT};
 ghost use Rattle.report_text.specs.Fault.{part_fault_line};
-ghost use Rattle.report_text.specs.PartAnswers.{IsTextOfParts, IsLineOnParts};
+ghost use Rattle.report_text.specs.Answers.{IsTextOfParts, IsLineOnParts};
 ghost use Rattle.report_text.specs.Text.{IsReportOn, report_text};
 ghost use Rattle.audit_streams.specs.KnownBytes.{AppendsPrefix};
 ghost use Rattle.audit_streams.specs.Parts.{AreRead, bytes_of};
-ghost use Rattle.audit_run.specs.PartRuns.{GoWithFault, GoWithWritten, ReadersGive};
-ghost use Rattle.audit_run.specs.Run.{Runs, Writes};
+ghost use Rattle.audit_run.specs.PartRuns.{ReadersGive};
+ghost use Rattle.audit_run.specs.Run.{GoesWithFault, GoesWithWritten, Runs, Writes};
 
+use crate::written::PartsWritten;
 use audit_findings::Findings;
 use audit_join::{CAPTURE_LIMIT, PartsError, Piece, audit_parts};
 use audit_streams::{RunError, read_parts, write_text};
@@ -27,15 +28,6 @@ use std::alloc::{AllocError, Global};
 use std::io::{Read, Write};
 use std::thread::Threads;
 use transaction_view::first_fault_parts;
-
-/// What was written of parts.
-#[derive(Clone, Copy, Debug, PartialEq, Eq)]
-pub enum PartsWritten {
-    /// The report.
-    Report,
-    /// The line that names the first malformed unit, and its part where there are several.
-    Malformed(PartFault),
-}
 
 /// Reads the parts of a capture in order, each to its end, and writes the report on the joined
 /// capture, or the line that names the first fault. So many workers share the frames of all parts,
@@ -52,7 +44,8 @@ pub fn run_parts<T: Threads + Sync, R: Read + Drop, W: Write, G: Gate + Sync>(
     requires { vec_len readers < 2 ^ 32 }
 
     // At Ok what is written is the definitions' text of what was read, and nothing else.
-    ensures { Runs (ReadersGive (map R.remaining readers.items)) IsTextOfParts GoWithWritten
+    ensures { Runs (ReadersGive (map R.remaining readers.items)) IsTextOfParts
+        (GoesWithWritten AreReadable HasFirstPartFault)
         (W.contents writer.old) (W.contents writer.new) result }
 {
     let room = room_for(alloc, readers.len())?;
@@ -69,7 +62,8 @@ pub fn run_first_fault_parts<R: Read + Drop, W: Write>(
     writer: &mut W,
 ) -> Result<Option<PartFault>, RunError>
     requires { vec_len readers < 2 ^ 32 }
-    ensures { Runs (ReadersGive (map R.remaining readers.items)) IsLineOnParts GoWithFault
+    ensures { Runs (ReadersGive (map R.remaining readers.items)) IsLineOnParts
+        (GoesWithFault AreReadable HasFirstPartFault)
         (W.contents writer.old) (W.contents writer.new) result }
 {
     let room = room_for(alloc, readers.len())?;
@@ -133,7 +127,8 @@ pub(crate) fn write_parts<T: Threads + Sync, W: Write, G: Gate + Sync>(
 ) -> Result<PartsWritten, RunError>
     requires few { length parts.now < 2 ^ 32 }
     requires limit { bytes_of (map (λ part. part.now) parts.now) ≤ CAPTURE_LIMIT }
-    ensures { Writes IsTextOfParts GoWithWritten (map (λ part. part.now) parts.now)
+    ensures { Writes IsTextOfParts (GoesWithWritten AreReadable HasFirstPartFault)
+        (map (λ part. part.now) parts.now)
         (W.contents writer.old) (W.contents writer.new) result }
 {
     match report_on(rt, alloc, parts, workers, piece, gate) {
@@ -191,7 +186,8 @@ pub(crate) fn write_first_fault_parts<W: Write>(
     writer: &mut W,
 ) -> Result<Option<PartFault>, RunError>
     requires { length parts.now < 2 ^ 32 }
-    ensures written { Writes IsLineOnParts GoWithFault (map (λ part. part.now) parts.now)
+    ensures written { Writes IsLineOnParts (GoesWithFault AreReadable HasFirstPartFault)
+        (map (λ part. part.now) parts.now)
         (W.contents writer.old) (W.contents writer.new) result }
     ensures fault { IsOkUnless result RunError.Write }
 {

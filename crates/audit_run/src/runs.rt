@@ -2,10 +2,12 @@
 
 ghost use Rattle.std.specs.Prelude.{◌≡◌, ◌≤◌, length, vec_len, IfOk, IfErr, IfSome, IsOkUnless};
 ghost use Rattle.audit_run.specs.Run.{GoesWithFault, GoesWithWritten, ReaderGives, Runs, Writes};
+ghost use Rattle.transaction_view.specs.Grammar.{HasFirstFault, IsReadable};
 ghost use Rattle.report_text.specs.Answers.{IsTextOf, IsLineOn};
 ghost use Rattle.audit_join.specs.declared.limits.TheConstants.{CAPTURE_LIMIT};
 
-use crate::part_runs::{PartsWritten, as_bytes, write_first_fault_parts, write_parts};
+use crate::part_runs::{as_bytes, write_first_fault_parts, write_parts};
+use crate::written::Written;
 use audit_join::{CAPTURE_LIMIT, Piece};
 use audit_streams::{RunError, read_capture};
 use capture_frame::Fault;
@@ -13,15 +15,6 @@ use claim_board::{Gate, NoGate, Workers};
 use std::alloc::Global;
 use std::io::{Read, Write};
 use std::thread::Threads;
-
-/// What was written.
-#[derive(Clone, Copy, Debug, PartialEq, Eq)]
-pub enum Written {
-    /// The report.
-    Report,
-    /// The line that names the first malformed unit.
-    Malformed(Fault),
-}
 
 /// Reads a capture to its end, and writes its report, or the line that names its first fault. So
 /// many workers share its frames, a piece at a time.
@@ -34,7 +27,8 @@ pub fn run<T: Threads + Sync, R: Read, W: Write>(
     piece: Piece,
 ) -> Result<Written, RunError>
     // At Ok what is written is the definitions' text of what was read, and nothing else.
-    ensures { Runs (ReaderGives (R.remaining reader.old)) IsTextOf GoesWithWritten
+    ensures { Runs (ReaderGives (R.remaining reader.old)) IsTextOf
+        (GoesWithWritten IsReadable HasFirstFault)
         (W.contents writer.old) (W.contents writer.new) result }
 {
     run_gated(rt, alloc, reader, writer, workers, piece, &NoGate)
@@ -51,7 +45,8 @@ pub fn run_gated<T: Threads + Sync, R: Read, W: Write, G: Gate + Sync>(
     gate: &G,
 ) -> Result<Written, RunError>
     // At Ok what is written is the definitions' text of what was read, and nothing else.
-    ensures { Runs (ReaderGives (R.remaining reader.old)) IsTextOf GoesWithWritten
+    ensures { Runs (ReaderGives (R.remaining reader.old)) IsTextOf
+        (GoesWithWritten IsReadable HasFirstFault)
         (W.contents writer.old) (W.contents writer.new) result }
 {
     let capture = read_within(alloc, reader)?;
@@ -87,12 +82,12 @@ fn write_report<T: Threads + Sync, W: Write, G: Gate + Sync>(
     gate: &G,
 ) -> Result<Written, RunError>
     requires { length capture.now ≤ CAPTURE_LIMIT }
-    ensures { Writes IsTextOf GoesWithWritten capture.now
+    ensures { Writes IsTextOf (GoesWithWritten IsReadable HasFirstFault) capture.now
         (W.contents writer.old) (W.contents writer.new) result }
 {
     match write_parts(rt, alloc, &[capture], writer, workers, piece, gate)? {
-        PartsWritten::Report => Ok(Written::Report),
-        PartsWritten::Malformed(found) => Ok(Written::Malformed(found.fault)),
+        Written::Report => Ok(Written::Report),
+        Written::Malformed(found) => Ok(Written::Malformed(found.fault)),
     }
 }
 
@@ -103,7 +98,8 @@ pub fn run_first_fault<R: Read, W: Write>(
     reader: &mut R,
     writer: &mut W,
 ) -> Result<Option<Fault>, RunError>
-    ensures { Runs (ReaderGives (R.remaining reader.old)) IsLineOn GoesWithFault
+    ensures { Runs (ReaderGives (R.remaining reader.old)) IsLineOn
+        (GoesWithFault IsReadable HasFirstFault)
         (W.contents writer.old) (W.contents writer.new) result }
 {
     let capture = read_within(alloc, reader)?;
@@ -115,7 +111,7 @@ pub fn write_first_fault<W: Write>(
     capture: &[u8],
     writer: &mut W,
 ) -> Result<Option<Fault>, RunError>
-    ensures written { Writes IsLineOn GoesWithFault capture.now
+    ensures written { Writes IsLineOn (GoesWithFault IsReadable HasFirstFault) capture.now
         (W.contents writer.old) (W.contents writer.new) result }
     ensures fault { IsOkUnless result RunError.Write }
 {

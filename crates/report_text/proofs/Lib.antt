@@ -4,6 +4,7 @@ pub mod Sections
 pub mod Listed
 pub mod ObjectOwners
 pub mod CallEvents
+pub mod AnswerLaws
 pub mod OneText
 mod SomeText
 pub mod Vectors

@@ -2,14 +2,15 @@
 use Rattle.std.proofs.Common.{◌≡◌, ℕ, List, sym, ap, subst, ◌∙◌}
 use Rattle.capture_frame.specs.declared.fault.Fault.{Fault}
 use Rattle.capture_frame.proofs.CaptureLaws.{capture_one_reading, capture_one_fault, capture_never_both}
-use Rattle.transaction_view.specs.Grammar.{WholeFrame, HasFirstFault, whole_format}
+use Rattle.transaction_view.specs.Grammar.{WholeFrame, HasFirstFault, IsReadable, whole_format}
 use Rattle.transaction_view.proofs.GrammarLaws.{whole_decided}
 use Rattle.event_core.specs.Events.{wholes_of}
 use Rattle.audit_findings.specs.Findings.{AreFindings}
 use Rattle.audit_findings.proofs.OneFindings.{one_findings}
-use Rattle.report_text.specs.Answers.{IsTextOf, report, malformed, IsLineOn, none, named}
+use Rattle.report_text.specs.Answers.{IsTextOf, IsLineOn, SaysSound}
 use Rattle.report_text.specs.Fault.{fault_line}
 use Rattle.report_text.specs.Text.{IsReportOn, report_text}
+use Rattle.report_text.proofs.AnswerLaws.{one_answer}
 
 pub one_report : (capture text other : List ℕ) → IsReportOn capture text → IsReportOn capture other → text ≡ other
 one_report capture text other a b =
@@ -23,15 +24,9 @@ one_fault : (capture : List ℕ) (fault other : Fault) → HasFirstFault capture
 one_fault capture fault other a b = ap fault_line (capture_one_fault whole_format whole_decided capture fault other a b)
 
 pub one_text : (capture text other : List ℕ) → IsTextOf capture text → IsTextOf capture other → text ≡ other
-one_text capture text other (report a) (report b) = one_report capture text other a b
-one_text capture text other (report a) (malformed fault faulty is) = absurd (report_or_fault capture text fault a faulty)
-one_text capture text other (malformed fault faulty is) (report b) = absurd (report_or_fault capture other fault b faulty)
-one_text capture text other (malformed fault faulty is) (malformed also faulty_too is_too) = is ∙ one_fault capture fault also faulty faulty_too ∙ sym is_too
+one_text capture = one_answer IsReportOn HasFirstFault (λ _ fault. fault_line fault) capture (one_report capture) (report_or_fault capture) (one_fault capture)
 
 pub one_line : (capture text other : List ℕ) → IsLineOn capture text → IsLineOn capture other → text ≡ other
-one_line capture text other (none readable is) (none readable_too is_too) = is ∙ sym is_too
-one_line capture text other (none readable is) (named fault faulty is_too) =
-    absurd (capture_never_both whole_format whole_decided capture readable.0 fault readable.1 faulty)
-one_line capture text other (named fault faulty is) (none readable is_too) =
-    absurd (capture_never_both whole_format whole_decided capture readable.0 fault readable.1 faulty)
-one_line capture text other (named fault faulty is) (named also faulty_too is_too) = is ∙ one_fault capture fault also faulty faulty_too ∙ sym is_too
+one_line capture =
+    one_answer (SaysSound IsReadable) HasFirstFault (λ _ fault. fault_line fault) capture (λ text other a b. a.1 ∙ sym b.1)
+    (λ text fault a faulty. capture_never_both whole_format whole_decided capture a.0.0 fault a.0.1 faulty) (one_fault capture)

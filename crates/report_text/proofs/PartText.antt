@@ -20,11 +20,10 @@ use Rattle.transaction_view.proofs.GrammarLaws.{whole_decided, whole_wide}
 use Rattle.event_core.specs.Events.{wholes_of}
 use Rattle.audit_findings.specs.Findings.{AreFindings}
 use Rattle.audit_findings.proofs.SomeFindings.{some_findings}
-use Rattle.report_text.specs.Answers.{IsTextOf, IsLineOn}
-use Rattle.report_text.specs.Answers as answers
-use Rattle.report_text.specs.PartAnswers.{IsTextOfParts, report, malformed, IsLineOnParts, none, named}
+use Rattle.report_text.specs.Answers.{Answers, IsLineOn, IsLineOnParts, IsReportOnParts, IsTextOf, IsTextOfParts, SaysSound, line_of_fault_in, named, right}
 use Rattle.report_text.specs.Fault.{fault_line, fault_words, part_fault_line, no_fault_line}
 use Rattle.report_text.specs.Text.{IsReportOn, report_text}
+use Rattle.report_text.proofs.AnswerLaws.{one_answer}
 use Rattle.report_text.proofs.OneText.{one_report}
 
 -- ---- one text
@@ -38,16 +37,14 @@ one_fault parts found other a b =
     ap (part_fault_line (length parts)) (parts_one_fault whole_format whole_wide whole_decided None parts found other a b)
 
 one_text : (parts : List (List ℕ)) (text other : List ℕ) → IsTextOfParts parts text → IsTextOfParts parts other → text ≡ other
-one_text parts text other (report good a) (report also b) = one_report (joined parts) text other a b
-one_text parts text other (report good a) (malformed found faulty is) = absurd (readable_or_faulty parts found good faulty)
-one_text parts text other (malformed found faulty is) (report good b) = absurd (readable_or_faulty parts found good faulty)
-one_text parts text other (malformed found faulty is) (malformed also faulty_too is_too) = is ∙ one_fault parts found also faulty faulty_too ∙ sym is_too
+one_text parts =
+    one_answer IsReportOnParts HasFirstPartFault line_of_fault_in parts (λ text other a b. one_report (joined parts) text other a.1 b.1)
+    (λ text found a. readable_or_faulty parts found a.0) (one_fault parts)
 
 one_line : (parts : List (List ℕ)) (text other : List ℕ) → IsLineOnParts parts text → IsLineOnParts parts other → text ≡ other
-one_line parts text other (none good is) (none also is_too) = is ∙ sym is_too
-one_line parts text other (none good is) (named found faulty is_too) = absurd (readable_or_faulty parts found good faulty)
-one_line parts text other (named found faulty is) (none good is_too) = absurd (readable_or_faulty parts found good faulty)
-one_line parts text other (named found faulty is) (named also faulty_too is_too) = is ∙ one_fault parts found also faulty faulty_too ∙ sym is_too
+one_line parts =
+    one_answer (SaysSound AreReadable) HasFirstPartFault line_of_fault_in parts (λ text other a b. a.1 ∙ sym b.1)
+    (λ text found a. readable_or_faulty parts found a.0) (one_fault parts)
 
 -- ---- some text
 
@@ -88,13 +85,13 @@ some_text parts bytes = elim (parts_outcome whole_format whole_wide whole_decide
   | inl readable ↦
       let whole = parts_joined whole_format whole_wide parts readable.0 readable.1 in
       let found = some_findings (joined parts) readable.0 (joined_bytes parts bytes) whole in
-      (report_text found.0, report readable (readable.0, found.0, whole, found.1, refl))
-  | inr faulty ↦ (part_fault_line (length parts) faulty.0, malformed faulty.0 faulty.1 refl)
+      (report_text found.0, right (readable, (readable.0, found.0, whole, found.1, refl)))
+  | inr faulty ↦ (part_fault_line (length parts) faulty.0, named faulty.0 faulty.1 refl)
 ]
 
 some_line : (parts : List (List ℕ)) → All IsBytes parts → (line : List ℕ) × IsLineOnParts parts line
 some_line parts bytes = elim (parts_outcome whole_format whole_wide whole_decided None parts bytes) [
-  | inl readable ↦ (no_fault_line, none readable refl)
+  | inl readable ↦ (no_fault_line, right (readable, refl))
   | inr faulty ↦ (part_fault_line (length parts) faulty.0, named faulty.0 faulty.1 refl)
 ]
 
@@ -121,7 +118,7 @@ many_lines_said zero found many = refl
 many_lines_said (suc zero) found many = absurd (many refl)
 many_lines_said (suc (suc parts)) found many = refl
 
-readable_capture : (capture : List ℕ) → AreReadable (capture ∷ []) → IsReadable capture
+pub readable_capture : (capture : List ℕ) → AreReadable (capture ∷ []) → IsReadable capture
 readable_capture capture readable = (readable.0, of_one_part whole_format capture readable.0 readable.1)
 
 readable_part : (capture : List ℕ) → IsReadable capture → AreReadable (capture ∷ [])
@@ -139,28 +136,37 @@ report_of_capture capture text readable a =
 report_of_part : (capture text : List ℕ) → IsReportOn capture text → IsReportOn (joined (capture ∷ [])) text
 report_of_part capture text a = (a.0, a.1, joined_frames capture (a.0, a.2), a.3, a.4)
 
-fault_of_capture : (capture : List ℕ) (found : PartFault) → HasFirstPartFault (capture ∷ []) found → HasFirstFault capture found.fault
+pub fault_of_capture : (capture : List ℕ) (found : PartFault) → HasFirstPartFault (capture ∷ []) found → HasFirstFault capture found.fault
 fault_of_capture capture found faulty = (fault_of_one_part whole_format capture found faulty).1
 
 fault_of_part : (capture : List ℕ) (fault : Fault) → HasFirstFault capture fault → HasFirstPartFault (capture ∷ []) (record { part = 1; fault = fault })
 fault_of_part capture fault faulty = one_part_fails whole_format capture (record { part = 1; fault = fault }) refl faulty
 
+-- ---- an answer for a single part is one for the capture
+
+module _ (IsRight : List ℕ → List ℕ → Type 0) (AreRight : List (List ℕ) → List ℕ → Type 0) (capture : List ℕ) where
+  of_capture : ((text : List ℕ) → AreRight (capture ∷ []) text → IsRight capture text) → (text : List ℕ)
+      → Answers AreRight HasFirstPartFault line_of_fault_in (capture ∷ []) text → Answers IsRight HasFirstFault (λ _ fault. fault_line fault) capture text
+  of_capture one text (right a) = right (one text a)
+  of_capture one text (named found faulty is) = named found.fault (fault_of_capture capture found faulty) (is ∙ one_line_said found)
+
+  of_part : ((text : List ℕ) → IsRight capture text → AreRight (capture ∷ []) text) → (text : List ℕ)
+      → Answers IsRight HasFirstFault (λ _ fault. fault_line fault) capture text → Answers AreRight HasFirstPartFault line_of_fault_in (capture ∷ []) text
+  of_part one text (right a) = right (one text a)
+  of_part one text (named fault faulty is) =
+      let found : PartFault = record { part = 1; fault = fault } in
+      named found (fault_of_part capture fault faulty) (is ∙ sym (one_line_said found))
+
 pub text_of_capture : (capture text : List ℕ) → IsTextOfParts (capture ∷ []) text → IsTextOf capture text
-text_of_capture capture text (report readable a) = answers.report (report_of_capture capture text (readable_capture capture readable) a)
-text_of_capture capture text (malformed found faulty is) =
-    answers.malformed found.fault (fault_of_capture capture found faulty) (is ∙ one_line_said found)
+text_of_capture capture =
+    of_capture IsReportOn IsReportOnParts capture (λ text a. report_of_capture capture text (readable_capture capture a.0) a.1)
 
 pub text_of_part : (capture text : List ℕ) → IsTextOf capture text → IsTextOfParts (capture ∷ []) text
-text_of_part capture text (answers.report a) = report (readable_part capture (a.0, a.2)) (report_of_part capture text a)
-text_of_part capture text (answers.malformed fault faulty is) =
-    malformed (record { part = 1; fault = fault }) (fault_of_part capture fault faulty) (is ∙ sym (one_line_said (record { part = 1; fault = fault })))
+text_of_part capture =
+    of_part IsReportOn IsReportOnParts capture (λ text a. (readable_part capture (a.0, a.2), report_of_part capture text a))
 
 pub line_of_capture : (capture line : List ℕ) → IsLineOnParts (capture ∷ []) line → IsLineOn capture line
-line_of_capture capture line (none readable is) = answers.none (readable_capture capture readable) is
-line_of_capture capture line (named found faulty is) =
-    answers.named found.fault (fault_of_capture capture found faulty) (is ∙ one_line_said found)
+line_of_capture capture = of_capture (SaysSound IsReadable) (SaysSound AreReadable) capture (λ line a. (readable_capture capture a.0, a.1))
 
 pub line_of_part : (capture line : List ℕ) → IsLineOn capture line → IsLineOnParts (capture ∷ []) line
-line_of_part capture line (answers.none readable is) = none (readable_part capture readable) is
-line_of_part capture line (answers.named fault faulty is) =
-    named (record { part = 1; fault = fault }) (fault_of_part capture fault faulty) (is ∙ sym (one_line_said (record { part = 1; fault = fault })))
+line_of_part capture = of_part (SaysSound IsReadable) (SaysSound AreReadable) capture (λ line a. (readable_part capture a.0, a.1))

@@ -6,7 +6,7 @@ use Rattle.capture_frame.proofs.CaptureLaws.{capture_outcome}
 use Rattle.transaction_view.specs.Grammar.{IsReadable, HasFirstFault, whole_format}
 use Rattle.transaction_view.proofs.GrammarLaws.{whole_decided}
 use Rattle.audit_findings.proofs.SomeFindings.{some_findings}
-use Rattle.report_text.specs.Answers.{IsTextOf, report, malformed, IsLineOn, none, named}
+use Rattle.report_text.specs.Answers.{IsTextOf, IsLineOn, named, right}
 use Rattle.report_text.specs.Fault.{fault_line, no_fault_line}
 use Rattle.report_text.specs.Text.{report_text}
 
@@ -17,12 +17,12 @@ pub some_text : (capture : List ℕ) → IsBytes capture → (text : List ℕ) �
 some_text capture h = elim (readable_or_faulty capture h) [
   | inl readable ↦
       let found = some_findings capture readable.0 h readable.1 in
-      (report_text found.0, report (readable.0, found.0, readable.1, found.1, refl))
-  | inr faulty ↦ (fault_line faulty.0, malformed faulty.0 faulty.1 refl)
+      (report_text found.0, right (readable.0, found.0, readable.1, found.1, refl))
+  | inr faulty ↦ (fault_line faulty.0, named faulty.0 faulty.1 refl)
 ]
 
 pub some_line : (capture : List ℕ) → IsBytes capture → (line : List ℕ) × IsLineOn capture line
 some_line capture h = elim (readable_or_faulty capture h) [
-  | inl readable ↦ (no_fault_line, none readable refl)
+  | inl readable ↦ (no_fault_line, right (readable, refl))
   | inr faulty ↦ (fault_line faulty.0, named faulty.0 faulty.1 refl)
 ]

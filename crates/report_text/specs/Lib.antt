@@ -23,7 +23,6 @@ pub mod Flags
 pub mod Fault
 pub mod Text
 pub mod Answers
-pub mod PartAnswers
 pub mod Laws
 pub mod PartLaws
 pub mod Pushed

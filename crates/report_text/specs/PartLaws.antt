@@ -1,8 +1,7 @@
 -- Laws of the definitions for parts.
 use Rattle.std.specs.Prelude.{◌≡◌, ◌↔◌, ℕ, List, [], ◌∷◌, All}
 use Rattle.capture_frame.specs.Units.{IsBytes}
-use Rattle.report_text.specs.Answers.{IsTextOf, IsLineOn}
-use Rattle.report_text.specs.PartAnswers.{IsTextOfParts, IsLineOnParts}
+use Rattle.report_text.specs.Answers.{IsTextOf, IsLineOn, IsTextOfParts, IsLineOnParts}
 
 -- every list of parts has exactly one text
 abbrev pub HaveExactlyOneText : Type 0

@@ -1,5 +1,5 @@
 use Rattle.std.proofs.lemmas.Result.{err_from_is_err_and}
-use Rattle.report_text.specs.PartAnswers.{IsLineOnParts, named}
+use Rattle.report_text.specs.Answers.{IsLineOnParts, named}
 use Rattle.audit_run.proofs.RunLaws.{line_begun, line_of_slices}
 use Rattle.audit_run.proofs.part_runs.write_first_fault_parts.Goals as goal
 
