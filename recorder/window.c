@@ -125,10 +125,10 @@ static void settle_slot(struct slot *slot)
 
 void window_settle(void)
 {
-	u64 limit = now() - LONGEST_WAIT;
+	u64 present = now();
 	while (next < end) {
 		struct slot *slot = at(next);
-		if (slot->state == WAITING && (slot->since < limit || memory > MOST_MEMORY))
+		if (slot->state == WAITING && (slot->since + LONGEST_WAIT < present || memory > MOST_MEMORY))
 			lose_slot(slot, REASON_HELD_TOO_LONG);
 		if (slot->state != WHOLE && slot->state != LOST)
 			break;
