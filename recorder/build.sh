@@ -3,9 +3,10 @@
 #
 #     recorder/build.sh [--sanitize] [--machine MACHINE] FOLDER
 #
-# With --sanitize it is a dynamic one under the address and undefined-behaviour sanitizers. MACHINE is x86_64 or aarch64,
-# the one that it is built on where it is absent; CC is then to name a compiler for it that finds the libraries. CC is gcc
-# where it is absent. It wants clang, bpftool, libbpf-dev, libelf-dev, zlib1g-dev and the kernel's headers for programs.
+# With --sanitize it is a dynamic one under the address and undefined-behaviour sanitizers, which end it at a fault. MACHINE
+# is x86_64 or aarch64, the one that it is built on where it is absent; CC is then to name a compiler for it that finds the
+# libraries. CC is gcc where it is absent. It wants clang, bpftool, libbpf-dev, libelf-dev, zlib1g-dev and the kernel's
+# headers for programs.
 set -euo pipefail
 
 here=$(dirname -- "$(readlink -f -- "${BASH_SOURCE[0]}")")
@@ -16,7 +17,7 @@ while [[ ${1:-} == --* ]]; do
   case $1 in
     --sanitize)
       link=(-fsanitize=address,undefined)
-      flags=(-O1 -g -fno-omit-frame-pointer -fsanitize=address,undefined)
+      flags=(-O1 -g -fno-omit-frame-pointer -fsanitize=address,undefined -fno-sanitize-recover=all)
       ;;
     --machine)
       machine=${2:?--machine takes a name}

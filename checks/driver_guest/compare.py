@@ -115,11 +115,14 @@ class Scenario:
         self.status, self.how = (folder / "status").read_text().split()[:2] if (folder / "status").exists() else ("0", "stored")
         code, text = report_on(auditor, self.recording.captures)
         self.text = text
+        self.output = (folder / "output").read_text(errors="replace") if (folder / "output").exists() else ""
         self.report = Report(text) if code == 0 else None
         self.books = books_of.texts(folder) if (folder / "state").exists() else None
 
     def differences(self, texts=None):
         """All that is not as it should be, and the sections that were looked at."""
+        if found := re.search("Sanitizer: [a-z-]*|runtime error", self.output):
+            return [("status", "all", found[0], 1, 0)], {"status"}
         if self.report is None:
             return [("capture", "all", self.text.strip(), 0, 0)], {"capture"}
         if self.how in PARTIAL:
@@ -204,9 +207,9 @@ def unfound(scenarios):
 def main(auditor, folder, whole=""):
     folder = pathlib.Path(folder)
     reasons, table, failed, used = explained(), defaultdict(Counter), False, set()
-    scenarios = [Scenario(auditor, path) for path in sorted(folder.iterdir()) if (path / "capture-1.cap").exists()]
+    scenarios = [Scenario(auditor, path) for path in sorted(folder.iterdir()) if (path / "status").exists()]
     if not scenarios:
-        sys.exit(f"compare.py: {folder} has no capture")
+        sys.exit(f"compare.py: {folder} has no scenario")
     for scenario in scenarios:
         found, seen = scenario.differences()
         verdicts = {section: "agree" for section in seen}
