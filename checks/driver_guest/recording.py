@@ -21,10 +21,13 @@ class Frame(NamedTuple):
 
 
 def frames_of(data):
+    """The frames, without a last one that is cut."""
     at = 0
     while len(data) - at >= HEADER.size:
         sequence, process, thread, direction, size, more, device = HEADER.unpack_from(data, at)
         at += HEADER.size
+        if len(data) - at < size + more:
+            break
         yield Frame(sequence, device, process, thread, direction, data[at:at + size], data[at + size:at + size + more])
         at += size + more
 
@@ -105,6 +108,14 @@ class Report:
         if name == section:
             return int(words[1])
         return int(words[words.index(name, 1) + 1])
+
+
+def keep_whole_frames(capture, to):
+    """What ENVELOPE says of a capture that was cut: the bytes before its last frame."""
+    data = capture.read_bytes()
+    kept = sum(HEADER.size + len(frame.commands) + len(frame.attached) for frame in frames_of(data[16:]))
+    to.write_bytes(data[:16 + kept])
+    return to
 
 
 def report_on(auditor, captures):
