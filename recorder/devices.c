@@ -4,13 +4,19 @@
 #include <fcntl.h>
 #include <stdio.h>
 #include <string.h>
+#include <linux/magic.h>
 #include <sys/stat.h>
 #include <sys/sysmacros.h>
+#include <sys/vfs.h>
 
 #define MINOR_BITS 20
 #define MOST_NAME_BYTES 128u
 
 static const char *const folders[] = { "/dev", "/dev/binderfs" };
+static const char *const driver_names[] = {	/* of the devices that the driver makes without binderfs */
+	"/sys/module/binder_linux/parameters/devices",
+	"/sys/module/binder/parameters/devices",
+};
 
 u32 device_major(u32 device)
 {
@@ -25,21 +31,6 @@ u32 device_minor(u32 device)
 static u32 number_of(const struct stat *status)
 {
 	return S_ISCHR(status->st_mode) ? major(status->st_rdev) << MINOR_BITS | minor(status->st_rdev) : 0;
-}
-
-u32 device_by_name(const char *name)
-{
-	struct stat status;
-	u32 device = 0;
-	if (strchr(name, '/'))
-		return stat(name, &status) ? 0 : number_of(&status);
-	for (size_t i = 0; i < sizeof folders / sizeof *folders && !device; i++) {
-		char path[4096];
-		snprintf(path, sizeof path, "%s/%s", folders[i], name);
-		if (!stat(path, &status))
-			device = number_of(&status);
-	}
-	return device;
 }
 
 /* Sysfs names all devices but those of binderfs. */
@@ -76,6 +67,53 @@ static int name_in_folder(const char *folder, u32 device, char *name)
 	if (all)
 		closedir(all);
 	return is_found;
+}
+
+static int is_in_binderfs(const char *path)
+{
+	struct statfs status;
+	return !statfs(path, &status) && status.f_type == BINDERFS_SUPER_MAGIC;
+}
+
+/* Whether the first line of the file, words with commas between, has the name. */
+static int has_word(const char *path, const char *name)
+{
+	char line[4096];
+	int is_found = 0;
+	FILE *file = fopen(path, "r");
+	if (file && fgets(line, sizeof line, file))
+		for (char *word = strtok(line, ",\n"); word && !is_found; word = strtok(NULL, ",\n"))
+			is_found = !strcmp(word, name);
+	if (file)
+		fclose(file);
+	return is_found;
+}
+
+static int is_made_by_driver(u32 device)
+{
+	char name[CLEAN_NAME_BYTES];
+	return name_in_sysfs(device, name) && (has_word(driver_names[0], name) || has_word(driver_names[1], name));
+}
+
+/* The number of a Binder device, or 0. */
+static u32 binder_device(const char *path)
+{
+	struct stat status;
+	u32 device = stat(path, &status) ? 0 : number_of(&status);
+	return device && (is_in_binderfs(path) || is_made_by_driver(device)) ? device : 0;
+}
+
+u32 device_by_name(const char *name)
+{
+	u32 device = 0;
+	if (strchr(name, '/'))
+		return binder_device(name);
+	for (size_t i = 0; i < sizeof folders / sizeof *folders && !device; i++) {
+		char path[4096];
+		snprintf(path, sizeof path, "%s/%s", folders[i], name);
+		device = binder_device(path);
+	}
+	return device;
 }
 
 void device_name(u32 device, char *name)

@@ -67,6 +67,6 @@ u32 need_device(const char *name)
 {
 	u32 device = device_by_name(name);
 	if (!device)
-		fail("--device %s: there is no such device", name);
+		fail("--device %s: there is no such Binder device", name);
 	return device;
 }
