@@ -10,6 +10,7 @@ is named, and the status is then 1. So it is where wrong books are not found: of
 import pathlib
 import re
 import sys
+import tempfile
 from collections import Counter, defaultdict
 
 import books as books_of
@@ -114,6 +115,9 @@ class Scenario:
         self.recording = Recording(folder)
         self.status, self.how = (folder / "status").read_text().split()[:2] if (folder / "status").exists() else ("0", "stored")
         code, text = report_on(auditor, self.recording.captures)
+        if code == 2 and self.how == "killed" and self.recording.captures:
+            with tempfile.TemporaryDirectory() as room:
+                code, text = report_on(auditor, self.recording.cut_off(room))
         self.text = text
         self.report = Report(text) if code == 0 else None
         self.books = books_of.texts(folder) if (folder / "state").exists() else None

@@ -21,10 +21,13 @@ class Frame(NamedTuple):
 
 
 def frames_of(data):
+    """The whole frames. A recorder that was killed may leave its last frame cut."""
     at = 0
     while len(data) - at >= HEADER.size:
         sequence, process, thread, direction, size, more, device = HEADER.unpack_from(data, at)
         at += HEADER.size
+        if len(data) - at < size + more:
+            return
         yield Frame(sequence, device, process, thread, direction, data[at:at + size], data[at + size:at + size + more])
         at += size + more
 
@@ -57,6 +60,14 @@ class Recording:
         for device, number, thread, tid in re.findall(
                 r"^\d+ thread (\d+) (\d+) (\d+) pid=\d+ tid=(\d+)", self.side, re.M):
             self.tids[int(device), int(number), int(thread)] = int(tid)
+
+    def cut_off(self, room):
+        """The captures, the last one in this folder without a frame that is cut."""
+        last = self.captures[-1].read_bytes()
+        length = 16 + sum(HEADER.size + len(frame.commands) + len(frame.attached) for frame in frames_of(last[16:]))
+        whole = pathlib.Path(room) / self.captures[-1].name
+        whole.write_bytes(last[:length])
+        return [*self.captures[:-1], whole]
 
     def open_at(self, moment):
         """The openings that were not closed by then, by device and process id, the latest first."""
