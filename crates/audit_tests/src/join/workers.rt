@@ -7,7 +7,7 @@ use super::captures::{eight_frames, within_limit};
 use super::expect_sections;
 use crate::expected::{Expected, expect};
 use crate::meeting::{Meeting, RELEASE_FIRST};
-use audit_join::{AuditError, Findings, OfProcess, Piece, audit};
+use audit_join::{AuditError, Findings, Piece, ProcessRow, audit};
 use capture_frame::{Fault, FaultKind, Process};
 use claim_board::{NoGate, Workers};
 use handle_ledger::{HandleRow, HeldRow};
@@ -232,7 +232,7 @@ fn more_workers_than_pieces(rt: HostRuntime) -> Result<(), Fail> {
 }
 
 /// The handle that is let go before it is taken.
-const HANDLES: &[OfProcess<HeldRow>] = &[OfProcess {
+const HANDLES: &[ProcessRow<HeldRow>] = &[ProcessRow {
     process: Process {
         device: 0,
         number: 100,
@@ -252,7 +252,7 @@ const HANDLES: &[OfProcess<HeldRow>] = &[OfProcess {
 #[derive(Clone, Copy)]
 struct HasHandles<'r, R> {
     rt: &'r R,
-    handles: &'static [OfProcess<HeldRow>],
+    handles: &'static [ProcessRow<HeldRow>],
 }
 
 impl<'r, R: Abort> Expected for HasHandles<'r, R> {
