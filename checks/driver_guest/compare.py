@@ -10,10 +10,11 @@ is named, and the status is then 1. So it is where wrong books are not found: of
 import pathlib
 import re
 import sys
+import tempfile
 from collections import Counter, defaultdict
 
 import books as books_of
-from recording import Recording, Report, frames_of, keep_whole_frames, report_on
+from recording import Recording, Report, frames_of, report_on
 from sections import both
 
 HERE = pathlib.Path(__file__).resolve().parent
@@ -114,12 +115,10 @@ class Scenario:
         self.name, self.folder = folder.name, folder
         self.recording = Recording(folder)
         self.status, self.how = (folder / "status").read_text().split()[:2] if (folder / "status").exists() else ("0", "stored")
-        captures, self.cut = self.recording.captures, 0
-        if self.how == "killed" and len(captures) == 1:
-            kept = keep_whole_frames(captures[0], folder / "kept.cap")
-            self.cut = captures[0].stat().st_size - kept.stat().st_size
-            captures = [kept]
-        code, text = report_on(auditor, captures)
+        code, text = report_on(auditor, self.recording.captures)
+        if code == 2 and self.how == "killed" and self.recording.captures:
+            with tempfile.TemporaryDirectory() as room:
+                code, text = report_on(auditor, self.recording.cut_off(room))
         self.text = text
         self.output = (folder / "output").read_text(errors="replace") if (folder / "output").exists() else ""
         self.report = Report(text) if code == 0 else None
@@ -135,8 +134,8 @@ class Scenario:
             found = [item for item in lost_differences(self.recording) if item[2] in ("untold", "broken", "not-written")]
             if self.how == "full" and "ring-full" not in {why for _, why in self.recording.lost}:
                 found.append(("lost", "all", "ring-full", 0, "some"))
-            if self.cut > MOST_CUT:
-                found.append(("capture", "all", "cut", self.cut, 0))
+            if self.recording.cut > MOST_CUT:
+                found.append(("capture", "all", "cut", self.recording.cut, 0))
             if not self.recording.frames:
                 found.append(("capture", "all", "frames", 0, 1))
             return found, {"capture", "lost"}

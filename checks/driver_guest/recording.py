@@ -21,13 +21,13 @@ class Frame(NamedTuple):
 
 
 def frames_of(data):
-    """The frames, without a last one that is cut."""
+    """The whole frames. A recorder that was killed may leave its last frame cut."""
     at = 0
     while len(data) - at >= HEADER.size:
         sequence, process, thread, direction, size, more, device = HEADER.unpack_from(data, at)
         at += HEADER.size
         if len(data) - at < size + more:
-            break
+            return
         yield Frame(sequence, device, process, thread, direction, data[at:at + size], data[at + size:at + size + more])
         at += size + more
 
@@ -53,6 +53,7 @@ class Recording:
         self.devices = {int(a): b for a, b in re.findall(r"^\d+ device (\d+) .*name=(\S+)", self.side, re.M)}
         self.lost = [(int(n), why) for n, why in re.findall(r"^\d+ lost (\d+) .*why=(\S+)", self.side, re.M)]
         self.names, self.pids, self.tids = {}, {}, {}
+        self.cut = 0	# bytes of a last frame that is cut
         for device, number, pid, name in re.findall(
                 r"^\d+ process (\d+) (\d+) pid=(\d+) .*name=(.*)$", self.side, re.M):
             self.names[int(device), int(number)] = name
@@ -60,6 +61,15 @@ class Recording:
         for device, number, thread, tid in re.findall(
                 r"^\d+ thread (\d+) (\d+) (\d+) pid=\d+ tid=(\d+)", self.side, re.M):
             self.tids[int(device), int(number), int(thread)] = int(tid)
+
+    def cut_off(self, room):
+        """The captures, the last one in this folder without a frame that is cut."""
+        last = self.captures[-1].read_bytes()
+        length = 16 + sum(HEADER.size + len(frame.commands) + len(frame.attached) for frame in frames_of(last[16:]))
+        whole = pathlib.Path(room) / self.captures[-1].name
+        whole.write_bytes(last[:length])
+        self.cut = len(last) - length
+        return [*self.captures[:-1], whole]
 
     def open_at(self, moment):
         """The openings that were not closed by then, by device and process id, the latest first."""
@@ -108,14 +118,6 @@ class Report:
         if name == section:
             return int(words[1])
         return int(words[words.index(name, 1) + 1])
-
-
-def keep_whole_frames(capture, to):
-    """What ENVELOPE says of a capture that was cut: the bytes before its last frame."""
-    data = capture.read_bytes()
-    kept = sum(HEADER.size + len(frame.commands) + len(frame.attached) for frame in frames_of(data[16:]))
-    to.write_bytes(data[:16 + kept])
-    return to
 
 
 def report_on(auditor, captures):

@@ -3,7 +3,7 @@ use Rattle.std.proofs.Common.{◌≡◌, ℕ, ◌+◌, Bool, true, false, cond, 
 use Rattle.std.proofs.lemmas.Bool.{true≢false}
 use Rattle.std.proofs.lemmas.List.Sums.{sum_by-cons}
 use Rattle.std.specs.Prelude.{count_by}
-use Rattle.event_core.specs.Events.{EventText}
+use Rattle.event_core.specs.Events.{EventRead}
 use Rattle.call_stacks.specs.declared.opener.Opener.{Opener}
 use Rattle.call_stacks.specs.declared.verdict.Verdict.{Verdict}
 use Rattle.call_stacks.specs.declared.verdict.Verdict.TheVariants.{Answered, Failed, Replied, Crossed, Open}
@@ -124,31 +124,31 @@ served_is true = refl
 served_is false = refl
 
 -- of the calls that threads make those with a verdict, and those with another one
-pub made_count : (verdict : Verdict) (told : List (Opener EventText))
+pub made_count : (verdict : Verdict) (told : List (Opener EventRead))
     → count_by (is_of Caller verdict) (map opener_row told) ≡ count_by (λ o. is_call o && is_verdict verdict o.verdict) told
 made_count verdict told =
-    count_told opener_row (is_of Caller verdict) (λ (o : Opener EventText). is_call o && is_verdict verdict o.verdict)
+    count_told opener_row (is_of Caller verdict) (λ (o : Opener EventRead). is_call o && is_verdict verdict o.verdict)
     (λ o. ap (λ (b : Bool). b && is_verdict verdict o.verdict) (made_is (is_call o))) told
 
-pub made_rows : (verdict : Verdict) (told : List (Opener EventText))
+pub made_rows : (verdict : Verdict) (told : List (Opener EventRead))
     → map (λ (r : OpenerRow). r.row) (filter (is_but Caller verdict) (map opener_row told))
     ≡ map kept_call (filter (λ o. is_call o && not (is_verdict verdict o.verdict)) told)
 made_rows verdict told =
-    filter_told opener_row (is_but Caller verdict) (λ (o : Opener EventText). is_call o && not (is_verdict verdict o.verdict))
+    filter_told opener_row (is_but Caller verdict) (λ (o : Opener EventRead). is_call o && not (is_verdict verdict o.verdict))
     (λ o. ap (λ (b : Bool). b && not (is_verdict verdict o.verdict)) (made_is (is_call o))) (λ (r : OpenerRow). r.row) told
 
 -- the same of the served calls
-pub served_count : (verdict : Verdict) (told : List (Opener EventText))
+pub served_count : (verdict : Verdict) (told : List (Opener EventRead))
     → count_by (is_of Server verdict) (map opener_row told) ≡ count_by (λ o. not (is_call o) && is_verdict verdict o.verdict) told
 served_count verdict told =
-    count_told opener_row (is_of Server verdict) (λ (o : Opener EventText). not (is_call o) && is_verdict verdict o.verdict)
+    count_told opener_row (is_of Server verdict) (λ (o : Opener EventRead). not (is_call o) && is_verdict verdict o.verdict)
     (λ o. ap (λ (b : Bool). b && is_verdict verdict o.verdict) (served_is (is_call o))) told
 
-pub served_rows : (verdict : Verdict) (told : List (Opener EventText))
+pub served_rows : (verdict : Verdict) (told : List (Opener EventRead))
     → map (λ (r : OpenerRow). r.row) (filter (is_but Server verdict) (map opener_row told))
     ≡ map kept_call (filter (λ o. not (is_call o) && not (is_verdict verdict o.verdict)) told)
 served_rows verdict told =
-    filter_told opener_row (is_but Server verdict) (λ (o : Opener EventText). not (is_call o) && not (is_verdict verdict o.verdict))
+    filter_told opener_row (is_but Server verdict) (λ (o : Opener EventRead). not (is_call o) && not (is_verdict verdict o.verdict))
     (λ o. ap (λ (b : Bool). b && not (is_verdict verdict o.verdict)) (served_is (is_call o))) (λ (r : OpenerRow). r.row) told
 
 one_unanswered : (b : Bool) (v : Verdict) → cond (b && is_crossed v) 1 0 + cond (b && is_open v) 1 0 ≡ cond (b && is_unanswered v) 1 0
@@ -160,14 +160,14 @@ one_unanswered true Open = refl
 one_unanswered false v = refl
 
 -- crossed and open ones together are the unanswered ones
-pub unanswered_count : (told : List (Opener EventText))
+pub unanswered_count : (told : List (Opener EventRead))
     → count_by (λ o. is_call o && is_crossed o.verdict) told + count_by (λ o. is_call o && is_open o.verdict) told
     ≡ count_by (λ o. is_call o && is_unanswered o.verdict) told
 unanswered_count [] = refl
 unanswered_count (o ∷ told) =
     let rest = unanswered_count told in
     let here = one_unanswered (is_call o) o.verdict in
-    let crossed = count_more (λ (o : Opener EventText). is_call o && is_crossed o.verdict) o told in
-    let left_open = count_more (λ (o : Opener EventText). is_call o && is_open o.verdict) o told in
-    let both = count_more (λ (o : Opener EventText). is_call o && is_unanswered o.verdict) o told in
+    let crossed = count_more (λ (o : Opener EventRead). is_call o && is_crossed o.verdict) o told in
+    let left_open = count_more (λ (o : Opener EventRead). is_call o && is_open o.verdict) o told in
+    let both = count_more (λ (o : Opener EventRead). is_call o && is_unanswered o.verdict) o told in
     omega (arith, rest, here, crossed, left_open, both)

@@ -6,8 +6,8 @@ use Rattle.std.specs.Prelude.{slice_get}
 use Rattle.capture_frame.proofs.ProcessLaws.{same_thread_eq}
 use Rattle.capture_frame.specs.declared.process.Thread.{Thread}
 use Rattle.capture_frame.specs.Process.{same_thread}
-use Rattle.event_core.specs.Events.{EventText, thread_of}
-use Rattle.call_stacks.specs.Calls.{Reads, JudgedOf, bracket_read, judged_of, sides_of, verdict_read}
+use Rattle.event_core.specs.Events.{EventRead, thread_of}
+use Rattle.call_stacks.specs.Calls.{Reads, Bracketed, bracket_read, judged_of, sides_of, verdict_read}
 use Rattle.call_stacks.specs.declared.opener.Opener.{Opener}
 use Rattle.call_stacks.specs.declared.findings.RefusedSend.{RefusedSend}
 use Rattle.call_stacks.specs.Calls.{HasVerdict, closed_by, left_open, IsOpener, IsStrayEvent, IsRefusedSend, is_refused, is_oneway_mark}
@@ -35,20 +35,20 @@ one_of_rank rank xs rises a b at_a at_b same =
 -- ---- judged events
 
 module _ {E : Type 0} (reads : Reads E) where
-  abbrev item_side : JudgedOf E → Side
+  abbrev item_side : Bracketed E → Side
   item_side item = side_of item.bracket
 
   -- where a judged event stands
-  abbrev judged_place : JudgedOf E → ℕ
+  abbrev judged_place : Bracketed E → ℕ
   judged_place item = reads.place item.event
 
   abbrev Numbered : Type 0
-  Numbered = ℕ × JudgedOf E
+  Numbered = ℕ × Bracketed E
 
-  abbrev entries : List (JudgedOf E) → List (Numbered × Option Numbered)
+  abbrev entries : List (Bracketed E) → List (Numbered × Option Numbered)
   entries items = openers (numbered item_side) (enumerate_from 0 items)
 
-  same_item : (items : List (JudgedOf E)) (i : ℕ) (x y : JudgedOf E) → slice_get items i ≡ Some x → slice_get items i ≡ Some y → x ≡ y
+  same_item : (items : List (Bracketed E)) (i : ℕ) (x y : Bracketed E) → slice_get items i ≡ Some x → slice_get items i ≡ Some y → x ≡ y
   same_item items i x y first second = let same : Some x ≡ Some y = sym first ∙ second in let e : x ≡ y = cc in e
 
   -- ---- openers
@@ -65,14 +65,14 @@ module _ {E : Type 0} (reads : Reads E) where
   abbrev told : Numbered × Option Numbered → Opener E
   told p = record { event = p.0.1.event; verdict = verdict_told p.0.1.event p.1; closer = closer_told p.1 }
 
-  side_is : (items : List (JudgedOf E)) (i : ℕ) (x : JudgedOf E) → slice_get items i ≡ Some x → slice_get (sides_of items) i ≡ Some opener
+  side_is : (items : List (Bracketed E)) (i : ℕ) (x : Bracketed E) → slice_get items i ≡ Some x → slice_get (sides_of items) i ≡ Some opener
       → side_of x.bracket ≡ opener
   side_is items i x stands e =
       let same : Some (side_of x.bracket) ≡ Some opener = sym (side_there item_side items i x stands) ∙ e in
       let is : side_of x.bracket ≡ opener = cc in
       is
 
-  told_sound : (items : List (JudgedOf E)) (x : Numbered) (h : Option Numbered) → In (x, h) (entries items) → IsOpener reads items (told (x, h))
+  told_sound : (items : List (Bracketed E)) (x : Numbered) (h : Option Numbered) → In (x, h) (entries items) → IsOpener reads items (told (x, h))
   told_sound items x None there =
       let found = unmatched_of item_side 0 items x there in
       record {
@@ -102,26 +102,26 @@ module _ {E : Type 0} (reads : Reads E) where
   opener_is call event verdict place a b c =
       ap (λ e. opener_of e call.verdict call.closer) a ∙ ap (λ v. opener_of event v call.closer) b ∙ ap (opener_of event verdict) c
 
-  told_whole : (items : List (JudgedOf E)) (call : Opener E) (position : ℕ) (there : JudgedOf E) → slice_get items position ≡ Some there
+  told_whole : (items : List (Bracketed E)) (call : Opener E) (position : ℕ) (there : Bracketed E) → slice_get items position ≡ Some there
       → side_of there.bracket ≡ opener → call.event ≡ there.event → HasVerdict reads items position call → In call (map told (entries items))
   told_whole items call position there stands opens event (closed_by j answer matched answer_stands verdict place) =
       let here = has_match item_side 0 items position j matched in
       let call_same : there ≡ here.opener = same_item items position there here.opener stands here.opener_stands in
       let answer_same : answer ≡ here.closer = same_item items j answer here.closer answer_stands here.closer_stands in
-      let event_same : call.event ≡ here.opener.event = event ∙ ap (λ (x : JudgedOf E). x.event) call_same in
+      let event_same : call.event ≡ here.opener.event = event ∙ ap (λ (x : Bracketed E). x.event) call_same in
       let is = opener_is call here.opener.event (verdict_read reads here.opener.event here.closer.event) (Some (judged_place here.closer)) event_same
-      (verdict ∙ ap₂ (verdict_read reads) event_same (ap (λ (x : JudgedOf E). x.event) answer_same))
-      (place ∙ ap (λ (x : JudgedOf E). Some (judged_place x)) answer_same) in
+      (verdict ∙ ap₂ (verdict_read reads) event_same (ap (λ (x : Bracketed E). x.event) answer_same))
+      (place ∙ ap (λ (x : Bracketed E). Some (judged_place x)) answer_same) in
       subst (λ (o : Opener E). In o (map told (entries items))) (sym is)
       (map-in told (entries items) ((0 + position, here.opener), Some (0 + j, here.closer)) here.there)
   told_whole items call position there stands opens event (left_open none verdict place) =
       let here = has_unmatched item_side 0 items position (side_there item_side items position there stands ∙ ap (λ (s : Side). Some s) opens, none) in
       let call_same : there ≡ here.item = same_item items position there here.item stands here.stands in
-      let is = opener_is call here.item.event Open None (event ∙ ap (λ (x : JudgedOf E). x.event) call_same) verdict place in
+      let is = opener_is call here.item.event Open None (event ∙ ap (λ (x : Bracketed E). x.event) call_same) verdict place in
       subst (λ (o : Opener E). In o (map told (entries items))) (sym is)
       (map-in told (entries items) ((0 + position, here.item), None) here.there)
 
-  openers_listing : (items : List (JudgedOf E)) → Listing (IsOpener reads items)
+  openers_listing : (items : List (Bracketed E)) → Listing (IsOpener reads items)
   openers_listing items = record {
     list = map told (entries items);
     sound = λ call here.
@@ -130,18 +130,18 @@ module _ {E : Type 0} (reads : Reads E) where
     whole = λ call is. told_whole items call is.position is.there is.stands is.opens is.event is.verdict;
   }
 
-  in_numbers : (n : ℕ) (items : List (JudgedOf E)) (x : Numbered) → In x (enumerate_from n items) → In x.1 items
+  in_numbers : (n : ℕ) (items : List (Bracketed E)) (x : Numbered) → In x (enumerate_from n items) → In x.1 items
   in_numbers n [] x here = absurd here
   in_numbers n (y ∷ items) x (inl is) = inl (ap (λ (p : Numbered). p.1) is)
   in_numbers n (y ∷ items) x (inr there) = inr (in_numbers (n + 1) items x there)
 
-  numbers_rise : (n : ℕ) (items : List (JudgedOf E)) → Rises judged_place items → Rises (λ (x : Numbered). judged_place x.1) (enumerate_from n items)
+  numbers_rise : (n : ℕ) (items : List (Bracketed E)) → Rises judged_place items → Rises (λ (x : Numbered). judged_place x.1) (enumerate_from n items)
   numbers_rise n [] rises = tt
   numbers_rise n (y ∷ items) rises = (λ x there. rises.0 x.1 (in_numbers (n + 1) items x there), numbers_rise (n + 1) items rises.1)
 
   judged_rise : (events : List E) → PlacesRise reads.place events → Rises judged_place (judged_of reads events)
   judged_rise events rise =
-      map-rises (λ (j : JudgedOf E). j.event) reads.place (judged_of reads events)
+      map-rises (λ (j : Bracketed E). j.event) reads.place (judged_of reads events)
       (subst (Rises reads.place) (sym (judged_events reads (bracket_read reads) None events)) (rises_from_pairs reads.place events rise))
 
   one_opener : (events : List E) → PlacesRise reads.place events → (a b : Opener E) → IsOpener reads (judged_of reads events) a
@@ -160,10 +160,10 @@ module _ {E : Type 0} (reads : Reads E) where
   abbrev stray_told : Numbered → E
   stray_told x = x.1.event
 
-  abbrev unmatched : List (JudgedOf E) → List Numbered
+  abbrev unmatched : List (Bracketed E) → List Numbered
   unmatched items = strays (numbered item_side) (enumerate_from 0 items)
 
-  strays_listing : (items : List (JudgedOf E)) → Listing (IsStrayEvent items)
+  strays_listing : (items : List (Bracketed E)) → Listing (IsStrayEvent items)
   strays_listing items = record {
     list = map stray_told (unmatched items);
     sound = λ event here.
@@ -173,22 +173,22 @@ module _ {E : Type 0} (reads : Reads E) where
     whole = λ event is.
         let here = has_stray item_side 0 items is.position is.stray in
         let same : is.there ≡ here.item = same_item items is.position is.there here.item is.stands here.stands in
-        subst (λ (e : E). In e (map stray_told (unmatched items))) (sym (is.event ∙ ap (λ (j : JudgedOf E). j.event) same))
+        subst (λ (e : E). In e (map stray_told (unmatched items))) (sym (is.event ∙ ap (λ (j : Bracketed E). j.event) same))
         (map-in stray_told (unmatched items) (0 + is.position, here.item) here.there);
   }
 
   -- ---- refused sends
 
-  abbrev is_sent_back : JudgedOf E → Bool
+  abbrev is_sent_back : Bracketed E → Bool
   is_sent_back item = is_refused item.bracket
 
-  abbrev send_told : JudgedOf E → RefusedSend E
+  abbrev send_told : Bracketed E → RefusedSend E
   send_told item = record { event = item.event; oneway = is_oneway_mark item.before }
 
-  send_is : (sent : RefusedSend E) (item : JudgedOf E) → sent.event ≡ item.event → sent.oneway ≡ is_oneway_mark item.before → sent ≡ send_told item
+  send_is : (sent : RefusedSend E) (item : Bracketed E) → sent.event ≡ item.event → sent.oneway ≡ is_oneway_mark item.before → sent ≡ send_told item
   send_is sent item event oneway = ap₂ (λ (e : E) (b : Bool). let made : RefusedSend E = record { event = e; oneway = b } in made) event oneway
 
-  sends_listing : (items : List (JudgedOf E)) → Listing (IsRefusedSend items)
+  sends_listing : (items : List (Bracketed E)) → Listing (IsRefusedSend items)
   sends_listing items = record {
     list = map send_told (filter is_sent_back items);
     sound = λ sent here.
@@ -221,63 +221,63 @@ module _ {E : Type 0} (reads : Reads E) where
 -- ---- of all threads
 
 -- the thread of an event of a thread is that thread
-one_thread : (events : List EventText) (e other : EventText) → In other (events_of_thread e events) → events_of_thread e events ≡ events_of_thread other events
+one_thread : (events : List EventRead) (e other : EventRead) → In other (events_of_thread e events) → events_of_thread e events ≡ events_of_thread other events
 one_thread events e other here =
     let same = same_thread_eq (thread_of e) (thread_of other) (in_kept (is_of_thread e) events other here).1 in
-    ap (λ (thread : Thread). filter (λ (x : EventText). same_thread thread (thread_of x)) events) same
+    ap (λ (thread : Thread). filter (λ (x : EventRead). same_thread thread (thread_of x)) events) same
 
-module _ {X : Type 0} (event : X → EventText) (Is : List (JudgedOf EventText) → X → Type 0)
-    (stands : (events : List EventText) (x : X) → Is (judged_of text_reads events) x → In (event x) events)
-    (listing : (items : List (JudgedOf EventText)) → Listing (Is items))
-    (one : (events : List EventText) → RiseInPlace events → (a b : X) → Is (judged_of text_reads events) a → Is (judged_of text_reads events) b
+module _ {X : Type 0} (event : X → EventRead) (Is : List (Bracketed EventRead) → X → Type 0)
+    (stands : (events : List EventRead) (x : X) → Is (judged_of text_reads events) x → In (event x) events)
+    (listing : (items : List (Bracketed EventRead)) → Listing (Is items))
+    (one : (events : List EventRead) → RiseInPlace events → (a b : X) → Is (judged_of text_reads events) a → Is (judged_of text_reads events) b
     → (event a).place ≡ (event b).place → a ≡ b) where
   -- a thing of the thread of its event
-  abbrev IsOfThread : List EventText → X → Type 0
+  abbrev IsOfThread : List EventRead → X → Type 0
   IsOfThread events x = Is (judged_in_thread events (event x)) x
 
-  in_events : (events : List EventText) (x : X) → IsOfThread events x → In (event x) events
+  in_events : (events : List EventRead) (x : X) → IsOfThread events x → In (event x) events
   in_events events x is =
       (in_kept (is_of_thread (event x)) events (event x) (stands (events_of_thread (event x) events) x is)).0
 
-  of_threads : (events : List EventText) → Listing (IsOfThread events)
+  of_threads : (events : List EventRead) → Listing (IsOfThread events)
   of_threads events =
-      listing_as (λ x. (e : EventText) × In e events × Is (judged_in_thread events e) x) (IsOfThread events)
+      listing_as (λ x. (e : EventRead) × In e events × Is (judged_in_thread events e) x) (IsOfThread events)
       (λ x is.
       let same = one_thread events is.0 (event x) (stands (events_of_thread is.0 events) x is.2) in
-      subst (λ (thread : List EventText). Is (judged_of text_reads thread) x) same is.2)
+      subst (λ (thread : List EventRead). Is (judged_of text_reads thread) x) same is.2)
       (λ x is. (event x, in_events events x is, is))
       (of_each (λ e. Is (judged_in_thread events e)) (λ e. listing (judged_in_thread events e)) events)
 
-  one_of_thread : (events : List EventText) → RiseInPlace events → (a b : X) → IsOfThread events a → IsOfThread events b
+  one_of_thread : (events : List EventRead) → RiseInPlace events → (a b : X) → IsOfThread events a → IsOfThread events b
       → (event a).place ≡ (event b).place → a ≡ b
   one_of_thread events rise a b is is_too same =
-      let here : event a ≡ event b = one_place (λ (e : EventText). e.place) events rise (event a) (event b)
+      let here : event a ≡ event b = one_place (λ (e : EventRead). e.place) events rise (event a) (event b)
       (contained events (event a) (in_events events a is)) (contained events (event b) (in_events events b is_too)) same in
-      one (events_of_thread (event a) events) (rising_kept (λ (e : EventText). e.place) (is_of_thread (event a)) events rise) a b is
-      (subst (λ (e : EventText). Is (judged_in_thread events e) b) (sym here) is_too) same
+      one (events_of_thread (event a) events) (rising_kept (λ (e : EventRead). e.place) (is_of_thread (event a)) events rise) a b is
+      (subst (λ (e : EventRead). Is (judged_in_thread events e) b) (sym here) is_too) same
 
-  pub all_threads : (events : List EventText) → RiseInPlace events
+  pub all_threads : (events : List EventRead) → RiseInPlace events
       → (things : List X) × ListsInOrder (λ x. (event x).place) (IsOfThread events) things
   all_threads events rise = in_order (λ x. (event x).place) (IsOfThread events) (one_of_thread events rise) (of_threads events)
 
-in_thread : (events : List EventText) (position : ℕ) (there : JudgedOf EventText) (e : EventText)
+in_thread : (events : List EventRead) (position : ℕ) (there : Bracketed EventRead) (e : EventRead)
     → slice_get (judged_of text_reads events) position ≡ Some there → e ≡ there.event → In e events
 in_thread events position there e stands same = in_list events e (stands_judged text_reads events position there e stands same)
 
-pub some_openers : (events : List EventText) → RiseInPlace events → (things : List (Opener EventText)) × AreOpeners events things
+pub some_openers : (events : List EventRead) → RiseInPlace events → (things : List (Opener EventRead)) × AreOpeners events things
 some_openers events rise =
-    all_threads (λ (o : Opener EventText). o.event) (IsOpener text_reads)
+    all_threads (λ (o : Opener EventRead). o.event) (IsOpener text_reads)
     (λ thread o is. in_thread thread is.position is.there o.event is.stands is.event) (openers_listing text_reads) (one_opener text_reads) events rise
 
-pub some_strays : (events : List EventText) → RiseInPlace events → (things : List EventText) × AreStrays events things
+pub some_strays : (events : List EventRead) → RiseInPlace events → (things : List EventRead) × AreStrays events things
 some_strays events rise =
-    let stands : (thread : List EventText) (e : EventText) → IsStrayEvent (judged_of text_reads thread) e → In e thread
+    let stands : (thread : List EventRead) (e : EventRead) → IsStrayEvent (judged_of text_reads thread) e → In e thread
     = λ thread e is. in_thread thread is.position is.there e is.stands is.event in
-    all_threads (λ (e : EventText). e) IsStrayEvent stands (strays_listing text_reads)
-    (λ thread up a b is is_too same. one_place (λ (e : EventText). e.place) thread up a b (contained thread a (stands thread a is))
+    all_threads (λ (e : EventRead). e) IsStrayEvent stands (strays_listing text_reads)
+    (λ thread up a b is is_too same. one_place (λ (e : EventRead). e.place) thread up a b (contained thread a (stands thread a is))
     (contained thread b (stands thread b is_too)) same) events rise
 
-pub some_sends : (events : List EventText) → RiseInPlace events → (things : List (RefusedSend EventText)) × AreSends events things
+pub some_sends : (events : List EventRead) → RiseInPlace events → (things : List (RefusedSend EventRead)) × AreSends events things
 some_sends events rise =
-    all_threads (λ (s : RefusedSend EventText). s.event) IsRefusedSend
+    all_threads (λ (s : RefusedSend EventRead). s.event) IsRefusedSend
     (λ thread s is. in_thread thread is.position is.there s.event is.stands is.event) (sends_listing text_reads) (one_send text_reads) events rise

@@ -11,7 +11,7 @@ use Rattle.std.proofs.lemmas.Map.Made.{Contains-tail}
 use Rattle.std.proofs.lemmas.Cmp.{nat_cmp_total, eq_by_cmp_equiv}
 use Rattle.std.proofs.lemmas.Map.Lookups.{exact_unsigned}
 use Rattle.std.proofs.lemmas.Map.Views.{Contains-from_any, tells_apart}
-use Rattle.event_core.specs.Events.{EventText}
+use Rattle.event_core.specs.Events.{EventRead}
 use Rattle.summary_law.specs.Tally.{count_of, AreTallyRows, IsTallyRow}
 use Rattle.audit_findings.specs.declared.codes.CodeRow.{CodeRow}
 use Rattle.audit_findings.specs.Codes.{AreCodeRows, code_words}
@@ -40,7 +40,7 @@ same_key key word = elim (cases_eq word key) [
 ]
 
 -- how many items of a word there are in the tally
-one_more : (key : ℕ) (e : EventText) (events : List EventText) (b : Bool) → eq_by_cmp nat_cmp key e.code ≡ b → eqb e.code key ≡ b
+one_more : (key : ℕ) (e : EventRead) (events : List EventRead) (b : Bool) → eq_by_cmp nat_cmp key e.code ≡ b → eqb e.code key ≡ b
     → count_of nat_cmp key (map code_item events) ≡ count_by (λ word. eqb word key) (code_words events)
     → count_of nat_cmp key (map code_item (e ∷ events)) ≡ count_by (λ word. eqb word key) (code_words (e ∷ events))
 one_more key e events true found is others =
@@ -54,7 +54,7 @@ one_more key e events false found is others =
     let item : count_of nat_cmp key (map code_item (e ∷ events)) ≡ count_of nat_cmp key (map code_item events) = rw found refl in
     omega (arith, split, first, item, others)
 
-pub items_of_word : (key : ℕ) (events : List EventText) → count_of nat_cmp key (map code_item events) ≡ count_by (λ word. eqb word key) (code_words events)
+pub items_of_word : (key : ℕ) (events : List EventRead) → count_of nat_cmp key (map code_item events) ≡ count_by (λ word. eqb word key) (code_words events)
 items_of_word key [] = refl
 items_of_word key (e ∷ events) = one_more key e events (eqb e.code key) (same_key key e.code) refl (items_of_word key events)
 
@@ -63,16 +63,16 @@ words_of_rows [] = refl
 words_of_rows (row ∷ rows) = ap (λ (t : List ℕ). row.0 ∷ t) (words_of_rows rows)
 
 -- a row that counts a word that stands there
-right_row : (events : List EventText) (row : ℕ × ℕ × ℕ) → 0 < count_of nat_cmp row.0 (map code_item events) → IsTallyRow nat_cmp (map code_item events) row
+right_row : (events : List EventRead) (row : ℕ × ℕ × ℕ) → 0 < count_of nat_cmp row.0 (map code_item events) → IsTallyRow nat_cmp (map code_item events) row
     → (0 < row.1) × (row.1 ≡ count_by (λ word. eqb word row.0) (code_words events))
 right_row events row came right =
     let count = right.count in
     (omega (arith, count, came), count ∙ items_of_word row.0 events)
 
-abbrev IsRightRow : List EventText → CodeRow → Type 0
+abbrev IsRightRow : List EventRead → CodeRow → Type 0
 IsRightRow events row = (0 < row.count) × (row.count ≡ count_by (λ word. eqb word row.word) (code_words events))
 
-right_rows : (events : List EventText) (rows : List (ℕ × ℕ × ℕ)) → All (λ (key : ℕ). 0 < count_of nat_cmp key (map code_item events)) (map (λ (row : ℕ × ℕ × ℕ). row.0) rows)
+right_rows : (events : List EventRead) (rows : List (ℕ × ℕ × ℕ)) → All (λ (key : ℕ). 0 < count_of nat_cmp key (map code_item events)) (map (λ (row : ℕ × ℕ × ℕ). row.0) rows)
     → All (IsTallyRow nat_cmp (map code_item events)) rows
     → All (IsRightRow events) (map row_of rows)
 right_rows events [] came right = All-nil (IsRightRow events)
@@ -84,7 +84,7 @@ right_rows events (row ∷ rows) came right =
     (right_rows events rows (All-tail Comes row.0 keys came) (All-tail Right row rows right))
 
 -- the rows of the tally are those of the code words
-pub are_code_rows : (events : List EventText) (rows : List (ℕ × ℕ × ℕ)) → AreTallyRows nat_cmp (map code_item events) rows
+pub are_code_rows : (events : List EventRead) (rows : List (ℕ × ℕ × ℕ)) → AreTallyRows nat_cmp (map code_item events) rows
     → AreCodeRows (code_words events) (map row_of rows)
 are_code_rows events rows are =
     let keys = map (λ (row : ℕ × ℕ × ℕ). row.0) rows in

@@ -11,19 +11,19 @@ use Rattle.std.proofs.lemmas.List.Elements.{All-cons, All-filter, All-head, All-
 use Rattle.std.proofs.lemmas.List.Sums.{sum_by-append, sum_by-cons}
 use Rattle.capture_frame.specs.declared.frame.Frame.{Frame}
 use Rattle.capture_frame.specs.Envelope.{FrameText, frame_text, placed_frame}
-use Rattle.capture_frame.specs.Lookup.{Holds, IsSplitAt, StandApart, span_of}
+use Rattle.capture_frame.specs.Lookup.{Holds, IsSplitAt, AreApart, span_of}
 use Rattle.capture_frame.specs.Units.{Placed}
-use Rattle.event_core.specs.Events.{EventText, events_of_whole, events_of_wholes, placed_text}
+use Rattle.event_core.specs.Events.{EventRead, events_of_whole, events_of_wholes, placed_text}
 use Rattle.event_core.specs.Reading.{entry_attachment}
 use Rattle.transaction_view.specs.FirstFault.{HasGoodContent}
 use Rattle.transaction_view.specs.Grammar.{WholeFrame}
 use Rattle.transaction_view.specs.declared.entry.Entry.{Entry}
 use Rattle.audit_findings.specs.Entries.{AddsEntries, AreChosen, AreEntriesAt, AreEventsOfFrame, Rise, ShowAttachments, carried_by, list_bytes}
-use Rattle.audit_findings.specs.Frames.{AreGoodFrames, IsWhole, Show}
+use Rattle.audit_findings.specs.Frames.{AreGoodFrames, IsWhole, AreViews}
 use Rattle.audit_findings.specs.Kept.{places_of}
 use Rattle.audit_findings.proofs.EventSizes.{few_frames}
 use Rattle.audit_findings.proofs.FrameLaws.{events-append, first_same, none_shown, shown_first, whole_events}
-use Rattle.audit_findings.proofs.PlacesRise.{StandsWithin, whole_within, within_span}
+use Rattle.audit_findings.proofs.PlacesRise.{IsInSpan, whole_within, within_span}
 use Rattle.audit_findings.proofs.Rising.{pairs_head, pairs_map, pairs_tail, pairs_unmap, rising_kept}
 use Rattle.std.proofs.lemmas.List.Kept.{AllPairs-cons}
 use Rattle.summary_law.specs.Fits.{PlacesRise, all_parts, pairs_parts, rising_parts}
@@ -39,16 +39,16 @@ record ShownApart (frames : List Frame) (first second : List (Placed WholeFrame)
   earlier : List Frame
   later : List Frame
   are : frames ≡ earlier ++ later
-  show_first : Show earlier first
-  show_second : Show later second
+  show_first : AreViews earlier first
+  show_second : AreViews later second
 
-shown_split : (frames : List Frame) (first second : List (Placed WholeFrame)) → Show frames (first ++ second) → ShownApart frames first second
+shown_split : (frames : List Frame) (first second : List (Placed WholeFrame)) → AreViews frames (first ++ second) → ShownApart frames first second
 shown_split frames [] second show = record { earlier = []; later = frames; are = refl; show_first = none_shown; show_second = show }
 shown_split [] (w ∷ first) second show = let wrong = ap length show.stand in absurd (omega (arith, wrong))
 shown_split (f ∷ frames) (w ∷ first) second show =
     let one = shown_first f frames (w ∷ (first ++ second)) show in
     let same = first_same w one.0 (first ++ second) one.1 one.2 in
-    let rest = shown_split frames first second (subst (Show frames) (sym same.1) one.5) in
+    let rest = shown_split frames first second (subst (AreViews frames) (sym same.1) one.5) in
     record {
       earlier = f ∷ rest.earlier;
       later = rest.later;
@@ -68,15 +68,15 @@ record ViewOf (frames : List Frame) (w : Placed WholeFrame) (behind : List (Plac
   are : frames ≡ earlier ++ frame ∷ later
   same : placed_frame frame ≡ placed_text w
   whole : IsWhole w
-  show_behind : Show later behind
+  show_behind : AreViews later behind
 
 view_of : (frames : List Frame) (before : List (Placed WholeFrame)) (w : Placed WholeFrame) (behind : List (Placed WholeFrame))
-    → Show frames (before ++ w ∷ behind) → ViewOf frames w behind
+    → AreViews frames (before ++ w ∷ behind) → ViewOf frames w behind
 view_of frames before w behind show =
     let apart = shown_split frames before (w ∷ behind) show in
     first_view apart.later apart.earlier apart.are apart.show_second
   where
-    first_view : (later earlier : List Frame) → frames ≡ earlier ++ later → Show later (w ∷ behind) → ViewOf frames w behind
+    first_view : (later earlier : List Frame) → frames ≡ earlier ++ later → AreViews later (w ∷ behind) → ViewOf frames w behind
     first_view [] earlier are show = let wrong = ap length show.stand in absurd (omega (arith, wrong))
     first_view (f ∷ later) earlier are show =
         let one = shown_first f later (w ∷ behind) show in
@@ -88,13 +88,13 @@ view_of frames before w behind show =
           are = are;
           same = one.3 ∙ ap placed_text (sym same.0);
           whole = subst IsWhole (sym same.0) one.4;
-          show_behind = subst (Show later) (sym same.1) one.5;
+          show_behind = subst (AreViews later) (sym same.1) one.5;
         }
 
 -- ---- the last of the frames that have begun
 
 -- the one that holds the place is the last that has begun
-last_begun : (earlier : List Frame) (frame : Frame) (later : List Frame) (place count : ℕ) → AllPairs StandApart (earlier ++ frame ∷ later)
+last_begun : (earlier : List Frame) (frame : Frame) (later : List Frame) (place count : ℕ) → AllPairs AreApart (earlier ++ frame ∷ later)
     → Holds place frame → IsSplitAt (earlier ++ frame ∷ later) place count → count ≡ length earlier + 1
 last_begun earlier frame later place count apart holds begun =
     let frames = earlier ++ frame ∷ later in
@@ -113,7 +113,7 @@ last_begun earlier frame later place count apart holds begun =
             let next = length earlier + 1 in
             let begins = begun.before next frame many in
             let far = apart (length earlier) next frame (omega arith) (omega (arith, many, bound)) in
-            let far_here = subst (λ (f : Frame). StandApart f (get_or frames next frame)) here far in
+            let far_here = subst (λ (f : Frame). AreApart f (get_or frames next frame)) here far in
             absurd (omega (arith, to, begins, far_here))
         | inr few ↦ omega (arith, enough, few)
       ]
@@ -122,27 +122,27 @@ last_begun earlier frame later place count apart holds begun =
 -- ---- the first place that is left
 
 -- the frame of the first of the chosen events, those before it, which have none, and those behind it
-record FirstChosen (choice : EventText → Bool) (ahead : List (Placed WholeFrame)) (place : ℕ) : Type 0 where
+record FirstChosen (choice : EventRead → Bool) (ahead : List (Placed WholeFrame)) (place : ℕ) : Type 0 where
   front : List (Placed WholeFrame)
   whole : Placed WholeFrame
   behind : List (Placed WholeFrame)
   are : ahead ≡ front ++ whole ∷ behind
   none : filter choice (events_of_wholes front) ≡ []
-  event : EventText
-  others : List EventText
+  event : EventRead
+  others : List EventRead
   first : filter choice (events_of_whole whole) ≡ event ∷ others
   at : event.place ≡ place
 
-chosen_of : (choice : EventText → Bool) (w : Placed WholeFrame) (wholes : List (Placed WholeFrame))
+chosen_of : (choice : EventRead → Bool) (w : Placed WholeFrame) (wholes : List (Placed WholeFrame))
     → filter choice (events_of_wholes (w ∷ wholes)) ≡ filter choice (events_of_whole w) ++ filter choice (events_of_wholes wholes)
 chosen_of choice w wholes = ap (filter choice) (flat_map-cons events_of_whole w wholes) ∙ filter-append choice (events_of_whole w) (events_of_wholes wholes)
 
-first_chosen : (choice : EventText → Bool) (ahead : List (Placed WholeFrame)) (place : ℕ) (rest : List ℕ)
+first_chosen : (choice : EventRead → Bool) (ahead : List (Placed WholeFrame)) (place : ℕ) (rest : List ℕ)
     → place ∷ rest ≡ places_of (filter choice (events_of_wholes ahead)) → FirstChosen choice ahead place
 first_chosen choice [] place rest left = let wrong : place ∷ rest ≡ [] = left in absurd (cc)
 first_chosen choice (w ∷ ahead) place rest left = by_own (first_chosen choice ahead place rest) (filter choice (events_of_whole w)) refl
   where
-    by_own : (place ∷ rest ≡ places_of (filter choice (events_of_wholes ahead)) → FirstChosen choice ahead place) → (own : List EventText)
+    by_own : (place ∷ rest ≡ places_of (filter choice (events_of_wholes ahead)) → FirstChosen choice ahead place) → (own : List EventRead)
         → filter choice (events_of_whole w) ≡ own → FirstChosen choice (w ∷ ahead) place
     by_own later [] is =
         let none = chosen_of choice w ahead ∙ ap (λ es. es ++ filter choice (events_of_wholes ahead)) is in
@@ -174,20 +174,20 @@ first_chosen choice (w ∷ ahead) place rest left = by_own (first_chosen choice 
         }
 
 -- its view, which is the last that has begun
-record NextFrame (frames : List Frame) (choice : EventText → Bool) (ahead : List (Placed WholeFrame)) (place : ℕ) : Type 0 where
+record NextFrame (frames : List Frame) (choice : EventRead → Bool) (ahead : List (Placed WholeFrame)) (place : ℕ) : Type 0 where
   chosen : FirstChosen choice ahead place
   view : ViewOf frames chosen.whole chosen.behind
   holds : Holds place view.frame
 
-next_frame : (frames : List Frame) (ahead : List (Placed WholeFrame)) → Show frames ahead → (choice : EventText → Bool) (place : ℕ)
+next_frame : (frames : List Frame) (ahead : List (Placed WholeFrame)) → AreViews frames ahead → (choice : EventRead → Bool) (place : ℕ)
     (rest : List ℕ) → place ∷ rest ≡ places_of (filter choice (events_of_wholes ahead)) → NextFrame frames choice ahead place
 next_frame frames ahead show choice place rest left =
     let chosen = first_chosen choice ahead place rest left in
     let w = chosen.whole in
-    let view = view_of frames chosen.front w chosen.behind (subst (Show frames) chosen.are show) in
-    let within : StandsWithin w chosen.event =
-    All-head (StandsWithin w) chosen.event chosen.others
-    (subst (All (StandsWithin w)) chosen.first (All-filter choice (StandsWithin w) (events_of_whole w) (whole_within w view.whole))) in
+    let view = view_of frames chosen.front w chosen.behind (subst (AreViews frames) chosen.are show) in
+    let within : IsInSpan w chosen.event =
+    All-head (IsInSpan w) chosen.event chosen.others
+    (subst (All (IsInSpan w)) chosen.first (All-filter choice (IsInSpan w) (events_of_whole w) (whole_within w view.whole))) in
     let inside = within_span w chosen.event within in
     let from = inside.0 in
     let to = inside.1 in
@@ -218,8 +218,8 @@ attached_within (f ∷ frames) =
     omega (arith, rest, attached, spans, long)
 
 module _ (frames ahead : List Frame) (good : AreGoodFrames frames) (entries : List Entry) (passed : HasPassed frames ahead entries) where
-  pub apart_ahead : AllPairs StandApart ahead
-  apart_ahead = (pairs_parts StandApart passed.passed ahead (subst (AllPairs StandApart) passed.are good.apart)).1
+  pub apart_ahead : AllPairs AreApart ahead
+  apart_ahead = (pairs_parts AreApart passed.passed ahead (subst (AllPairs AreApart) passed.are good.apart)).1
 
   -- numbers of frames times their size are small
   pub few_ahead : (n : ℕ) → n ≤ length ahead → n * 64 < 2 ^ 64
@@ -290,19 +290,19 @@ begins_with_none (n ∷ numbers) is = let wrong : None ≡ Some n = is in absurd
 
 -- the entries show the attachments of the chosen events of the frames that are done, and the places of those of the
 -- frames ahead are left
-pub record Stands (wholes : List (Placed WholeFrame)) (choice : EventText → Bool) (frames : List Frame) (left : List ℕ) (entries : List Entry) :
+pub record Stands (wholes : List (Placed WholeFrame)) (choice : EventRead → Bool) (frames : List Frame) (left : List ℕ) (entries : List Entry) :
     Type 0 where
   pub done : List (Placed WholeFrame)
   pub ahead : List (Placed WholeFrame)
   pub are : wholes ≡ done ++ ahead
-  pub show_ahead : Show frames ahead
+  pub show_ahead : AreViews frames ahead
   pub left_is : left ≡ places_of (filter choice (events_of_wholes ahead))
   pub shown : ShowAttachments entries (carried_by (filter choice (events_of_wholes done)))
 
 -- however events of these frames are chosen that are at the places
 abbrev pub StandsFor : List Frame → List ℕ → List Frame → List ℕ → List Entry → Type 0
 StandsFor frames places ahead left entries =
-    (wholes : List (Placed WholeFrame)) (choice : EventText → Bool) → Show frames wholes → AreChosen choice (events_of_wholes wholes) [] places
+    (wholes : List (Placed WholeFrame)) (choice : EventRead → Bool) → AreViews frames wholes → AreChosen choice (events_of_wholes wholes) [] places
     → Stands wholes choice ahead left entries
 
 pub stands_at_start : (frames : List Frame) (places : List ℕ) (entries : List Entry) → entries ≡ [] → StandsFor frames places frames places entries
@@ -326,45 +326,45 @@ all_at_end frames places ahead entries stands wholes choice show chosen =
     ∙ append-nil (filter choice (events_of_wholes s.done))) in
     s.shown ∙ ap carried_by all
   where
-    no_places : (events : List EventText) → [] ≡ places_of events → events ≡ []
+    no_places : (events : List EventRead) → [] ≡ places_of events → events ≡ []
     no_places [] none = refl
     no_places (e ∷ events) none = let wrong : [] ≡ e.place ∷ places_of events = none in absurd (cc)
 
 -- where the places of events rise, so do those of the first ones and of the chosen others
-rise_part : (choice : EventText → Bool) (events later : List EventText) → Rise (places_of (events ++ later))
+rise_part : (choice : EventRead → Bool) (events later : List EventRead) → Rise (places_of (events ++ later))
     → Rise (places_of events ++ places_of (filter choice later))
 rise_part choice [] later rise =
-    pairs_map (λ a b. a < b) (λ (e : EventText). e.place) (filter choice later)
-    (rising_kept (λ (e : EventText). e.place) choice later (pairs_unmap (λ a b. a < b) (λ (e : EventText). e.place) later rise))
+    pairs_map (λ a b. a < b) (λ (e : EventRead). e.place) (filter choice later)
+    (rising_kept (λ (e : EventRead). e.place) choice later (pairs_unmap (λ a b. a < b) (λ (e : EventRead). e.place) later rise))
 rise_part choice (e ∷ events) later rise =
     let above = pairs_head (λ a b. a < b) e.place (places_of (events ++ later)) rise in
     let more = rise_part choice events later (pairs_tail (λ a b. a < b) e.place (places_of (events ++ later)) rise) in
     AllPairs-cons (λ a b. a < b) e.place (places_of events ++ places_of (filter choice later)) (all_part events above) more
   where
-    all_part : (us : List EventText) → All (λ p. e.place < p) (places_of (us ++ later)) → All (λ p. e.place < p) (places_of us ++ places_of (filter choice later))
+    all_part : (us : List EventRead) → All (λ p. e.place < p) (places_of (us ++ later)) → All (λ p. e.place < p) (places_of us ++ places_of (filter choice later))
     all_part [] above =
-        All-map (λ p. e.place < p) (λ (x : EventText). x.place) (filter choice later)
-        (All-filter choice (λ (x : EventText). e.place < x.place) later (unmapped later above))
+        All-map (λ p. e.place < p) (λ (x : EventRead). x.place) (filter choice later)
+        (All-filter choice (λ (x : EventRead). e.place < x.place) later (unmapped later above))
       where
-        unmapped : (us : List EventText) → All (λ p. e.place < p) (places_of us) → All (λ (x : EventText). e.place < x.place) us
-        unmapped [] all = All-nil (λ (x : EventText). e.place < x.place)
+        unmapped : (us : List EventRead) → All (λ p. e.place < p) (places_of us) → All (λ (x : EventRead). e.place < x.place) us
+        unmapped [] all = All-nil (λ (x : EventRead). e.place < x.place)
         unmapped (u ∷ us) all =
-            All-cons (λ (x : EventText). e.place < x.place) u us (All-head (λ p. e.place < p) u.place (places_of us) all)
+            All-cons (λ (x : EventRead). e.place < x.place) u us (All-head (λ p. e.place < p) u.place (places_of us) all)
             (unmapped us (All-tail (λ p. e.place < p) u.place (places_of us) all))
     all_part (u ∷ us) above =
         All-cons (λ p. e.place < p) u.place (places_of us ++ places_of (filter choice later))
         (All-head (λ p. e.place < p) u.place (places_of (us ++ later)) above)
         (all_part us (All-tail (λ p. e.place < p) u.place (places_of (us ++ later)) above))
 
-module _ (frames : List Frame) (good : AreGoodFrames frames) (wholes : List (Placed WholeFrame)) (choice : EventText → Bool) (show : Show frames wholes)
-    (ahead : List Frame) (apart : AllPairs StandApart ahead) (place : ℕ) (rest : List ℕ) (entries : List Entry)
+module _ (frames : List Frame) (good : AreGoodFrames frames) (wholes : List (Placed WholeFrame)) (choice : EventRead → Bool) (show : AreViews frames wholes)
+    (ahead : List Frame) (apart : AllPairs AreApart ahead) (place : ℕ) (rest : List ℕ) (entries : List Entry)
     (s : Stands wholes choice ahead (place ∷ rest) entries) (count : ℕ) (begun : IsSplitAt ahead place count) where
   next : NextFrame ahead choice s.ahead place
   next = next_frame ahead s.ahead s.show_ahead choice place rest s.left_is
 
   counted : count ≡ length next.view.earlier + 1
   counted =
-      last_begun next.view.earlier next.view.frame next.view.later place count (subst (AllPairs StandApart) next.view.are apart) next.holds
+      last_begun next.view.earlier next.view.frame next.view.later place count (subst (AllPairs AreApart) next.view.are apart) next.holds
       (subst (λ fs. IsSplitAt fs place count) next.view.are begun)
 
   -- a frame is there
@@ -399,7 +399,7 @@ module _ (frames : List Frame) (good : AreGoodFrames frames) (wholes : List (Pla
       let parts = ap (filter choice) (events-append next.chosen.front (w ∷ behind)) ∙ filter-append choice (events_of_wholes next.chosen.front) (events_of_wholes (w ∷ behind))
       ∙ ap (λ es. es ++ filter choice (events_of_wholes (w ∷ behind))) next.chosen.none ∙ chosen_of choice w behind in
       s.left_is ∙ ap (λ ws. places_of (filter choice (events_of_wholes ws))) next.chosen.are ∙ ap places_of parts
-      ∙ map-append (λ (e : EventText). e.place) (filter choice (events_of_whole w)) (filter choice (events_of_wholes behind))
+      ∙ map-append (λ (e : EventRead). e.place) (filter choice (events_of_whole w)) (filter choice (events_of_wholes behind))
 
   rising : Rise (places_of (events_of_whole next.chosen.whole) ++ others)
   rising =
@@ -408,10 +408,10 @@ module _ (frames : List Frame) (good : AreGoodFrames frames) (wholes : List (Pla
       let before = s.done ++ next.chosen.front in
       let all = (few_frames frames wholes good show).1.0.1 in
       let parts = ap events_of_wholes split ∙ events-append before (w ∷ behind) ∙ ap (λ es. events_of_wholes before ++ es) (flat_map-cons events_of_whole w behind) in
-      let later = rising_parts (λ (e : EventText). e.place) (events_of_wholes before) (events_of_whole w ++ events_of_wholes behind)
-      (subst (PlacesRise (λ (e : EventText). e.place)) parts all) in
+      let later = rising_parts (λ (e : EventRead). e.place) (events_of_wholes before) (events_of_whole w ++ events_of_wholes behind)
+      (subst (PlacesRise (λ (e : EventRead). e.place)) parts all) in
       rise_part choice (events_of_whole w) (events_of_wholes behind)
-      (pairs_map (λ a b. a < b) (λ (e : EventText). e.place) (events_of_whole w ++ events_of_wholes behind) later.1)
+      (pairs_map (λ a b. a < b) (λ (e : EventRead). e.place) (events_of_whole w ++ events_of_wholes behind) later.1)
 
   module _ (frame : Frame) (d : Frame) (is : frame ≡ get_or ahead (count - 1) d) where
     same : placed_frame frame ≡ placed_text next.chosen.whole
@@ -439,9 +439,9 @@ module _ (frames : List Frame) (good : AreGoodFrames frames) (wholes : List (Pla
           done = before ++ w ∷ [];
           ahead = next.chosen.behind;
           are = split ∙ sym (append_assoc before (w ∷ []) next.chosen.behind);
-          show_ahead = subst (λ fs. Show fs next.chosen.behind) (sym later_ahead) next.view.show_behind;
+          show_ahead = subst (λ fs. AreViews fs next.chosen.behind) (sym later_ahead) next.view.show_behind;
           left_is = more.0;
           shown = more.1 ∙ ap (λ us. us ++ carried_by (filter choice (events_of_whole w))) (s.shown ∙ ap carried_by chosen_before)
-              ∙ sym (filter_map-append (λ (e : EventText). e.entry) (filter choice (events_of_wholes before)) (filter choice (events_of_whole w)))
+              ∙ sym (filter_map-append (λ (e : EventRead). e.entry) (filter choice (events_of_wholes before)) (filter choice (events_of_whole w)))
               ∙ ap carried_by all;
         }

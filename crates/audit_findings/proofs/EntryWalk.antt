@@ -8,7 +8,7 @@ use Rattle.std.proofs.lemmas.List.Elements.{All-head, All-tail, filter-append, f
 use Rattle.std.proofs.lemmas.List.Sums.{sum_by-append}
 use Rattle.capture_frame.specs.declared.frame.Frame.{Frame}
 use Rattle.capture_frame.specs.Envelope.{frame_text, placed_frame}
-use Rattle.event_core.specs.Events.{AttachmentText, EventText}
+use Rattle.event_core.specs.Events.{AttachmentText, EventRead}
 use Rattle.event_core.specs.Reading.{Reading, Steps, entry_attachment, event_text}
 use Rattle.event_core.specs.declared.event.Event.{Event}
 use Rattle.event_core.proofs.EventsGiven.{Given, given_all}
@@ -30,7 +30,7 @@ pub left_out : {X : Type 0} (p : X → Bool) (x : X) (xs : List X) → p x ≡ f
 left_out p x xs is = rw is refl
 
 -- where all places are above this one, it is not the first of those that are chosen
-not_first : (choice : EventText → Bool) (place : ℕ) (later : List EventText) (others rest : List ℕ) → All (λ p. place < p) (places_of later ++ others)
+not_first : (choice : EventRead → Bool) (place : ℕ) (later : List EventRead) (others rest : List ℕ) → All (λ p. place < p) (places_of later ++ others)
     → places_of (filter choice later) ++ others ≢ place ∷ rest
 not_first choice place [] others rest above same =
     let first : place < place = All-head (λ p. place < p) place rest (subst (All (λ p. place < p)) same above) in
@@ -49,7 +49,7 @@ not_first choice place (e ∷ later) others rest above same =
     (cases_Bool (choice e))
 
 -- after the first of rising places all are above
-rise_after : (before : List EventText) (e : EventText) (later : List EventText) (others : List ℕ) → Rise (places_of (before ++ e ∷ later) ++ others)
+rise_after : (before : List EventRead) (e : EventRead) (later : List EventRead) (others : List ℕ) → Rise (places_of (before ++ e ∷ later) ++ others)
     → All (λ p. e.place < p) (places_of later ++ others)
 rise_after [] e later others rise = pairs_head (λ a b. a < b) e.place (places_of later ++ others) rise
 rise_after (b ∷ before) e later others rise =
@@ -82,8 +82,8 @@ GrowsGiven old given new = list_bytes new ≤ list_bytes old + sum_by offset_byt
 -- are left
 abbrev pub AddsGiven : List Entry → Frame → List ℕ → List Event → List Entry → List ℕ → Type 0
 AddsGiven old frame places given new left =
-    (events : List EventText) (choice : EventText → Bool) (others : List ℕ) → AreEventsOfFrame frame events → Rise (places_of events ++ others)
-    → AreChosen choice events others places → (later : List EventText) → events ≡ map event_text given ++ later
+    (events : List EventRead) (choice : EventRead → Bool) (others : List ℕ) → AreEventsOfFrame frame events → Rise (places_of events ++ others)
+    → AreChosen choice events others places → (later : List EventRead) → events ≡ map event_text given ++ later
     → (left ≡ places_of (filter choice later) ++ others)
     × ShowAttachments new (map entry_attachment old ++ carried_by (filter choice (map event_text given)))
 
@@ -119,18 +119,18 @@ grows_frame old new frame reading given good so_far grows =
     omega (arith, grows, fit)
 
 module _ (old middle : List Entry) (frame : Frame) (places left : List ℕ) (given : List Event) (found : Event) (so_far : AddsGiven old frame places given middle left) where
-  abbrev E : EventText
+  abbrev E : EventRead
   E = event_text found
 
-  ahead : (events later : List EventText) → events ≡ map event_text (given ++ found ∷ []) ++ later → events ≡ map event_text given ++ E ∷ later
+  ahead : (events later : List EventRead) → events ≡ map event_text (given ++ found ∷ []) ++ later → events ≡ map event_text given ++ E ∷ later
   ahead events later is = is ∙ ap (λ es. es ++ later) (texts_more given found) ∙ append_assoc (map event_text given) (E ∷ []) later
 
-  above : (events later : List EventText) (others : List ℕ) → events ≡ map event_text given ++ E ∷ later → Rise (places_of events ++ others)
+  above : (events later : List EventRead) (others : List ℕ) → events ≡ map event_text given ++ E ∷ later → Rise (places_of events ++ others)
       → All (λ p. E.place < p) (places_of later ++ others)
   above events later others is rise =
       rise_after (map event_text given) E later others (subst (λ es. Rise (places_of es ++ others)) is rise)
 
-  filter_more : (choice : EventText → Bool)
+  filter_more : (choice : EventRead → Bool)
       → filter choice (map event_text (given ++ found ∷ [])) ≡ filter choice (map event_text given) ++ filter choice (E ∷ [])
   filter_more choice = ap (filter choice) (texts_more given found) ∙ filter-append choice (map event_text given) (E ∷ [])
 
@@ -152,7 +152,7 @@ module _ (old middle : List Entry) (frame : Frame) (places left : List ℕ) (giv
             ∙ ap₂ (λ (us vs : List AttachmentText). us ++ vs) i.1 (one_carried found found.entry refl).0
             ∙ append_assoc (map entry_attachment old) (carried_by before) (carried_by (E ∷ []))
             ∙ ap (λ us. map entry_attachment old ++ us)
-            (sym (filter_map-append (λ (e : EventText). e.entry) before (E ∷ [])) ∙ ap carried_by (sym kept)),
+            (sym (filter_map-append (λ (e : EventRead). e.entry) before (E ∷ [])) ∙ ap carried_by (sym kept)),
       ))
       (λ (no : choice E ≡ false).
       let left_is = ap (λ es. places_of es ++ others) (sym (left_out choice E later no)) ∙ sym i.0 ∙ next in

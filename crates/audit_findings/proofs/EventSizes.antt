@@ -18,7 +18,7 @@ use Rattle.transaction_view.specs.Attachments.{EntryText, entry_bytes, entry_for
 use Rattle.transaction_view.specs.Grammar.{WholeFrame}
 use Rattle.event_core.specs.Events.{AttachmentText, attachment_text, belongs_to, event_of, events_of_whole, placed_records}
 use Rattle.event_core.proofs.EntryPlaces.{find-here, find-other}
-use Rattle.audit_findings.specs.Frames.{Show, IsWhole, AreGoodFrames}
+use Rattle.audit_findings.specs.Frames.{AreViews, IsWhole, AreGoodFrames}
 use Rattle.event_core.specs.Events.{placed_text}
 use Rattle.event_core.specs.Events.{events_of_wholes}
 use Rattle.capture_frame.specs.Lookup.{span_of}
@@ -81,7 +81,7 @@ whole_short frame w same whole =
 abbrev AreShort : List Frame → List (Placed WholeFrame) → Type 0
 AreShort frames wholes = (length (events_of_wholes wholes) + 32 * length wholes ≤ sum_by span_of frames) × All HasSmall (events_of_wholes wholes)
 
-all_short : (frames : List Frame) (wholes : List (Placed WholeFrame)) → Show frames wholes → AreShort frames wholes
+all_short : (frames : List Frame) (wholes : List (Placed WholeFrame)) → AreViews frames wholes → AreShort frames wholes
 all_short [] wholes show = subst (λ (t : List (Placed WholeFrame)). AreShort [] t) (sym (shown_none wholes show)) (omega arith, All-nil HasSmall)
 all_short (f ∷ frames) wholes show =
     let one = shown_first f frames wholes show in
@@ -98,7 +98,7 @@ all_short (f ∷ frames) wholes show =
     subst (λ (t : List (Placed WholeFrame)). AreShort (f ∷ frames) t) (sym one.2)
     (omega (arith, others, first, long, spans, longer), subst (All HasSmall) (sym split) small)
 
-pub few_frames : (frames : List Frame) (wholes : List (Placed WholeFrame)) → AreGoodFrames frames → Show frames wholes → AreFewFrames wholes
+pub few_frames : (frames : List Frame) (wholes : List (Placed WholeFrame)) → AreGoodFrames frames → AreViews frames wholes → AreFewFrames wholes
 few_frames frames wholes good show =
     let all = all_short frames wholes show in
     let short = all.0 in

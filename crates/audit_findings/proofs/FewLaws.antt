@@ -5,40 +5,40 @@ use Rattle.std.proofs.lemmas.List.{map-append}
 use Rattle.std.proofs.lemmas.List.Sums.{sum_by-append, count_by-le-length}
 use Rattle.audit_findings.specs.Codes.{is_opaque}
 use Rattle.std.proofs.lemmas.List.Elements.{All-head}
-use Rattle.event_core.specs.Events.{EventText}
+use Rattle.event_core.specs.Events.{EventRead}
 use Rattle.summary_law.specs.Fits.{all_parts, placed_parts}
 use Rattle.summary_law.specs.Summary.{FitsInParts}
 use Rattle.summary_law.specs.Tally.{AreWeighted}
 use Rattle.summary_law.proofs.TallyLaws.{weighted_map}
 use Rattle.audit_findings.specs.Ledgers.{AreFewEvents, offset_bytes_of, code_item}
 
-abbrev pub HasSmall : EventText → Type 0
+abbrev pub HasSmall : EventRead → Type 0
 HasSmall e = offset_bytes_of e < 2 ^ 32
 
 -- both parts of few events are few
 pub few_parts : FitsInParts AreFewEvents
 few_parts first second few =
-    let placed = placed_parts (λ (e : EventText). e.place) first second few.0 in
+    let placed = placed_parts (λ (e : EventRead). e.place) first second few.0 in
     let small = all_parts HasSmall first second few.1 in
     ((placed.0, small.0), (placed.1, small.1))
 
 -- the list of offsets of the last of them is small
-pub last_small : (events : List EventText) (e : EventText) → AreFewEvents (events ++ e ∷ []) → offset_bytes_of e < 2 ^ 32
+pub last_small : (events : List EventRead) (e : EventRead) → AreFewEvents (events ++ e ∷ []) → offset_bytes_of e < 2 ^ 32
 last_small events e few = All-head HasSmall e [] (few_parts events (e ∷ []) few).1.1
 
 -- their code words are few weights
-weighted_codes : (events : List EventText) → AreFewEvents events → AreWeighted (map code_item events)
+weighted_codes : (events : List EventRead) → AreFewEvents events → AreWeighted (map code_item events)
 weighted_codes events few = weighted_map code_item (λ e. omega arith) events few.0.0
 
-pub weighted_parts : (events more : List EventText) → AreFewEvents (events ++ more) → AreWeighted (map code_item events ++ map code_item more)
+pub weighted_parts : (events more : List EventRead) → AreFewEvents (events ++ more) → AreWeighted (map code_item events ++ map code_item more)
 weighted_parts events more few = subst AreWeighted (map-append code_item events more) (weighted_codes (events ++ more) few)
 
 -- how many opaque records there are in both parts
-pub opaque-append : (events more : List EventText) → count_by is_opaque (events ++ more) ≡ count_by is_opaque events + count_by is_opaque more
-opaque-append events more = sum_by-append (λ (e : EventText). cond (is_opaque e) 1 0) events more
+pub opaque-append : (events more : List EventRead) → count_by is_opaque (events ++ more) ≡ count_by is_opaque events + count_by is_opaque more
+opaque-append events more = sum_by-append (λ (e : EventRead). cond (is_opaque e) 1 0) events more
 
-pub opaque_one : (e : EventText) → count_by is_opaque (e ∷ []) ≡ cond (is_opaque e) 1 0
+pub opaque_one : (e : EventRead) → count_by is_opaque (e ∷ []) ≡ cond (is_opaque e) 1 0
 opaque_one e = omega arith
 
-pub opaque_short : (events : List EventText) → count_by is_opaque events ≤ length events
+pub opaque_short : (events : List EventRead) → count_by is_opaque events ≤ length events
 opaque_short events = count_by-le-length is_opaque events

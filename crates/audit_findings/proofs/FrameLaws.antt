@@ -8,7 +8,7 @@ use Rattle.capture_frame.specs.Envelope.{FrameText, frame_text, placed_frame}
 use Rattle.capture_frame.specs.Units.{Placed, placed_at}
 use Rattle.transaction_view.specs.FirstFault.{HasGoodContent}
 use Rattle.transaction_view.specs.Grammar.{WholeFrame}
-use Rattle.event_core.specs.Events.{EventText, events_of, events_of_whole}
+use Rattle.event_core.specs.Events.{EventRead, events_of, events_of_whole}
 use Rattle.record_view.specs.Records.{RecordText, HasRecords}
 use Rattle.transaction_view.specs.Attachments.{EntryText, HasEntries}
 use Rattle.event_core.specs.declared.event.Event.{Event}
@@ -18,7 +18,7 @@ use Rattle.capture_frame.specs.Process.{process_of_frame}
 use Rattle.process_ledgers.specs.Processes.{process_of_whole}
 use Rattle.audit_findings.specs.Ledgers.{AreFewEvents, AreFewFrames}
 use Rattle.audit_findings.proofs.FewLaws.{few_parts}
-use Rattle.audit_findings.specs.Frames.{Show, IsWhole}
+use Rattle.audit_findings.specs.Frames.{AreViews, IsWhole}
 use Rattle.event_core.specs.Events.{placed_text}
 use Rattle.event_core.specs.Events.{events_of_wholes}
 
@@ -26,10 +26,10 @@ pub events-append : (wholes others : List (Placed WholeFrame)) → events_of_who
 events-append wholes others = flat_map-append events_of_whole wholes others
 
 -- no view shows no whole frame
-pub none_shown : Show [] []
+pub none_shown : AreViews [] []
 none_shown = record { stand = refl; are_whole = All-nil IsWhole }
 
-pub shown_none : (wholes : List (Placed WholeFrame)) → Show [] wholes → wholes ≡ []
+pub shown_none : (wholes : List (Placed WholeFrame)) → AreViews [] wholes → wholes ≡ []
 shown_none [] show = refl
 shown_none (w ∷ wholes) show = let wrong = ap length show.stand in absurd (omega (arith, wrong))
 
@@ -38,9 +38,9 @@ pub first_same : {A : Type 0} (x y : A) (xs ys : List A) → x ∷ xs ≡ y ∷ 
 first_same x y xs ys same = (cc, cc)
 
 -- what the first view shows, and what the others do
-pub shown_first : (frame : Frame) (frames : List Frame) (wholes : List (Placed WholeFrame)) → Show (frame ∷ frames) wholes
+pub shown_first : (frame : Frame) (frames : List Frame) (wholes : List (Placed WholeFrame)) → AreViews (frame ∷ frames) wholes
     → (w : Placed WholeFrame) × (others : List (Placed WholeFrame)) × (wholes ≡ w ∷ others) × (placed_frame frame ≡ placed_text w) × IsWhole w
-    × Show frames others
+    × AreViews frames others
 shown_first frame frames [] show = let wrong = ap length show.stand in absurd (omega (arith, wrong))
 shown_first frame frames (w ∷ wholes) show =
     let same = first_same (placed_frame frame) (placed_text w) (map placed_frame frames) (map placed_text wholes) show.stand in (
@@ -52,8 +52,8 @@ shown_first frame frames (w ∷ wholes) show =
       record { stand = same.1; are_whole = All-tail IsWhole w wholes show.are_whole },
     )
 
-pub shown_parts : (frames more : List Frame) (wholes : List (Placed WholeFrame)) → Show (frames ++ more) wholes
-    → (first second : List (Placed WholeFrame)) × (wholes ≡ first ++ second) × Show frames first × Show more second
+pub shown_parts : (frames more : List Frame) (wholes : List (Placed WholeFrame)) → AreViews (frames ++ more) wholes
+    → (first second : List (Placed WholeFrame)) × (wholes ≡ first ++ second) × AreViews frames first × AreViews more second
 shown_parts [] more wholes show = ([], wholes, refl, none_shown, show)
 shown_parts (f ∷ frames) more wholes show =
     let one = shown_first f (frames ++ more) wholes show in
@@ -74,7 +74,7 @@ shown_one frame good =
     let w : Placed WholeFrame = placed_at frame.place record { frame = frame_text frame; records = good.0.0; entries = good.1.0 } in
     (w, refl, (good.0.1, good.1.1))
 
-pub good_shown : (frames : List Frame) → All (λ (frame : Frame). HasGoodContent (frame_text frame)) frames → (wholes : List (Placed WholeFrame)) × Show frames wholes
+pub good_shown : (frames : List Frame) → All (λ (frame : Frame). HasGoodContent (frame_text frame)) frames → (wholes : List (Placed WholeFrame)) × AreViews frames wholes
 good_shown [] good = ([], none_shown)
 good_shown (f ∷ frames) good =
     let IsGood : Frame → Type 0 = λ frame. HasGoodContent (frame_text frame) in
@@ -90,7 +90,7 @@ good_shown (f ∷ frames) good =
 -- ---- the events of one frame
 
 -- the frame's events are few behind those before, however its bytes are read
-abbrev pub AreFewWith : List EventText → Frame → Type 0
+abbrev pub AreFewWith : List EventRead → Frame → Type 0
 AreFewWith before frame =
     (records : List RecordText) × (entries : List EntryText) × HasRecords (frame_text frame) records × HasEntries (frame_text frame) entries
     × AreFewEvents (before ++ events_of (placed_frame frame) records entries)
@@ -108,43 +108,43 @@ whole_events frame w same whole =
       append-nil (events_of_whole w) ∙ ap (λ (p : Placed FrameText). events_of p w.unit.records w.unit.entries) (sym same),
     )
 
-pub few_with : (before : List EventText) (frame : Frame) (wholes others : List (Placed WholeFrame)) → events_of_wholes wholes ≡ before
-    → Show (frame ∷ []) others → AreFewFrames (wholes ++ others) → AreFewWith before frame
+pub few_with : (before : List EventRead) (frame : Frame) (wholes others : List (Placed WholeFrame)) → events_of_wholes wholes ≡ before
+    → AreViews (frame ∷ []) others → AreFewFrames (wholes ++ others) → AreFewWith before frame
 few_with before frame wholes others is show few =
     let one = shown_first frame [] others show in
     let events = whole_events frame one.0 one.3 one.4 in
     let alone : others ≡ one.0 ∷ [] = one.2 ∙ ap (λ (t : List (Placed WholeFrame)). one.0 ∷ t) (shown_none one.1 one.5) in
     let all : events_of_wholes (wholes ++ others) ≡ before ++ events_of (placed_frame frame) events.0 events.1 =
     events-append wholes others
-    ∙ ap₂ (λ (a b : List EventText). a ++ b) is (ap events_of_wholes alone ∙ events.4) in
+    ∙ ap₂ (λ (a b : List EventRead). a ++ b) is (ap events_of_wholes alone ∙ events.4) in
     (events.0, events.1, events.2, events.3, subst AreFewEvents all few.1)
 
 -- an event more is few with them
-pub few_next : (before : List EventText) (frame : Frame) → AreFewWith before frame → (reading : Reading) (given : List Event)
+pub few_next : (before : List EventRead) (frame : Frame) → AreFewWith before frame → (reading : Reading) (given : List Event)
     → Given (placed_frame frame) reading given → AreFewEvents (before ++ map event_text given)
 few_next before frame few reading given so_far =
     let first = given_first (placed_frame frame) reading given few.0 few.1 few.2 few.3 so_far in
     let all : before ++ events_of (placed_frame frame) few.0 few.1 ≡ (before ++ map event_text given) ++ first.0 =
-    ap (λ (t : List EventText). before ++ t) first.1 ∙ sym (append_assoc before (map event_text given) first.0) in
+    ap (λ (t : List EventRead). before ++ t) first.1 ∙ sym (append_assoc before (map event_text given) first.0) in
     (few_parts (before ++ map event_text given) first.0 (subst AreFewEvents all few.4)).0
 
 -- at the end they are the events of the whole frame
-pub all_given : (before : List EventText) (frame : Frame) (wholes others : List (Placed WholeFrame)) → events_of_wholes wholes ≡ before
-    → Show (frame ∷ []) others → (reading new : Reading) (given : List Event) → Given (placed_frame frame) reading given → Steps reading None new
+pub all_given : (before : List EventRead) (frame : Frame) (wholes others : List (Placed WholeFrame)) → events_of_wholes wholes ≡ before
+    → AreViews (frame ∷ []) others → (reading new : Reading) (given : List Event) → Given (placed_frame frame) reading given → Steps reading None new
     → before ++ map event_text given ≡ events_of_wholes (wholes ++ others)
 all_given before frame wholes others is show reading new given so_far steps =
     let one = shown_first frame [] others show in
     let events = whole_events frame one.0 one.3 one.4 in
     let alone : others ≡ one.0 ∷ [] = one.2 ∙ ap (λ (t : List (Placed WholeFrame)). one.0 ∷ t) (shown_none one.1 one.5) in
     let all = given_all (placed_frame frame) reading new given events.0 events.1 events.2 events.3 so_far steps in
-    sym (events-append wholes others ∙ ap₂ (λ (a b : List EventText). a ++ b) is (ap events_of_wholes alone ∙ events.4 ∙ all))
+    sym (events-append wholes others ∙ ap₂ (λ (a b : List EventRead). a ++ b) is (ap events_of_wholes alone ∙ events.4 ∙ all))
 
 pub given_next : (frame : Frame) (before reading : Reading) (earlier : List Event) (found : Event) → Given (placed_frame frame) before earlier
     → Steps before (Some found) reading → Given (placed_frame frame) reading (earlier ++ found ∷ [])
 given_next frame before reading earlier found so_far steps = one_further before reading earlier (earlier ++ found ∷ []) found so_far steps refl
 
 -- the one whole frame that a view shows
-pub shown_alone : (frame : Frame) (others : List (Placed WholeFrame)) → Show (frame ∷ []) others
+pub shown_alone : (frame : Frame) (others : List (Placed WholeFrame)) → AreViews (frame ∷ []) others
     → (w : Placed WholeFrame) × (others ≡ w ∷ []) × (w.unit.frame.sequence ≡ frame.sequence) × (process_of_whole w ≡ process_of_frame (frame_text frame))
 shown_alone frame others show =
     let one = shown_first frame [] others show in (
@@ -155,7 +155,7 @@ shown_alone frame others show =
     )
 
 -- and its content has no fault
-pub shown_good : (frame : Frame) (others : List (Placed WholeFrame)) → Show (frame ∷ []) others → HasGoodContent (frame_text frame)
+pub shown_good : (frame : Frame) (others : List (Placed WholeFrame)) → AreViews (frame ∷ []) others → HasGoodContent (frame_text frame)
 shown_good frame others show =
     let one = shown_first frame [] others show in
     let events = whole_events frame one.0 one.3 one.4 in

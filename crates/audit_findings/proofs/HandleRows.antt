@@ -13,7 +13,7 @@ use Rattle.std.proofs.lemmas.List.Kept.{AllPairs-from_increasing}
 use Rattle.call_stacks.proofs.Members.{In, contained, in-map, in_list, map-in}
 use Rattle.capture_frame.specs.declared.process.Process.{Process}
 use Rattle.capture_frame.specs.Units.{Placed}
-use Rattle.event_core.specs.Events.{EventText}
+use Rattle.event_core.specs.Events.{EventRead}
 use Rattle.process_ledgers.specs.declared.processes.Processes.{Processes}
 use Rattle.summary_law.specs.declared.nothing.Nothing.{Nothing}
 use Rattle.transaction_view.specs.Grammar.{WholeFrame}
@@ -21,9 +21,9 @@ use Rattle.handle_ledger.specs.declared.held_row.HeldRow.{HeldRow}
 use Rattle.pending_ledger.specs.Pending.{ArePlacesOf}
 use Rattle.process_ledgers.proofs.ItemPlaces.{pending_keeps}
 use Rattle.process_ledgers.specs.Items.{buffer_pending_of}
-use Rattle.process_ledgers.specs.OfProcess.{AreOfProcesses}
+use Rattle.process_ledgers.specs.EachProcess.{SumsEach}
 use Rattle.process_ledgers.specs.Processes.{processes_of}
-use Rattle.audit_findings.specs.declared.in_turn.OfProcess.{OfProcess}
+use Rattle.audit_findings.specs.declared.in_turn.ProcessRow.{ProcessRow}
 use Rattle.audit_findings.specs.Entries.{AreChosen}
 use Rattle.audit_findings.specs.Kept.{places_of}
 use Rattle.audit_findings.specs.Places.{AreEventsAt, IsOpenIn, RiseInPlace}
@@ -36,7 +36,7 @@ use Rattle.audit_findings.proofs.StandLaws.{open_stands}
 -- ---- the events at some places, chosen from all
 
 -- whether the event is at one of these places
-abbrev pub is_at : List ℕ → EventText → Bool
+abbrev pub is_at : List ℕ → EventRead → Bool
 is_at places e = list_any (λ place. eqb place e.place) places
 
 is_in : (places : List ℕ) (place : ℕ) → In place places → list_any (λ p. eqb p place) places ≡ true
@@ -56,7 +56,7 @@ in_is (p ∷ places) place any =
     (λ (other : eqb p place ≡ false). inr (in_is places place (ap (λ b. b || list_any (λ q. eqb q place) places) (sym other) ∙ any)))
     (cases_Bool (eqb p place))
 
-module _ (events : List EventText) (rise : RiseInPlace events) (places : List ℕ) where
+module _ (events : List EventRead) (rise : RiseInPlace events) (places : List ℕ) where
   chosen_in : (n : ℕ) → ((place : ℕ) → Contains places place → HasEventAt events place) → Contains places n
       → Contains (places_of (filter (is_at places) events)) n
   chosen_in n stands there =
@@ -64,11 +64,11 @@ module _ (events : List EventText) (rise : RiseInPlace events) (places : List �
       let at = is_in places e.0.place (subst (λ m. In m places) (sym e.2) (in_list places n there)) in
       contained (places_of (filter (is_at places) events)) n
       (subst (λ m. In m (places_of (filter (is_at places) events))) e.2
-      (map-in (λ (x : EventText). x.place) (filter (is_at places) events) e.0 (kept_in (is_at places) events e.0 (in_list events e.0 e.1) at)))
+      (map-in (λ (x : EventRead). x.place) (filter (is_at places) events) e.0 (kept_in (is_at places) events e.0 (in_list events e.0 e.1) at)))
 
   in_chosen : (n : ℕ) → Contains (places_of (filter (is_at places) events)) n → Contains places n
   in_chosen n there =
-      let from = in-map (λ (x : EventText). x.place) (filter (is_at places) events) n (in_list (places_of (filter (is_at places) events)) n there) in
+      let from = in-map (λ (x : EventRead). x.place) (filter (is_at places) events) n (in_list (places_of (filter (is_at places) events)) n there) in
       let kept = in_kept (is_at places) events from.0 from.1 in
       contained places n (subst (λ m. In m places) (sym from.2) (in_is places from.0.place kept.1))
 
@@ -76,21 +76,21 @@ module _ (events : List EventText) (rise : RiseInPlace events) (places : List �
   pub chosen_at : IsStrictlyIncreasing places → ((place : ℕ) → Contains places place → HasEventAt events place) → AreChosen (is_at places) events [] places
   chosen_at rising stands =
       same_members places (places_of (filter (is_at places) events)) (AllPairs-from_increasing places rising)
-      (pairs_map (λ a b. a < b) (λ (e : EventText). e.place) (filter (is_at places) events)
-      (rising_kept (λ (e : EventText). e.place) (is_at places) events rise))
+      (pairs_map (λ a b. a < b) (λ (e : EventRead). e.place) (filter (is_at places) events)
+      (rising_kept (λ (e : EventRead). e.place) (is_at places) events rise))
       (λ n there. chosen_in n stands there) in_chosen
       ∙ sym (append-nil (places_of (filter (is_at places) events)))
 
 -- they are the events at which something is so, where it is so at these places
-pub events_chosen : (IsSo : ℕ → Type 0) (events : List EventText) (places : List ℕ) → ArePlacesOf IsSo places → AreChosen (is_at places) events [] places
-    → AreEventsAt IsSo events (filter (is_at places) events)
-events_chosen IsSo events places are chosen = record {
+pub events_chosen : (IsHere : ℕ → Type 0) (events : List EventRead) (places : List ℕ) → ArePlacesOf IsHere places → AreChosen (is_at places) events [] places
+    → AreEventsAt IsHere events (filter (is_at places) events)
+events_chosen IsHere events places are chosen = record {
   stand = All-filter (is_at places) (Contains events) events (All-contains_itself events);
-  places = subst (ArePlacesOf IsSo) (chosen ∙ append-nil (places_of (filter (is_at places) events))) are;
+  places = subst (ArePlacesOf IsHere) (chosen ∙ append-nil (places_of (filter (is_at places) events))) are;
 }
 
 -- an event stands at each of these places
-pub chosen_open : (events : List EventText) → RiseInPlace events → (process : Process) (places : List ℕ)
+pub chosen_open : (events : List EventRead) → RiseInPlace events → (process : Process) (places : List ℕ)
     → ArePlacesOf (IsOpenIn buffer_pending_of events process) places → AreChosen (is_at places) events [] places
 chosen_open events rise process places are =
     chosen_at events rise places are.rising
@@ -107,7 +107,7 @@ key_is key (y ∷ xs) (suc n) x d is = key_is key xs n x d is
 
 -- it is that of the process with this number
 pub entry_at : (processes : Processes) (wholes : List (Placed WholeFrame)) (number : ℕ) (e : Process × Nothing)
-    → AreOfProcesses processes wholes → slice_get processes.order.now.entries.entries number ≡ Some e
+    → SumsEach processes wholes → slice_get processes.order.now.entries.entries number ≡ Some e
     → (d : Process) → slice_index_or (processes_of wholes) number d ≡ e.0
 entry_at processes wholes number e of is d =
     ap (λ (ps : List Process). slice_index_or ps number d) (sym of.order) ∙ key_is (λ (x : Process × Nothing). x.0) processes.order.now.entries.entries number e d is
@@ -115,7 +115,7 @@ entry_at processes wholes number e of is d =
 -- ---- lists, one after another
 
 abbrev pub ListOfRows : Type 0
-ListOfRows = Vec (OfProcess HeldRow) Global
+ListOfRows = Vec (ProcessRow HeldRow) Global
 
 abbrev pub lists_of : {R : Type 0} → List (Vec R Global) → List (List R)
 lists_of {R} lists = map (λ (list : Vec R Global). list.items) lists

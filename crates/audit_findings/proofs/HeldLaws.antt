@@ -8,7 +8,7 @@ use Rattle.std.proofs.lemmas.List.Elements.{All-cons, All-nil, filter_map-append
 use Rattle.std.proofs.lemmas.List.Sums.{sum_by-append, sum_by-cons}
 use Rattle.std.proofs.Math.Seq.{split_at}
 use Rattle.indexmap.proofs.SetLemmas.{AllZip-push}
-use Rattle.event_core.specs.Events.{AttachmentText, EventText}
+use Rattle.event_core.specs.Events.{AttachmentText, EventRead}
 use Rattle.event_core.specs.Reading.{entry_attachment}
 use Rattle.handle_ledger.specs.Held.{Held, held_cmp}
 use Rattle.object_view.specs.Objects.{ObjectText, AreObjects}
@@ -130,21 +130,21 @@ module _ (entries : List Entry) (few : list_bytes entries ≤ 2 ^ 32) (i : ℕ) 
 -- ---- whose attachments they are
 
 -- the entry that an event has, as an attachment of its own
-first_of : (e : EventText) (attachment : Option AttachmentText) → e.entry ≡ attachment → (events : List EventText) (entries : List Entry)
+first_of : (e : EventRead) (attachment : Option AttachmentText) → e.entry ≡ attachment → (events : List EventRead) (entries : List Entry)
     (objects : List (List ObjectText)) → map entry_attachment entries ≡ carried_by (e ∷ events) → AllZip AreGoodObjects entries objects
     → ((rest : List Entry) (others : List (List ObjectText)) → map entry_attachment rest ≡ carried_by events → AllZip AreGoodObjects rest others
     → AreHeldBy events (held_among others))
     → AreHeldBy (e ∷ events) (held_among objects)
 first_of e None is events entries objects show are later =
-    let same = gives_none (λ (x : EventText). x.entry) e events is in
+    let same = gives_none (λ (x : EventRead). x.entry) e events is in
     let rest = later entries objects (show ∙ same) are in
     let no_more : attachments_of (e ∷ events) ≡ attachments_of events = rw is refl in
     (rest.0, record { each = rest.1.each ∙ sym no_more; are_objects = rest.1.are_objects }, rest.2)
 first_of e (Some a) is events [] objects show are later =
-    let wrong = show ∙ gives_some (λ (x : EventText). x.entry) e events a is in absurd (cc)
+    let wrong = show ∙ gives_some (λ (x : EventRead). x.entry) e events a is in absurd (cc)
 first_of e (Some a) is events (entry ∷ entries) [] show are later = absurd are
 first_of e (Some a) is events (entry ∷ entries) (own ∷ objects) show are later =
-    let both = show ∙ gives_some (λ (x : EventText). x.entry) e events a is in
+    let both = show ∙ gives_some (λ (x : EventRead). x.entry) e events a is in
     let heads = first_same (entry_attachment entry) a (map entry_attachment entries) (carried_by events) both in
     let rest = later entries objects heads.1 are.1 in
     let outcome : Outcome = record { of = record { owner = e; attachment = a }; objects = own; bad = are.0.0 } in
@@ -162,7 +162,7 @@ first_of e (Some a) is events (entry ∷ entries) (own ∷ objects) show are lat
     )
 
 -- what entries hold, events hold whose attachments they show
-pub held_by_events : (events : List EventText) (entries : List Entry) (objects : List (List ObjectText))
+pub held_by_events : (events : List EventRead) (entries : List Entry) (objects : List (List ObjectText))
     → map entry_attachment entries ≡ carried_by events → AllZip AreGoodObjects entries objects → AreHeldBy events (held_among objects)
 held_by_events [] [] [] show are = ([], record { each = refl; are_objects = All-nil IsOutcome }, refl)
 held_by_events [] [] (own ∷ objects) show are = absurd are

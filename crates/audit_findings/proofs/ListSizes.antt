@@ -15,7 +15,7 @@ use Rattle.transaction_view.specs.Attachments.{EntryText, entry_bytes, entry_for
 use Rattle.transaction_view.specs.FirstFault.{HasGoodContent}
 use Rattle.transaction_view.specs.Grammar.{WholeFrame}
 use Rattle.transaction_view.proofs.EntryLaws.{length-entry_bytes}
-use Rattle.event_core.specs.Events.{EventText, attachment_text, belongs_to, event_of, placed_records}
+use Rattle.event_core.specs.Events.{EventRead, attachment_text, belongs_to, event_of, placed_records}
 use Rattle.event_core.specs.Reading.{Reading, event_text}
 use Rattle.event_core.specs.declared.event.Event.{Event}
 use Rattle.event_core.proofs.EntryPlaces.{find-here, find-other}
@@ -114,18 +114,18 @@ entries_long frame (e ∷ entries) =
     omega (arith, split, one, more, all)
 
 -- the events of a frame rise
-pub frame_rises : (frame : Frame) (events : List EventText) → AreEventsOfFrame frame events → Rise (places_of events)
+pub frame_rises : (frame : Frame) (events : List EventRead) → AreEventsOfFrame frame events → Rise (places_of events)
 frame_rises frame events of =
     let w : Placed WholeFrame = placed_at frame.place record { frame = frame_text frame; records = of.0; entries = of.1 } in
-    subst (λ (es : List EventText). Rise (places_of es)) (sym of.4) (pairs_map (λ a b. a < b) (λ (e : EventText). e.place) _ (whole_rises w))
+    subst (λ (es : List EventRead). Rise (places_of es)) (sym of.4) (pairs_map (λ a b. a < b) (λ (e : EventRead). e.place) _ (whole_rises w))
 
 -- their lists of offsets are no longer than the attachment bytes
-pub lists_fit : (frame : Frame) (events : List EventText) → AreEventsOfFrame frame events → sum_by offset_bytes_of events ≤ length frame.attachments.now
+pub lists_fit : (frame : Frame) (events : List EventRead) → AreEventsOfFrame frame events → sum_by offset_bytes_of events ≤ length frame.attachments.now
 lists_fit frame events of =
     let there = placed_frame frame in
     let records = placed_records there of.0 in
     let made = map (event_of there of.1) records in
-    let rise : Rise (places_of made) = subst (λ (es : List EventText). Rise (places_of es)) of.4 (frame_rises frame events of) in
+    let rise : Rise (places_of made) = subst (λ (es : List EventRead). Rise (places_of es)) of.4 (frame_rises frame events of) in
     let sums = ap (sum_by offset_bytes_of) of.4 ∙ sum_of_events there of.1 records in
     let found = all_found (commands_place there.place) (attachments_place there.unit there.place) of.1 (places_of made) rise in
     let long = entries_long there.unit of.1 in

@@ -13,7 +13,7 @@ use Rattle.std.proofs.lemmas.List.Sums.{sum_by-append, count_by-le-length}
 use Rattle.audit_findings.specs.Objects.{same_sort, times_of}
 
 -- the reader stands behind these objects
-pub record StandsBehind (body list : List ℕ) (reader : Reading) (done : List ObjectText) : Type 0 where
+pub record HasGiven (body list : List ℕ) (reader : Reading) (done : List ObjectText) : Type 0 where
   pub reading_is : reader ≡ at body list (length done) (state_after (object_format body) 0 done)
   pub walks : Walks (object_format body) 0 list done (8 * length done)
   pub whole : (done ≡ []) ⊎ IsWholeList list
@@ -23,10 +23,10 @@ abbrev pub left_of : Reading → ℕ
 left_of (at body list index end) = length list - 8 * index
 left_of ended = 0
 
-pub stands_at_start : (body list : List ℕ) (reader : Reading) → reader ≡ at body list 0 0 → StandsBehind body list reader []
+pub stands_at_start : (body list : List ℕ) (reader : Reading) → reader ≡ at body list 0 0 → HasGiven body list reader []
 stands_at_start body list reader is = record { reading_is = is; walks = walk_start (object_format body) 0 list; whole = inl refl }
 
-steps_from : (body list : List ℕ) (reader : Reading) (done : List ObjectText) (stands : StandsBehind body list reader done)
+steps_from : (body list : List ℕ) (reader : Reading) (done : List ObjectText) (stands : HasGiven body list reader done)
     (result : Option (Result Object BadObject)) (new : Reading) → Steps reader result new
     → Steps (at body list (length done) (state_after (object_format body) 0 done)) result new
 steps_from body list reader done stands result new steps = subst (λ (r : Reading). Steps r result new) stands.reading_is steps
@@ -36,7 +36,7 @@ abbrev pub given : List ℕ → List ObjectText → Object → ObjectText
 given list done found = object_text (offset_of list (length done)) found
 
 -- there was room for its offset
-pub room_for_one : (body list : List ℕ) (reader : Reading) (done : List ObjectText) (stands : StandsBehind body list reader done) (found : Object)
+pub room_for_one : (body list : List ℕ) (reader : Reading) (done : List ObjectText) (stands : HasGiven body list reader done) (found : Object)
     (new : Reading) → Steps reader (Some (Ok found)) new → 8 * length done + 8 ≤ length list
 room_for_one body list reader done stands found new steps =
     let s = steps_from body list reader done stands (Some (Ok found)) new steps in
@@ -46,9 +46,9 @@ room_for_one body list reader done stands found new steps =
     omega (arith, parts, length-drop place list)
 
 -- behind one object more
-pub stands_behind_next : (body list : List ℕ) (reader : Reading) (done : List ObjectText) (stands : StandsBehind body list reader done) (found : Object)
+pub stands_behind_next : (body list : List ℕ) (reader : Reading) (done : List ObjectText) (stands : HasGiven body list reader done) (found : Object)
     (new : Reading) → Steps reader (Some (Ok found)) new
-    → StandsBehind body list new (done ++ given list done found ∷ [])
+    → HasGiven body list new (done ++ given list done found ∷ [])
 stands_behind_next body list reader done stands found new steps =
     let s = steps_from body list reader done stands (Some (Ok found)) new steps in
     let format = object_format body in
@@ -66,7 +66,7 @@ stands_behind_next body list reader done stands found new steps =
       whole = inr s.0;
     }
 
-pub left_falls : (body list : List ℕ) (reader : Reading) (done : List ObjectText) (stands : StandsBehind body list reader done) (found : Object)
+pub left_falls : (body list : List ℕ) (reader : Reading) (done : List ObjectText) (stands : HasGiven body list reader done) (found : Object)
     (new : Reading) → Steps reader (Some (Ok found)) new → left_of new < left_of reader
 left_falls body list reader done stands found new steps =
     let s = steps_from body list reader done stands (Some (Ok found)) new steps in
@@ -76,13 +76,13 @@ left_falls body list reader done stands found new steps =
     (subst (λ (r : Reading). length list - 8 * (length done + 1) < left_of r) (sym stands.reading_is) fell)
 
 -- at the end the objects are these, and none is bad
-pub objects_end : (body list : List ℕ) (reader : Reading) (done : List ObjectText) (stands : StandsBehind body list reader done) (new : Reading)
+pub objects_end : (body list : List ℕ) (reader : Reading) (done : List ObjectText) (stands : HasGiven body list reader done) (new : Reading)
     → Steps reader None new → AreObjects body list done None
 objects_end body list reader done stands new steps =
     let s = steps_from body list reader done stands None new steps in
     all_good s.0 (walk_end (object_format body) 0 list done (8 * length done) stands.walks s.1) refl
 
-bad_case : (body list : List ℕ) (reader : Reading) (done : List ObjectText) (stands : StandsBehind body list reader done) (bad : BadObject)
+bad_case : (body list : List ℕ) (reader : Reading) (done : List ObjectText) (stands : HasGiven body list reader done) (bad : BadObject)
     → IsBadAt body list (length done) (state_after (object_format body) 0 done) bad → AreObjects body list done (Some bad)
 bad_case body list reader done stands bad (reading.no_list never is) = elim stands.whole [
   | inl none ↦ no_list never none (ap Some is)
@@ -92,7 +92,7 @@ bad_case body list reader done stands bad (no_object whole more cause fails is) 
     until_bad whole (drop (8 * length done) list) cause stands.walks.splits more fails (ap Some is)
 
 -- the bad object ends them
-pub objects_bad : (body list : List ℕ) (reader : Reading) (done : List ObjectText) (stands : StandsBehind body list reader done) (bad : BadObject)
+pub objects_bad : (body list : List ℕ) (reader : Reading) (done : List ObjectText) (stands : HasGiven body list reader done) (bad : BadObject)
     (new : Reading) → Steps reader (Some (Err bad)) new
     → AreObjects body list done (Some bad)
 objects_bad body list reader done stands bad new steps =

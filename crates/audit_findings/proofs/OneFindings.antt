@@ -11,7 +11,7 @@ use Rattle.transaction_view.specs.Grammar.{WholeFrame, IsInGrammar}
 use Rattle.call_stacks.proofs.Members.{only_list}
 use Rattle.call_stacks.specs.declared.opener.Opener.{Opener}
 use Rattle.call_stacks.specs.declared.findings.RefusedSend.{RefusedSend}
-use Rattle.event_core.specs.Events.{EventText, events_of_wholes, wholes_of}
+use Rattle.event_core.specs.Events.{EventRead, events_of_wholes, wholes_of}
 use Rattle.event_core.specs.declared.oneway.OnewayKey.{OnewayKey}
 use Rattle.event_core.specs.declared.pending.PendingItem.{PendingItem}
 use Rattle.handle_ledger.proofs.HeldLaws.{one_list_of_held_rows}
@@ -25,17 +25,17 @@ use Rattle.process_ledgers.proofs.OnewayLaws.{oneway_cmp_total, oneway_cmp_exact
 use Rattle.process_ledgers.specs.Items.{buffer_pending_of, handle_item_of, node_item_of, oneway_item_of}
 use Rattle.process_ledgers.specs.OnewayLedger.{oneway_cmp, oneway_pair}
 use Rattle.process_ledgers.specs.Processes.{items_of_process, processes_of, read_of}
-use Rattle.audit_findings.specs.declared.in_turn.OfProcess.{OfProcess}
+use Rattle.audit_findings.specs.declared.in_turn.ProcessRow.{ProcessRow}
 use Rattle.audit_findings.specs.declared.record_counts.RecordCounts.{RecordCounts}
 use Rattle.audit_findings.specs.declared.references.References.{References}
-use Rattle.audit_findings.specs.Calls.{CallsText, ServedText, RefusedText, AreCalls, AreServed, AreCallFindings, AreStrays, AreRefused}
-use Rattle.audit_findings.specs.Findings.{FindingsText, AreFindings, EventSectionsText, AreEventSections, CallSectionsText, AreCallSections, ProcessSectionsText, AreProcessSections}
+use Rattle.audit_findings.specs.Calls.{CallsSaid, ServedSaid, RefusedSaid, AreCalls, AreServed, AreCallFindings, AreStrays, AreRefused}
+use Rattle.audit_findings.specs.Findings.{FindingsSaid, AreFindings, EventSectionsSaid, AreEventSections, CallSectionsSaid, AreCallSections, ProcessSectionsSaid, AreProcessSections}
 use Rattle.audit_findings.specs.Handles.{AreHandlesOf, AreHandleFindings, is_unbalanced_handle}
 use Rattle.audit_findings.specs.Held.{AreHeldBy, AreHeldIn, unweighed}
-use Rattle.audit_findings.specs.InTurn.{AreInTurn, AreRowsOf, of_process}
+use Rattle.audit_findings.specs.InTurn.{AreInTurn, AreRowsOf, process_row}
 use Rattle.audit_findings.specs.Nodes.{AreNodesOf, AreNodeFindings, is_unbalanced_node}
 use Rattle.audit_findings.specs.Oneway.{AreOnewayRows, AreOnewayOf}
-use Rattle.audit_findings.specs.Places.{AreEventsAt, AreOpenAndStray, IsCountOfPlaces, IsOpenIn, IsOpenStill, IsStrayClose, RiseInPlace, OpenAndStrayText}
+use Rattle.audit_findings.specs.Places.{AreEventsAt, AreOpenAndStray, IsCountOfPlaces, IsOpenIn, IsOpenStill, IsStrayClose, RiseInPlace, OpenAndStraySaid}
 use Rattle.audit_findings.specs.RecordCounts.{AreRecordCounts}
 use Rattle.audit_findings.specs.References.{AreReferences}
 use Rattle.audit_findings.proofs.OneCodes.{one_list_of_codes}
@@ -48,7 +48,7 @@ use Rattle.audit_findings.proofs.TallyRows.{one_list_of_tally_rows}
 
 module _ {R : Type 0} (AreOf : Process → List R → Type 0)
     (one : (process : Process) (rows others : List R) → AreOf process rows → AreOf process others → rows ≡ others) where
-  same_lists : (processes : List Process) (us vs : List (List (OfProcess R))) → AllZip (AreRowsOf AreOf) processes us → AllZip (AreRowsOf AreOf) processes vs
+  same_lists : (processes : List Process) (us vs : List (List (ProcessRow R))) → AllZip (AreRowsOf AreOf) processes us → AllZip (AreRowsOf AreOf) processes vs
       → us ≡ vs
   same_lists [] [] [] a b = refl
   same_lists [] [] (v ∷ vs) a b = absurd b
@@ -56,20 +56,20 @@ module _ {R : Type 0} (AreOf : Process → List R → Type 0)
   same_lists (p ∷ processes) [] vs a b = absurd a
   same_lists (p ∷ processes) (u ∷ us) [] a b = absurd b
   same_lists (p ∷ processes) (u ∷ us) (v ∷ vs) a b =
-      ap₂ (λ (x : List (OfProcess R)) (xs : List (List (OfProcess R))). x ∷ xs)
-      (a.0.2 ∙ ap (map (of_process p)) (one p a.0.0 b.0.0 a.0.1 b.0.1) ∙ sym b.0.2)
+      ap₂ (λ (x : List (ProcessRow R)) (xs : List (List (ProcessRow R))). x ∷ xs)
+      (a.0.2 ∙ ap (map (process_row p)) (one p a.0.0 b.0.0 a.0.1 b.0.1) ∙ sym b.0.2)
       (same_lists processes us vs a.1 b.1)
 
-  one_in_turn : (processes : List Process) (rows others : List (OfProcess R)) → AreInTurn AreOf processes rows → AreInTurn AreOf processes others → rows ≡ others
+  one_in_turn : (processes : List Process) (rows others : List (ProcessRow R)) → AreInTurn AreOf processes rows → AreInTurn AreOf processes others → rows ≡ others
   one_in_turn processes rows others a b =
-      a.2 ∙ ap (flat_map (λ (list : List (OfProcess R)). list)) (same_lists processes a.0 b.0 a.1 b.1) ∙ sym b.2
+      a.2 ∙ ap (flat_map (λ (list : List (ProcessRow R)). list)) (same_lists processes a.0 b.0 a.1 b.1) ∙ sym b.2
 
   one_references : (is_unbalanced : R → Bool) (processes : List Process) (said others : References R)
       → AreReferences AreOf is_unbalanced processes said → AreReferences AreOf is_unbalanced processes others → said ≡ others
   one_references is_unbalanced processes said others a b =
       let rows = one_in_turn processes said.rows others.rows a.rows b.rows in
-      let counted : List (OfProcess R) → ℕ = count_by (λ (row : OfProcess R). is_unbalanced row.row) in
-      let make : ℕ → List (OfProcess R) → References R = λ n list. record { unbalanced = n; rows = list } in
+      let counted : List (ProcessRow R) → ℕ = count_by (λ (row : ProcessRow R). is_unbalanced row.row) in
+      let make : ℕ → List (ProcessRow R) → References R = λ n list. record { unbalanced = n; rows = list } in
       ap₂ make (a.unbalanced ∙ ap counted rows ∙ sym b.unbalanced) rows
 
 one_nodes : (wholes : List (Placed WholeFrame)) (said others : References NodeRow) → AreNodeFindings wholes said → AreNodeFindings wholes others
@@ -78,7 +78,7 @@ one_nodes wholes =
     one_references (AreNodesOf (events_of_wholes wholes)) (λ process. one_list_of_node_rows (read_of node_item_of process) (events_of_wholes wholes))
     is_unbalanced_node (processes_of wholes)
 
-one_oneway : (wholes : List (Placed WholeFrame)) (rows others : List (OfProcess (OnewayKey × ℕ × ℕ))) → AreOnewayRows wholes rows → AreOnewayRows wholes others
+one_oneway : (wholes : List (Placed WholeFrame)) (rows others : List (ProcessRow (OnewayKey × ℕ × ℕ))) → AreOnewayRows wholes rows → AreOnewayRows wholes others
     → rows ≡ others
 one_oneway wholes =
     one_in_turn (AreOnewayOf (events_of_wholes wholes))
@@ -87,37 +87,37 @@ one_oneway wholes =
 
 -- ---- rows that are events
 
-one_list_of_places : (IsSo : ℕ → Type 0) (places others : List ℕ) → ArePlacesOf IsSo places → ArePlacesOf IsSo others → places ≡ others
-one_list_of_places IsSo places others a b =
+one_list_of_places : (IsHere : ℕ → Type 0) (places others : List ℕ) → ArePlacesOf IsHere places → ArePlacesOf IsHere others → places ≡ others
+one_list_of_places IsHere places others a b =
     same_members places others (AllPairs-from_increasing places a.rising) (AllPairs-from_increasing others b.rising)
     (λ n there. (b.exact n).1 ((a.exact n).0 there)) (λ n there. (a.exact n).1 ((b.exact n).0 there))
 
-one_count_of_places : (IsSo : ℕ → Type 0) (count other : ℕ) → IsCountOfPlaces IsSo count → IsCountOfPlaces IsSo other → count ≡ other
-one_count_of_places IsSo count other a b = a.2 ∙ ap length (one_list_of_places IsSo a.0 b.0 a.1 b.1) ∙ sym b.2
+one_count_of_places : (IsHere : ℕ → Type 0) (count other : ℕ) → IsCountOfPlaces IsHere count → IsCountOfPlaces IsHere other → count ≡ other
+one_count_of_places IsHere count other a b = a.2 ∙ ap length (one_list_of_places IsHere a.0 b.0 a.1 b.1) ∙ sym b.2
 
 -- a place is that of one event
-same_events : (events : List EventText) → RiseInPlace events → (us vs : List EventText) → All (Contains events) us → All (Contains events) vs
+same_events : (events : List EventRead) → RiseInPlace events → (us vs : List EventRead) → All (Contains events) us → All (Contains events) vs
     → map (λ e. e.place) us ≡ map (λ e. e.place) vs → us ≡ vs
 same_events events rise [] [] a b same = refl
 same_events events rise [] (v ∷ vs) a b same = absurd (cc)
 same_events events rise (u ∷ us) [] a b same = absurd (cc)
 same_events events rise (u ∷ us) (v ∷ vs) a b same =
     let first : u.place ≡ v.place = cc in
-    let rest : map (λ (e : EventText). e.place) us ≡ map (λ (e : EventText). e.place) vs = cc in
-    ap₂ (λ (e : EventText) (es : List EventText). e ∷ es)
-    (one_place (λ (e : EventText). e.place) events rise u v (All-head (Contains events) u us a) (All-head (Contains events) v vs b) first)
+    let rest : map (λ (e : EventRead). e.place) us ≡ map (λ (e : EventRead). e.place) vs = cc in
+    ap₂ (λ (e : EventRead) (es : List EventRead). e ∷ es)
+    (one_place (λ (e : EventRead). e.place) events rise u v (All-head (Contains events) u us a) (All-head (Contains events) v vs b) first)
     (same_events events rise us vs (All-tail (Contains events) u us a) (All-tail (Contains events) v vs b) rest)
 
-one_list_of_events : (IsSo : ℕ → Type 0) (events said other : List EventText) → RiseInPlace events → AreEventsAt IsSo events said
-    → AreEventsAt IsSo events other → said ≡ other
-one_list_of_events IsSo events said other rise a b =
-    let places : List EventText → List ℕ = λ es. map (λ e. e.place) es in
-    same_events events rise said other a.stand b.stand (one_list_of_places IsSo (places said) (places other) a.places b.places)
+one_list_of_events : (IsHere : ℕ → Type 0) (events said other : List EventRead) → RiseInPlace events → AreEventsAt IsHere events said
+    → AreEventsAt IsHere events other → said ≡ other
+one_list_of_events IsHere events said other rise a b =
+    let places : List EventRead → List ℕ = λ es. map (λ e. e.place) es in
+    same_events events rise said other a.stand b.stand (one_list_of_places IsHere (places said) (places other) a.places b.places)
 
 -- ---- handles
 
 -- what deliveries hold that are never freed is one list
-one_held : (events : List EventText) (process : Process) (held others : List Held) → RiseInPlace events → AreHeldIn events process held
+one_held : (events : List EventRead) (process : Process) (held others : List Held) → RiseInPlace events → AreHeldIn events process held
     → AreHeldIn events process others → held ≡ others
 one_held events process held others rise a b =
     let same = one_list_of_events (IsOpenIn buffer_pending_of events process) events a.0 b.0 rise a.1 b.1 in
@@ -134,12 +134,12 @@ one_handles wholes said others rise =
     (subst (λ held. AreHeldRows (read_of handle_item_of process) events (unweighed held) rows) same a.2) b.2)
     is_unbalanced_handle (processes_of wholes) said others
 
-one_open_and_stray : (read : EventText → Option (PendingItem ℕ)) (events : List EventText) (said other : OpenAndStrayText) → RiseInPlace events
+one_open_and_stray : (read : EventRead → Option (PendingItem ℕ)) (events : List EventRead) (said other : OpenAndStraySaid) → RiseInPlace events
     → AreOpenAndStray read events said → AreOpenAndStray read events other → said ≡ other
 one_open_and_stray read events said other rise a b =
     let IsOpen = IsOpenStill read events in
     let IsClose = IsStrayClose read events in
-    let make : ℕ → ℕ → List EventText → OpenAndStrayText = λ o c r. record { unclosed = o; strays = c; rows = r } in
+    let make : ℕ → ℕ → List EventRead → OpenAndStraySaid = λ o c r. record { unclosed = o; strays = c; rows = r } in
     let opens = one_count_of_places IsOpen said.unclosed other.unclosed a.unclosed b.unclosed in
     let closes = one_count_of_places IsClose said.strays other.strays a.strays b.strays in
     let rows = one_list_of_events (λ place. IsOpen place ⊎ IsClose place) events said.rows other.rows rise a.rows b.rows in
@@ -147,35 +147,35 @@ one_open_and_stray read events said other rise a b =
 
 -- ---- calls
 
-one_calls : (openers : List (Opener EventText)) (calls others : CallsText) → AreCalls openers calls → AreCalls openers others → calls ≡ others
+one_calls : (openers : List (Opener EventRead)) (calls others : CallsSaid) → AreCalls openers calls → AreCalls openers others → calls ≡ others
 one_calls openers calls others a b =
-    let make : ℕ → ℕ → ℕ → List (Opener EventText) → CallsText = λ n f u r. record { answered = n; failed = f; unanswered = u; rows = r } in
+    let make : ℕ → ℕ → ℕ → List (Opener EventRead) → CallsSaid = λ n f u r. record { answered = n; failed = f; unanswered = u; rows = r } in
     ap₂ (λ (n f : ℕ). make n f calls.unanswered calls.rows) (a.answered ∙ sym b.answered) (a.failed ∙ sym b.failed)
     ∙ ap₂ (make others.answered others.failed) (a.unanswered ∙ sym b.unanswered) (a.rows ∙ sym b.rows)
 
-one_served : (openers : List (Opener EventText)) (served others : ServedText) → AreServed openers served → AreServed openers others → served ≡ others
+one_served : (openers : List (Opener EventRead)) (served others : ServedSaid) → AreServed openers served → AreServed openers others → served ≡ others
 one_served openers served others a b =
-    let make : ℕ → ℕ → ℕ → List (Opener EventText) → ServedText = λ n c o r. record { replied = n; crossed = c; left_open = o; rows = r } in
+    let make : ℕ → ℕ → ℕ → List (Opener EventRead) → ServedSaid = λ n c o r. record { replied = n; crossed = c; left_open = o; rows = r } in
     ap₂ (λ (n c : ℕ). make n c served.left_open served.rows) (a.replied ∙ sym b.replied) (a.crossed ∙ sym b.crossed)
     ∙ ap₂ (make others.replied others.crossed) (a.left_open ∙ sym b.left_open) (a.rows ∙ sym b.rows)
 
-one_call_findings : (events : List EventText) (calls other_calls : CallsText) (served other_served : ServedText) → AreCallFindings events calls served
+one_call_findings : (events : List EventRead) (calls other_calls : CallsSaid) (served other_served : ServedSaid) → AreCallFindings events calls served
     → AreCallFindings events other_calls other_served → (calls ≡ other_calls) × (served ≡ other_served)
 one_call_findings events calls other_calls served other_served a b =
-    let same = only_list (λ (o : Opener EventText). o.event.place) _ b.0 a.0 b.1 a.1 in (
-      one_calls a.0 calls other_calls a.2 (subst (λ (os : List (Opener EventText)). AreCalls os other_calls) same b.2),
-      one_served a.0 served other_served a.3 (subst (λ (os : List (Opener EventText)). AreServed os other_served) same b.3),
+    let same = only_list (λ (o : Opener EventRead). o.event.place) _ b.0 a.0 b.1 a.1 in (
+      one_calls a.0 calls other_calls a.2 (subst (λ (os : List (Opener EventRead)). AreCalls os other_calls) same b.2),
+      one_served a.0 served other_served a.3 (subst (λ (os : List (Opener EventRead)). AreServed os other_served) same b.3),
     )
 
-one_list_of_strays : (events said others : List EventText) → AreStrays events said → AreStrays events others → said ≡ others
-one_list_of_strays events said others a b = only_list (λ (e : EventText). e.place) _ said others a b
+one_list_of_strays : (events said others : List EventRead) → AreStrays events said → AreStrays events others → said ≡ others
+one_list_of_strays events said others a b = only_list (λ (e : EventRead). e.place) _ said others a b
 
-one_refused : (events : List EventText) (said other : RefusedText) → AreRefused events said → AreRefused events other → said ≡ other
+one_refused : (events : List EventRead) (said other : RefusedSaid) → AreRefused events said → AreRefused events other → said ≡ other
 one_refused events said other a b =
-    let same = only_list (λ (s : RefusedSend EventText). s.event.place) _ a.0 b.0 a.1 b.1 in
-    ap₂ (λ (n : ℕ) (r : List EventText). let made : RefusedText = record { oneway = n; rows = r } in made)
-    (a.2 ∙ ap (count_by (λ (s : RefusedSend EventText). s.oneway)) same ∙ sym b.2)
-    (a.3 ∙ ap (map (λ (s : RefusedSend EventText). s.event)) same ∙ sym b.3)
+    let same = only_list (λ (s : RefusedSend EventRead). s.event.place) _ a.0 b.0 a.1 b.1 in
+    ap₂ (λ (n : ℕ) (r : List EventRead). let made : RefusedSaid = record { oneway = n; rows = r } in made)
+    (a.2 ∙ ap (count_by (λ (s : RefusedSend EventRead). s.oneway)) same ∙ sym b.2)
+    (a.3 ∙ ap (map (λ (s : RefusedSend EventRead). s.event)) same ∙ sym b.3)
 
 -- ---- counts
 
@@ -188,7 +188,7 @@ one_counts words counts others a b =
 
 -- ---- the parts of the findings
 
-one_event_sections : (events : List EventText) (said other : EventSectionsText) → AreEventSections events said → AreEventSections events other → said ≡ other
+one_event_sections : (events : List EventRead) (said other : EventSectionsSaid) → AreEventSections events said → AreEventSections events other → said ≡ other
 one_event_sections events said other a b =
     let objects = one_of_objects _ said.objects other.objects said.bad_objects other.bad_objects a.objects b.objects in
     let codes = one_list_of_codes _ said.codes other.codes a.codes b.codes in
@@ -209,14 +209,14 @@ one_event_sections events said other a b =
       flags = flags i;
     }
 
-one_call_sections : (events : List EventText) (said other : CallSectionsText) → AreCallSections events said → AreCallSections events other → said ≡ other
+one_call_sections : (events : List EventRead) (said other : CallSectionsSaid) → AreCallSections events said → AreCallSections events other → said ≡ other
 one_call_sections events said other a b =
     let calls = one_call_findings events said.calls other.calls said.served other.served a.calls b.calls in
     let strays = one_list_of_strays events said.strays other.strays a.strays b.strays in
     let refused = one_refused events said.refused other.refused a.refused b.refused in
     λ i. record { calls = calls.0 i; served = calls.1 i; strays = strays i; refused = refused i }
 
-one_process_sections : (wholes : List (Placed WholeFrame)) (said other : ProcessSectionsText) → RiseInPlace (events_of_wholes wholes)
+one_process_sections : (wholes : List (Placed WholeFrame)) (said other : ProcessSectionsSaid) → RiseInPlace (events_of_wholes wholes)
     → AreProcessSections wholes said → AreProcessSections wholes other → said ≡ other
 one_process_sections wholes said other rise a b =
     let events = events_of_wholes wholes in
@@ -240,7 +240,7 @@ one_process_sections wholes said other rise a b =
     }
 
 -- the frames of a capture in the grammar have one findings
-pub one_findings : (capture : List ℕ) (wholes : List WholeFrame) (said other : FindingsText) → IsInGrammar capture wholes → AreFindings (wholes_of wholes) said
+pub one_findings : (capture : List ℕ) (wholes : List WholeFrame) (said other : FindingsSaid) → IsInGrammar capture wholes → AreFindings (wholes_of wholes) said
     → AreFindings (wholes_of wholes) other → said ≡ other
 one_findings capture wholes said other is a b =
     let them = wholes_of wholes in

@@ -7,7 +7,7 @@ use Rattle.object_view.specs.declared.sort.Sort.TheVariants.{Binder, WeakBinder,
 use Rattle.object_view.specs.Objects.{ObjectText, AreObjects}
 use Rattle.object_view.proofs.ListLaws.{one_list}
 use Rattle.audit_findings.specs.declared.sort_counts.SortCounts.{SortCounts}
-use Rattle.event_core.specs.Events.{EventText}
+use Rattle.event_core.specs.Events.{EventRead}
 use Rattle.handle_ledger.specs.Held.{Held}
 use Rattle.std.specs.List.{filter_map}
 use Rattle.audit_findings.specs.Held.{AreHeldBy, held_in}
@@ -37,7 +37,7 @@ one_list_of_outcomes : (attachments : List Attached) (us vs : List Outcome) → 
 one_list_of_outcomes attachments us vs a b = same_outcomes us vs (a.each ∙ sym b.each) a.are_objects b.are_objects
 
 -- and so are the references among their good objects
-pub one_list_of_held : (events : List EventText) (held others : List Held) → AreHeldBy events held → AreHeldBy events others → held ≡ others
+pub one_list_of_held : (events : List EventRead) (held others : List Held) → AreHeldBy events held → AreHeldBy events others → held ≡ others
 one_list_of_held events held others a b =
     a.2 ∙ ap (λ (outcomes : List Outcome). filter_map held_in (good_objects outcomes)) (one_list_of_outcomes (attachments_of events) a.0 b.0 a.1 b.1) ∙ sym b.2
 

@@ -4,7 +4,7 @@ use Rattle.std.specs.Prelude.{count_by, not}
 use Rattle.std.specs.List.{filter_map, cons_option}
 use Rattle.std.proofs.lemmas.List.Elements.{filter_map-append}
 use Rattle.std.proofs.lemmas.List.Sums.{sum_by-append, count_by-le-length}
-use Rattle.event_core.specs.Events.{EventText}
+use Rattle.event_core.specs.Events.{EventRead}
 use Rattle.event_core.specs.declared.oneway.OnewayItem.{OnewayItem}
 use Rattle.event_core.specs.declared.oneway.OnewayKey.{OnewayKey}
 use Rattle.summary_law.proofs.ReadLaws.{length-read}
@@ -14,15 +14,15 @@ use Rattle.process_ledgers.specs.Items.{oneway_item_of}
 use Rattle.audit_findings.specs.Oneway.{CountsOneway, is_sent, is_sent_key}
 
 -- how many oneway transactions of a sort there are
-abbrev count_of : (OnewayItem → Bool) → List EventText → ℕ
+abbrev count_of : (OnewayItem → Bool) → List EventRead → ℕ
 count_of is events = count_by is (filter_map oneway_item_of events)
 
-count_of-append : (is : OnewayItem → Bool) (first second : List EventText) → count_of is (first ++ second) ≡ count_of is first + count_of is second
+count_of-append : (is : OnewayItem → Bool) (first second : List EventRead) → count_of is (first ++ second) ≡ count_of is first + count_of is second
 count_of-append is first second =
     ap (count_by is) (filter_map-append oneway_item_of first second)
     ∙ sum_by-append (λ (item : OnewayItem). cond (is item) 1 0) (filter_map oneway_item_of first) (filter_map oneway_item_of second)
 
-count_of-short : (is : OnewayItem → Bool) (events : List EventText) → count_of is events ≤ length events
+count_of-short : (is : OnewayItem → Bool) (events : List EventRead) → count_of is events ≤ length events
 count_of-short is events =
     let counted = count_by-le-length is (filter_map oneway_item_of events) in
     let read = length-read oneway_item_of events in
@@ -32,12 +32,12 @@ count_of-short is events =
 abbrev one_if : Bool → ℕ
 one_if b = cond b 1 0
 
-count_of-one : (is : OnewayItem → Bool) (e : EventText) (item : OnewayItem) → Some item ≡ oneway_item_of e → count_of is (e ∷ []) ≡ one_if (is item)
+count_of-one : (is : OnewayItem → Bool) (e : EventRead) (item : OnewayItem) → Some item ≡ oneway_item_of e → count_of is (e ∷ []) ≡ one_if (is item)
 count_of-one is e item read =
     let one : filter_map oneway_item_of (e ∷ []) ≡ item ∷ [] = ap (λ (o : Option OnewayItem). cons_option o []) (sym read) in
     ap (count_by is) one ∙ (omega arith)
 
-pub counts_one : (counts : OnewayCounts) (e : EventText) (item : OnewayItem) (key : OnewayKey) → Some item ≡ oneway_item_of e → item.key ≡ key
+pub counts_one : (counts : OnewayCounts) (e : EventRead) (item : OnewayItem) (key : OnewayKey) → Some item ≡ oneway_item_of e → item.key ≡ key
     → counts.sent ≡ one_if (is_sent_key key) → counts.received ≡ one_if (not (is_sent_key key)) → CountsOneway counts (e ∷ [])
 counts_one counts e item key read same sent received =
     let given : (f : OnewayKey → Bool) → one_if (f item.key) ≡ one_if (f key) = λ f. ap (λ (k : OnewayKey). one_if (f k)) same in
@@ -47,7 +47,7 @@ counts_one counts e item key read same sent received =
     }
 
 -- the counts of some events and of others are together those of both
-pub counts_both : (counts more both : OnewayCounts) (first second : List EventText) → CountsOneway counts first → CountsOneway more second
+pub counts_both : (counts more both : OnewayCounts) (first second : List EventRead) → CountsOneway counts first → CountsOneway more second
     → both.sent ≡ counts.sent + more.sent → both.received ≡ counts.received + more.received → CountsOneway both (first ++ second)
 counts_both counts more both first second a b sent received = record {
   sent = sent ∙ ap₂ ◌+◌ a.sent b.sent ∙ sym (count_of-append is_sent first second);
@@ -55,7 +55,7 @@ counts_both counts more both first second a b sent received = record {
 }
 
 -- and small where the events are few
-small_sum : (is : OnewayItem → Bool) (a b : ℕ) (first second : List EventText) → IsShort (first ++ second) → a ≡ count_of is first → b ≡ count_of is second
+small_sum : (is : OnewayItem → Bool) (a b : ℕ) (first second : List EventRead) → IsShort (first ++ second) → a ≡ count_of is first → b ≡ count_of is second
     → a + b < 2 ^ 64
 small_sum is a b first second short counted more =
     let here = count_of-short is first in
@@ -63,7 +63,7 @@ small_sum is a b first second short counted more =
     let long = length-append first second in
     omega (arith, short, counted, more, here, there, long)
 
-pub counts_small : (counts more : OnewayCounts) (first second : List EventText) → IsShort (first ++ second) → CountsOneway counts first
+pub counts_small : (counts more : OnewayCounts) (first second : List EventRead) → IsShort (first ++ second) → CountsOneway counts first
     → CountsOneway more second → (counts.sent + more.sent < 2 ^ 64) × (counts.received + more.received < 2 ^ 64)
 counts_small counts more first second short a b = (
   small_sum is_sent counts.sent more.sent first second short a.sent b.sent,

@@ -12,7 +12,7 @@ use Rattle.object_view.specs.Objects.{ObjectText, AreObjects}
 use Rattle.object_view.proofs.ListLaws.{objects_short}
 use Rattle.transaction_view.specs.declared.entry.Entry.{Entry}
 use Rattle.event_core.specs.declared.event.Event.{Event}
-use Rattle.event_core.specs.Events.{AttachmentText, EventText}
+use Rattle.event_core.specs.Events.{AttachmentText, EventRead}
 use Rattle.event_core.specs.Reading.{event_text, entry_attachment}
 use Rattle.audit_findings.specs.declared.objects.ObjectLedger.{ObjectLedger}
 use Rattle.audit_findings.specs.declared.sort_counts.SortCounts.{SortCounts}
@@ -21,7 +21,7 @@ use Rattle.audit_findings.specs.Ledgers.{SumsObjects, AreFewEvents, offset_bytes
 use Rattle.audit_findings.specs.Objects.{Attached, attached_to, attachments_of, Outcome, IsOutcome, AreOutcomes, count_of, times_of, good_objects, BadOwned, bad_of, bad_objects, AreObjectFindings, owned_by}
 use Rattle.audit_findings.proofs.ObjectWalk.{times_of-append, times_of-short}
 
-pub attachments-append : (events more : List EventText) → attachments_of (events ++ more) ≡ attachments_of events ++ attachments_of more
+pub attachments-append : (events more : List EventRead) → attachments_of (events ++ more) ≡ attachments_of events ++ attachments_of more
 attachments-append events more = filter_map-append attached_to events more
 
 -- the findings of attachments and of those behind them
@@ -48,7 +48,7 @@ findings_joined attachments others counts new bad outcomes found are more =
     }
 
 -- the ledger of events and of those behind them
-pub objects_more : (old new : ObjectLedger) (events more : List EventText) (outcomes : List Outcome) → SumsObjects old events
+pub objects_more : (old new : ObjectLedger) (events more : List EventRead) (outcomes : List Outcome) → SumsObjects old events
     → AreOutcomes (attachments_of more) outcomes
     → ((sort : Sort) → count_of new.counts sort ≡ count_of old.counts sort + times_of sort (good_objects outcomes))
     → new.bad.items ≡ old.bad.items ++ map kept_bad (bad_objects outcomes) → SumsObjects new (events ++ more)
@@ -60,7 +60,7 @@ objects_more old new events more outcomes sums are counts is = record {
 }
 
 -- and of two ledgers
-pub objects_joined : (first second new : ObjectLedger) (events more : List EventText) → SumsObjects first events → SumsObjects second more
+pub objects_joined : (first second new : ObjectLedger) (events more : List EventRead) → SumsObjects first events → SumsObjects second more
     → ((sort : Sort) → count_of new.counts sort ≡ count_of first.counts sort + count_of second.counts sort)
     → new.bad.items ≡ first.bad.items ++ second.bad.items → SumsObjects new (events ++ more)
 objects_joined first second new events more sums others counts is =
@@ -90,11 +90,11 @@ outcomes_short (o ∷ outcomes) all small =
     omega (arith, first, bytes, others, split)
 
 -- an attachment as that of an event
-abbrev attached_as : EventText → Option AttachmentText → Option Attached
+abbrev attached_as : EventRead → Option AttachmentText → Option Attached
 attached_as e entry = option_map (λ (a : AttachmentText). record { owner = e; attachment = a }) entry
 
 -- an event has at most one attachment, and its list of offsets is small where that of the event is
-abbrev HasSmall : EventText → Type 0
+abbrev HasSmall : EventRead → Type 0
 HasSmall e = offset_bytes_of e < 2 ^ 32
 
 -- what an element gives stands before what the others give
@@ -104,7 +104,7 @@ gives_none f x xs is = rw is refl
 pub gives_some : {X Y : Type 0} (f : X → Option Y) (x : X) (xs : List X) (y : Y) → f x ≡ Some y → filter_map f (x ∷ xs) ≡ y ∷ filter_map f xs
 gives_some f x xs y is = rw is refl
 
-first_attachment : (e : EventText) (events : List EventText) (entry : Option AttachmentText) → e.entry ≡ entry → HasSmall e
+first_attachment : (e : EventRead) (events : List EventRead) (entry : Option AttachmentText) → e.entry ≡ entry → HasSmall e
     → All IsSmall (attachments_of events) × (length (attachments_of events) ≤ length events)
     → All IsSmall (attachments_of (e ∷ events)) × (length (attachments_of (e ∷ events)) ≤ length events + 1)
 first_attachment e events None is small others =
@@ -121,7 +121,7 @@ first_attachment e events (Some a) is small others =
     let first : IsSmall there = omega (arith, small, bytes) in
     (subst (All IsSmall) (sym same) (All-cons IsSmall there (attachments_of events) first others.0), omega (arith, short, long))
 
-attachments_few : (events : List EventText) → All HasSmall events
+attachments_few : (events : List EventRead) → All HasSmall events
     → All IsSmall (attachments_of events) × (length (attachments_of events) ≤ length events)
 attachments_few [] all = (All-nil IsSmall, omega arith)
 attachments_few (e ∷ events) all =
@@ -130,7 +130,7 @@ attachments_few (e ∷ events) all =
     (more.0, omega (arith, short))
 
 -- no sort has more than 2^61 objects
-pub counts_short : (ledger : ObjectLedger) (events : List EventText) → SumsObjects ledger events → AreFewEvents events → (sort : Sort)
+pub counts_short : (ledger : ObjectLedger) (events : List EventRead) → SumsObjects ledger events → AreFewEvents events → (sort : Sort)
     → count_of ledger.counts sort ≤ 2 ^ 61
 counts_short ledger events sums fits sort =
     let outcomes = sums.are.outcomes in
@@ -171,7 +171,7 @@ pub one_good : (e : Event) (found : Entry) (objects : List ObjectText) (bad : Op
 one_good e found objects bad sort = ap (times_of sort) (append-nil objects)
 
 -- the last event's attachment, behind those before it
-pub objects_last : (old new : ObjectLedger) (events : List EventText) (e : EventText) (bad : Option BadObject) (outcomes : List Outcome)
+pub objects_last : (old new : ObjectLedger) (events : List EventRead) (e : EventRead) (bad : Option BadObject) (outcomes : List Outcome)
     → SumsObjects old events → AreOutcomes (attachments_of (e ∷ [])) outcomes
     → ((sort : Sort) → count_of new.counts sort ≡ count_of old.counts sort + times_of sort (good_objects outcomes))
     → bad_objects outcomes ≡ owned_by e bad → new.bad.items ≡ old.bad.items ++ map kept_bad (owned_by e bad) → SumsObjects new (events ++ e ∷ [])

@@ -12,7 +12,7 @@ use Rattle.std.proofs.lemmas.Map.Views.{Contains-from_any}
 use Rattle.std.specs.List.{AllZip, flat_map, list_any}
 use Rattle.capture_frame.specs.Units.{Placed, placed_at}
 use Rattle.transaction_view.specs.Grammar.{WholeFrame}
-use Rattle.event_core.specs.Events.{EventText, event_of, events_of_whole, events_of_wholes, placed_records, process_of}
+use Rattle.event_core.specs.Events.{EventRead, event_of, events_of_whole, events_of_wholes, placed_records, process_of}
 use Rattle.event_core.specs.declared.pending.PendingItem.{PendingItem}
 use Rattle.pending_ledger.proofs.GatherLaws.{sorted_places}
 use Rattle.pending_ledger.proofs.ListLaws.{contains_none, contains_here, contains_there, contains_cases, all_pairs_append, one_place}
@@ -21,7 +21,7 @@ use Rattle.process_ledgers.specs.Items.{KeepsPlace}
 use Rattle.capture_frame.specs.declared.process.Process.{Process}
 use Rattle.audit_findings.specs.declared.open_and_stray.OpenAndStray.{OpenAndStray}
 use Rattle.audit_findings.specs.Kept.{KeepsOpenAndStray}
-use Rattle.audit_findings.specs.Places.{AreListsOf, IsOpenStill, IsStrayClose, RiseInPlace, SomeProcess, StandsInProcess, OpenAndStrayText, AreOpenAndStray}
+use Rattle.audit_findings.specs.Places.{AreListsOf, IsOpenStill, IsStrayClose, RiseInPlace, SomeProcess, ComesFromItsProcess, OpenAndStraySaid, AreOpenAndStray}
 use Rattle.process_ledgers.specs.Processes.{process_of_whole, processes_of}
 use Rattle.summary_law.proofs.InOrderLaws.{each_among_firsts, firsts_distinct}
 use Rattle.audit_findings.proofs.EventsAt.{events_at}
@@ -101,10 +101,10 @@ module _ {K : Type 0} (Is : K → ℕ → Type 0) where
 
 -- the process of each event of these frames is one of those of the frames
 each_known : (known : List Process) (wholes : List (Placed WholeFrame)) → All (Contains known) (map process_of_whole wholes)
-    → All (λ (e : EventText). Contains known (process_of e)) (events_of_wholes wholes)
-each_known known [] all = All-nil (λ (e : EventText). Contains known (process_of e))
+    → All (λ (e : EventRead). Contains known (process_of e)) (events_of_wholes wholes)
+each_known known [] all = All-nil (λ (e : EventRead). Contains known (process_of e))
 each_known known (whole ∷ wholes) all =
-    let IsKnown = λ (e : EventText). Contains known (process_of e) in
+    let IsKnown = λ (e : EventRead). Contains known (process_of e) in
     let here : Contains known (process_of_whole whole) = All-head (Contains known) (process_of_whole whole) (map process_of_whole wholes) all in
     let frame = placed_at whole.place whole.unit.frame in
     let mine : All IsKnown (events_of_whole whole)
@@ -113,7 +113,7 @@ each_known known (whole ∷ wholes) all =
     (All-append IsKnown (events_of_whole whole) (events_of_wholes wholes) mine
     (each_known known wholes (All-tail (Contains known) (process_of_whole whole) (map process_of_whole wholes) all)))
 
-each_among : (wholes : List (Placed WholeFrame)) → All (λ (e : EventText). Contains (processes_of wholes) (process_of e)) (events_of_wholes wholes)
+each_among : (wholes : List (Placed WholeFrame)) → All (λ (e : EventRead). Contains (processes_of wholes) (process_of e)) (events_of_wholes wholes)
 each_among wholes =
     let processes = processes_of wholes in
     each_known processes wholes
@@ -128,25 +128,25 @@ decides_process process other = (
 )
 
 -- the lists of all processes, gathered and sorted
-pub gathered_sorted : (IsSo : List EventText → Process → ℕ → Type 0) → StandsInProcess IsSo → (wholes : List (Placed WholeFrame))
-    → RiseInPlace (events_of_wholes wholes) → (lists : List (List ℕ)) (places : List ℕ) → AreListsOf IsSo wholes lists
-    → IsPermutation (flat_map (λ own. own) lists) places → IsSorted nat_cmp places → ArePlacesOf (SomeProcess (IsSo (events_of_wholes wholes))) places
-gathered_sorted IsSo stands wholes rise lists places are moved sorted =
+pub gathered_sorted : (IsHere : List EventRead → Process → ℕ → Type 0) → ComesFromItsProcess IsHere → (wholes : List (Placed WholeFrame))
+    → RiseInPlace (events_of_wholes wholes) → (lists : List (List ℕ)) (places : List ℕ) → AreListsOf IsHere wholes lists
+    → IsPermutation (flat_map (λ own. own) lists) places → IsSorted nat_cmp places → ArePlacesOf (SomeProcess (IsHere (events_of_wholes wholes))) places
+gathered_sorted IsHere stands wholes rise lists places are moved sorted =
     let events = events_of_wholes wholes in
     let processes = processes_of wholes in
-    let one : (process other : Process) (place : ℕ) → IsSo events process place → IsSo events other place → process ≡ other
+    let one : (process other : Process) (place : ℕ) → IsHere events process place → IsHere events other place → process ≡ other
     = λ process other place first second.
     let a = stands events process place first in
     let b = stands events other place second in
-    let same : a.0 ≡ b.0 = one_place (λ (e : EventText). e.place) events rise a.0 b.0 a.1 b.1 (a.3 ∙ sym b.3) in
+    let same : a.0 ≡ b.0 = one_place (λ (e : EventRead). e.place) events rise a.0 b.0 a.1 b.1 (a.3 ∙ sym b.3) in
     sym a.2 ∙ ap process_of same ∙ b.2 in
-    let among : (process : Process) (place : ℕ) → IsSo events process place → Contains processes process
+    let among : (process : Process) (place : ℕ) → IsHere events process place → Contains processes process
     = λ process place is.
     let a = stands events process place is in
-    subst (Contains processes) a.2 (All-contains (λ (e : EventText). Contains processes (process_of e)) events a.0 (each_among wholes) a.1) in
-    blocks_sorted (IsSo events) one processes (flat_map (λ own. own) lists) places
+    subst (Contains processes) a.2 (All-contains (λ (e : EventRead). Contains processes (process_of e)) events a.0 (each_among wholes) a.1) in
+    blocks_sorted (IsHere events) one processes (flat_map (λ own. own) lists) places
     (AllPairs-from_IsDistinct decides_process processes (firsts_distinct same_process_equiv (map process_of_whole wholes))) among
-    (blocks (IsSo events) processes lists are) moved sorted
+    (blocks (IsHere events) processes lists are) moved sorted
 
 -- ---- the events at places
 
@@ -169,16 +169,16 @@ both_sorted IsOpen IsClose opens closes places exclude opened closed moved sorte
     is)
 
 -- what is kept of the opens and closes of all processes
-pub open_and_stray_kept : (read : EventText → Option (PendingItem ℕ)) → KeepsPlace place_of read → (events : List EventText) → RiseInPlace events
+pub open_and_stray_kept : (read : EventRead → Option (PendingItem ℕ)) → KeepsPlace place_of read → (events : List EventRead) → RiseInPlace events
     → (opens closes : List ℕ) → ArePlacesOf (IsOpenStill read events) opens → ArePlacesOf (IsStrayClose read events) closes → (found : OpenAndStray)
     → found.unclosed ≡ length opens → found.strays ≡ length closes → IsPermutation (opens ++ closes) found.rows → IsSorted nat_cmp found.rows
-    → (said : OpenAndStrayText) × KeepsOpenAndStray found said × AreOpenAndStray read events said
+    → (said : OpenAndStraySaid) × KeepsOpenAndStray found said × AreOpenAndStray read events said
 open_and_stray_kept read keeps events rise opens closes opened closed found many_opens many_closes moved sorted =
     let SomeOpen = IsOpenStill read events in
     let SomeClose = IsStrayClose read events in
     let both = both_sorted SomeOpen SomeClose opens closes found.rows
     (λ p open_is close_is. apart read keeps events open_is.0 close_is.0 p rise open_is.1 close_is.1) opened closed moved sorted in
-    let stands : (p : ℕ) → SomeOpen p ⊎ SomeClose p → (e : EventText) × Contains events e × (e.place ≡ p)
+    let stands : (p : ℕ) → SomeOpen p ⊎ SomeClose p → (e : EventRead) × Contains events e × (e.place ≡ p)
     = λ p is.
     ⊎_elim
     (λ (open_is : SomeOpen p). let at = open_stands read keeps events open_is.0 p open_is.1 in (at.0, at.1, at.3))

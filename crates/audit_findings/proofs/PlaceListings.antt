@@ -5,7 +5,7 @@ use Rattle.std.proofs.Common.{List, [], ◌∷◌, ◌++◌, append_assoc}
 use Rattle.std.specs.List.{cons_option, last_or, list_any}
 use Rattle.std.proofs.lemmas.Bool.{and_parts, not-true}
 use Rattle.std.proofs.lemmas.List.{append-nil}
-use Rattle.event_core.specs.Events.{EventText, process_of}
+use Rattle.event_core.specs.Events.{EventRead, process_of}
 use Rattle.event_core.specs.declared.pending.PendingChange.{PendingChange}
 use Rattle.event_core.specs.declared.pending.PendingChange.TheVariants.{Open, Close}
 use Rattle.event_core.specs.declared.pending.PendingItem.{PendingItem}
@@ -208,32 +208,32 @@ standing_listing items =
 -- ---- of all processes
 
 -- an event of the process, or none of its items
-of_process : {I : Type 0} (read : EventText → Option I) (process : Process) (events : List EventText)
-    → ((e : EventText) × In e events × (process_of e ≡ process)) ⊎ (items_of_process read process events ≡ [])
-of_process read process [] = inr refl
-of_process {I} read process (e ∷ events) =
+process_row : {I : Type 0} (read : EventRead → Option I) (process : Process) (events : List EventRead)
+    → ((e : EventRead) × In e events × (process_of e ≡ process)) ⊎ (items_of_process read process events ≡ [])
+process_row read process [] = inr refl
+process_row {I} read process (e ∷ events) =
     let rest = items_of_process read process events in
     elim (same_process process (process_of e))
     as (λ b. (same_process process (process_of e) ≡ b)
-    → ((x : EventText) × In x (e ∷ events) × (process_of x ≡ process)) ⊎ (cons_option (cond b (read e) None) rest ≡ [])) [
+    → ((x : EventRead) × In x (e ∷ events) × (process_of x ≡ process)) ⊎ (cons_option (cond b (read e) None) rest ≡ [])) [
       | true ↦ λ same. inl (e, inl refl, sym (same_process_eq process (process_of e) same))
-      | false ↦ λ other. elim (of_process read process events) [
+      | false ↦ λ other. elim (process_row read process events) [
         | inl found ↦ inl (found.0, inr found.1, found.2)
         | inr none ↦ inr none
       ]
     ] refl
 
-module _ {I : Type 0} (read : EventText → Option I) (Is : List I → ℕ → Type 0) (listing : (items : List I) → Listing (Is items))
+module _ {I : Type 0} (read : EventRead → Option I) (Is : List I → ℕ → Type 0) (listing : (items : List I) → Listing (Is items))
     (none : (at : ℕ) → Is [] at → ⊥) where
   -- something is so of the items of some process
-  abbrev IsOfSome : List EventText → ℕ → Type 0
+  abbrev IsOfSome : List EventRead → ℕ → Type 0
   IsOfSome events at = (process : Process) × Is (items_of_process read process events) at
 
-  pub of_processes : (events : List EventText) → Listing (IsOfSome events)
+  pub of_processes : (events : List EventRead) → Listing (IsOfSome events)
   of_processes events =
-      listing_as (λ at. (e : EventText) × In e events × Is (items_of_process read (process_of e) events) at) (IsOfSome events)
+      listing_as (λ at. (e : EventRead) × In e events × Is (items_of_process read (process_of e) events) at) (IsOfSome events)
       (λ at is. (process_of is.0, is.2))
-      (λ at is. elim (of_process read is.0 events) [
+      (λ at is. elim (process_row read is.0 events) [
         | inl found ↦ (found.0, found.1, subst (λ (process : Process). Is (items_of_process read process events) at) (sym found.2) is.1)
         | inr empty ↦ absurd (none at (subst (λ (items : List I). Is items at) empty is.1))
       ])

@@ -16,14 +16,14 @@ use Rattle.object_view.specs.declared.bad_object.BadObject.{BadObject}
 use Rattle.record_view.specs.Records.{record_bytes}
 use Rattle.record_view.proofs.RecordLaws.{length-record_bytes}
 use Rattle.transaction_view.specs.Grammar.{WholeFrame, whole_format, IsInGrammar}
-use Rattle.event_core.specs.Events.{AttachmentText, EventText, event_of, events_of_whole, placed_records}
+use Rattle.event_core.specs.Events.{AttachmentText, EventRead, event_of, events_of_whole, placed_records}
 use Rattle.summary_law.specs.Fits.{PlacesRise}
-use Rattle.audit_findings.specs.Findings.{FindingsText, AreFindings}
+use Rattle.audit_findings.specs.Findings.{FindingsSaid, AreFindings}
 use Rattle.audit_findings.specs.Flags.{has_unknown_flags, flagged}
-use Rattle.audit_findings.specs.Frames.{Show, IsWhole}
+use Rattle.audit_findings.specs.Frames.{AreViews, IsWhole}
 use Rattle.event_core.specs.Events.{placed_text}
 use Rattle.event_core.specs.Events.{wholes_of, events_of_wholes}
-use Rattle.capture_frame.specs.Lookup.{StandApart}
+use Rattle.capture_frame.specs.Lookup.{AreApart}
 use Rattle.audit_findings.specs.Objects.{Attached, attached_to, Outcome, BadOwned, bad_of, bad_objects}
 use Rattle.audit_findings.proofs.Rising.{pairs_nil, pairs_map, pairs_unmap, pairs_flat, rising_made, rising_kept, increasing_places}
 
@@ -75,11 +75,11 @@ abbrev pub WholesApart : List (Placed WholeFrame) → Type 0
 WholesApart wholes = AllPairs (λ a b. TextsApart (placed_text a) (placed_text b)) wholes
 
 -- those that views show do where the views do
-pub shown_apart : (frames : List Frame) (wholes : List (Placed WholeFrame)) → Show frames wholes → AllPairs StandApart frames → WholesApart wholes
+pub shown_apart : (frames : List Frame) (wholes : List (Placed WholeFrame)) → AreViews frames wholes → AllPairs AreApart frames → WholesApart wholes
 shown_apart frames wholes show apart =
     pairs_unmap TextsApart placed_text wholes (subst (AllPairs TextsApart) show.stand (pairs_map TextsApart placed_frame frames apart))
 
-pub views_apart : (frames : List Frame) (wholes : List (Placed WholeFrame)) → Show frames wholes → WholesApart wholes → AllPairs StandApart frames
+pub views_apart : (frames : List Frame) (wholes : List (Placed WholeFrame)) → AreViews frames wholes → WholesApart wholes → AllPairs AreApart frames
 views_apart frames wholes show apart =
     pairs_unmap TextsApart placed_frame frames (subst (AllPairs TextsApart) (sym show.stand) (pairs_map TextsApart placed_text wholes apart))
 
@@ -93,29 +93,29 @@ wholes_apart wholes i j d below within =
 -- ---- their events
 
 -- the events of a whole frame rise
-pub whole_rises : (w : Placed WholeFrame) → PlacesRise (λ (e : EventText). e.place) (events_of_whole w)
+pub whole_rises : (w : Placed WholeFrame) → PlacesRise (λ (e : EventRead). e.place) (events_of_whole w)
 whole_rises w =
     let base = w.place + 32 in
-    pairs_map (λ (a b : EventText). a.place < b.place) (event_of (placed_text w) w.unit.entries) (placed_records (placed_text w) w.unit.records)
+    pairs_map (λ (a b : EventRead). a.place < b.place) (event_of (placed_text w) w.unit.entries) (placed_records (placed_text w) w.unit.records)
     (λ i j d below within.
     let apart = placed_apart record_bytes base w.unit.records i j d below within in
     omega (arith, apart, length-record_bytes (get_or (placed record_bytes base w.unit.records) i d).unit))
 
 -- and stand within it
-pub StandsWithin : Placed WholeFrame → EventText → Type 0
-StandsWithin w e = (w.place ≤ e.place) × (e.place < w.place + text_span w.unit.frame)
+pub IsInSpan : Placed WholeFrame → EventRead → Type 0
+IsInSpan w e = (w.place ≤ e.place) × (e.place < w.place + text_span w.unit.frame)
 
-pub within_span : (w : Placed WholeFrame) (e : EventText) → StandsWithin w e
+pub within_span : (w : Placed WholeFrame) (e : EventRead) → IsInSpan w e
     → (w.place ≤ e.place) × (e.place < w.place + (frame_header_length + length w.unit.frame.commands + length w.unit.frame.attachments))
-unfolding StandsWithin
+unfolding IsInSpan
 within_span w e within = within
 
-pub whole_within : (w : Placed WholeFrame) → IsWhole w → All (StandsWithin w) (events_of_whole w)
-unfolding StandsWithin
+pub whole_within : (w : Placed WholeFrame) → IsWhole w → All (IsInSpan w) (events_of_whole w)
+unfolding IsInSpan
 whole_within w whole =
     let base = w.place + 32 in
     let bytes : length w.unit.frame.commands ≡ length (flat_map record_bytes w.unit.records) = ap length (whole.0.joined ∙ append-nil _) in
-    All-map (StandsWithin w) (event_of (placed_text w) w.unit.entries) (placed_records (placed_text w) w.unit.records)
+    All-map (IsInSpan w) (event_of (placed_text w) w.unit.entries) (placed_records (placed_text w) w.unit.records)
     (λ i d within.
     let from = placed_from record_bytes base w.unit.records i d within in
     let to = placed_to record_bytes base w.unit.records i d within in
@@ -124,10 +124,10 @@ whole_within w whole =
 
 -- those of whole frames that stand apart rise
 pub wholes_rise : (wholes : List (Placed WholeFrame)) → All IsWhole wholes → WholesApart wholes
-    → PlacesRise (λ (e : EventText). e.place) (events_of_wholes wholes)
-unfolding StandsWithin
+    → PlacesRise (λ (e : EventRead). e.place) (events_of_wholes wholes)
+unfolding IsInSpan
 wholes_rise wholes are apart =
-    let Rises : EventText → EventText → Type 0 = λ a b. a.place < b.place in
+    let Rises : EventRead → EventRead → Type 0 = λ a b. a.place < b.place in
     pairs_flat Rises events_of_whole wholes (λ i d within. whole_rises (get_or wholes i d))
     (λ i j d below within k e inside l f there.
     let far = apart i j d below within in
@@ -147,23 +147,23 @@ all_whole base before (w ∷ wholes) stand =
     (stand.0.has_records, stand.0.has_entries) (all_whole next (in_version before.version (Some w.frame.sequence)) wholes stand.1)
 
 pub events_rise : (capture : List ℕ) (wholes : List WholeFrame) → IsInGrammar capture wholes
-    → PlacesRise (λ (e : EventText). e.place) (events_of_wholes (wholes_of wholes))
+    → PlacesRise (λ (e : EventRead). e.place) (events_of_wholes (wholes_of wholes))
 events_rise capture wholes is = wholes_rise (wholes_of wholes) (all_whole 16 (in_version is.0 None) wholes is.3.stand) (wholes_apart wholes)
 
 -- ---- the rows of a capture
 
-pub flags_rise : (capture : List ℕ) (wholes : List WholeFrame) (said : FindingsText) → IsInGrammar capture wholes → AreFindings (wholes_of wholes) said
-    → IsStrictlyIncreasing (map (λ (e : EventText). e.place) said.events.flags)
+pub flags_rise : (capture : List ℕ) (wholes : List WholeFrame) (said : FindingsSaid) → IsInGrammar capture wholes → AreFindings (wholes_of wholes) said
+    → IsStrictlyIncreasing (map (λ (e : EventRead). e.place) said.events.flags)
 flags_rise capture wholes said is are =
-    let place : EventText → ℕ = λ e. e.place in
+    let place : EventRead → ℕ = λ e. e.place in
     let events = events_of_wholes (wholes_of wholes) in
-    subst (λ (es : List EventText). IsStrictlyIncreasing (map place es)) (sym are.events.flags)
+    subst (λ (es : List EventRead). IsStrictlyIncreasing (map place es)) (sym are.events.flags)
     (increasing_places place (flagged events) (rising_kept place has_unknown_flags events (events_rise capture wholes is)))
 
 some_is : {A : Type 0} (x y : A) → Some x ≡ Some y → x ≡ y
 some_is x y same = ap (λ (o : Option _). unwrap_or o x) same
 
-attached_there : (e : EventText) (entry : Option AttachmentText) (a : Attached)
+attached_there : (e : EventRead) (entry : Option AttachmentText) (a : Attached)
     → option_map (λ (x : AttachmentText). let made : Attached = record { owner = e; attachment = x } in made) entry ≡ Some a → a.owner.place ≡ e.place
 attached_there e None a is = let wrong : None ≡ Some a = is in cc
 attached_there e (Some x) a is = ap (λ (o : Attached). o.owner.place) (sym (some_is (record { owner = e; attachment = x }) a is))
@@ -173,14 +173,14 @@ bad_there : (o : Outcome) (bad : Option BadObject) (b : BadOwned)
 bad_there o None b is = let wrong : None ≡ Some b = is in cc
 bad_there o (Some x) b is = ap (λ (y : BadOwned). y.owner.place) (sym (some_is (record { owner = o.of.owner; bad = x }) b is))
 
-pub objects_rise : (capture : List ℕ) (wholes : List WholeFrame) (said : FindingsText) → IsInGrammar capture wholes → AreFindings (wholes_of wholes) said
+pub objects_rise : (capture : List ℕ) (wholes : List WholeFrame) (said : FindingsSaid) → IsInGrammar capture wholes → AreFindings (wholes_of wholes) said
     → IsStrictlyIncreasing (map (λ (b : BadOwned). b.owner.place) said.events.bad_objects)
 objects_rise capture wholes said is are =
     let events = events_of_wholes (wholes_of wholes) in
     let outcomes = are.events.objects.outcomes in
     let owner : Attached → ℕ = λ a. a.owner.place in
     let place : BadOwned → ℕ = λ b. b.owner.place in
-    let attachments = rising_made (λ (e : EventText). e.place) owner attached_to (λ e a made. attached_there e e.entry a made) events
+    let attachments = rising_made (λ (e : EventRead). e.place) owner attached_to (λ e a made. attached_there e e.entry a made) events
     (events_rise capture wholes is) in
     let owners = pairs_unmap (λ (a b : Attached). owner a < owner b) (λ (o : Outcome). o.of) outcomes
     (subst (PlacesRise owner) (sym are.events.objects.are.each) attachments) in
@@ -189,5 +189,5 @@ objects_rise capture wholes said is are =
     (rising_made (λ (o : Outcome). o.of.owner.place) place bad_of (λ o b made. bad_there o o.bad b made) outcomes owners))
 
 -- the frames of a capture stand apart
-pub stand_apart : (frames : List Frame) (done : List WholeFrame) → Show frames (wholes_of done) → AllPairs StandApart frames
+pub stand_apart : (frames : List Frame) (done : List WholeFrame) → AreViews frames (wholes_of done) → AllPairs AreApart frames
 stand_apart frames done show = views_apart frames (wholes_of done) show (wholes_apart done)

@@ -3,7 +3,7 @@ use Rattle.std.proofs.Common.{◌≡◌, ◌≢◌, ℕ, ◌+◌, ◌<◌, ◌�
 use Rattle.std.proofs.lemmas.Bool.{cases_eq, eq-eqb, ne_eqb}
 use Rattle.std.proofs.lemmas.List.Sums.{sum_by-cons}
 use Rattle.std.specs.Ordering.{nat_cmp}
-use Rattle.event_core.specs.Events.{EventText}
+use Rattle.event_core.specs.Events.{EventRead}
 use Rattle.summary_law.specs.declared.amount.Amount.{Amount}
 use Rattle.summary_law.specs.declared.tally.Tally.{Tally}
 use Rattle.summary_law.specs.Tally.{TallySums, GivesAmount}
@@ -12,7 +12,7 @@ use Rattle.audit_findings.specs.Ledgers.{code_item}
 use Rattle.audit_findings.proofs.CodeLaws.{items_of_word}
 
 -- what a tally of events gives for a code word
-pub word_count : (codes : Tally ℕ) (amount : Amount) (key : ℕ) → GivesAmount nat_cmp codes key amount → (events : List EventText)
+pub word_count : (codes : Tally ℕ) (amount : Amount) (key : ℕ) → GivesAmount nat_cmp codes key amount → (events : List EventRead)
     → TallySums nat_cmp codes (map code_item events) → amount.count ≡ count_by (λ w. eqb w key) (code_words events)
 word_count codes amount key gives events sums = (gives (map code_item events) sums).count ∙ items_of_word key events
 

@@ -12,8 +12,8 @@ use Rattle.capture_frame.specs.Units.{Placed, placed_at, placed, spelling_of}
 use Rattle.record_view.specs.Records.{RecordText, HasRecords, record_bytes, record_format, protocol_of, span_of}
 use Rattle.transaction_view.specs.Grammar.{WholeFrame}
 use Rattle.transaction_view.proofs.RecordPlaces.{stands_within}
-use Rattle.event_core.specs.Events.{EventText, RecordStandsAt, HasRecordAt, bare_event, event_of, events_of_whole}
-use Rattle.audit_findings.specs.Frames.{Show, IsWhole}
+use Rattle.event_core.specs.Events.{EventRead, RecordStandsAt, HasRecordAt, bare_event, event_of, events_of_whole}
+use Rattle.audit_findings.specs.Frames.{AreViews, IsWhole}
 use Rattle.event_core.specs.Events.{placed_text}
 use Rattle.event_core.specs.Events.{events_of_wholes}
 use Rattle.capture_frame.specs.Lookup.{Holds}
@@ -21,7 +21,7 @@ use Rattle.audit_findings.specs.Lookup.{HasRecordIn}
 use Rattle.audit_findings.proofs.FrameLaws.{shown_first, shown_none}
 
 -- the event is that of a record of the frame
-pub record IsEventOf (frame : Placed FrameText) (e : EventText) : Type 0 where
+pub record IsEventOf (frame : Placed FrameText) (e : EventRead) : Type 0 where
   pub found : RecordText
   pub stands : RecordStandsAt frame e.place found
   pub bare : bare_event frame.unit (placed_at e.place found) ≡ record e { entry = None }
@@ -52,15 +52,15 @@ of_whole there whole =
     (behind_stand frame [] there.unit.records whole.0 (commands_place frame.place) start))
 
 -- the event is that of a record of one of these frames
-pub record IsEventIn (frames : List Frame) (e : EventText) : Type 0 where
+pub record IsEventIn (frames : List Frame) (e : EventRead) : Type 0 where
   pub frame : Frame
   pub there : Contains frames frame
   pub event : IsEventOf (placed_frame frame) e
 
-in_more : (first : Frame) (frames : List Frame) (e : EventText) → IsEventIn frames e → IsEventIn (first ∷ frames) e
+in_more : (first : Frame) (frames : List Frame) (e : EventRead) → IsEventIn frames e → IsEventIn (first ∷ frames) e
 in_more first frames e is = record { frame = is.frame; there = (let within = is.there.1 in (suc is.there.0, omega (arith, within), is.there.2)); event = is.event }
 
-pub events_in : (frames : List Frame) (wholes : List (Placed WholeFrame)) → Show frames wholes → All (IsEventIn frames) (events_of_wholes wholes)
+pub events_in : (frames : List Frame) (wholes : List (Placed WholeFrame)) → AreViews frames wholes → All (IsEventIn frames) (events_of_wholes wholes)
 events_in [] wholes show = subst (λ (t : List (Placed WholeFrame)). All (IsEventIn []) (events_of_wholes t)) (sym (shown_none wholes show)) (All-nil (IsEventIn []))
 events_in (f ∷ frames) wholes show =
     let one = shown_first f frames wholes show in
@@ -75,7 +75,7 @@ events_in (f ∷ frames) wholes show =
     (subst (All (IsEventIn (f ∷ frames))) (sym (flat_map-cons events_of_whole one.0 one.1)) all)
 
 -- so a record begins at its place
-pub has_record_in : (frames : List Frame) (wholes : List (Placed WholeFrame)) (e : EventText) → Show frames wholes → Contains (events_of_wholes wholes) e
+pub has_record_in : (frames : List Frame) (wholes : List (Placed WholeFrame)) (e : EventRead) → AreViews frames wholes → Contains (events_of_wholes wholes) e
     → HasRecordIn frames e.place
 has_record_in frames wholes e show there =
     let is = All-contains (IsEventIn frames) (events_of_wholes wholes) e (events_in frames wholes show) there in

@@ -17,8 +17,8 @@ use Rattle.handle_ledger.specs.Rows.{AreRows, is_named}
 use Rattle.summary_law.specs.ByKey.{items_of}
 use Rattle.summary_law.specs.Tally.{AreKeys, AreTallyRows, IsTallyRow, count_of, sum_of}
 use Rattle.capture_frame.specs.declared.process.Process.{Process}
-use Rattle.audit_findings.specs.declared.in_turn.OfProcess.{OfProcess}
-use Rattle.audit_findings.specs.InTurn.{AreInTurn, AreRowsOf, of_process}
+use Rattle.audit_findings.specs.declared.in_turn.ProcessRow.{ProcessRow}
+use Rattle.audit_findings.specs.InTurn.{AreInTurn, AreRowsOf, process_row}
 use Rattle.audit_findings.proofs.Listings.{sorted, in_sorted, sorted_in, strictly_sorted}
 
 pub all_in : {X : Type 0} (P : X → Type 0) (xs : List X) → ((x : X) → In x xs → P x) → All P xs
@@ -164,14 +164,14 @@ module _ {K : Type 0} (cmp : K → K → Ordering) (laws : IsTotalOrder cmp) (ex
 -- ---- the rows of each process in turn
 
 module _ {R : Type 0} (AreOf : Process → List R → Type 0) (some : (process : Process) → (rows : List R) × AreOf process rows) where
-  each_list : (processes : List Process) → (lists : List (List (OfProcess R))) × AllZip (AreRowsOf AreOf) processes lists
+  each_list : (processes : List Process) → (lists : List (List (ProcessRow R))) × AllZip (AreRowsOf AreOf) processes lists
   each_list [] = ([], tt)
   each_list (p ∷ processes) =
       let own = some p in
       let rest = each_list processes in
-      (map (of_process p) own.0 ∷ rest.0, ((own.0, own.1, refl), rest.1))
+      (map (process_row p) own.0 ∷ rest.0, ((own.0, own.1, refl), rest.1))
 
-  pub some_in_turn : (processes : List Process) → (rows : List (OfProcess R)) × AreInTurn AreOf processes rows
+  pub some_in_turn : (processes : List Process) → (rows : List (ProcessRow R)) × AreInTurn AreOf processes rows
   some_in_turn processes =
       let found = each_list processes in
-      (flat_map (λ (list : List (OfProcess R)). list) found.0, (found.0, found.1, refl))
+      (flat_map (λ (list : List (ProcessRow R)). list) found.0, (found.0, found.1, refl))

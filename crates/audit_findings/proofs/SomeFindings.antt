@@ -5,7 +5,7 @@ use Rattle.capture_frame.specs.Units.{IsBytes}
 use Rattle.transaction_view.specs.Grammar.{WholeFrame, IsInGrammar}
 use Rattle.event_core.specs.Events.{events_of_wholes, wholes_of}
 use Rattle.audit_findings.specs.Codes.{code_words, is_opaque}
-use Rattle.audit_findings.specs.Findings.{FindingsText, AreFindings, EventSectionsText, AreEventSections, missing_count}
+use Rattle.audit_findings.specs.Findings.{FindingsSaid, AreFindings, EventSectionsSaid, AreEventSections, missing_count}
 use Rattle.audit_findings.specs.Flags.{flagged}
 use Rattle.audit_findings.specs.Oneway.{sent_count, received_count}
 use Rattle.audit_findings.proofs.PlacesRise.{events_rise}
@@ -13,13 +13,13 @@ use Rattle.audit_findings.proofs.SomeObjects.{some_of_objects}
 use Rattle.audit_findings.proofs.SomeSections.{some_call_sections, some_codes, some_process_sections, some_record_counts}
 
 some_event_sections : (capture : List ℕ) (wholes : List WholeFrame) → IsBytes capture → IsInGrammar capture wholes
-    → (said : EventSectionsText) × AreEventSections (events_of_wholes (wholes_of wholes)) said
+    → (said : EventSectionsSaid) × AreEventSections (events_of_wholes (wholes_of wholes)) said
 some_event_sections capture wholes bytes is =
     let events = events_of_wholes (wholes_of wholes) in
     let codes = some_codes (code_words events) in
     let counts = some_record_counts (code_words events) in
     let objects = some_of_objects capture wholes bytes is in
-    let said : EventSectionsText = record {
+    let said : EventSectionsSaid = record {
       records = length events;
       opaque = count_by is_opaque events;
       codes = codes.0;
@@ -42,13 +42,13 @@ some_event_sections capture wholes bytes is =
     )
 
 pub some_findings : (capture : List ℕ) (wholes : List WholeFrame) → IsBytes capture → IsInGrammar capture wholes
-    → (said : FindingsText) × AreFindings (wholes_of wholes) said
+    → (said : FindingsSaid) × AreFindings (wholes_of wholes) said
 some_findings capture wholes bytes is =
     let them = wholes_of wholes in
     let events = some_event_sections capture wholes bytes is in
     let calls = some_call_sections (events_of_wholes them) (events_rise capture wholes is) in
     let processes = some_process_sections capture wholes bytes is in
-    let said : FindingsText = record {
+    let said : FindingsSaid = record {
       frames = length them;
       missing = missing_count them;
       events = events.0;

@@ -15,7 +15,7 @@ use Rattle.object_view.proofs.ListLaws.{some_objects}
 use Rattle.transaction_view.specs.Attachments.{EntryText, HasEntries, entry_bytes}
 use Rattle.transaction_view.specs.Grammar.{WholeFrame, IsInGrammar, whole_format}
 use Rattle.transaction_view.proofs.GrammarLaws.{IsBytes-front, IsBytes-attachments}
-use Rattle.event_core.specs.Events.{AttachmentText, EventText, attachment_of, attachment_text, belongs_to, event_of, events_of_whole, placed_records}
+use Rattle.event_core.specs.Events.{AttachmentText, EventRead, attachment_of, attachment_text, belongs_to, event_of, events_of_whole, placed_records}
 use Rattle.call_stacks.proofs.Members.{In, in_list, contained, in-map}
 use Rattle.pending_ledger.proofs.ListLaws.{contains_read}
 use Rattle.audit_findings.specs.declared.sort_counts.SortCounts.{SortCounts}
@@ -91,7 +91,7 @@ attachment_made : (o : Option (Placed EntryText)) (a : AttachmentText) → optio
 attachment_made None a is = let no : ⊥ = cc in absurd no
 attachment_made (Some there) a is = let same : a ≡ attachment_text there = cc in (there, refl, same)
 
-attached_made : (e : EventText) (o : Option AttachmentText) (a : Attached)
+attached_made : (e : EventRead) (o : Option AttachmentText) (a : Attached)
     → option_map (λ (x : AttachmentText). let made : Attached = record { owner = e; attachment = x } in made) o ≡ Some a → o ≡ Some a.attachment
 attached_made e None a is = let no : ⊥ = cc in absurd no
 attached_made e (Some x) a is = ap (λ (t : Option Attached). option_map (λ (y : Attached). y.attachment) t) is
@@ -106,14 +106,14 @@ frame_attachments w good place a is =
     subst (λ (x : AttachmentText). IsBytes x.offset_bytes) (sym made.2)
     (entry_list made.0.unit (unit_bytes entry_bytes base w.unit.entries good.bytes made.0 here))
 
-event_list : (wholes : List (Placed WholeFrame)) → ((w : Placed WholeFrame) → In w wholes → HasGoodEntries w.unit) → (e : EventText)
+event_list : (wholes : List (Placed WholeFrame)) → ((w : Placed WholeFrame) → In w wholes → HasGoodEntries w.unit) → (e : EventRead)
     → In e (events_of_wholes wholes) → (a : AttachmentText) → e.entry ≡ Some a → IsBytes a.offset_bytes
 event_list wholes good e here a is =
     let from = in_flat events_of_whole wholes e here in
     let w = from.0 in
     let frame = placed_at w.place w.unit.frame in
     let made = in-map (event_of frame w.unit.entries) (placed_records frame w.unit.records) e from.2 in
-    frame_attachments w (good w from.1) made.0.place a (sym (ap (λ (x : EventText). x.entry) made.2) ∙ is)
+    frame_attachments w (good w from.1) made.0.place a (sym (ap (λ (x : EventRead). x.entry) made.2) ∙ is)
 
 -- ---- their objects
 
@@ -170,7 +170,7 @@ some_of_objects capture wholes h is =
 
 -- ---- what some of the events hold
 
-pub some_held_by : (capture : List ℕ) (wholes : List WholeFrame) → IsBytes capture → IsInGrammar capture wholes → (some : List EventText)
+pub some_held_by : (capture : List ℕ) (wholes : List WholeFrame) → IsBytes capture → IsInGrammar capture wholes → (some : List EventRead)
     → All (Contains (events_of_wholes (wholes_of wholes))) some → (held : List Held) × AreHeldBy some held
 some_held_by capture wholes h is some there =
     let events = events_of_wholes (wholes_of wholes) in

@@ -18,7 +18,7 @@ use Rattle.capture_frame.specs.declared.process.Process.{Process}
 use Rattle.capture_frame.specs.Units.{Placed}
 use Rattle.transaction_view.specs.Grammar.{WholeFrame, IsInGrammar}
 use Rattle.capture_frame.specs.Units.{IsBytes}
-use Rattle.event_core.specs.Events.{EventText}
+use Rattle.event_core.specs.Events.{EventRead}
 use Rattle.event_core.specs.declared.node.NodeKey.{NodeKey}
 use Rattle.event_core.specs.declared.oneway.OnewayKey.{OnewayKey}
 use Rattle.event_core.specs.declared.pending.PendingItem.{PendingItem}
@@ -37,7 +37,7 @@ use Rattle.summary_law.specs.declared.count.Count.{Count}
 use Rattle.audit_findings.specs.declared.codes.CodeRow.{CodeRow}
 use Rattle.audit_findings.specs.declared.record_counts.RecordCounts.{RecordCounts}
 use Rattle.audit_findings.specs.Buffers.{AreLeaked, AreStrayFrees}
-use Rattle.audit_findings.specs.Calls.{CallsText, ServedText, RefusedText, AreCallFindings, AreRefused, is_call, is_answered, is_failed, is_replied, is_crossed, is_open, is_unanswered}
+use Rattle.audit_findings.specs.Calls.{CallsSaid, ServedSaid, RefusedSaid, AreCallFindings, AreRefused, is_call, is_answered, is_failed, is_replied, is_crossed, is_open, is_unanswered}
 use Rattle.audit_findings.specs.Codes.{AreCodeRows}
 use Rattle.event_core.specs.Events.{events_of_wholes, wholes_of}
 use Rattle.audit_findings.specs.Handles.{AreHandleFindings, AreHandlesOf, is_unbalanced_handle}
@@ -45,13 +45,13 @@ use Rattle.audit_findings.specs.Held.{unweighed}
 use Rattle.audit_findings.specs.Nodes.{AreNodeFindings, AreNodesOf, is_unbalanced_node}
 use Rattle.audit_findings.specs.Oneway.{AreOnewayOf, AreOnewayRows}
 use Rattle.process_ledgers.specs.OnewayLedger.{oneway_cmp, oneway_pair}
-use Rattle.audit_findings.specs.Places.{AreEventsAt, AreOpenAndStray, IsCountOfPlaces, IsOpenIn, IsOpenStill, IsStrayClose, OpenAndStrayText, RiseInPlace, SomeProcess}
+use Rattle.audit_findings.specs.Places.{AreEventsAt, AreOpenAndStray, IsCountOfPlaces, IsOpenIn, IsOpenStill, IsStrayClose, OpenAndStraySaid, RiseInPlace, SomeProcess}
 use Rattle.process_ledgers.proofs.ItemPlaces.{clear_keeps, death_keeps, pending_keeps}
 use Rattle.process_ledgers.specs.Items.{KeepsPlace, buffer_pending_of, clear_item_of, death_item_of, handle_item_of, node_item_of, oneway_item_of, request_item_of}
 use Rattle.process_ledgers.specs.Processes.{items_of_process, processes_of, read_of}
-use Rattle.audit_findings.specs.declared.in_turn.OfProcess.{OfProcess}
+use Rattle.audit_findings.specs.declared.in_turn.ProcessRow.{ProcessRow}
 use Rattle.audit_findings.specs.declared.references.References.{References}
-use Rattle.audit_findings.specs.Findings.{CallSectionsText, AreCallSections, ProcessSectionsText, AreProcessSections}
+use Rattle.audit_findings.specs.Findings.{CallSectionsSaid, AreCallSections, ProcessSectionsSaid, AreProcessSections}
 use Rattle.audit_findings.specs.References.{AreReferences}
 use Rattle.audit_findings.specs.RecordCounts.{AreRecordCounts, times}
 use Rattle.audit_findings.specs.Requests.{AreStandingRequests, IsStandingIn}
@@ -67,17 +67,17 @@ use Rattle.audit_findings.proofs.StandLaws.{open_stands, stray_stands, request_s
 
 -- ---- calls
 
-some_calls : (events : List EventText) → RiseInPlace events → (calls : CallsText) × (served : ServedText) × AreCallFindings events calls served
+some_calls : (events : List EventRead) → RiseInPlace events → (calls : CallsSaid) × (served : ServedSaid) × AreCallFindings events calls served
 some_calls events rise =
     let found = some_openers events rise in
     let openers = found.0 in
-    let calls : CallsText = record {
+    let calls : CallsSaid = record {
       answered = count_by (λ o. is_call o && is_answered o.verdict) openers;
       failed = count_by (λ o. is_call o && is_failed o.verdict) openers;
       unanswered = count_by (λ o. is_call o && is_unanswered o.verdict) openers;
       rows = filter (λ o. is_call o && not (is_answered o.verdict)) openers;
     } in
-    let served : ServedText = record {
+    let served : ServedSaid = record {
       replied = count_by (λ o. not (is_call o) && is_replied o.verdict) openers;
       crossed = count_by (λ o. not (is_call o) && is_crossed o.verdict) openers;
       left_open = count_by (λ o. not (is_call o) && is_open o.verdict) openers;
@@ -93,38 +93,38 @@ some_calls events rise =
       ),
     )
 
-some_refused : (events : List EventText) → RiseInPlace events → (said : RefusedText) × AreRefused events said
+some_refused : (events : List EventRead) → RiseInPlace events → (said : RefusedSaid) × AreRefused events said
 some_refused events rise =
     let found = some_sends events rise in
-    let said : RefusedText = record { oneway = count_by (λ s. s.oneway) found.0; rows = map (λ s. s.event) found.0 } in
+    let said : RefusedSaid = record { oneway = count_by (λ s. s.oneway) found.0; rows = map (λ s. s.event) found.0 } in
     (said, (found.0, found.1, refl, refl))
 
 -- ---- rows that are events
 
-some_events : (IsSo : ℕ → Type 0) (events : List EventText) → Listing IsSo → ((place : ℕ) → IsSo place → HasEventAt events place)
-    → (said : List EventText) × AreEventsAt IsSo events said
-some_events IsSo events listing stands =
-    let places = some_places IsSo listing in
-    let found = events_at IsSo events stands places.0 places.1 in
+some_events : (IsHere : ℕ → Type 0) (events : List EventRead) → Listing IsHere → ((place : ℕ) → IsHere place → HasEventAt events place)
+    → (said : List EventRead) × AreEventsAt IsHere events said
+some_events IsHere events listing stands =
+    let places = some_places IsHere listing in
+    let found = events_at IsHere events stands places.0 places.1 in
     (found.0, found.1)
 
-some_number : (IsSo : ℕ → Type 0) → Listing IsSo → (count : ℕ) × IsCountOfPlaces IsSo count
-some_number IsSo listing = let places = some_places IsSo listing in (length places.0, (places.0, places.1, refl))
+some_number : (IsHere : ℕ → Type 0) → Listing IsHere → (count : ℕ) × IsCountOfPlaces IsHere count
+some_number IsHere listing = let places = some_places IsHere listing in (length places.0, (places.0, places.1, refl))
 
 no_split : {I : Type 0} (earlier : List I) (item : I) (later : List I) → [] ≡ earlier ++ item ∷ later → ⊥
 no_split [] item later is = let no : ⊥ = cc in no
 no_split (first ∷ earlier) item later is = let no : ⊥ = cc in no
 
-opens_of : (read : EventText → Option (PendingItem ℕ)) (events : List EventText) → Listing (IsOpenStill read events)
+opens_of : (read : EventRead → Option (PendingItem ℕ)) (events : List EventRead) → Listing (IsOpenStill read events)
 opens_of read =
     of_processes read (IsOutstanding (eq_by_cmp nat_cmp)) (outstanding_listing (eq_by_cmp nat_cmp)) (λ at is. no_split is.earlier is.item is.later is.split)
 
-closes_of : (read : EventText → Option (PendingItem ℕ)) (events : List EventText) → Listing (IsStrayClose read events)
+closes_of : (read : EventRead → Option (PendingItem ℕ)) (events : List EventRead) → Listing (IsStrayClose read events)
 closes_of read =
     of_processes read (IsStray (eq_by_cmp nat_cmp)) (stray_listing (eq_by_cmp nat_cmp)) (λ at is. no_split is.earlier is.item is.later is.split)
 
-some_open_and_stray : (read : EventText → Option (PendingItem ℕ)) → KeepsPlace place_of read → (events : List EventText)
-    → (said : OpenAndStrayText) × AreOpenAndStray read events said
+some_open_and_stray : (read : EventRead → Option (PendingItem ℕ)) → KeepsPlace place_of read → (events : List EventRead)
+    → (said : OpenAndStraySaid) × AreOpenAndStray read events said
 some_open_and_stray read placed events =
     let IsOpen = IsOpenStill read events in
     let IsClose = IsStrayClose read events in
@@ -135,20 +135,20 @@ some_open_and_stray read placed events =
       | inl one ↦ stands_somewhere _ (open_stands read placed) events place one
       | inr other ↦ stands_somewhere _ (stray_stands read placed) events place other
     ]) in
-    let said : OpenAndStrayText = record { unclosed = unclosed.0; strays = strays.0; rows = rows.0 } in
+    let said : OpenAndStraySaid = record { unclosed = unclosed.0; strays = strays.0; rows = rows.0 } in
     (said, record { unclosed = unclosed.1; strays = strays.1; rows = rows.1 })
 
-some_leaked : (events : List EventText) → (said : List EventText) × AreLeaked events said
+some_leaked : (events : List EventRead) → (said : List EventRead) × AreLeaked events said
 some_leaked events =
     some_events (IsOpenStill buffer_pending_of events) events (opens_of buffer_pending_of events)
     (stands_somewhere _ (open_stands buffer_pending_of pending_keeps) events)
 
-some_stray_frees : (events : List EventText) → (said : List EventText) × AreStrayFrees events said
+some_stray_frees : (events : List EventRead) → (said : List EventRead) × AreStrayFrees events said
 some_stray_frees events =
     some_events (IsStrayClose buffer_pending_of events) events (closes_of buffer_pending_of events)
     (stands_somewhere _ (stray_stands buffer_pending_of pending_keeps) events)
 
-some_standing : (events : List EventText) → (said : List EventText) × AreStandingRequests events said
+some_standing : (events : List EventRead) → (said : List EventRead) × AreStandingRequests events said
 some_standing events =
     some_events (SomeProcess (IsStandingIn events)) events
     (of_processes request_item_of IsStanding standing_listing (λ at is. no_split is.earlier is.item is.later is.split) events)
@@ -231,7 +231,7 @@ some_count changes =
 
 -- ---- handles and nodes
 
-held_rows : (process : Process) (events : List EventText) (held : List Held)
+held_rows : (process : Process) (events : List EventRead) (held : List Held)
     → (rows : List HeldRow) × AreHeldRows (read_of handle_item_of process) events (unweighed held) rows
 held_rows process events held =
     let read = read_of handle_item_of process in
@@ -256,7 +256,7 @@ node_cmp_exact x y same =
     let both = exact_pairs nat_cmp nat_cmp exact_unsigned exact_unsigned (x.ptr, x.cookie) (y.ptr, y.cookie) same in
     ap (λ (key : ℕ × ℕ). record { ptr = key.0; cookie = key.1 }) both
 
-node_rows : (process : Process) (events : List EventText) → (rows : List NodeRow) × AreNodeRows (read_of node_item_of process) events rows
+node_rows : (process : Process) (events : List EventRead) → (rows : List NodeRow) × AreNodeRows (read_of node_item_of process) events rows
 node_rows process events =
     let read = read_of node_item_of process in
     let strong = λ (key : NodeKey). some_count (map (change_at_node read key Strong) events) in
@@ -275,7 +275,7 @@ some_references : {R : Type 0} (AreOf : Process → List R → Type 0) (is_unbal
     → (processes : List Process) → (said : References R) × AreReferences AreOf is_unbalanced processes said
 some_references {R} AreOf is_unbalanced some processes =
     let rows = some_in_turn AreOf some processes in
-    let said : References R = record { unbalanced = count_by (λ (row : OfProcess R). is_unbalanced row.row) rows.0; rows = rows.0 } in
+    let said : References R = record { unbalanced = count_by (λ (row : ProcessRow R). is_unbalanced row.row) rows.0; rows = rows.0 } in
     (said, record { rows = rows.1; unbalanced = refl })
 
 some_handles : (capture : List ℕ) (wholes : List WholeFrame) → IsBytes capture → IsInGrammar capture wholes
@@ -299,7 +299,7 @@ some_nodes wholes =
     let events = events_of_wholes wholes in
     some_references (AreNodesOf events) is_unbalanced_node (λ process. node_rows process events) (processes_of wholes)
 
-some_oneway : (wholes : List (Placed WholeFrame)) → (rows : List (OfProcess (OnewayKey × ℕ × ℕ))) × AreOnewayRows wholes rows
+some_oneway : (wholes : List (Placed WholeFrame)) → (rows : List (ProcessRow (OnewayKey × ℕ × ℕ))) × AreOnewayRows wholes rows
 some_oneway wholes =
     let events = events_of_wholes wholes in
     some_in_turn (AreOnewayOf events)
@@ -308,16 +308,16 @@ some_oneway wholes =
 
 -- ---- the parts of the findings
 
-pub some_call_sections : (events : List EventText) → RiseInPlace events → (said : CallSectionsText) × AreCallSections events said
+pub some_call_sections : (events : List EventRead) → RiseInPlace events → (said : CallSectionsSaid) × AreCallSections events said
 some_call_sections events rise =
     let calls = some_calls events rise in
     let strays = some_strays events rise in
     let refused = some_refused events rise in
-    let said : CallSectionsText = record { calls = calls.0; served = calls.1; strays = strays.0; refused = refused.0 } in
+    let said : CallSectionsSaid = record { calls = calls.0; served = calls.1; strays = strays.0; refused = refused.0 } in
     (said, record { calls = calls.2; strays = strays.1; refused = refused.1 })
 
 pub some_process_sections : (capture : List ℕ) (units : List WholeFrame) → IsBytes capture → IsInGrammar capture units
-    → (said : ProcessSectionsText) × AreProcessSections (wholes_of units) said
+    → (said : ProcessSectionsSaid) × AreProcessSections (wholes_of units) said
 some_process_sections capture units bytes is =
     let wholes = wholes_of units in
     let events = events_of_wholes wholes in
@@ -329,7 +329,7 @@ some_process_sections capture units bytes is =
     let deaths = some_open_and_stray death_item_of death_keeps events in
     let clears = some_open_and_stray clear_item_of clear_keeps events in
     let oneway = some_oneway wholes in
-    let said : ProcessSectionsText = record {
+    let said : ProcessSectionsSaid = record {
       handles = handles.0;
       nodes = nodes.0;
       leaked = leaked.0;

@@ -5,7 +5,7 @@ use Rattle.std.proofs.lemmas.List.Elements.{filter-append}
 use Rattle.call_stacks.specs.Calls.{event_place, CallsSum, event_reads}
 use Rattle.call_stacks.specs.declared.call_record.CallEvent.{CallEvent}
 use Rattle.call_stacks.specs.declared.calls.Calls.{Calls}
-use Rattle.event_core.specs.Events.{EventText}
+use Rattle.event_core.specs.Events.{EventRead}
 use Rattle.pending_ledger.proofs.GatherLaws.{items_rise}
 use Rattle.summary_law.proofs.ReadLaws.{length-read}
 use Rattle.summary_law.specs.ByKey.{EachFits, under}
@@ -31,7 +31,7 @@ filter_short test (x ∷ xs) =
     let rest = filter_short test xs in
     elim (test x) as (λ b. length (cond b (x ∷ filter test xs) (filter test xs)) ≤ length (x ∷ xs)) [ true ↦ omega arith | false ↦ omega arith ]
 
-pub fit_calls : (events : List EventText) → IsPlaced (λ (e : EventText). e.place) events → FitThreads (fed_calls events)
+pub fit_calls : (events : List EventRead) → IsPlaced (λ (e : EventRead). e.place) events → FitThreads (fed_calls events)
 fit_calls events placed key =
     let marked = filter leaves_mark events in
     let fed = fed_calls events in
@@ -41,20 +41,20 @@ fit_calls events placed key =
     let short = placed.0 in
     let rise : PlacesRise (λ (e : Thread × CallEvent). e.1.place) fed
     = pairs_map (λ (a b : Thread × CallEvent). a.1.place < b.1.place) fed_call marked
-    (rising_kept (λ (e : EventText). e.place) leaves_mark events placed.1) in
+    (rising_kept (λ (e : EventRead). e.place) leaves_mark events placed.1) in
     (omega (arith, fewer, long, read, short), items_rise same_thread key event_place fed rise)
 
 -- what is fed of a list followed by another
-pub fed_behind : (first second : List EventText) → fed_calls (first ++ second) ≡ fed_calls first ++ fed_calls second
+pub fed_behind : (first second : List EventRead) → fed_calls (first ++ second) ≡ fed_calls first ++ fed_calls second
 fed_behind first second =
     ap (map fed_call) (filter-append leaves_mark first second) ∙ map-append fed_call (filter leaves_mark first) (filter leaves_mark second)
 
-pub fit_behind : (first second : List EventText) → AreFewEvents (first ++ second) → FitThreads (fed_calls first ++ fed_calls second)
+pub fit_behind : (first second : List EventRead) → AreFewEvents (first ++ second) → FitThreads (fed_calls first ++ fed_calls second)
 fit_behind first second few = subst FitThreads (fed_behind first second) (fit_calls (first ++ second) few.0)
 
 -- an event that leaves a mark is fed, and another is not
-pub fed_marked : (e : EventText) → leaves_mark e ≡ true → fed_calls (e ∷ []) ≡ fed_call e ∷ []
+pub fed_marked : (e : EventRead) → leaves_mark e ≡ true → fed_calls (e ∷ []) ≡ fed_call e ∷ []
 fed_marked e is = ap (λ (b : Bool). map fed_call (cond b (e ∷ []) [])) is
 
-pub fed_plain : (e : EventText) → leaves_mark e ≡ false → fed_calls (e ∷ []) ≡ []
+pub fed_plain : (e : EventRead) → leaves_mark e ≡ false → fed_calls (e ∷ []) ≡ []
 fed_plain e is = ap (λ (b : Bool). map fed_call (cond b (e ∷ []) [])) is

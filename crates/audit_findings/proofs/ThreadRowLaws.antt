@@ -9,12 +9,12 @@ use Rattle.std.proofs.lemmas.Simd.{map-map}
 use Rattle.std.proofs.lemmas.Map.Views.{Contains-from_any}
 use Rattle.std.specs.List.{AllZip, IsDistinct, cons_option, flat_map, list_any}
 use Rattle.std.specs.Map.{keys_of}
-use Rattle.event_core.specs.Events.{EventText}
+use Rattle.event_core.specs.Events.{EventRead}
 use Rattle.call_stacks.proofs.Members.{In, in_list, contained, in-map, map-in, only_list, rises_from_pairs}
 use Rattle.call_stacks.proofs.Retold.{ReadAlike, stands_judged, openers_of, strays_of, sends_of, sends_listed, told_opener, told_send}
 use Rattle.call_stacks.proofs.Sums.{marked}
 use Rattle.call_stacks.proofs.Unmarked.{with_unmarked, opener_marks, stray_marks, send_marks}
-use Rattle.call_stacks.specs.Calls.{JudgedOf, IsOpener, IsStrayEvent, IsRefusedSend, AreFindings, GivesFindings, CallsSum, event_place, event_reads, judged_of, refused_of}
+use Rattle.call_stacks.specs.Calls.{Bracketed, IsOpener, IsStrayEvent, IsRefusedSend, AreFindings, GivesFindings, CallsSum, event_place, event_reads, judged_of, refused_of}
 use Rattle.call_stacks.specs.declared.opener.Opener.{Opener}
 use Rattle.call_stacks.specs.declared.findings.RefusedSend.{RefusedSend}
 use Rattle.call_stacks.specs.Matching.{ListsInOrder}
@@ -47,7 +47,7 @@ use Rattle.audit_findings.proofs.SortedRows.{gathered_rows, gathered_count, kept
 use Rattle.audit_findings.proofs.ThreadFits.{filter_short}
 
 -- the events of this thread, in their order
-abbrev pub texts_of : Thread → List EventText → List EventText
+abbrev pub texts_of : Thread → List EventRead → List EventRead
 texts_of key events = filter (λ e. same_thread key (thread_of e)) events
 
 -- what passes a test is in the list, and passes it
@@ -63,9 +63,9 @@ kept_from {X} test (y ∷ xs) x here =
     ] refl here
 
 -- an event of a thread is one of all events, and has the thread's key
-pub of_thread : (key : Thread) (events : List EventText) (e : EventText) → Contains (texts_of key events) e → Contains events e × (key ≡ thread_of e)
+pub of_thread : (key : Thread) (events : List EventRead) (e : EventRead) → Contains (texts_of key events) e → Contains events e × (key ≡ thread_of e)
 of_thread key events e c =
-    let found = kept_from (λ (x : EventText). same_thread key (thread_of x)) events e (in_list (texts_of key events) e c) in
+    let found = kept_from (λ (x : EventRead). same_thread key (thread_of x)) events e (in_list (texts_of key events) e c) in
     (contained events e found.0, same_thread_eq key (thread_of e) found.1)
 
 -- what the calls of an event go by, with the event in one of the two forms
@@ -73,7 +73,7 @@ pub texts_alike : ReadAlike text_reads event_reads text_call
 texts_alike = record { place = λ e. refl; kind = λ e. refl; oneway = λ e. refl }
 
 -- what is fed under a key is of its thread's events, where they leave a mark
-pub calls_fed : (key : Thread) (events : List EventText) → items_of same_thread key (fed_calls events) ≡ filter (marked event_reads) (map text_call (texts_of key events))
+pub calls_fed : (key : Thread) (events : List EventRead) → items_of same_thread key (fed_calls events) ≡ filter (marked event_reads) (map text_call (texts_of key events))
 calls_fed key [] = refl
 calls_fed key (e ∷ events) =
     let rest = calls_fed key events in
@@ -95,13 +95,13 @@ calls_fed key (e ∷ events) =
     ] refl
 
 -- the events of a thread are placed where all are, and so is what their calls go by
-placed_texts : (key : Thread) (events : List EventText) → IsPlaced (λ (e : EventText). e.place) events → IsPlaced (λ (e : EventText). e.place) (texts_of key events)
+placed_texts : (key : Thread) (events : List EventRead) → IsPlaced (λ (e : EventRead). e.place) events → IsPlaced (λ (e : EventRead). e.place) (texts_of key events)
 placed_texts key events placed =
-    let fewer = filter_short (λ (e : EventText). same_thread key (thread_of e)) events in
+    let fewer = filter_short (λ (e : EventRead). same_thread key (thread_of e)) events in
     let short = placed.0 in
-    (omega (arith, fewer, short), rising_kept (λ (e : EventText). e.place) (λ e. same_thread key (thread_of e)) events placed.1)
+    (omega (arith, fewer, short), rising_kept (λ (e : EventRead). e.place) (λ e. same_thread key (thread_of e)) events placed.1)
 
-placed_calls : (events : List EventText) → IsPlaced (λ (e : EventText). e.place) events → IsPlaced event_place (map text_call events)
+placed_calls : (events : List EventRead) → IsPlaced (λ (e : EventRead). e.place) events → IsPlaced event_place (map text_call events)
 placed_calls events placed =
     let long = length-map events text_call in
     let short = placed.0 in
@@ -110,29 +110,29 @@ placed_calls events placed =
 -- ---- something of the events of each thread
 
 -- it is so of the events of this key's thread
-abbrev pub IsOfKey : {X : Type 0} → (List (JudgedOf EventText) → X → Type 0) → List EventText → Thread → X → Type 0
+abbrev pub IsOfKey : {X : Type 0} → (List (Bracketed EventRead) → X → Type 0) → List EventRead → Thread → X → Type 0
 IsOfKey IsIn events key x = IsIn (judged_of text_reads (texts_of key events)) x
 
 -- it is so of the thread of its own event
-abbrev pub IsOfOwn : {X : Type 0} → (X → EventText) → (List (JudgedOf EventText) → X → Type 0) → List EventText → X → Type 0
+abbrev pub IsOfOwn : {X : Type 0} → (X → EventRead) → (List (Bracketed EventRead) → X → Type 0) → List EventRead → X → Type 0
 IsOfOwn event IsIn events x = IsIn (judged_in_thread events (event x)) x
 
-module _ {X : Type 0} (event : X → EventText) (IsIn : List (JudgedOf EventText) → X → Type 0)
-    (stands : (events : List EventText) (x : X) → IsIn (judged_of text_reads events) x → Contains events (event x)) where
+module _ {X : Type 0} (event : X → EventRead) (IsIn : List (Bracketed EventRead) → X → Type 0)
+    (stands : (events : List EventRead) (x : X) → IsIn (judged_of text_reads events) x → Contains events (event x)) where
   -- things at one place are of one thread
-  pub one_thread : (events : List EventText) → RiseInPlace events → (key other : Thread) (x y : X) → IsOfKey IsIn events key x → IsOfKey IsIn events other y
+  pub one_thread : (events : List EventRead) → RiseInPlace events → (key other : Thread) (x y : X) → IsOfKey IsIn events key x → IsOfKey IsIn events other y
       → (event x).place ≡ (event y).place → same_thread key other ≡ true
   one_thread events rise key other x y is is_other same =
       let first = of_thread key events (event x) (stands (texts_of key events) x is) in
       let second = of_thread other events (event y) (stands (texts_of other events) y is_other) in
-      let one : event x ≡ event y = one_place (λ (e : EventText). e.place) events rise (event x) (event y) first.0 second.0 same in
+      let one : event x ≡ event y = one_place (λ (e : EventRead). e.place) events rise (event x) (event y) first.0 second.0 same in
       let keys : key ≡ other = first.1 ∙ ap thread_of one ∙ sym second.1 in
       subst (λ (k : Thread). same_thread key k ≡ true) keys (same_thread_equiv.refl key)
 
-  module _ (entries : List (Thread × Calls CallEvent)) (events : List EventText) (sums : SumsThreads entries events)
-      (marks : (events : List EventText) (x : X) → IsIn (judged_of text_reads events) x → leaves_mark (event x) ≡ true) where
+  module _ (entries : List (Thread × Calls CallEvent)) (events : List EventRead) (sums : SumsThreads entries events)
+      (marks : (events : List EventRead) (x : X) → IsIn (judged_of text_reads events) x → leaves_mark (event x) ≡ true) where
     -- a thread with an event that leaves a mark has an entry
-    key_there : (e : EventText) → Contains (texts_of (thread_of e) events) e → leaves_mark e ≡ true → Contains (keys_of entries) (thread_of e)
+    key_there : (e : EventRead) → Contains (texts_of (thread_of e) events) e → leaves_mark e ≡ true → Contains (keys_of entries) (thread_of e)
     key_there e c is =
         let key = thread_of e in
         ⊎_elim
@@ -162,7 +162,7 @@ module _ {X : Type 0} (event : X → EventText) (IsIn : List (JudgedOf EventText
 -- ---- the rows of all threads
 
 -- the listed rows of calls are those of the calls that are listed
-filter_rows : (told : List (Opener EventText)) → filter is_listed (map opener_row told) ≡ map opener_row (filter (λ o. is_listed (opener_row o)) told)
+filter_rows : (told : List (Opener EventRead)) → filter is_listed (map opener_row told) ≡ map opener_row (filter (λ o. is_listed (opener_row o)) told)
 filter_rows [] = refl
 filter_rows (o ∷ told) =
     let rest = filter_rows told in
@@ -188,18 +188,18 @@ all_told {E} {F} {X} {R} P Gives Is rank row rows_in tell (e ∷ es) (f ∷ fs) 
       flat_map-cons rows_in f fs ∙ ap₂ (λ (a b : List R). a ++ b) one.2 rest.2 ∙ sym (flat_map-cons (λ (said : List X). map row said) one.0 rest.0),
     )
 
-opener_stands : (events : List EventText) (o : Opener EventText) → IsOpener text_reads (judged_of text_reads events) o → Contains events o.event
+opener_stands : (events : List EventRead) (o : Opener EventRead) → IsOpener text_reads (judged_of text_reads events) o → Contains events o.event
 opener_stands events o is = stands_judged text_reads events is.position is.there o.event is.stands is.event
 
-stray_stands : (events : List EventText) (e : EventText) → IsStrayEvent (judged_of text_reads events) e → Contains events e
+stray_stands : (events : List EventRead) (e : EventRead) → IsStrayEvent (judged_of text_reads events) e → Contains events e
 stray_stands events e is = stands_judged text_reads events is.position is.there e is.stands is.event
 
-send_stands : (events : List EventText) (s : RefusedSend EventText) → IsRefusedSend (judged_of text_reads events) s → Contains events s.event
+send_stands : (events : List EventRead) (s : RefusedSend EventRead) → IsRefusedSend (judged_of text_reads events) s → Contains events s.event
 send_stands events s is = stands_judged text_reads events is.position is.there s.event is.stands is.event
 
-module _ (entries : List (Thread × Calls CallEvent)) (events : List EventText) (sums : SumsThreads entries events) (rise : RiseInPlace events) where
+module _ (entries : List (Thread × Calls CallEvent)) (events : List EventRead) (sums : SumsThreads entries events) (rise : RiseInPlace events) where
   -- the events of an entry's thread
-  abbrev own_texts : Thread × Calls CallEvent → List EventText
+  abbrev own_texts : Thread × Calls CallEvent → List EventRead
   own_texts e = texts_of e.0 events
 
   abbrev own_fed : Thread × Calls CallEvent → List CallEvent
@@ -212,7 +212,7 @@ module _ (entries : List (Thread × Calls CallEvent)) (events : List EventText) 
   Gives e found = GivesFindings event_reads e.1 found
 
   own_rise : (e : Thread × Calls CallEvent) → RiseInPlace (own_texts e)
-  own_rise e = rising_kept (λ (t : EventText). t.place) (λ t. same_thread e.0 (thread_of t)) events rise
+  own_rise e = rising_kept (λ (t : EventRead). t.place) (λ t. same_thread e.0 (thread_of t)) events rise
 
   -- what is found of each entry's thread is found of all of its events
   own_found : (e : Thread × Calls CallEvent) (found : CallFindings CallEvent) → SumsOwn e → Gives e found
@@ -224,21 +224,21 @@ module _ (entries : List (Thread × Calls CallEvent)) (events : List EventText) 
 
   -- the lists of each entry's thread, told in the words of the events
   openers_told : (e : Thread × Calls CallEvent) (found : CallFindings CallEvent) → SumsOwn e → Gives e found
-      → (said : List (Opener EventText)) × ListsInOrder (λ o. o.event.place) (IsOfKey (IsOpener text_reads) events e.0) said
+      → (said : List (Opener EventRead)) × ListsInOrder (λ o. o.event.place) (IsOfKey (IsOpener text_reads) events e.0) said
       × (map found_opener found.openers.items ≡ map opener_row said)
   openers_told e found own gives =
       let told = openers_of text_reads event_reads text_call texts_alike (own_texts e) (own_rise e) found (own_found e found own gives) in
       (told.0, told.1, ap (map found_opener) told.2 ∙ map-map found_opener (told_opener text_call) told.0)
 
   strays_told : (e : Thread × Calls CallEvent) (found : CallFindings CallEvent) → SumsOwn e → Gives e found
-      → (said : List EventText) × ListsInOrder (λ t. t.place) (IsOfKey IsStrayEvent events e.0) said
+      → (said : List EventRead) × ListsInOrder (λ t. t.place) (IsOfKey IsStrayEvent events e.0) said
       × (map event_place found.strays.items ≡ map (λ t. t.place) said)
   strays_told e found own gives =
       let told = strays_of text_reads event_reads text_call texts_alike (own_texts e) (own_rise e) found (own_found e found own gives) in
       (told.0, told.1, ap (map event_place) told.2 ∙ map-map event_place text_call told.0)
 
   sends_told : (e : Thread × Calls CallEvent) (found : CallFindings CallEvent) → SumsOwn e → Gives e found
-      → (said : List (RefusedSend EventText)) × ListsInOrder (λ s. s.event.place) (IsOfKey IsRefusedSend events e.0) said
+      → (said : List (RefusedSend EventRead)) × ListsInOrder (λ s. s.event.place) (IsOfKey IsRefusedSend events e.0) said
       × (map found_send found.refused.items ≡ map send_row said)
   sends_told e found own gives =
       let said = refused_of (judged_of text_reads (own_texts e)) in
@@ -253,43 +253,43 @@ module _ (entries : List (Thread × Calls CallEvent)) (events : List EventText) 
 
   module _ (gathered rows : ThreadRows) (in_turn : AreGatheredRows entries gathered) (sorted : AreSortedRows gathered rows) where
     -- all calls, in rising place
-    all_openers : (told : List (Opener EventText)) × AreOpeners events told
+    all_openers : (told : List (Opener EventRead)) × AreOpeners events told
     all_openers = some_openers events rise
 
-    abbrev IsListed : (Opener EventText → Type 0) → Opener EventText → Type 0
+    abbrev IsListed : (Opener EventRead → Type 0) → Opener EventRead → Type 0
     IsListed Is o = Is o × (is_listed (opener_row o) ≡ true)
 
     -- the listed calls of a thread
     listed_told : (e : Thread × Calls CallEvent) (found : CallFindings CallEvent) → SumsOwn e → Gives e found
-        → (said : List (Opener EventText)) × ListsInOrder (λ o. o.event.place) (IsListed (IsOfKey (IsOpener text_reads) events e.0)) said
+        → (said : List (Opener EventRead)) × ListsInOrder (λ o. o.event.place) (IsListed (IsOfKey (IsOpener text_reads) events e.0)) said
         × (listed_in found ≡ map opener_row said)
     listed_told e found own gives =
         let told = openers_told e found own gives in
-        let test : Opener EventText → Bool = λ o. is_listed (opener_row o) in (
+        let test : Opener EventRead → Bool = λ o. is_listed (opener_row o) in (
           filter test told.0,
-          kept_in_order (λ (o : Opener EventText). o.event.place) (IsOfKey (IsOpener text_reads) events e.0) test told.0 told.1,
+          kept_in_order (λ (o : Opener EventRead). o.event.place) (IsOfKey (IsOpener text_reads) events e.0) test told.0 told.1,
           ap (filter is_listed) told.2 ∙ filter_rows told.0,
         )
 
-    one_of_threads : (e other : Thread × Calls CallEvent) (x y : Opener EventText) → IsOfKey (IsOpener text_reads) events e.0 x
+    one_of_threads : (e other : Thread × Calls CallEvent) (x y : Opener EventRead) → IsOfKey (IsOpener text_reads) events e.0 x
         → IsOfKey (IsOpener text_reads) events other.0 y → x.event.place ≡ y.event.place → same_thread e.0 other.0 ≡ true
     one_of_threads e other x y is_first is_other same =
-        one_thread (λ (o : Opener EventText). o.event) (IsOpener text_reads) opener_stands events rise e.0 other.0 x y is_first is_other same
+        one_thread (λ (o : Opener EventRead). o.event) (IsOpener text_reads) opener_stands events rise e.0 other.0 x y is_first is_other same
 
-    of_threads : (o : Opener EventText) → IsOfOwn (λ o. o.event) (IsOpener text_reads) events o
+    of_threads : (o : Opener EventRead) → IsOfOwn (λ o. o.event) (IsOpener text_reads) events o
         ↔ ((e : Thread × Calls CallEvent) × In e entries × IsOfKey (IsOpener text_reads) events e.0 o)
-    of_threads = of_entries (λ (o : Opener EventText). o.event) (IsOpener text_reads) opener_stands entries events sums (opener_marks text_reads)
+    of_threads = of_entries (λ (o : Opener EventRead). o.event) (IsOpener text_reads) opener_stands entries events sums (opener_marks text_reads)
 
     kept_listed : AreListedOf all_openers.0 rows.listed.items
     kept_listed =
-        let Is : List (JudgedOf EventText) → Opener EventText → Type 0 = IsOpener text_reads in
-        let Own : Opener EventText → Type 0 = IsOfOwn (λ o. o.event) Is events in
-        let rank : Opener EventText → ℕ = λ o. o.event.place in
-        let test : Opener EventText → Bool = λ o. is_listed (opener_row o) in
+        let Is : List (Bracketed EventRead) → Opener EventRead → Type 0 = IsOpener text_reads in
+        let Own : Opener EventRead → Type 0 = IsOfOwn (λ o. o.event) Is events in
+        let rank : Opener EventRead → ℕ = λ o. o.event.place in
+        let test : Opener EventRead → Bool = λ o. is_listed (opener_row o) in
         let told = all_told SumsOwn Gives (λ e. IsListed (IsOfKey Is events e.0)) rank opener_row listed_in listed_told
         entries in_turn.founds each_own in_turn.are in
         let found = gathered_rows same_thread (λ (e : Thread × Calls CallEvent). e.0) (λ e. IsListed (IsOfKey Is events e.0))
-        (λ (said : List (Opener EventText)). said) opener_row (λ (r : OpenerRow). r.row.place)
+        (λ (said : List (Opener EventRead)). said) opener_row (λ (r : OpenerRow). r.row.place)
         (λ e other x y is_first is_other same. one_of_threads e other x y is_first.0 is_other.0 same)
         entries told.0 told.1 keys_differ (IsListed Own)
         (λ o. (
@@ -303,32 +303,32 @@ module _ (entries : List (Thread × Calls CallEvent)) (events : List EventText) 
     -- as many pass a test as of all calls
     counted_openers : (test : OpenerRow → Bool) → count_by test (flat_map openers_in in_turn.founds) ≡ count_by test (map opener_row all_openers.0)
     counted_openers test =
-        let Is : List (JudgedOf EventText) → Opener EventText → Type 0 = IsOpener text_reads in
+        let Is : List (Bracketed EventRead) → Opener EventRead → Type 0 = IsOpener text_reads in
         let told = all_told SumsOwn Gives (λ e o. IsOfKey Is events e.0 o) (λ o. o.event.place) opener_row openers_in openers_told
         entries in_turn.founds each_own in_turn.are in
         ap (count_by test) told.2
-        ∙ gathered_count same_thread (λ (e : Thread × Calls CallEvent). e.0) (λ e o. IsOfKey Is events e.0 o) (λ (said : List (Opener EventText)). said)
+        ∙ gathered_count same_thread (λ (e : Thread × Calls CallEvent). e.0) (λ e o. IsOfKey Is events e.0 o) (λ (said : List (Opener EventRead)). said)
         opener_row (λ (r : OpenerRow). r.row.place) one_of_threads entries told.0 told.1 keys_differ (IsOfOwn (λ o. o.event) Is events) of_threads
         test all_openers.0 all_openers.1
 
     -- no more than there are events
     few_counted : (test : OpenerRow → Bool) → count_by test (flat_map openers_in in_turn.founds) < 2 ^ 64
     few_counted test =
-        let event : Opener EventText → EventText = λ o. o.event in
-        let place : EventText → ℕ = λ e. e.place in
+        let event : Opener EventRead → EventRead = λ o. o.event in
+        let place : EventRead → ℕ = λ e. e.place in
         let told = all_openers.0 in
         let counted = counted_openers test in
         let passed = count_by-le-length test (map opener_row told) in
         let rows_long = length-map told opener_row in
         let long = length-map told event in
         let fewer = no_longer place (map event told) events
-        (rises_from_pairs place (map event told) (pairs_map (λ (a b : EventText). a.place < b.place) event told all_openers.1.rising))
+        (rises_from_pairs place (map event told) (pairs_map (λ (a b : EventRead). a.place < b.place) event told all_openers.1.rising))
         (rises_from_pairs place events rise)
         (λ e there.
         let o = in-map event told e there in
         let own = (all_openers.1.exact o.0).0 (contained told o.0 o.1) in
         let of = of_thread (thread_of o.0.event) events o.0.event (opener_stands (texts_of (thread_of o.0.event) events) o.0 own) in
-        subst (λ (x : EventText). In x events) (sym o.2) (in_list events o.0.event of.0)) in
+        subst (λ (x : EventRead). In x events) (sym o.2) (in_list events o.0.event of.0)) in
         let short = sums.placed.0 in
         omega (arith, counted, passed, rows_long, long, fewer, short)
 
@@ -340,24 +340,24 @@ module _ (entries : List (Thread × Calls CallEvent)) (events : List EventText) 
     kept_replied =
         sorted.replied ∙ in_turn.replied_is (few_counted (is_of Server Replied)) ∙ counted_openers (is_of Server Replied)
 
-    kept_strays : (said : List EventText) × AreStrays events said × (rows.strays.items ≡ map (λ e. e.place) said)
+    kept_strays : (said : List EventRead) × AreStrays events said × (rows.strays.items ≡ map (λ e. e.place) said)
     kept_strays =
-        let event : EventText → EventText = λ e. e in
+        let event : EventRead → EventRead = λ e. e in
         let told = all_told SumsOwn Gives (λ e t. IsOfKey IsStrayEvent events e.0 t) (λ t. t.place) (λ t. t.place) strays_in strays_told
         entries in_turn.founds each_own in_turn.are in
-        gathered_rows same_thread (λ (e : Thread × Calls CallEvent). e.0) (λ e t. IsOfKey IsStrayEvent events e.0 t) (λ (said : List EventText). said)
-        (λ (e : EventText). e.place) (λ (n : ℕ). n)
+        gathered_rows same_thread (λ (e : Thread × Calls CallEvent). e.0) (λ e t. IsOfKey IsStrayEvent events e.0 t) (λ (said : List EventRead). said)
+        (λ (e : EventRead). e.place) (λ (n : ℕ). n)
         (λ e other x y is_first is_other same. one_thread event IsStrayEvent stray_stands events rise e.0 other.0 x y is_first is_other same)
         entries told.0 told.1 keys_differ
         (IsOfOwn event IsStrayEvent events) (of_entries event IsStrayEvent stray_stands entries events sums (stray_marks text_reads)) gathered.strays.items
         rows.strays.items (in_turn.strays_are ∙ told.2) sorted.strays sorted.strays_rise
 
-    kept_sends : (said : List (RefusedSend EventText)) × AreSends events said × (rows.sends.items ≡ map send_row said)
+    kept_sends : (said : List (RefusedSend EventRead)) × AreSends events said × (rows.sends.items ≡ map send_row said)
     kept_sends =
-        let event : RefusedSend EventText → EventText = λ s. s.event in
+        let event : RefusedSend EventRead → EventRead = λ s. s.event in
         let told = all_told SumsOwn Gives (λ e s. IsOfKey IsRefusedSend events e.0 s) (λ s. s.event.place) send_row sends_in sends_told
         entries in_turn.founds each_own in_turn.are in
-        gathered_rows same_thread (λ (e : Thread × Calls CallEvent). e.0) (λ e s. IsOfKey IsRefusedSend events e.0 s) (λ (said : List (RefusedSend EventText)). said)
+        gathered_rows same_thread (λ (e : Thread × Calls CallEvent). e.0) (λ e s. IsOfKey IsRefusedSend events e.0 s) (λ (said : List (RefusedSend EventRead)). said)
         send_row (λ (r : SendRow). r.place)
         (λ e other x y is_first is_other same. one_thread event IsRefusedSend send_stands events rise e.0 other.0 x y is_first is_other same)
         entries told.0 told.1 keys_differ

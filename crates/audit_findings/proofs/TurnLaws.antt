@@ -8,13 +8,13 @@ use Rattle.capture_frame.specs.declared.process.Process.{Process}
 use Rattle.pending_ledger.specs.Pending.{ArePlacesOf}
 use Rattle.capture_frame.specs.Units.{Placed}
 use Rattle.transaction_view.specs.Grammar.{WholeFrame}
-use Rattle.event_core.specs.Events.{EventText, events_of_wholes}
+use Rattle.event_core.specs.Events.{EventRead, events_of_wholes}
 use Rattle.process_ledgers.specs.declared.processes.Processes.{Processes}
 use Rattle.summary_law.specs.declared.nothing.Nothing.{Nothing}
-use Rattle.process_ledgers.specs.OfProcess.{AreLedgersOf, AreOfProcesses, GivesOf, ledgers_in}
+use Rattle.process_ledgers.specs.EachProcess.{AreLedgersOf, SumsEach, GivesOf, ledgers_in}
 use Rattle.process_ledgers.specs.Processes.{processes_of}
-use Rattle.audit_findings.specs.declared.in_turn.OfProcess.{OfProcess}
-use Rattle.audit_findings.specs.InTurn.{AreInTurn, AreRowsOf, of_process}
+use Rattle.audit_findings.specs.declared.in_turn.ProcessRow.{ProcessRow}
+use Rattle.audit_findings.specs.InTurn.{AreInTurn, AreRowsOf, process_row}
 use Rattle.audit_findings.specs.Places.{AreListsOf}
 
 zip_append : {X Y : Type 0} (R : X → Y → Type 0) (xs us : List X) (ys vs : List Y) → AllZip R xs ys → AllZip R us vs → AllZip R (xs ++ us) (ys ++ vs)
@@ -83,7 +83,7 @@ module _ {E R : Type 0} (Gives : E → List R → Type 0) where
 
 -- what is so of all ledgers of these processes that entries name is so of the processes
 each_of : {R : Type 0} (Gives : Process × Nothing → List R → Type 0) (AreOf : Process → List R → Type 0) (processes : Processes) (wholes : List (Placed WholeFrame))
-    → AreOfProcesses processes wholes
+    → SumsEach processes wholes
     → ((e : Process × Nothing) (list : List R) → AreLedgersOf (ledgers_in processes e.0) (events_of_wholes wholes) e.0 → Gives e list → AreOf e.0 list)
     → (lists : List (List R)) → Listing Gives processes.order.now.entries.entries [] lists → AllZip AreOf (processes_of wholes) lists
 each_of Gives AreOf processes wholes of step lists listing =
@@ -98,32 +98,32 @@ pub listing_long : {E R : Type 0} (Gives : E → List R → Type 0) (entries : L
 listing_long Gives entries lists listing = zip_long Gives entries lists (all_listed Gives entries lists listing)
 
 -- the list of whatever process an entry names
-abbrev pub OwnList : {R : Type 0} → (List EventText → Process → List R → Type 0) → Processes → Process × Nothing → List R → Type 0
+abbrev pub OwnList : {R : Type 0} → (List EventRead → Process → List R → Type 0) → Processes → Process × Nothing → List R → Type 0
 OwnList AreOf processes e own = GivesOf AreOf (ledgers_in processes e.0) own
 
-pub own_lists : {R : Type 0} (AreOf : List EventText → Process → List R → Type 0) (processes : Processes) (wholes : List (Placed WholeFrame))
-    (lists : List (List R)) → Listing (OwnList AreOf processes) processes.order.now.entries.entries [] lists → AreOfProcesses processes wholes
+pub own_lists : {R : Type 0} (AreOf : List EventRead → Process → List R → Type 0) (processes : Processes) (wholes : List (Placed WholeFrame))
+    (lists : List (List R)) → Listing (OwnList AreOf processes) processes.order.now.entries.entries [] lists → SumsEach processes wholes
     → AllZip (AreOf (events_of_wholes wholes)) (processes_of wholes) lists
 own_lists AreOf processes wholes lists listing of =
     each_of (OwnList AreOf processes) (AreOf (events_of_wholes wholes)) processes wholes of
     (λ e list is gives. gives (events_of_wholes wholes) e.0 is) lists listing
 
 -- the places at which something is so of whatever process an entry names
-abbrev pub OwnPlaces : (List EventText → Process → ℕ → Type 0) → Processes → Process × Nothing → List ℕ → Type 0
-OwnPlaces IsSo processes e own = OwnList (λ events process places. ArePlacesOf (IsSo events process) places) processes e own
+abbrev pub OwnPlaces : (List EventRead → Process → ℕ → Type 0) → Processes → Process × Nothing → List ℕ → Type 0
+OwnPlaces IsHere processes e own = OwnList (λ events process places. ArePlacesOf (IsHere events process) places) processes e own
 
-pub own_places : (IsSo : List EventText → Process → ℕ → Type 0) (processes : Processes) (wholes : List (Placed WholeFrame)) (lists : List (List ℕ))
-    → Listing (OwnPlaces IsSo processes) processes.order.now.entries.entries [] lists → AreOfProcesses processes wholes → AreListsOf IsSo wholes lists
-own_places IsSo processes wholes lists listing of =
-    own_lists (λ events process places. ArePlacesOf (IsSo events process) places) processes wholes lists listing of
+pub own_places : (IsHere : List EventRead → Process → ℕ → Type 0) (processes : Processes) (wholes : List (Placed WholeFrame)) (lists : List (List ℕ))
+    → Listing (OwnPlaces IsHere processes) processes.order.now.entries.entries [] lists → SumsEach processes wholes → AreListsOf IsHere wholes lists
+own_places IsHere processes wholes lists listing of =
+    own_lists (λ events process places. ArePlacesOf (IsHere events process) places) processes wholes lists listing of
 
 -- the rows of a process, each as one of it
-abbrev pub RowsOf : {R : Type 0} → (List EventText → Process → List R → Type 0) → Processes → Process × Nothing → List (OfProcess R) → Type 0
-RowsOf {R} AreOf processes e rows = (own : List R) × GivesOf AreOf (ledgers_in processes e.0) own × (rows ≡ map (of_process e.0) own)
+abbrev pub RowsOf : {R : Type 0} → (List EventRead → Process → List R → Type 0) → Processes → Process × Nothing → List (ProcessRow R) → Type 0
+RowsOf {R} AreOf processes e rows = (own : List R) × GivesOf AreOf (ledgers_in processes e.0) own × (rows ≡ map (process_row e.0) own)
 
 -- the rows of all processes are theirs in turn
-pub in_turn : {R : Type 0} (AreOf : List EventText → Process → List R → Type 0) (processes : Processes) (wholes : List (Placed WholeFrame)) (rows : List (OfProcess R))
-    → Turning (RowsOf AreOf processes) processes.order.now.entries.entries [] rows → AreOfProcesses processes wholes
+pub in_turn : {R : Type 0} (AreOf : List EventRead → Process → List R → Type 0) (processes : Processes) (wholes : List (Placed WholeFrame)) (rows : List (ProcessRow R))
+    → Turning (RowsOf AreOf processes) processes.order.now.entries.entries [] rows → SumsEach processes wholes
     → AreInTurn (AreOf (events_of_wholes wholes)) (processes_of wholes) rows
 in_turn AreOf processes wholes rows turning of = (
   turning.0,

@@ -3,7 +3,7 @@ use Rattle.std.specs.Prelude.{◌≡◌, ℕ, ◌<◌, ◌==◌, Bool, true, fal
 use Rattle.std.specs.List.Sorted.{IsStrictlyIncreasing}
 use Rattle.binder_code.specs.declared.record_kind.Kind.{Kind}
 use Rattle.binder_code.specs.declared.record_kind.Kind.TheVariants.{Opaque}
-use Rattle.event_core.specs.Events.{EventText}
+use Rattle.event_core.specs.Events.{EventRead}
 use Rattle.audit_findings.specs.declared.codes.CodeRow.{CodeRow}
 
 -- the kind is that of records that the command table does not list
@@ -12,11 +12,11 @@ is_opaque_kind Opaque = true
 is_opaque_kind _ = false
 
 -- whether the record of an event is opaque
-abbrev pub is_opaque : EventText → Bool
+abbrev pub is_opaque : EventRead → Bool
 is_opaque e = is_opaque_kind e.kind
 
 -- the code words of these events, in their order
-abbrev pub code_words : List EventText → List ℕ
+abbrev pub code_words : List EventRead → List ℕ
 code_words events = map (λ e. e.code) events
 
 -- the rows for these code words: each different word once, rising, with the number of times that it stands there

@@ -1,10 +1,10 @@
 -- The section `deaths`: deaths that are not acknowledged, and stray acknowledgements (docs/REPORT.md).
 use Rattle.std.specs.Prelude.{List}
-use Rattle.event_core.specs.Events.{EventText}
+use Rattle.event_core.specs.Events.{EventRead}
 use Rattle.process_ledgers.specs.Items.{death_item_of}
-use Rattle.audit_findings.specs.Places.{OpenAndStrayText, AreOpenAndStray}
+use Rattle.audit_findings.specs.Places.{OpenAndStraySaid, AreOpenAndStray}
 
 -- the deaths that no later acknowledgement of their process has the cookie of, and the acknowledgements of what is not
 -- dead or is acknowledged already
-abbrev pub AreDeathFindings : List EventText → OpenAndStrayText → Type 0
+abbrev pub AreDeathFindings : List EventRead → OpenAndStraySaid → Type 0
 AreDeathFindings events said = AreOpenAndStray death_item_of events said

@@ -4,14 +4,14 @@ use Rattle.std.specs.List.{filter_map, sum_by}
 use Rattle.capture_frame.specs.Envelope.{frame_text, placed_frame}
 use Rattle.capture_frame.specs.Units.{Placed}
 use Rattle.capture_frame.specs.declared.frame.Frame.{Frame}
-use Rattle.event_core.specs.Events.{AttachmentText, EventText, events_of, events_of_wholes}
+use Rattle.event_core.specs.Events.{AttachmentText, EventRead, events_of, events_of_wholes}
 use Rattle.event_core.specs.Reading.{entry_attachment}
 use Rattle.event_core.specs.declared.event.Event.{Event}
 use Rattle.record_view.specs.Records.{RecordText, HasRecords}
 use Rattle.transaction_view.specs.Attachments.{EntryText, HasEntries}
 use Rattle.transaction_view.specs.Grammar.{WholeFrame}
 use Rattle.transaction_view.specs.declared.entry.Entry.{Entry}
-use Rattle.audit_findings.specs.Frames.{Show}
+use Rattle.audit_findings.specs.Frames.{AreViews}
 use Rattle.audit_findings.specs.Kept.{places_of}
 
 -- how many bytes the lists of offsets of these entries have
@@ -27,7 +27,7 @@ abbrev pub entries_in : Event → List Entry
 entries_in event = entry_list event.entry
 
 -- the attachments of these events, in their order
-abbrev pub carried_by : List EventText → List AttachmentText
+abbrev pub carried_by : List EventRead → List AttachmentText
 carried_by events = filter_map (λ e. e.entry) events
 
 -- the entries show these attachments
@@ -35,7 +35,7 @@ abbrev pub ShowAttachments : List Entry → List AttachmentText → Type 0
 ShowAttachments entries attachments = map entry_attachment entries ≡ attachments
 
 -- the events are those of the frame
-abbrev pub AreEventsOfFrame : Frame → List EventText → Type 0
+abbrev pub AreEventsOfFrame : Frame → List EventRead → Type 0
 AreEventsOfFrame frame events =
     (records : List RecordText) × (entries : List EntryText) × HasRecords (frame_text frame) records
     × HasEntries (frame_text frame) entries × (events ≡ events_of (placed_frame frame) records entries)
@@ -45,7 +45,7 @@ abbrev pub Rise : List ℕ → Type 0
 Rise numbers = AllPairs (λ a b. a < b) numbers
 
 -- the places are those of the chosen events, and then others
-abbrev pub AreChosen : (EventText → Bool) → List EventText → List ℕ → List ℕ → Type 0
+abbrev pub AreChosen : (EventRead → Bool) → List EventRead → List ℕ → List ℕ → Type 0
 AreChosen choice events others places = places ≡ places_of (filter choice events) ++ others
 
 -- However events of the frame are chosen: where the places are those of the chosen ones and then others, which come
@@ -53,13 +53,13 @@ AreChosen choice events others places = places ≡ places_of (filter choice even
 -- the chosen events.
 abbrev pub AddsEntries : List Entry → Frame → List ℕ → List Entry → List ℕ → Type 0
 AddsEntries old frame places new left =
-    (events : List EventText) (choice : EventText → Bool) (others : List ℕ) → AreEventsOfFrame frame events
+    (events : List EventRead) (choice : EventRead → Bool) (others : List ℕ) → AreEventsOfFrame frame events
     → Rise (places_of events ++ others) → AreChosen choice events others places
     → (left ≡ others) × ShowAttachments new (map entry_attachment old ++ carried_by (filter choice events))
 
 -- whatever events of these frames are at the places, the entries show their attachments
 abbrev pub AreEntriesAt : List Frame → List ℕ → List Entry → Type 0
 AreEntriesAt frames places entries =
-    (wholes : List (Placed WholeFrame)) (choice : EventText → Bool) → Show frames wholes
+    (wholes : List (Placed WholeFrame)) (choice : EventRead → Bool) → AreViews frames wholes
     → AreChosen choice (events_of_wholes wholes) [] places
     → ShowAttachments entries (carried_by (filter choice (events_of_wholes wholes)))

@@ -7,23 +7,23 @@ use Rattle.std.specs.Ordering.{nat_cmp}
 use Rattle.capture_frame.specs.declared.frame.Frame.{Frame}
 use Rattle.capture_frame.specs.Units.{Placed}
 use Rattle.transaction_view.specs.Grammar.{WholeFrame}
-use Rattle.event_core.specs.Events.{AttachmentText, EventText}
+use Rattle.event_core.specs.Events.{AttachmentText, EventRead}
 use Rattle.summary_law.specs.Fits.{IsShort, IsPlaced, all_parts, placed_parts}
 use Rattle.summary_law.specs.Tally.{TallySums}
 use Rattle.audit_findings.specs.declared.codes.CodeRow.{CodeRow}
 use Rattle.audit_findings.specs.declared.event_ledgers.EventLedgers.{EventLedgers}
 use Rattle.audit_findings.specs.declared.findings.Sections.{Sections}
 use Rattle.audit_findings.specs.declared.flags.FlagLedger.{FlagLedger}
-use Rattle.audit_findings.specs.declared.ledgers.Ledgers.{Ledgers}
+use Rattle.audit_findings.specs.declared.ledgers.FrameLedgers.{FrameLedgers}
 use Rattle.audit_findings.specs.declared.objects.ObjectLedger.{ObjectLedger}
 use Rattle.audit_findings.specs.declared.sequences.Sequences.{Sequences}
 use Rattle.audit_findings.specs.Codes.{is_opaque}
-use Rattle.audit_findings.specs.Findings.{FindingsText, AreFindings, last_sequence}
+use Rattle.audit_findings.specs.Findings.{FindingsSaid, AreFindings, last_sequence}
 use Rattle.audit_findings.specs.Flags.{flagged}
-use Rattle.audit_findings.specs.Frames.{Show}
+use Rattle.audit_findings.specs.Frames.{AreViews}
 use Rattle.audit_findings.specs.Buffers.{AreUnfreed}
 use Rattle.audit_findings.specs.Handles.{AreListedHandles}
-use Rattle.audit_findings.specs.declared.in_turn.OfProcess.{OfProcess}
+use Rattle.audit_findings.specs.declared.in_turn.ProcessRow.{ProcessRow}
 use Rattle.handle_ledger.specs.declared.held_row.HeldRow.{HeldRow}
 use Rattle.event_core.specs.Events.{events_of_wholes}
 use Rattle.audit_findings.specs.Kept.{Keep, kept_bad}
@@ -32,7 +32,7 @@ use Rattle.audit_findings.specs.Oneway.{CountsOneway}
 use Rattle.event_core.specs.Reading.{event_text}
 use Rattle.event_core.specs.declared.event.Event.{Event}
 use Rattle.process_ledgers.specs.Concerns.{concerned}
-use Rattle.process_ledgers.specs.OfProcess.{AreOfProcesses, SumsOrder}
+use Rattle.process_ledgers.specs.EachProcess.{SumsEach, SumsOrder}
 use Rattle.process_ledgers.specs.ProcessLedgers.{SumsProcess}
 use Rattle.process_ledgers.specs.declared.process_ledgers.ProcessLedgers.{ProcessLedgers}
 use Rattle.process_ledgers.specs.declared.processes.Processes.{Processes}
@@ -44,29 +44,29 @@ use Rattle.audit_findings.specs.declared.event_sums.EventSums.{EventSums}
 use Rattle.audit_findings.specs.ThreadLedger.{SumsThreadCalls}
 
 -- how many bytes of a list of offsets an event has
-abbrev pub offset_bytes_of : EventText → ℕ
+abbrev pub offset_bytes_of : EventRead → ℕ
 offset_bytes_of e = option_map_or (λ (a : AttachmentText). length a.offset_bytes) e.entry 0
 
 -- at most 2^32 events, whose places rise, and whose lists of offsets each have fewer than 2^32 bytes
-abbrev pub AreFewEvents : List EventText → Type 0
+abbrev pub AreFewEvents : List EventRead → Type 0
 AreFewEvents events = IsPlaced (λ e. e.place) events × All (λ e. offset_bytes_of e < 2 ^ 32) events
 
 -- an event in the tally of code words: its code word, with weight 0
-abbrev pub code_item : EventText → ℕ × ℕ
+abbrev pub code_item : EventRead → ℕ × ℕ
 code_item e = (e.code, 0)
 
 -- the places are those of the events with flag bits that the header does not name
-abbrev pub ListsFlagged : FlagLedger → List EventText → Type 0
+abbrev pub ListsFlagged : FlagLedger → List EventRead → Type 0
 ListsFlagged ledger events = ledger.places.items ≡ map (λ e. e.place) (flagged events)
 
 -- the objects are counted, and the bad ones kept
-pub record SumsObjects (ledger : ObjectLedger) (events : List EventText) : Type 0 where
+pub record SumsObjects (ledger : ObjectLedger) (events : List EventRead) : Type 0 where
   pub bad : List BadOwned
   pub are : AreObjectFindings (attachments_of events) ledger.counts bad
   pub kept : ledger.bad.items ≡ map kept_bad bad
 
 -- the ledgers are those of these events
-pub record SumsEvents (ledgers : EventLedgers) (events : List EventText) : Type 0 where
+pub record SumsEvents (ledgers : EventLedgers) (events : List EventRead) : Type 0 where
   pub records : ledgers.records ≡ length events
   pub opaque : ledgers.opaque ≡ count_by is_opaque events
   pub codes : TallySums nat_cmp ledgers.codes (map code_item events)
@@ -88,8 +88,8 @@ AreFewGiven events = AreFewEvents (map event_text events)
 pub few_given_parts : FitsInParts AreFewGiven
 few_given_parts first second few =
     let all = subst AreFewEvents (map-append event_text first second) few in
-    let placed = placed_parts (λ (e : EventText). e.place) (map event_text first) (map event_text second) all.0 in
-    let small = all_parts (λ (e : EventText). offset_bytes_of e < 2 ^ 32) (map event_text first) (map event_text second) all.1 in
+    let placed = placed_parts (λ (e : EventRead). e.place) (map event_text first) (map event_text second) all.0 in
+    let small = all_parts (λ (e : EventRead). offset_bytes_of e < 2 ^ 32) (map event_text first) (map event_text second) all.1 in
     ((placed.0, small.0), (placed.1, small.1))
 
 -- the ledgers are those of these events, of their threads and of their processes
@@ -99,7 +99,7 @@ pub record SumsGiven (sums : EventSums) (events : List Event) : Type 0 where
   pub processes : SumsPicked concerned (SumsInOrder same_process SumsProcess) sums.processes.entries.entries events
 
 -- the ledgers are those of these frames, and of the events that they were given of them
-pub record SumsLedgers (ledgers : Ledgers) (wholes : List (Placed WholeFrame)) : Type 0 where
+pub record SumsLedgers (ledgers : FrameLedgers) (wholes : List (Placed WholeFrame)) : Type 0 where
   pub sequences : SumsFrames ledgers.sequences wholes
   pub order : SumsOrder ledgers.order.entries.entries wholes
   pub given : List Event
@@ -111,33 +111,33 @@ abbrev pub AreFewFrames : List (Placed WholeFrame) → Type 0
 AreFewFrames wholes = IsShort wholes × AreFewEvents (events_of_wholes wholes)
 
 -- the ledgers are those of some frames that are few with those of these views behind them
-abbrev pub CanTake : Ledgers → List Frame → Type 0
+abbrev pub CanTake : FrameLedgers → List Frame → Type 0
 CanTake ledgers frames =
-    (wholes others : List (Placed WholeFrame)) × SumsLedgers ledgers wholes × Show frames others
+    (wholes others : List (Placed WholeFrame)) × SumsLedgers ledgers wholes × AreViews frames others
     × AreFewFrames (wholes ++ others)
 
 -- whatever frames the old ledgers are those of, the new ones are those of them and of these behind them
-abbrev pub Takes : Ledgers → List Frame → Ledgers → Type 0
+abbrev pub Takes : FrameLedgers → List Frame → FrameLedgers → Type 0
 Takes old frames new =
-    (wholes others : List (Placed WholeFrame)) → SumsLedgers old wholes → Show frames others
+    (wholes others : List (Placed WholeFrame)) → SumsLedgers old wholes → AreViews frames others
     → AreFewFrames (wholes ++ others) → SumsLedgers new (wholes ++ others)
 
 -- the ledgers are those of some frames that are few
-abbrev pub AreOfFew : Ledgers → Type 0
+abbrev pub AreOfFew : FrameLedgers → Type 0
 AreOfFew ledgers = (wholes : List (Placed WholeFrame)) × SumsLedgers ledgers wholes × AreFewFrames wholes
 
 -- whatever few frames the ledgers are those of, whose processes have these unfreed deliveries and rows of handles, the
 -- sections keep their findings
-abbrev pub GiveSections : Ledgers → List (List ℕ) → List (List (OfProcess HeldRow)) → Sections → Type 0
+abbrev pub GiveSections : FrameLedgers → List (List ℕ) → List (List (ProcessRow HeldRow)) → Sections → Type 0
 GiveSections ledgers unfreed handles sections =
     (wholes : List (Placed WholeFrame)) → SumsLedgers ledgers wholes → AreFewFrames wholes
-    → AreUnfreed wholes unfreed → AreListedHandles wholes handles → (said : FindingsText) × AreFindings wholes said × Keep sections said
+    → AreUnfreed wholes unfreed → AreListedHandles wholes handles → (said : FindingsSaid) × AreFindings wholes said × Keep sections said
 
 -- the key and the count of a tally's row
 abbrev pub row_of : ℕ × ℕ × ℕ → CodeRow
 row_of row = record { word = row.0; count = row.1 }
 
 -- whatever frames the ledgers are those of, these are their processes, with these ledgers where none has an item
-abbrev pub GivesProcesses : Ledgers → ProcessLedgers → Processes → Type 0
+abbrev pub GivesProcesses : FrameLedgers → ProcessLedgers → Processes → Type 0
 GivesProcesses ledgers none processes =
-    (wholes : List (Placed WholeFrame)) → SumsLedgers ledgers wholes → SumsProcess none [] → AreOfProcesses processes wholes
+    (wholes : List (Placed WholeFrame)) → SumsLedgers ledgers wholes → SumsProcess none [] → SumsEach processes wholes

@@ -5,9 +5,9 @@ use Rattle.capture_frame.specs.Envelope.{placed_frame}
 use Rattle.capture_frame.specs.Units.{Placed}
 use Rattle.transaction_view.specs.Grammar.{WholeFrame}
 use Rattle.event_core.specs.declared.event.Event.{Event}
-use Rattle.event_core.specs.Events.{EventText, HasRecordAt, events_of_wholes}
+use Rattle.event_core.specs.Events.{EventRead, HasRecordAt, events_of_wholes}
 use Rattle.event_core.specs.Reading.{event_text}
-use Rattle.audit_findings.specs.Frames.{Show}
+use Rattle.audit_findings.specs.Frames.{AreViews}
 
 -- a record of one of these frames begins at this place
 abbrev pub HasRecordIn : List Frame → ℕ → Type 0
@@ -16,5 +16,5 @@ HasRecordIn frames place = (frame : Frame) × Contains frames frame × HasRecord
 -- it says what the event at this place does, with the attachment left out
 abbrev pub SaysEventAt : List Frame → ℕ → Event → Type 0
 SaysEventAt frames place found =
-    (wholes : List (Placed WholeFrame)) → Show frames wholes → (e : EventText) → Contains (events_of_wholes wholes) e
+    (wholes : List (Placed WholeFrame)) → AreViews frames wholes → (e : EventRead) → Contains (events_of_wholes wholes) e
     → e.place ≡ place → event_text found ≡ record e { entry = None }

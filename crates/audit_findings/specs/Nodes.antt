@@ -3,7 +3,7 @@ use Rattle.std.specs.Prelude.{◌||◌, Bool, List}
 use Rattle.capture_frame.specs.declared.process.Process.{Process}
 use Rattle.capture_frame.specs.Units.{Placed}
 use Rattle.transaction_view.specs.Grammar.{WholeFrame}
-use Rattle.event_core.specs.Events.{EventText, events_of_wholes}
+use Rattle.event_core.specs.Events.{EventRead, events_of_wholes}
 use Rattle.handle_ledger.specs.Nodes.{AreNodeRows}
 use Rattle.handle_ledger.specs.declared.node_row.NodeRow.{NodeRow}
 use Rattle.process_ledgers.specs.Items.{node_item_of}
@@ -12,7 +12,7 @@ use Rattle.audit_findings.specs.declared.references.References.{References}
 use Rattle.audit_findings.specs.References.{AreReferences, is_not_zero}
 
 -- the rows of this process: one for each node that is named to it or by it, by rising ptr and then by rising cookie
-abbrev pub AreNodesOf : List EventText → Process → List NodeRow → Type 0
+abbrev pub AreNodesOf : List EventRead → Process → List NodeRow → Type 0
 AreNodesOf events process rows = AreNodeRows (read_of node_item_of process) events rows
 
 -- whether of one strength more or fewer references were let go than were taken, or acknowledged than were asked for

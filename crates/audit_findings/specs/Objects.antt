@@ -7,19 +7,19 @@ use Rattle.object_view.specs.declared.sort.Sort.{Sort}
 use Rattle.object_view.specs.declared.sort.Sort.TheVariants.{Binder, WeakBinder, Handle, WeakHandle, Fd, Fda, Ptr}
 use Rattle.object_view.specs.Fields.{sort_number}
 use Rattle.object_view.specs.Objects.{ObjectText, AreObjects}
-use Rattle.event_core.specs.Events.{AttachmentText, EventText}
+use Rattle.event_core.specs.Events.{AttachmentText, EventRead}
 use Rattle.audit_findings.specs.declared.sort_counts.SortCounts.{SortCounts}
 
 -- an attachment, with the event of the record that it belongs to
 pub record Attached : Type 0 where
-  pub owner : EventText
+  pub owner : EventRead
   pub attachment : AttachmentText
 
-abbrev pub attached_to : EventText → Option Attached
+abbrev pub attached_to : EventRead → Option Attached
 attached_to e = option_map (λ a. record { owner = e; attachment = a }) e.entry
 
 -- the attachments of these events, in their order
-abbrev pub attachments_of : List EventText → List Attached
+abbrev pub attachments_of : List EventRead → List Attached
 attachments_of events = filter_map attached_to events
 
 -- what the objects of an attachment come to: those before the first bad one, and that one, if there is one
@@ -61,7 +61,7 @@ good_objects outcomes = flat_map (λ o. o.objects) outcomes
 
 -- a bad object, with the event of the record that owns it
 pub record BadOwned : Type 0 where
-  pub owner : EventText
+  pub owner : EventRead
   pub bad : BadObject
 
 abbrev pub bad_of : Outcome → Option BadOwned
@@ -79,6 +79,6 @@ pub record AreObjectFindings (attachments : List Attached) (counts : SortCounts)
   pub bad_are : bad ≡ bad_objects outcomes
 
 -- the bad object of an owner's attachment, if it has one
-abbrev pub owned_by : EventText → Option BadObject → List BadOwned
+abbrev pub owned_by : EventRead → Option BadObject → List BadOwned
 owned_by owner None = []
 owned_by owner (Some bad) = record { owner = owner; bad = bad } ∷ []

@@ -9,18 +9,18 @@ use Rattle.process_ledgers.specs.Processes.{processes_of}
 use Rattle.transaction_view.specs.Grammar.{WholeFrame}
 use Rattle.audit_findings.specs.declared.findings.Sections.{Sections}
 use Rattle.audit_findings.specs.declared.piece_summary.PieceSummary.{PieceSummary}
-use Rattle.audit_findings.specs.Findings.{FindingsText, AreFindings}
+use Rattle.audit_findings.specs.Findings.{FindingsSaid, AreFindings}
 use Rattle.audit_findings.specs.Buffers.{AreUnfreed, AreUnfreedIn}
-use Rattle.audit_findings.specs.Frames.{Show, AreGoodFrames}
+use Rattle.audit_findings.specs.Frames.{AreViews, AreGoodFrames}
 use Rattle.audit_findings.specs.Handles.{AreHandlesOf, AreListedHandles}
 use Rattle.audit_findings.specs.InTurn.{AreRowsOf}
-use Rattle.audit_findings.specs.declared.in_turn.OfProcess.{OfProcess}
+use Rattle.audit_findings.specs.declared.in_turn.ProcessRow.{ProcessRow}
 use Rattle.audit_findings.specs.Kept.{Keep}
 use Rattle.audit_findings.specs.Ledgers.{SumsLedgers}
 
 -- its ledgers are those of the whole frames that these frames show
 abbrev pub SumsPiece : PieceSummary → List Frame → Type 0
-SumsPiece summary frames = (wholes : List (Placed WholeFrame)) → Show frames wholes → SumsLedgers summary.ledgers wholes
+SumsPiece summary frames = (wholes : List (Placed WholeFrame)) → AreViews frames wholes → SumsLedgers summary.ledgers wholes
 
 -- how many processes they have
 abbrev pub process_count : PieceSummary → ℕ
@@ -29,21 +29,21 @@ process_count summary = length summary.ledgers.order.entries.entries
 -- whatever frames the summary sums, the lists are the places of the deliveries that each of their processes never frees
 abbrev pub GivesUnfreed : PieceSummary → List (List ℕ) → Type 0
 GivesUnfreed summary lists =
-    (frames : List Frame) (wholes : List (Placed WholeFrame)) → SumsPiece summary frames → Show frames wholes
+    (frames : List Frame) (wholes : List (Placed WholeFrame)) → SumsPiece summary frames → AreViews frames wholes
     → AreUnfreed wholes lists
 
 -- if the summary is that of these views, and the places are those of the deliveries that the process with this number
 -- never frees, the rows are those of the process's handles
-abbrev pub GivesHandlesAt : PieceSummary → List Frame → ℕ → List ℕ → List (OfProcess HeldRow) → Type 0
+abbrev pub GivesHandlesAt : PieceSummary → List Frame → ℕ → List ℕ → List (ProcessRow HeldRow) → Type 0
 GivesHandlesAt summary frames number unfreed rows =
-    SumsPiece summary frames → (wholes : List (Placed WholeFrame)) (d : Process) → Show frames wholes
+    SumsPiece summary frames → (wholes : List (Placed WholeFrame)) (d : Process) → AreViews frames wholes
     → AreUnfreedIn (events_of_wholes wholes) (slice_index_or (processes_of wholes) number d) unfreed
     → AreRowsOf (AreHandlesOf (events_of_wholes wholes)) (slice_index_or (processes_of wholes) number d) rows
 
 -- whatever frames it sums, whose processes have these unfreed deliveries and rows of handles, the sections keep their
 -- findings
-abbrev pub GiveSectionsOf : PieceSummary → List (List ℕ) → List (List (OfProcess HeldRow)) → Sections → Type 0
+abbrev pub GiveSectionsOf : PieceSummary → List (List ℕ) → List (List (ProcessRow HeldRow)) → Sections → Type 0
 GiveSectionsOf summary unfreed handles sections =
     (frames : List Frame) (wholes : List (Placed WholeFrame)) → SumsPiece summary frames → AreGoodFrames frames
-    → Show frames wholes → AreUnfreed wholes unfreed → AreListedHandles wholes handles
-    → (said : FindingsText) × AreFindings wholes said × Keep sections said
+    → AreViews frames wholes → AreUnfreed wholes unfreed → AreListedHandles wholes handles
+    → (said : FindingsSaid) × AreFindings wholes said × Keep sections said

@@ -3,7 +3,7 @@ use Rattle.std.specs.Prelude.{Bool, List, filter, is_some, map}
 use Rattle.capture_frame.specs.Process.{same_thread}
 use Rattle.capture_frame.specs.declared.process.Thread.{Thread}
 use Rattle.event_core.specs.Brackets.{is_oneway}
-use Rattle.event_core.specs.Events.{EventText, thread_of}
+use Rattle.event_core.specs.Events.{EventRead, thread_of}
 use Rattle.call_stacks.specs.Calls.{CallsSum, event_reads, mark_read}
 use Rattle.call_stacks.specs.declared.call_record.CallEvent.{CallEvent}
 use Rattle.call_stacks.specs.declared.calls.Calls.{Calls}
@@ -13,26 +13,26 @@ use Rattle.audit_findings.specs.Calls.{text_reads}
 use Rattle.audit_findings.specs.declared.thread_ledger.ThreadLedger.{ThreadLedger}
 
 -- what the calls of a thread go by of an event; nothing is kept of it beside
-abbrev pub text_call : EventText → CallEvent
+abbrev pub text_call : EventRead → CallEvent
 text_call e = record { place = e.place; kind = e.kind; oneway = is_oneway e.kind e.payload }
 
 -- whether an event leaves a mark in its thread
-abbrev pub leaves_mark : EventText → Bool
+abbrev pub leaves_mark : EventRead → Bool
 leaves_mark e = is_some (mark_read text_reads e)
 
 -- an event is fed under its thread
-abbrev pub fed_call : EventText → Thread × CallEvent
+abbrev pub fed_call : EventRead → Thread × CallEvent
 fed_call e = (thread_of e, text_call e)
 
 -- of events that leave no mark nothing is fed
-abbrev pub fed_calls : List EventText → List (Thread × CallEvent)
+abbrev pub fed_calls : List EventRead → List (Thread × CallEvent)
 fed_calls events = map fed_call (filter leaves_mark events)
 
 -- the entries have, for each thread with an event that leaves a mark and no other, the calls of such events
-pub record SumsThreads (entries : List (Thread × Calls CallEvent)) (events : List EventText) : Type 0 where
+pub record SumsThreads (entries : List (Thread × Calls CallEvent)) (events : List EventRead) : Type 0 where
   pub placed : IsPlaced (λ e. e.place) events
   pub sums : SumsInOrder same_thread (CallsSum event_reads) entries (fed_calls events)
 
 -- the ledger has the calls of the threads of these events
-abbrev pub SumsThreadCalls : ThreadLedger → List EventText → Type 0
+abbrev pub SumsThreadCalls : ThreadLedger → List EventRead → Type 0
 SumsThreadCalls ledger events = SumsThreads ledger.threads.entries.entries events

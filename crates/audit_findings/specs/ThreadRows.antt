@@ -2,7 +2,7 @@
 use Rattle.std.specs.Prelude.{◌≡◌, ℕ, ◌+◌, ◌-◌, ◌<◌, ◌^◌, min, ◌++◌, ◌&&◌, ◌||◌, if◌then◌else◌, not, Bool, true, false, List, map, filter, count_by, None}
 use Rattle.std.specs.List.{AllZip, flat_map}
 use Rattle.std.specs.List.Sorted.{IsPermutation, IsNonDecreasingBy}
-use Rattle.event_core.specs.Events.{EventText}
+use Rattle.event_core.specs.Events.{EventRead}
 use Rattle.call_stacks.specs.Calls.{GivesFindings, bracket_read, event_reads, event_place}
 use Rattle.call_stacks.specs.declared.opener.Opener.{Opener}
 use Rattle.call_stacks.specs.declared.findings.RefusedSend.{RefusedSend}
@@ -22,13 +22,13 @@ use Rattle.audit_findings.specs.Calls.{is_call, is_call_bracket, is_answered, is
 use Rattle.audit_findings.specs.Kept.{kept_call}
 
 -- the rows of an opener and of a refused send
-abbrev pub opener_row : Opener EventText → OpenerRow
+abbrev pub opener_row : Opener EventRead → OpenerRow
 opener_row o = record { end = if is_call o then Caller else Server; row = kept_call o }
 
-abbrev pub send_row : RefusedSend EventText → SendRow
+abbrev pub send_row : RefusedSend EventRead → SendRow
 send_row s = record { place = s.event.place; oneway = s.oneway }
 
--- the same of what is found of a thread
+-- an opener that a thread's ledger found, as a row that is kept
 abbrev pub found_call : Opener CallEvent → CallRow
 found_call o = record { place = o.event.place; verdict = o.verdict; closer = o.closer }
 
@@ -126,22 +126,22 @@ pub record AreSortedRows (old new : ThreadRows) : Type 0 where
 
 -- these are the listed ones of these calls, in their order, and so many of the calls have their thread at this end
 -- and this verdict
-abbrev pub AreListedOf : List (Opener EventText) → List OpenerRow → Type 0
+abbrev pub AreListedOf : List (Opener EventRead) → List OpenerRow → Type 0
 AreListedOf told listed = listed ≡ filter is_listed (map opener_row told)
 
-abbrev pub IsCallCount : End → Verdict → List (Opener EventText) → ℕ → Type 0
+abbrev pub IsCallCount : End → Verdict → List (Opener EventRead) → ℕ → Type 0
 IsCallCount end verdict told count = count ≡ count_by (is_of end verdict) (map opener_row told)
 
 -- the rows keep the openers, the strays and the refused sends of all threads of these events
-pub record KeepRows (rows : ThreadRows) (events : List EventText) : Type 0 where
-  pub openers : List (Opener EventText)
+pub record KeepRows (rows : ThreadRows) (events : List EventRead) : Type 0 where
+  pub openers : List (Opener EventRead)
   pub are_openers : AreOpeners events openers
   pub listed_kept : AreListedOf openers rows.listed.items
   pub answered_kept : IsCallCount Caller Answered openers rows.answered
   pub replied_kept : IsCallCount Server Replied openers rows.replied
-  pub strays : List EventText
+  pub strays : List EventRead
   pub are_strays : AreStrays events strays
   pub strays_kept : rows.strays.items ≡ map (λ e. e.place) strays
-  pub sends : List (RefusedSend EventText)
+  pub sends : List (RefusedSend EventRead)
   pub are_sends : AreSends events sends
   pub sends_kept : rows.sends.items ≡ map send_row sends

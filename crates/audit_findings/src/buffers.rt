@@ -1,13 +1,13 @@
 //! The deliveries and frees of a process.
 
-use crate::paired::Paired;
+use crate::paired::OpensAndCloses;
 use process_ledgers::ProcessLedgers;
 use std::alloc::AllocError;
 
 /// Deliveries, which open their buffer's address, and frees, which close it.
 pub(crate) struct BufferPairs;
 
-impl Paired for BufferPairs {
+impl OpensAndCloses for BufferPairs {
     ghost use Rattle.process_ledgers.specs.Items.{buffer_pending_of};
 
     ghost read = { buffer_pending_of };

@@ -1,8 +1,8 @@
 //! The sections of what became of calls.
 
 ghost use Rattle.std.specs.Prelude.{List, IfOk};
-ghost use Rattle.event_core.specs.Events.{EventText};
-ghost use Rattle.audit_findings.specs.Findings.{CallSectionsText, AreCallSections};
+ghost use Rattle.event_core.specs.Events.{EventRead};
+ghost use Rattle.audit_findings.specs.Findings.{CallSectionsSaid, AreCallSections};
 ghost use Rattle.audit_findings.specs.Places.{RiseInPlace};
 ghost use Rattle.audit_findings.specs.ThreadLedger.{SumsThreadCalls};
 
@@ -32,9 +32,9 @@ impl CallSections {
 
     /// Those of the calls of all threads.
     pub(crate) fn of(alloc: Global, ledger: ThreadLedger) -> Result<Self, AllocError>
-        ensures { IfOk result (λ kept. (events : List EventText) →
+        ensures { IfOk result (λ kept. (events : List EventRead) →
             SumsThreadCalls ledger events → RiseInPlace events →
-            (said : CallSectionsText) × AreCallSections events said × KeepCallSections kept said) }
+            (said : CallSectionsSaid) × AreCallSections events said × KeepCallSections kept said) }
     {
         let ThreadRows {
             listed,

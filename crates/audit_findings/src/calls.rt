@@ -1,8 +1,8 @@
 //! The section `calls`.
 
 ghost use Rattle.std.specs.Prelude.{◌≡◌, List, IfOk};
-ghost use Rattle.event_core.specs.Events.{EventText};
-ghost use Rattle.audit_findings.specs.Calls.{AreCalls, CallsText};
+ghost use Rattle.event_core.specs.Events.{EventRead};
+ghost use Rattle.audit_findings.specs.Calls.{AreCalls, CallsSaid};
 ghost use Rattle.audit_findings.specs.Kept.{KeepsCalls};
 ghost use Rattle.audit_findings.specs.ThreadRows.{found_call, AreListedOf, IsCallCount};
 ghost use Rattle.audit_findings.specs.declared.opener_row.End.TheVariants.{Caller};
@@ -52,9 +52,9 @@ impl Calls {
     /// What is kept of the calls that threads make: of these many answered ones, and of those among
     /// the listed ones.
     pub(crate) fn of(alloc: Global, answered: u64, listed: &[OpenerRow]) -> Result<Self, AllocError>
-        ensures { IfOk result (λ calls. (told : List (Opener EventText)) →
+        ensures { IfOk result (λ calls. (told : List (Opener EventRead)) →
             IsCallCount Caller Answered told answered → AreListedOf told listed.entry.now →
-            (said : CallsText) × AreCalls told said × KeepsCalls calls said) }
+            (said : CallsSaid) × AreCalls told said × KeepsCalls calls said) }
     {
         let crossed = count_of(listed, End::Caller, Verdict::Crossed);
         let open = count_of(listed, End::Caller, Verdict::Open);

@@ -2,7 +2,7 @@
 
 ghost use Rattle.std.specs.Prelude.{◌≡◌, if◌then◌else◌, List, IfOk, map};
 ghost use Rattle.std.specs.Ordering.{nat_cmp};
-ghost use Rattle.event_core.specs.Events.{EventText};
+ghost use Rattle.event_core.specs.Events.{EventRead};
 ghost use Rattle.summary_law.specs.Tally.{TallySums};
 ghost use Rattle.audit_findings.specs.Codes.{AreCodeRows, code_words, is_opaque_kind};
 ghost use Rattle.audit_findings.specs.Ledgers.{code_item, row_of};
@@ -21,7 +21,7 @@ pub struct CodeRow {
 
 /// The rows of the section, from the tally of the records' code words.
 pub(crate) fn code_rows(alloc: Global, codes: &Tally<u32>) -> Result<Rows<CodeRow>, AllocError>
-    ensures { IfOk result (λ rows. (events : List EventText) →
+    ensures { IfOk result (λ rows. (events : List EventRead) →
         TallySums nat_cmp codes.now (map code_item events) →
         AreCodeRows (code_words events) rows) }
 {

@@ -1,8 +1,8 @@
 //! The sections of what is counted and listed of all events.
 
 ghost use Rattle.std.specs.Prelude.{List, IfOk};
-ghost use Rattle.event_core.specs.Events.{EventText};
-ghost use Rattle.audit_findings.specs.Findings.{EventSectionsText, AreEventSections};
+ghost use Rattle.event_core.specs.Events.{EventRead};
+ghost use Rattle.audit_findings.specs.Findings.{EventSectionsSaid, AreEventSections};
 ghost use Rattle.audit_findings.specs.Ledgers.{SumsEvents, AreFewEvents};
 
 use crate::codes::{CodeRow, code_rows};
@@ -40,9 +40,9 @@ impl EventSections {
 
     /// Those of the ledgers of some events.
     pub(crate) fn of(alloc: Global, ledgers: EventLedgers) -> Result<Self, AllocError>
-        requires { (events : List EventText) × SumsEvents ledgers events × AreFewEvents events }
-        ensures { IfOk result (λ kept. (events : List EventText) → SumsEvents ledgers events →
-            (said : EventSectionsText) × AreEventSections events said
+        requires { (events : List EventRead) × SumsEvents ledgers events × AreFewEvents events }
+        ensures { IfOk result (λ kept. (events : List EventRead) → SumsEvents ledgers events →
+            (said : EventSectionsSaid) × AreEventSections events said
             × KeepEventSections kept said) }
     {
         let codes = code_rows(alloc, &ledgers.codes)?;

@@ -6,7 +6,7 @@ use crate::call_sections::CallSections;
 use crate::event_sections::EventSections;
 use crate::process_sections::ProcessSections;
 use capture_frame::{Frame, frame_at};
-use event_core::{Event, bare_event_at};
+use event_core::{Event, event_without_attachment_at};
 use std::marker::Model;
 
 /// The numbers and the rows of the report, apart from the number of frames, as their makers give
@@ -84,6 +84,6 @@ impl<'c> Findings<'c> {
     {
         // A record begins there, so there is a frame.
         let frame = self.frame_at(place).unwrap();
-        bare_event_at(frame, place)
+        event_without_attachment_at(frame, place)
     }
 }

@@ -1,7 +1,7 @@
 //! The section `flags`.
 
 ghost use Rattle.std.specs.Prelude.{◌≡◌, ◌++◌, ◌∷◌, [], List, map, IfOk, OnOk};
-ghost use Rattle.event_core.specs.Events.{EventText};
+ghost use Rattle.event_core.specs.Events.{EventRead};
 ghost use Rattle.event_core.specs.Reading.{event_text};
 ghost use Rattle.audit_findings.specs.Flags.{unknown_flags, flagged};
 ghost use Rattle.audit_findings.specs.Ledgers.{ListsFlagged};
@@ -27,7 +27,7 @@ impl FlagLedger {
 
     /// Adds an event.
     pub fn add(&mut self, event: Event<'_>) -> Result<(), AllocError>
-        ensures { OnOk result ((events : List EventText) → ListsFlagged self.old events →
+        ensures { OnOk result ((events : List EventRead) → ListsFlagged self.old events →
             ListsFlagged self.new (events ++ event_text event.entry ∷ [])) }
     {
         if unknown_flags(event) != 0 {
@@ -38,7 +38,7 @@ impl FlagLedger {
 
     /// Those of these events and of the later ones.
     pub fn join(self, later: FlagLedger) -> Result<FlagLedger, AllocError>
-        ensures { IfOk result (λ joined. (events others : List EventText) →
+        ensures { IfOk result (λ joined. (events others : List EventRead) →
             ListsFlagged self events → ListsFlagged later others →
             ListsFlagged joined (events ++ others)) }
     {
@@ -49,7 +49,7 @@ impl FlagLedger {
 
     /// The places, in their order.
     pub fn into_places(self) -> Vec<u64>
-        ensures { (events : List EventText) → ListsFlagged self events →
+        ensures { (events : List EventRead) → ListsFlagged self events →
             result.items ≡ map (λ e. e.place) (flagged events) }
     {
         self.places

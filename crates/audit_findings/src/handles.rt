@@ -8,7 +8,7 @@ ghost use Rattle.audit_findings.specs.Handles.{AreHandleFindings, AreListedHandl
 
 use crate::entries::entries_at;
 use crate::held::held_by;
-use crate::in_turn::OfProcess;
+use crate::in_turn::ProcessRow;
 use crate::references::{Balance, References, references_of};
 use capture_frame::Frame;
 use handle_ledger::HeldRow;
@@ -35,7 +35,7 @@ pub(crate) fn handles_of_process(
 /// The section: the rows of each process in turn.
 pub(crate) fn handles_of(
     alloc: Global,
-    lists: &[Vec<OfProcess<HeldRow>>],
+    lists: &[Vec<ProcessRow<HeldRow>>],
 ) -> Result<References<HeldRow>, AllocError>
     ensures { IfOk result (λ found. (wholes : List (Placed WholeFrame)) →
         AreListedHandles wholes (map (λ list. list.items) lists.now) →

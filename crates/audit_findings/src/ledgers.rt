@@ -8,7 +8,7 @@ use crate::call_sections::CallSections;
 use crate::event_sections::EventSections;
 use crate::event_sums::EventSums;
 use crate::findings::Sections;
-use crate::in_turn::OfProcess;
+use crate::in_turn::ProcessRow;
 use crate::process_sections::ProcessSections;
 use crate::sequences::Sequences;
 use capture_frame::{Frame, Process};
@@ -20,18 +20,18 @@ use summary_law::{InOrder, Nothing, Summary};
 
 /// The sequences of frames, their processes, and what their events come to.
 #[derive(Drop)]
-pub(crate) struct Ledgers<'c> {
+pub(crate) struct FrameLedgers<'c> {
     pub sequences: Sequences,
     /// Each process once, in the order of first frames.
     pub order: InOrder<Process, Nothing>,
     pub of_events: EventSums<'c>,
 }
 
-impl<'c> Ledgers<'c> {
+impl<'c> FrameLedgers<'c> {
     pub fn empty(alloc: Global) -> Self
         ensures { SumsLedgers result [] }
     {
-        Ledgers {
+        FrameLedgers {
             sequences: Sequences::NONE,
             order: InOrder::empty(alloc),
             of_events: EventSums::empty(alloc),
@@ -53,11 +53,11 @@ impl<'c> Ledgers<'c> {
     }
 
     /// Those of these frames and of the later ones.
-    pub fn join(self, later: Ledgers<'c>) -> Result<Ledgers<'c>, AllocError>
+    pub fn join(self, later: FrameLedgers<'c>) -> Result<FrameLedgers<'c>, AllocError>
         requires { CanJoin SumsLedgers AreFewFrames self later }
         ensures { IfOk result (Joins SumsLedgers AreFewFrames self.entry later.entry) }
     {
-        Ok(Ledgers {
+        Ok(FrameLedgers {
             sequences: self.sequences.then(later.sequences),
             order: self.order.join(later.order)?,
             of_events: self.of_events.join(later.of_events)?,
@@ -82,7 +82,7 @@ impl<'c> Ledgers<'c> {
         self,
         alloc: Global,
         unfreed: &[Vec<u64>],
-        handles: &[Vec<OfProcess<HeldRow>>],
+        handles: &[Vec<ProcessRow<HeldRow>>],
     ) -> Result<Sections, AllocError>
         requires { AreOfFew self }
         ensures { IfOk result (GiveSections self.entry (map (λ list. list.items) unfreed.now)

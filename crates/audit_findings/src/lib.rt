@@ -44,7 +44,7 @@ pub use calls::{CallRow, Calls};
 pub use codes::CodeRow;
 pub use event_sections::EventSections;
 pub use findings::{Findings, Sections};
-pub use in_turn::OfProcess;
+pub use in_turn::ProcessRow;
 pub use objects::BadRow;
 pub use oneway::OnewayRow;
 pub use oneway_counts::OnewayCounts;

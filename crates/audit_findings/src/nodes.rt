@@ -3,10 +3,10 @@
 ghost use Rattle.std.specs.Prelude.{List, IfOk};
 ghost use Rattle.capture_frame.specs.Units.{Placed};
 ghost use Rattle.transaction_view.specs.Grammar.{WholeFrame};
-ghost use Rattle.process_ledgers.specs.OfProcess.{AreOfProcesses};
+ghost use Rattle.process_ledgers.specs.EachProcess.{SumsEach};
 ghost use Rattle.audit_findings.specs.Nodes.{AreNodeFindings};
 
-use crate::in_turn::{InTurn, rows_in_turn};
+use crate::in_turn::{ByProcess, rows_in_turn};
 use crate::references::{Balance, References, references_of};
 use handle_ledger::NodeRow;
 use process_ledgers::{ProcessLedgers, Processes};
@@ -15,7 +15,7 @@ use std::alloc::{AllocError, Global};
 /// The rows of the nodes of a process.
 struct Nodes;
 
-impl InTurn for Nodes {
+impl ByProcess for Nodes {
     ghost use Rattle.audit_findings.specs.Nodes.{AreNodesOf};
 
     type Row = NodeRow;
@@ -33,7 +33,7 @@ pub(crate) fn nodes_of(
     processes: Processes<'_, '_>,
 ) -> Result<References<NodeRow>, AllocError>
     ensures { IfOk result (λ found. (wholes : List (Placed WholeFrame)) →
-        AreOfProcesses processes.entry wholes → AreNodeFindings wholes found) }
+        SumsEach processes.entry wholes → AreNodeFindings wholes found) }
 {
     let rows = rows_in_turn::<Nodes>(alloc, processes)?;
     Ok(references_of(rows))

@@ -3,10 +3,10 @@
 ghost use Rattle.std.specs.Prelude.{List, IfOk};
 ghost use Rattle.capture_frame.specs.Units.{Placed};
 ghost use Rattle.transaction_view.specs.Grammar.{WholeFrame};
-ghost use Rattle.process_ledgers.specs.OfProcess.{AreOfProcesses};
+ghost use Rattle.process_ledgers.specs.EachProcess.{SumsEach};
 ghost use Rattle.audit_findings.specs.Oneway.{AreOnewayRows};
 
-use crate::in_turn::{InTurn, OfProcess, rows_in_turn};
+use crate::in_turn::{ByProcess, ProcessRow, rows_in_turn};
 use crate::rows::Rows;
 use event_core::OnewayKey;
 use process_ledgers::{ProcessLedgers, Processes};
@@ -19,7 +19,7 @@ pub type OnewayRow = (OnewayKey, u64, u128);
 /// The rows of the oneway transactions of a process.
 struct Oneway;
 
-impl InTurn for Oneway {
+impl ByProcess for Oneway {
     ghost use Rattle.audit_findings.specs.Oneway.{AreOnewayOf};
 
     type Row = OnewayRow;
@@ -35,9 +35,9 @@ impl InTurn for Oneway {
 pub(crate) fn oneway_rows(
     alloc: Global,
     processes: Processes<'_, '_>,
-) -> Result<Rows<OfProcess<OnewayRow>>, AllocError>
+) -> Result<Rows<ProcessRow<OnewayRow>>, AllocError>
     ensures { IfOk result (λ rows. (wholes : List (Placed WholeFrame)) →
-        AreOfProcesses processes.entry wholes → AreOnewayRows wholes rows) }
+        SumsEach processes.entry wholes → AreOnewayRows wholes rows) }
 {
     Ok(Rows::of(rows_in_turn::<Oneway>(alloc, processes)?))
 }

@@ -6,39 +6,39 @@ ghost use Rattle.transaction_view.specs.Grammar.{WholeFrame};
 ghost use Rattle.event_core.specs.Events.{events_of_wholes};
 ghost use Rattle.pending_ledger.specs.Pending.{place_of};
 ghost use Rattle.process_ledgers.specs.Items.{KeepsPlace};
-ghost use Rattle.process_ledgers.specs.OfProcess.{AreOfProcesses};
+ghost use Rattle.process_ledgers.specs.EachProcess.{SumsEach};
 ghost use Rattle.audit_findings.specs.Kept.{KeepsOpenAndStray};
-ghost use Rattle.audit_findings.specs.Places.{RiseInPlace, OpenAndStrayText, AreOpenAndStray};
+ghost use Rattle.audit_findings.specs.Places.{RiseInPlace, OpenAndStraySaid, AreOpenAndStray};
 
 use crate::open_and_stray::OpenAndStray;
-use crate::places::{Listed, places_of};
+use crate::places::{ListsPlaces, places_of};
 use crate::rows::Rows;
 use process_ledgers::{ProcessLedgers, Processes};
 use std::alloc::{AllocError, Global};
 use std::marker::PhantomData;
 
 /// A ledger of opens and closes among those of a process.
-pub(crate) trait Paired {
+pub(crate) trait OpensAndCloses {
     ghost use Rattle.std.specs.Prelude.{ℕ, List, Option, IfOk};
     ghost use Rattle.capture_frame.specs.declared.process.Process.{Process};
-    ghost use Rattle.event_core.specs.Events.{EventText};
+    ghost use Rattle.event_core.specs.Events.{EventRead};
     ghost use Rattle.event_core.specs.declared.pending.PendingItem.{PendingItem};
     ghost use Rattle.pending_ledger.specs.Pending.{ArePlacesOf};
-    ghost use Rattle.process_ledgers.specs.OfProcess.{AreLedgersOf};
+    ghost use Rattle.process_ledgers.specs.EachProcess.{AreLedgersOf};
     ghost use Rattle.audit_findings.specs.Places.{IsOpenIn, IsStrayIn};
 
     /// The open or the close that an event is.
-    ghost read: { EventText → Option (PendingItem ℕ) };
+    ghost read: { EventRead → Option (PendingItem ℕ) };
 
     /// The places of the opens that no later close has the key of.
     fn outstanding(ledgers: &ProcessLedgers<'_>) -> Result<Vec<u64>, AllocError>
-        ensures { IfOk result (λ places. (events : List EventText) (process : Process) →
+        ensures { IfOk result (λ places. (events : List EventRead) (process : Process) →
             AreLedgersOf ledgers.now events process →
             ArePlacesOf (IsOpenIn read events process) places.items) };
 
     /// The places of the closes whose latest earlier item of their key, if any, is no open.
     fn strays(ledgers: &ProcessLedgers<'_>) -> Result<Vec<u64>, AllocError>
-        ensures { IfOk result (λ places. (events : List EventText) (process : Process) →
+        ensures { IfOk result (λ places. (events : List EventRead) (process : Process) →
             AreLedgersOf ledgers.now events process →
             ArePlacesOf (IsStrayIn read events process) places.items) };
 }
@@ -48,10 +48,10 @@ pub(crate) struct Unclosed<P> {
     of: PhantomData<P>,
 }
 
-impl<P: Paired> Listed for Unclosed<P> {
+impl<P: OpensAndCloses> ListsPlaces for Unclosed<P> {
     ghost use Rattle.audit_findings.specs.Places.{IsOpenIn};
 
-    ghost is_so = { IsOpenIn P.read };
+    ghost is_here = { IsOpenIn P.read };
 
     fn places(ledgers: &ProcessLedgers<'_>) -> Result<Vec<u64>, AllocError> {
         P::outstanding(ledgers)
@@ -63,10 +63,10 @@ pub(crate) struct Strays<P> {
     of: PhantomData<P>,
 }
 
-impl<P: Paired> Listed for Strays<P> {
+impl<P: OpensAndCloses> ListsPlaces for Strays<P> {
     ghost use Rattle.audit_findings.specs.Places.{IsStrayIn};
 
-    ghost is_so = { IsStrayIn P.read };
+    ghost is_here = { IsStrayIn P.read };
 
     fn places(ledgers: &ProcessLedgers<'_>) -> Result<Vec<u64>, AllocError> {
         P::strays(ledgers)
@@ -74,15 +74,15 @@ impl<P: Paired> Listed for Strays<P> {
 }
 
 /// Both, of all processes.
-pub(crate) fn open_and_stray_of<P: Paired>(
+pub(crate) fn open_and_stray_of<P: OpensAndCloses>(
     alloc: Global,
     processes: Processes<'_, '_>,
 ) -> Result<OpenAndStray, AllocError>
     ensures { IfOk result (λ found. KeepsPlace place_of P.read →
         (wholes : List (Placed WholeFrame)) →
-        AreOfProcesses processes.entry wholes →
+        SumsEach processes.entry wholes →
         RiseInPlace (events_of_wholes wholes) →
-        (said : OpenAndStrayText) × KeepsOpenAndStray found said
+        (said : OpenAndStraySaid) × KeepsOpenAndStray found said
         × AreOpenAndStray P.read (events_of_wholes wholes) said) }
 {
     let mut places = places_of::<Unclosed<P>>(alloc, processes)?;

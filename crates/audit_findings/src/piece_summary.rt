@@ -8,8 +8,8 @@ ghost use Rattle.audit_findings.specs.Summary.{SumsPiece, GivesHandlesAt, GivesU
 use crate::buffers::BufferPairs;
 use crate::findings::Sections;
 use crate::handles::handles_of_process;
-use crate::in_turn::{OfProcess, push_rows_of};
-use crate::ledgers::Ledgers;
+use crate::in_turn::{ProcessRow, push_rows_of};
+use crate::ledgers::FrameLedgers;
 use crate::paired::Unclosed;
 use crate::places::lists_of;
 use capture_frame::Frame;
@@ -22,7 +22,7 @@ use summary_law::Summary;
 /// What the report needs of some frames, one behind another.
 #[derive(Drop)]
 pub struct PieceSummary<'c> {
-    ledgers: Ledgers<'c>,
+    ledgers: FrameLedgers<'c>,
     alloc: Global,
     frames: PhantomData<Frame<'c>>,
 }
@@ -53,7 +53,7 @@ impl<'c> PieceSummary<'c> {
         frames: &[Frame<'_>],
         number: usize,
         unfreed: &[u64],
-    ) -> Result<Vec<OfProcess<HeldRow>>, AllocError>
+    ) -> Result<Vec<ProcessRow<HeldRow>>, AllocError>
         requires good { AreGoodFrames frames.now }
         requires within { number < process_count self.now }
         ensures { IfOk result
@@ -74,7 +74,7 @@ impl<'c> PieceSummary<'c> {
     pub fn sections(
         self,
         unfreed: &[Vec<u64>],
-        handles: &[Vec<OfProcess<HeldRow>>],
+        handles: &[Vec<ProcessRow<HeldRow>>],
     ) -> Result<Sections, AllocError>
         requires { (frames : List Frame) × SumsPiece self frames × AreGoodFrames frames }
         ensures { IfOk result
@@ -94,7 +94,7 @@ impl<'c> Summary for PieceSummary<'c> {
 
     fn empty(alloc: Global) -> PieceSummary<'c> {
         PieceSummary {
-            ledgers: Ledgers::empty(alloc),
+            ledgers: FrameLedgers::empty(alloc),
             alloc,
             frames: PhantomData,
         }

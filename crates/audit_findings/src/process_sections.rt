@@ -4,9 +4,9 @@ ghost use Rattle.std.specs.Prelude.{List, map, IfOk};
 ghost use Rattle.capture_frame.specs.Units.{Placed};
 ghost use Rattle.transaction_view.specs.Grammar.{WholeFrame};
 ghost use Rattle.event_core.specs.Events.{events_of_wholes};
-ghost use Rattle.process_ledgers.specs.OfProcess.{AreOfProcesses};
+ghost use Rattle.process_ledgers.specs.EachProcess.{SumsEach};
 ghost use Rattle.audit_findings.specs.Buffers.{AreUnfreed};
-ghost use Rattle.audit_findings.specs.Findings.{ProcessSectionsText, AreProcessSections};
+ghost use Rattle.audit_findings.specs.Findings.{ProcessSectionsSaid, AreProcessSections};
 ghost use Rattle.audit_findings.specs.Handles.{AreListedHandles};
 ghost use Rattle.audit_findings.specs.Places.{RiseInPlace};
 
@@ -14,7 +14,7 @@ use crate::buffers::BufferPairs;
 use crate::clears::ClearPairs;
 use crate::deaths::DeathPairs;
 use crate::handles::handles_of;
-use crate::in_turn::OfProcess;
+use crate::in_turn::ProcessRow;
 use crate::nodes::nodes_of;
 use crate::oneway::{OnewayRow, oneway_rows};
 use crate::open_and_stray::OpenAndStray;
@@ -46,7 +46,7 @@ pub struct ProcessSections {
     pub clears: OpenAndStray,
     /// Oneway transactions of each process in the order of first frames: by rising handle what it
     /// sends, then what it receives.
-    pub oneway: Rows<OfProcess<OnewayRow>>,
+    pub oneway: Rows<ProcessRow<OnewayRow>>,
 }
 
 impl ProcessSections {
@@ -57,14 +57,14 @@ impl ProcessSections {
         alloc: Global,
         processes: Processes<'_, '_>,
         unfreed: &[Vec<u64>],
-        handles: &[Vec<OfProcess<HeldRow>>],
+        handles: &[Vec<ProcessRow<HeldRow>>],
     ) -> Result<Self, AllocError>
         ensures { IfOk result (λ kept. (wholes : List (Placed WholeFrame)) →
-            AreOfProcesses processes.entry wholes →
+            SumsEach processes.entry wholes →
             AreUnfreed wholes (map (λ list. list.items) unfreed.now) →
             AreListedHandles wholes (map (λ list. list.items) handles.now) →
             RiseInPlace (events_of_wholes wholes) →
-            (said : ProcessSectionsText) × AreProcessSections wholes said
+            (said : ProcessSectionsSaid) × AreProcessSections wholes said
             × KeepProcessSections kept said) }
     {
         Ok(ProcessSections {

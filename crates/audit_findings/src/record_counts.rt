@@ -2,7 +2,7 @@
 
 ghost use Rattle.std.specs.Prelude.{◌<◌, ◌^◌, List, length, map};
 ghost use Rattle.std.specs.Ordering.{nat_cmp};
-ghost use Rattle.event_core.specs.Events.{EventText};
+ghost use Rattle.event_core.specs.Events.{EventRead};
 ghost use Rattle.summary_law.specs.Tally.{TallySums};
 ghost use Rattle.audit_findings.specs.Codes.{code_words};
 ghost use Rattle.audit_findings.specs.Ledgers.{code_item};
@@ -42,9 +42,9 @@ const BR_DEAD_BINDER: u32 = 0x8008_720f;
 
 /// The counts of the records whose code words the tally has.
 pub(crate) fn record_counts(codes: &Tally<u32>) -> RecordCounts
-    requires { (events : List EventText) × TallySums nat_cmp codes.now (map code_item events)
+    requires { (events : List EventRead) × TallySums nat_cmp codes.now (map code_item events)
         × (length events < 2 ^ 64) }
-    ensures { (events : List EventText) → TallySums nat_cmp codes.now (map code_item events) →
+    ensures { (events : List EventRead) → TallySums nat_cmp codes.now (map code_item events) →
         AreRecordCounts (code_words events) result }
 {
     RecordCounts {

@@ -1,9 +1,9 @@
 //! What the sections `handles` and `nodes` have alike.
 
 ghost use Rattle.std.specs.Prelude.{◌≡◌, List, count_by};
-ghost use Rattle.audit_findings.specs.declared.in_turn.OfProcess.{OfProcess};
+ghost use Rattle.audit_findings.specs.declared.in_turn.ProcessRow.{ProcessRow};
 
-use crate::in_turn::OfProcess;
+use crate::in_turn::ProcessRow;
 use crate::rows::Rows;
 
 /// References by what they are to, of each process in the order of first frames.
@@ -13,7 +13,7 @@ pub struct References<R> {
     /// were taken.
     pub unbalanced: u64,
     /// The rows of each process in turn, the keys of each rising.
-    pub rows: Rows<OfProcess<R>>,
+    pub rows: Rows<ProcessRow<R>>,
 }
 
 /// A row that counts the references to one thing.
@@ -28,10 +28,10 @@ pub(crate) trait Balance {
 }
 
 /// The section of these rows.
-pub(crate) fn references_of<R: Balance + Drop>(rows: Vec<OfProcess<R>>) -> References<R>
+pub(crate) fn references_of<R: Balance + Drop>(rows: Vec<ProcessRow<R>>) -> References<R>
     ensures rows { result.rows ≡ rows.items }
     ensures unbalanced { result.unbalanced
-        ≡ count_by (λ (row : OfProcess R). R.unbalanced row.row) result.rows }
+        ≡ count_by (λ (row : ProcessRow R). R.unbalanced row.row) result.rows }
 {
     let unbalanced = rows.iter().filter(|row| row.row.is_unbalanced()).count() as u64;
     References {

@@ -1,8 +1,8 @@
 //! The section `refused`.
 
 ghost use Rattle.std.specs.Prelude.{◌≡◌, List, map, count_by, IfOk};
-ghost use Rattle.event_core.specs.Events.{EventText};
-ghost use Rattle.audit_findings.specs.Calls.{AreSends, AreRefused, RefusedText};
+ghost use Rattle.event_core.specs.Events.{EventRead};
+ghost use Rattle.audit_findings.specs.Calls.{AreSends, AreRefused, RefusedSaid};
 ghost use Rattle.audit_findings.specs.Kept.{KeepsRefused};
 ghost use Rattle.audit_findings.specs.ThreadRows.{found_send, send_row};
 
@@ -22,10 +22,10 @@ pub struct Refused {
 impl Refused {
     /// What is kept of these refused sends.
     pub(crate) fn of(alloc: Global, sends: &[SendRow]) -> Result<Self, AllocError>
-        ensures { IfOk result (λ kept. (events : List EventText) →
-            (told : List (RefusedSend EventText)) → AreSends events told →
+        ensures { IfOk result (λ kept. (events : List EventRead) →
+            (told : List (RefusedSend EventRead)) → AreSends events told →
             sends.entry.now ≡ map send_row told →
-            (said : RefusedText) × AreRefused events said × KeepsRefused kept said) }
+            (said : RefusedSaid) × AreRefused events said × KeepsRefused kept said) }
     {
         let places = places_of(alloc, sends)?;
         Ok(Refused {

@@ -1,16 +1,16 @@
 //! The section `requests`.
 
-use crate::places::Listed;
+use crate::places::ListsPlaces;
 use process_ledgers::ProcessLedgers;
 use std::alloc::AllocError;
 
 /// Requests that still stand.
 pub(crate) struct Standing;
 
-impl Listed for Standing {
+impl ListsPlaces for Standing {
     ghost use Rattle.audit_findings.specs.Requests.{IsStandingIn};
 
-    ghost is_so = { IsStandingIn };
+    ghost is_here = { IsStandingIn };
 
     fn places(ledgers: &ProcessLedgers<'_>) -> Result<Vec<u64>, AllocError> {
         ledgers.requests.own.outstanding()

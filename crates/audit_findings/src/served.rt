@@ -1,9 +1,9 @@
 //! The section `served`.
 
 ghost use Rattle.std.specs.Prelude.{List, IfOk};
-ghost use Rattle.event_core.specs.Events.{EventText};
+ghost use Rattle.event_core.specs.Events.{EventRead};
 ghost use Rattle.call_stacks.specs.declared.opener.Opener.{Opener};
-ghost use Rattle.audit_findings.specs.Calls.{AreServed, ServedText};
+ghost use Rattle.audit_findings.specs.Calls.{AreServed, ServedSaid};
 ghost use Rattle.audit_findings.specs.Kept.{KeepsServed};
 ghost use Rattle.audit_findings.specs.ThreadRows.{AreListedOf, IsCallCount};
 ghost use Rattle.audit_findings.specs.declared.opener_row.End.TheVariants.{Server};
@@ -32,9 +32,9 @@ impl Served {
     /// What is kept of the calls that threads serve: of these many replied ones, and of those among
     /// the listed ones.
     pub(crate) fn of(alloc: Global, replied: u64, listed: &[OpenerRow]) -> Result<Self, AllocError>
-        ensures { IfOk result (λ served. (told : List (Opener EventText)) →
+        ensures { IfOk result (λ served. (told : List (Opener EventRead)) →
             IsCallCount Server Replied told replied → AreListedOf told listed.entry.now →
-            (said : ServedText) × AreServed told said × KeepsServed served said) }
+            (said : ServedSaid) × AreServed told said × KeepsServed served said) }
     {
         let rows = rows_but(alloc, listed, End::Server, Verdict::Replied)?;
         Ok(Served {

@@ -1,7 +1,7 @@
 //! The rows of the calls of all threads.
 
 ghost use Rattle.std.specs.Prelude.{◌≡◌, ◌++◌, List, map, filter, count_by, IfOk, OnOk};
-ghost use Rattle.event_core.specs.Events.{EventText};
+ghost use Rattle.event_core.specs.Events.{EventRead};
 ghost use Rattle.call_stacks.specs.Calls.{event_place};
 ghost use Rattle.audit_findings.specs.Places.{RiseInPlace};
 ghost use Rattle.audit_findings.specs.ThreadLedger.{SumsThreadCalls};
@@ -34,7 +34,7 @@ pub(crate) struct ThreadRows {
 impl ThreadRows {
     /// The rows of all threads, each list in rising place.
     pub fn of(alloc: Global, ledger: ThreadLedger) -> Result<Self, AllocError>
-        ensures { IfOk result (λ rows. (events : List EventText) →
+        ensures { IfOk result (λ rows. (events : List EventRead) →
             SumsThreadCalls ledger events → RiseInPlace events → KeepRows rows events) }
     {
         let mut rows = ThreadRows::in_turn(alloc, ledger)?;

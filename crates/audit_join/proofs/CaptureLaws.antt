@@ -5,7 +5,7 @@ use Rattle.capture_frame.proofs.CaptureLaws.{capture_one_reading}
 use Rattle.capture_frame.proofs.PartLaws.{of_one_part, parts_joined, fault_of_one_part}
 use Rattle.transaction_view.specs.Grammar.{WholeFrame, whole_format}
 use Rattle.transaction_view.proofs.GrammarLaws.{whole_decided, whole_wide}
-use Rattle.audit_findings.specs.Kept.{KeptFindings, Tell}
+use Rattle.audit_findings.specs.Kept.{KeptFindings, AreSectionsOf}
 use Rattle.capture_frame.specs.declared.fault.PartFault.{PartFault}
 use Rattle.audit_join.specs.declared.audit_error.AuditError.{AuditError}
 use Rattle.audit_join.specs.declared.audit_error.AuditError.TheVariants.{Memory, Malformed}
@@ -20,7 +20,7 @@ capture_found capture found (readable, (wholes, said, is, tell)) =
       readable.0,
       said,
       of_one_part whole_format capture readable.0 readable.1,
-      subst (λ (them : List WholeFrame). Tell them said found.frames found.sections) same tell,
+      subst (λ (them : List WholeFrame). AreSectionsOf them said found.frames found.sections) same tell,
     )
 
 -- and so is the first fault

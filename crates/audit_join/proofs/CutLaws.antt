@@ -30,10 +30,10 @@ use Rattle.transaction_view.specs.Grammar.{WholeFrame, MayStandWhole, whole_form
 use Rattle.transaction_view.proofs.CaptureWalk.{whole_of}
 use Rattle.transaction_view.proofs.GrammarLaws.{IsBytes-commands, IsBytes-attachments, whole_wide}
 use Rattle.summary_law.specs.Fits.{all_parts}
-use Rattle.audit_findings.specs.Frames.{Show, IsWhole, AreGoodFrames}
+use Rattle.audit_findings.specs.Frames.{AreViews, IsWhole, AreGoodFrames}
 use Rattle.event_core.specs.Events.{placed_text}
 use Rattle.event_core.specs.Events.{wholes_of}
-use Rattle.capture_frame.specs.Lookup.{span_of, StandApart}
+use Rattle.capture_frame.specs.Lookup.{span_of, AreApart}
 use Rattle.audit_findings.proofs.FrameLaws.{first_same}
 use Rattle.audit_join.specs.Jobs.{AreSound, IsFirstIn, IsOfBytes, AreCut}
 use Rattle.audit_join.specs.Parts.{IsFirstOfParts}
@@ -89,14 +89,14 @@ begin_from base (f ∷ frames) stand =
     (All-weaker (λ (g : Frame). behind ≤ g.place) (λ (g : Frame). base ≤ g.place) (λ g above. omega (arith, above)) frames
     (begin_from behind frames one.1))
 
-stand_apart : (base : ℕ) (frames : List Frame) → StandFrom base frames → AllPairs StandApart frames
+stand_apart : (base : ℕ) (frames : List Frame) → StandFrom base frames → AllPairs AreApart frames
 stand_apart base [] stand = λ i j d less within. absurd (omega (arith, within))
 stand_apart base (f ∷ frames) stand =
     let one = stands_first base f frames stand in
     let here = one.0 in
     let behind = base + length (frame_bytes (frame_text f)) in
-    AllPairs-cons StandApart f frames
-    (All-weaker (λ (g : Frame). behind ≤ g.place) (StandApart f)
+    AllPairs-cons AreApart f frames
+    (All-weaker (λ (g : Frame). behind ≤ g.place) (AreApart f)
     (λ g above. omega (arith, above, here, length-frame_bytes (frame_text f))) frames (begin_from behind frames one.1))
     (stand_apart behind frames one.1)
 
@@ -316,7 +316,7 @@ wholes_by (f ∷ frames) sound =
     let good = All-head IsGood f frames sound in
     whole_of f good.0.0 good.1.0 ∷ wholes_by frames (All-tail IsGood f frames sound)
 
-may_stand_whole : (before : Before) (f : Frame) (good : IsGood f) → frame_format.MayStand before (frame_text f)
+may_stand_whole : (before : Before) (f : Frame) (good : IsGood f) → frame_format.MayCome before (frame_text f)
     → MayStandWhole before (whole_of f good.0.0 good.1.0)
 may_stand_whole before f good stands = record { header = stands; has_records = good.0.1; has_entries = good.1.1 }
 
@@ -353,7 +353,7 @@ are_whole base (f ∷ frames) sound =
     All-cons IsWhole (placed_at base (whole_of f good.0.0 good.1.0)) (placed_from behind (wholes_by frames others)) (good.0.1, good.1.1)
     (are_whole behind frames others)
 
-shown_by_cut : (frames : List Frame) → StandFrom 16 frames → (sound : AreSound frames) → Show frames (wholes_of (wholes_by frames sound))
+shown_by_cut : (frames : List Frame) → StandFrom 16 frames → (sound : AreSound frames) → AreViews frames (wholes_of (wholes_by frames sound))
 shown_by_cut frames stand sound = record {
   stand = stand ∙ sym (whole_stand 16 frames sound);
   are_whole = are_whole 16 frames sound;
@@ -597,7 +597,7 @@ whole_parts last (part ∷ parts) frames texts (first, others, all, is, are) sai
 
 -- and the whole frames are those of the joined capture
 pub whole_of_parts : (parts : List (List ℕ)) (frames : List Frame) → ArePartFrames parts frames → AreSound frames
-    → AreReadable parts × ((wholes : List WholeFrame) × IsInGrammar (joined parts) wholes × Show frames (wholes_of wholes))
+    → AreReadable parts × ((wholes : List WholeFrame) × IsInGrammar (joined parts) wholes × AreViews frames (wholes_of wholes))
 whole_of_parts parts frames are sound =
     let whole = whole_parts None parts frames are.texts are.whole are.views.said sound in
     let stand = views_stand are.texts frames are.views.said are.views.stand in

@@ -30,7 +30,7 @@ use Rattle.audit_findings.proofs.EventSizes.{few_frames}
 use Rattle.audit_findings.proofs.FrameLaws.{good_shown}
 use Rattle.audit_findings.proofs.HandleRows.{ListOfRows, lists_of}
 use Rattle.audit_findings.specs.Buffers.{AreUnfreed, AreUnfreedIn}
-use Rattle.audit_findings.specs.Frames.{AreGoodFrames, Show}
+use Rattle.audit_findings.specs.Frames.{AreGoodFrames, AreViews}
 use Rattle.audit_findings.specs.Handles.{AreHandlesOf, AreListedHandles}
 use Rattle.audit_findings.specs.InTurn.{AreRowsOf}
 use Rattle.audit_findings.specs.Summary.{GivesHandlesAt, SumsPiece, process_count}
@@ -54,7 +54,7 @@ few_firsts {K} eq (k ∷ keys) =
     omega (arith, rest, long, few)
 
 -- as many as are told apart
-process_number : (summary : PieceSummary) (frames : List Frame) (wholes : List (Placed WholeFrame)) → SumsPiece summary frames → Show frames wholes
+process_number : (summary : PieceSummary) (frames : List Frame) (wholes : List (Placed WholeFrame)) → SumsPiece summary frames → AreViews frames wholes
     → process_count summary ≡ length (processes_of wholes)
 process_number summary frames wholes sums show =
     let entries = summary.ledgers.order.entries.entries in
@@ -159,7 +159,7 @@ listed AreOf AreUnfreedOf (p ∷ processes) (own ∷ unfreed) (l ∷ lists) long
 pub all_listed : (summary : PieceSummary) (frames : List Frame) (unfreed : List (Vec ℕ Global)) (lists : List ListOfRows) → SumsPiece summary frames
     → AreInOrder (λ i (list : ListOfRows). (own : Vec ℕ Global) → slice_get unfreed i ≡ Some own → GivesHandlesAt summary frames i own.items list.items)
     (length (process_jobs (process_count summary))) lists
-    → (wholes : List (Placed WholeFrame)) → Show frames wholes → AreUnfreed wholes (lists_of unfreed) → AreListedHandles wholes (lists_of lists)
+    → (wholes : List (Placed WholeFrame)) → AreViews frames wholes → AreUnfreed wholes (lists_of unfreed) → AreListedHandles wholes (lists_of lists)
 all_listed summary frames unfreed lists sums are wholes show zip =
     let number = process_number summary frames wholes sums show in
     let count = are.count in

@@ -16,7 +16,7 @@ use Rattle.claim_board.specs.Running.{AreWorkJobs, no_place}
 use Rattle.claim_board.specs.Work.{IsStop}
 use Rattle.claim_board.specs.declared.run.Stop.{Stop}
 use Rattle.claim_board.specs.declared.run.Stop.TheVariants.{Least, Memory as NoMemory}
-use Rattle.capture_frame.specs.Lookup.{span_of, StandApart}
+use Rattle.capture_frame.specs.Lookup.{span_of, AreApart}
 use Rattle.audit_findings.proofs.FrameLaws.{first_same}
 use Rattle.audit_join.specs.Jobs.{AreSound, HasFirstAt, IsFaultOf, IsJobOf, IsOfBytes, AreCut, AreJobRuns}
 use Rattle.audit_join.specs.Runs.{all_frames, AreRuns}
@@ -29,7 +29,7 @@ cut_parts : (first second : List Frame) → AreCut (first ++ second) → AreCut 
 cut_parts first second cut =
     let parts = sum_by-append span_of first second in
     let few = cut.few in
-    let apart = pairs_parts StandApart first second cut.apart in
+    let apart = pairs_parts AreApart first second cut.apart in
     let bytes = all_parts IsOfBytes first second cut.bytes in (
       record { few = omega (arith, parts, few); apart = apart.0; bytes = bytes.0 },
       record { few = omega (arith, parts, few); apart = apart.1; bytes = bytes.1 },
@@ -70,60 +70,60 @@ job_runs n frames runs are cut =
 
 -- ---- the jobs are as the board asks
 
-head_apart : (frame : Frame) (frames : List Frame) → AllPairs StandApart (frame ∷ frames) → All (StandApart frame) frames
+head_apart : (frame : Frame) (frames : List Frame) → AllPairs AreApart (frame ∷ frames) → All (AreApart frame) frames
 head_apart frame frames apart = λ k d within. apart 0 (suc k) d (omega arith) (omega (arith, within))
 
 first_below : (first : Frame) (others before : List Frame) (frame : Frame) (behind : List Frame) → first ∷ others ≡ before ++ frame ∷ behind
-    → AllPairs StandApart (first ∷ others) → first.place ≤ frame.place
+    → AllPairs AreApart (first ∷ others) → first.place ≤ frame.place
 first_below first others [] frame behind same apart =
     let alike = ap (λ (f : Frame). f.place) (first_same first frame others behind same).0 in omega (arith, alike)
 first_below first others (x ∷ before) frame behind same apart =
     let one = first_same first x others (before ++ frame ∷ behind) same in
-    let all = subst (All (StandApart first)) one.1 (head_apart first others apart) in
-    let far = All-head (StandApart first) frame behind (all_parts (StandApart first) before (frame ∷ behind) all).1 in
+    let all = subst (All (AreApart first)) one.1 (head_apart first others apart) in
+    let far = All-head (AreApart first) frame behind (all_parts (AreApart first) before (frame ∷ behind) all).1 in
     omega (arith, far)
 
 -- a frame ends before those behind its run begin
 ends_below : (before : List Frame) (frame : Frame) (behind : List Frame) (next : Frame) (others : List Frame)
-    → AllPairs StandApart ((before ++ frame ∷ behind) ++ next ∷ others) → StandApart frame next
+    → AllPairs AreApart ((before ++ frame ∷ behind) ++ next ∷ others) → AreApart frame next
 ends_below before frame behind next others apart =
-    let whole = subst (AllPairs StandApart) (append_assoc before (frame ∷ behind) (next ∷ others)) apart in
-    let tail = (pairs_parts StandApart before (frame ∷ (behind ++ next ∷ others)) whole).1 in
-    All-head (StandApart frame) next others
-    (all_parts (StandApart frame) behind (next ∷ others) (head_apart frame (behind ++ next ∷ others) tail)).1
+    let whole = subst (AllPairs AreApart) (append_assoc before (frame ∷ behind) (next ∷ others)) apart in
+    let tail = (pairs_parts AreApart before (frame ∷ (behind ++ next ∷ others)) whole).1 in
+    All-head (AreApart frame) next others
+    (all_parts (AreApart frame) behind (next ∷ others) (head_apart frame (behind ++ next ∷ others) tail)).1
 
 from_start : (run : List Frame) (first : Frame) (others : List Frame) (fault : Option ℕ) → run ≡ first ∷ others → IsFaultOf run fault
-    → AllPairs StandApart run → IfSome fault (λ x. first.place ≤ x)
+    → AllPairs AreApart run → IfSome fault (λ x. first.place ≤ x)
 from_start run first others None are is apart = tt
 from_start run first others (Some x) are (fault, found, at) apart =
-    let from = first_below first others found.before found.frame found.behind (sym are ∙ found.are) (subst (AllPairs StandApart) are apart) in
+    let from = first_below first others found.before found.frame found.behind (sym are ∙ found.are) (subst (AllPairs AreApart) are apart) in
     let above = (fault_held found.frame fault found.fails).0 in
     omega (arith, from, above, at)
 
 before_next : (run : List Frame) (fault : Option ℕ) (next : Frame) (others : List Frame) → IsFaultOf run fault
-    → AllPairs StandApart (run ++ next ∷ others) → IfSome fault (λ x. x < next.place)
+    → AllPairs AreApart (run ++ next ∷ others) → IfSome fault (λ x. x < next.place)
 before_next run None next others is apart = tt
 before_next run (Some x) next others (fault, found, at) apart =
     let far = ends_below found.before found.frame found.behind next others
-    (subst (λ (t : List Frame). AllPairs StandApart (t ++ next ∷ others)) found.are apart) in
+    (subst (λ (t : List Frame). AllPairs AreApart (t ++ next ∷ others)) found.are apart) in
     let to = (fault_held found.frame fault found.fails).1 in
     omega (arith, far, to, at)
 
 begins_before : (run : List Frame) (first : Frame) (rest : List Frame) (next : Frame) (others : List Frame) → run ≡ first ∷ rest
-    → AllPairs StandApart (run ++ next ∷ others) → first.place < next.place
+    → AllPairs AreApart (run ++ next ∷ others) → first.place < next.place
 begins_before run first rest next others are apart =
-    let far = ends_below [] first rest next others (subst (λ (t : List Frame). AllPairs StandApart (t ++ next ∷ others)) are apart) in
+    let far = ends_below [] first rest next others (subst (λ (t : List Frame). AllPairs AreApart (t ++ next ∷ others)) are apart) in
     omega (arith, far)
 
 -- a job ends before the next one begins
 ends : (run : List Frame) (job : Job) (runs : List (List Frame)) (jobs : List Job) → IsJobOf run job → AllZip IsJobOf runs jobs
-    → AllPairs StandApart (run ++ all_frames runs) → EndsBefore job jobs
+    → AllPairs AreApart (run ++ all_frames runs) → EndsBefore job jobs
 ends run job [] [] is each apart = tt
 ends run job [] (j ∷ jobs) is each apart = absurd each
 ends run job (r ∷ runs) [] is each apart = absurd each
 ends run job (r ∷ runs) (j ∷ jobs) is each apart =
     let next = each.0 in
-    let whole = subst (λ (t : List Frame). AllPairs StandApart (run ++ (t ++ all_frames runs))) next.are apart in
+    let whole = subst (λ (t : List Frame). AllPairs AreApart (run ++ (t ++ all_frames runs))) next.are apart in
     let begins = begins_before run is.first is.others next.first (next.others ++ all_frames runs) is.are whole in
     let from = is.start in
     let to = next.start in (
@@ -132,12 +132,12 @@ ends run job (r ∷ runs) (j ∷ jobs) is each apart =
           (before_next run job.fault next.first (next.others ++ all_frames runs) is.fault whole),
     )
 
-in_order : (runs : List (List Frame)) (jobs : List Job) → AllZip IsJobOf runs jobs → AllPairs StandApart (all_frames runs) → AreJobs jobs
+in_order : (runs : List (List Frame)) (jobs : List Job) → AllZip IsJobOf runs jobs → AllPairs AreApart (all_frames runs) → AreJobs jobs
 in_order [] [] each apart = tt
 in_order [] (j ∷ jobs) each apart = absurd each
 in_order (run ∷ runs) [] each apart = absurd each
 in_order (run ∷ runs) (job ∷ jobs) each apart =
-    let parts = pairs_parts StandApart run (all_frames runs) apart in
+    let parts = pairs_parts AreApart run (all_frames runs) apart in
     let is = each.0 in (
       subst (λ (n : ℕ). IfSome job.fault (λ x. n ≤ x)) (sym is.start) (from_start run is.first is.others job.fault is.are is.fault parts.0),
       ends run job runs jobs is each.1 apart,
@@ -164,7 +164,7 @@ placeable (run ∷ runs) (job ∷ jobs) each =
     let fits = is.first.fits in
     All-cons IsPlaceable job jobs (omega (arith, from, fits), fault_placeable run job.fault is.fault) (placeable runs jobs each.1)
 
-work_jobs : (runs : List (List Frame)) (jobs : List Job) → AllZip IsJobOf runs jobs → AreJobRuns runs → AllPairs StandApart (all_frames runs)
+work_jobs : (runs : List (List Frame)) (jobs : List Job) → AllZip IsJobOf runs jobs → AreJobRuns runs → AllPairs AreApart (all_frames runs)
     → AreWorkJobs jobs
 work_jobs runs jobs each can apart =
     let long = AllZip-long IsJobOf runs jobs each in

@@ -7,7 +7,7 @@ use Rattle.capture_frame.specs.Envelope.{frame_text}
 use Rattle.capture_frame.specs.Units.{IsBytes}
 use Rattle.transaction_view.specs.FirstFault.{HasGoodContent, HasContentFault}
 use Rattle.claim_board.specs.declared.job.Job.{Job}
-use Rattle.capture_frame.specs.Lookup.{span_of, StandApart}
+use Rattle.capture_frame.specs.Lookup.{span_of, AreApart}
 
 -- the records and entries of these frames have no fault
 abbrev pub AreSound : List Frame → Type 0
@@ -30,7 +30,7 @@ IsOfBytes frame = IsBytes frame.commands.now × IsBytes frame.attachments.now
 -- begins
 pub record AreCut (frames : List Frame) : Type 0 where
   pub few : sum_by span_of frames ≤ 2 ^ 32
-  pub apart : AllPairs StandApart frames
+  pub apart : AllPairs AreApart frames
   pub bytes : All IsOfBytes frames
 
 -- the first fault of these frames is at this place

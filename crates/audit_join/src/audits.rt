@@ -6,11 +6,11 @@ ghost use Rattle.capture_frame.specs.declared.fault.Fault.{Fault};
 ghost use Rattle.transaction_view.specs.Grammar.{WholeFrame};
 ghost use Rattle.capture_frame.specs.Units.{Placed};
 ghost use Rattle.audit_findings.specs.Buffers.{AreUnfreed};
-ghost use Rattle.audit_findings.specs.Frames.{Show};
+ghost use Rattle.audit_findings.specs.Frames.{AreViews};
 ghost use Rattle.event_core.specs.Events.{wholes_of};
-ghost use Rattle.audit_findings.specs.Findings.{FindingsText};
+ghost use Rattle.audit_findings.specs.Findings.{FindingsSaid};
 ghost use Rattle.audit_findings.specs.Handles.{AreListedHandles};
-ghost use Rattle.audit_findings.specs.Kept.{Tell};
+ghost use Rattle.audit_findings.specs.Kept.{AreSectionsOf};
 ghost use Rattle.audit_findings.specs.Summary.{SumsPiece, process_count};
 ghost use Rattle.audit_join.specs.Audit.{IsAudited, IsMalformed};
 ghost use Rattle.audit_join.specs.Jobs.{AreCut, AreSound, IsFirstIn};
@@ -25,7 +25,7 @@ use crate::part_bytes::take_bytes;
 use crate::part_places::part_of;
 use crate::piece::Piece;
 use crate::shares::sum_shares;
-use audit_findings::{Findings, OfProcess, PieceSummary};
+use audit_findings::{Findings, PieceSummary, ProcessRow};
 use capture_frame::{Frame, PartCut, cut_parts};
 use claim_board::{Gate, NoGate, Stop, Workers, run_all};
 use handle_ledger::HeldRow;
@@ -127,10 +127,10 @@ fn findings_of<'c, T: Threads + Sync>(
 ) -> Result<Findings<'c>, AllocError>
     requires cut { AreCut frames.items }
     requires sound { AreSound frames.items }
-    requires shown { (wholes : List WholeFrame) × Show frames.items (wholes_of wholes) }
+    requires shown { (wholes : List WholeFrame) × AreViews frames.items (wholes_of wholes) }
     ensures { IfOk result (λ found. (wholes : List WholeFrame) →
-        Show frames.entry.items (wholes_of wholes) →
-        (said : FindingsText) × Tell wholes said found.frames found.sections) }
+        AreViews frames.entry.items (wholes_of wholes) →
+        (said : FindingsSaid) × AreSectionsOf wholes said found.frames found.sections) }
 {
     let whole: PieceSummary<'c> = sum_shares(rt, alloc, frames.as_slice(), workers.get())?;
     let unfreed = whole.unfreed()?;
@@ -156,12 +156,12 @@ fn look_again<'c, T: Threads + Sync>(
     whole: &PieceSummary<'c>,
     unfreed: &[Vec<u64>],
     workers: Workers,
-) -> Result<Vec<Vec<OfProcess<HeldRow>>>, AllocError>
+) -> Result<Vec<Vec<ProcessRow<HeldRow>>>, AllocError>
     requires cut { AreCut frames.now }
     requires sound { AreSound frames.now }
     requires sums { SumsPiece whole.now frames.now }
     requires each { length unfreed.now ≡ process_count whole.now }
-    ensures { IfOk result (λ lists. (wholes : List (Placed WholeFrame)) → Show frames.now wholes →
+    ensures { IfOk result (λ lists. (wholes : List (Placed WholeFrame)) → AreViews frames.now wholes →
         AreUnfreed wholes (map (λ list. list.items) unfreed.now) →
         AreListedHandles wholes (map (λ list. list.items) lists.items)) }
 {

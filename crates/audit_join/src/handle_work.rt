@@ -4,7 +4,7 @@ ghost use Rattle.std.specs.Prelude.{◌≡◌, ◌≤◌, ◌^◌, length};
 ghost use Rattle.audit_findings.specs.Summary.{process_count};
 ghost use Rattle.audit_join.specs.Jobs.{AreCut, AreSound};
 
-use audit_findings::{OfProcess, PieceSummary};
+use audit_findings::{PieceSummary, ProcessRow};
 use capture_frame::Frame;
 use claim_board::{JobStop, Work};
 use handle_ledger::HeldRow;
@@ -29,7 +29,7 @@ impl<'f, 'c> Work for HandleWork<'f, 'c> {
     ghost use Rattle.audit_findings.specs.Summary.{GivesHandlesAt, process_count};
     ghost use Rattle.audit_join.specs.Processes.{process_jobs};
 
-    type Out = Vec<OfProcess<HeldRow>>;
+    type Out = Vec<ProcessRow<HeldRow>>;
 
     ghost listed = { λ me. process_jobs (process_count me.whole.now) };
 
@@ -45,7 +45,7 @@ impl<'f, 'c> Work for HandleWork<'f, 'c> {
         i
     }
 
-    fn run(&self, _alloc: Global, i: u64) -> Result<Vec<OfProcess<HeldRow>>, JobStop> {
+    fn run(&self, _alloc: Global, i: u64) -> Result<Vec<ProcessRow<HeldRow>>, JobStop> {
         let number = i as usize;
         let unfreed = self.unfreed[number].as_slice();
         match self.whole.handles(self.frames, number, unfreed) {

@@ -17,8 +17,8 @@ mod shares;
 
 pub use audit_error::{AuditError, PartsError};
 pub use audit_findings::{
-    BadRow, CallRow, CallSections, Calls, CodeRow, EventSections, Findings, OfProcess,
-    OnewayCounts, OnewayRow, OpenAndStray, PieceSummary, ProcessSections, RecordCounts, References,
+    BadRow, CallRow, CallSections, Calls, CodeRow, EventSections, Findings, OnewayCounts,
+    OnewayRow, OpenAndStray, PieceSummary, ProcessRow, ProcessSections, RecordCounts, References,
     Refused, Rows, Sections, Served, SortCounts,
 };
 pub use audits::{audit, audit_one, audit_parts};

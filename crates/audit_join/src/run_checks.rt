@@ -2,7 +2,7 @@
 
 ghost use Rattle.std.specs.Prelude.{◌≡◌, ◌≤◌, List, ◌∷◌, length, AllPairs, MatchOption};
 ghost use Rattle.capture_frame.specs.declared.frame.Frame.{Frame};
-ghost use Rattle.capture_frame.specs.Lookup.{StandApart};
+ghost use Rattle.capture_frame.specs.Lookup.{AreApart};
 ghost use Rattle.audit_join.specs.Jobs.{AreSound, IsFirstIn, HasFirstAt};
 
 use capture_frame::{Fault, Frame, frame_at};
@@ -31,7 +31,7 @@ pub(crate) fn first_in(frames: &[Frame<'_>]) -> Option<Fault>
 
 /// The first fault of these frames, which stands at this place.
 pub(crate) fn fault_at(frames: &[Frame<'_>], place: u64) -> Fault
-    requires apart { AllPairs StandApart frames.now }
+    requires apart { AllPairs AreApart frames.now }
     requires there { HasFirstAt frames.now place }
     ensures { IsFirstIn frames.now result }
 {

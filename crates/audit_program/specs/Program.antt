@@ -54,7 +54,7 @@ pub data Ends (words : List Text) (out out_after err err_after : Option (List �
   failed : (failure : Failure) → Leaves words out out_after failure → AppendsPrefix err err_after (line_of failure)
       → status ≡ status_of failure → Ends words out out_after err err_after status
 
--- the same of the words as the system gives them; where it gives none, by the kind of its error
+-- the program ends so on the words that the system gives; where it gives none, by the kind of its error
 abbrev pub EndsOn : {A B : Type 0} → Result (IntoIter (String A) B) Error → Option (List ℕ) → Option (List ℕ)
     → Option (List ℕ) → Option (List ℕ) → ℕ → Type 0
 EndsOn (Ok words) out out_after err err_after status =

@@ -5,8 +5,8 @@ ghost use Rattle.std.specs.Io.KnownBytes.{Appends};
 ghost use Rattle.capture_frame.specs.Parts.{joined};
 ghost use Rattle.capture_frame.specs.Units.{IsBytes};
 ghost use Rattle.transaction_view.specs.Grammar.{WholeFrame, AreReadable, HasFirstPartFault};
-ghost use Rattle.audit_findings.specs.Findings.{FindingsText};
-ghost use Rattle.audit_findings.specs.Kept.{Tell};
+ghost use Rattle.audit_findings.specs.Findings.{FindingsSaid};
+ghost use Rattle.audit_findings.specs.Kept.{AreSectionsOf};
 ghost use Rattle.audit_join.specs.Parts.{AreMalformed};
 ghost use Rattle.audit_join.specs.declared.limits.TheConstants.{CAPTURE_LIMIT};
 ghost use Rattle.report_text.specs.Fault.{part_fault_line};
@@ -173,8 +173,8 @@ fn report_of<T: Threads + Sync>(
     alloc: Global,
     found: Findings<'_>,
 ) -> Result<String, AllocError>
-    ensures { IfOk result (λ text. (wholes : List WholeFrame) (said : FindingsText)
-        → Tell wholes said found.entry.frames found.entry.sections
+    ensures { IfOk result (λ text. (wholes : List WholeFrame) (said : FindingsSaid)
+        → AreSectionsOf wholes said found.entry.frames found.entry.sections
         → string_bytes text ≡ report_text said) }
 {
     text(rt, alloc, &found)

@@ -2,7 +2,7 @@
 use Rattle.std.proofs.Common.{map, sym, subst, ap, ◌∙◌}
 use Rattle.std.specs.Prelude.{All, Contains}
 use Rattle.std.proofs.lemmas.List.Elements.{All-map, All-filter, All-contains_itself, All-weaker}
-use Rattle.event_core.specs.Events.{EventText}
+use Rattle.event_core.specs.Events.{EventRead}
 use Rattle.audit_findings.specs.Flags.{has_unknown_flags, flagged}
 use Rattle.event_core.specs.Events.{wholes_of, events_of_wholes}
 use Rattle.audit_findings.specs.Kept.{KeptFindings, AreOfFrames}
@@ -14,7 +14,7 @@ pub flags_there : (found : KeptFindings) → AreOfFrames found.frames found.sect
 flags_there found (wholes, said, tell) =
     let events = events_of_wholes (wholes_of wholes) in
     let listed = All-filter has_unknown_flags (Contains events) events (All-contains_itself events) in
-    subst (All (HasRecordIn found.frames)) (sym (tell.keep.events.flags ∙ ap (map (λ (e : EventText). e.place)) tell.are.events.flags))
-    (All-map (HasRecordIn found.frames) (λ (e : EventText). e.place) (flagged events)
-    (All-weaker (Contains events) (λ (e : EventText). HasRecordIn found.frames e.place)
+    subst (All (HasRecordIn found.frames)) (sym (tell.keep.events.flags ∙ ap (map (λ (e : EventRead). e.place)) tell.are.events.flags))
+    (All-map (HasRecordIn found.frames) (λ (e : EventRead). e.place) (flagged events)
+    (All-weaker (Contains events) (λ (e : EventRead). HasRecordIn found.frames e.place)
     (λ e there. has_record_in found.frames (wholes_of wholes) e tell.show there) (flagged events) listed))

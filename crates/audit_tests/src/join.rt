@@ -5,7 +5,7 @@ mod lookup;
 mod workers;
 
 use audit_join::{
-    AuditError, BadRow, CodeRow, OfProcess, RecordCounts, Sections, SortCounts, audit_one,
+    AuditError, BadRow, CodeRow, ProcessRow, RecordCounts, Sections, SortCounts, audit_one,
 };
 use capture_frame::{Fault, FaultKind, Process};
 use captures::{RETURN_IN_A_WRITE, within_limit};
@@ -73,7 +73,7 @@ const COUNTS: RecordCounts = RecordCounts {
 };
 
 /// The handle that process 100 took a reference to.
-const HANDLES: &[OfProcess<HeldRow>] = &[OfProcess {
+const HANDLES: &[ProcessRow<HeldRow>] = &[ProcessRow {
     process: Process {
         device: 0,
         number: 100,

@@ -1,10 +1,10 @@
 -- What `kind_of` answers, in terms of the table's lines.
-use Rattle.std.proofs.Common.{◌≡◌, ◌≢◌, ◌↔◌, ◌==◌, ◌&&◌, ℕ, Bool, true, false, Option, Some, None, Result, Ok, Err, if◌then◌else◌, IsSome, IfSome, IsSomeAnd, List, [], ◌∷◌, refl, subst, cond, eqb-true, eq-eqb}
+use Rattle.std.proofs.Common.{◌≡◌, ◌≢◌, ◌↔◌, ◌==◌, ◌&&◌, ℕ, Bool, true, false, Option, Some, None, Result, Ok, Err, if◌then◌else◌, IsSome, IfSome, IsSomeAnd, List, [], ◌∷◌, refl, sym, subst, cond, zero, suc, ◌<◌, length, get_or, arith, eqb-true, eq-eqb}
 use Rattle.std.specs.List.{find, list_any}
 use Rattle.std.specs.Option.{option_map_or}
 use Rattle.std.proofs.lemmas.List.Folds.{Any-from_list_any}
 use Rattle.binder_code.specs.Code.{number, letter, size, direction}
-use Rattle.binder_code.specs.Commands.{Row, row_of, listed, letter_of, direction_of, IsOf, HasCode, ListsCode, ListsNumber, same_protocol, is_of, has_number, has_size, judged, kind_of}
+use Rattle.binder_code.specs.Commands.{AreWords, Row, row_of, listed, letter_of, direction_of, IsOf, HasCode, ListsCode, ListsNumber, same_protocol, is_of, has_number, has_size, judged, kind_of}
 use Rattle.binder_code.specs.declared.protocol.Protocol.{Protocol}
 use Rattle.binder_code.specs.declared.protocol.Protocol.TheVariants.{Command, Return}
 use Rattle.binder_code.specs.declared.code.CodeFault.{CodeFault}
@@ -252,3 +252,10 @@ kind_of-size protocol code =
     (is_of-true protocol code) (is_of-from protocol code)
     (lists_number protocol (number code)) (list_any-has_number protocol (number code))
     (found_code protocol code) (find-has_size protocol (number code) (size code))
+
+-- the word with this number means its kind
+pub word_at : (protocol : Protocol) (lines : List (ℕ × Kind)) → AreWords protocol lines → (n : ℕ) (line : ℕ × Kind) → n < length lines
+    → line ≡ get_or lines n line → kind_of protocol line.0 ≡ Ok line.1
+word_at protocol [] are n line within is = absurd (omega (arith, within))
+word_at protocol (l ∷ lines) are zero line within is = subst (λ (x : ℕ × Kind). kind_of protocol x.0 ≡ Ok x.1) (sym is) are.0
+word_at protocol (l ∷ lines) are (suc n) line within is = word_at protocol lines are.1 n line (omega (arith, within)) is

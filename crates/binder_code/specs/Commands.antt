@@ -1,4 +1,4 @@
-use Rattle.std.specs.Prelude.{◌≡◌, ℕ, ◌+◌, ◌*◌, ◌^◌, ◌==◌, ◌&&◌, Bool, true, false, if◌then◌else◌, List, [], ◌∷◌, Option, Some, None, Result, Ok, Err, IsSomeAnd, find, codes}
+use Rattle.std.specs.Prelude.{◌≡◌, ℕ, ◌+◌, ◌*◌, ◌^◌, ◌==◌, ◌&&◌, Bool, true, false, if◌then◌else◌, List, [], ◌∷◌, Option, Some, None, Result, Ok, Err, IsSomeAnd, find, codes, ⊤}
 use Rattle.std.specs.List.{list_any}
 use Rattle.std.specs.Option.{option_map_or}
 use Rattle.binder_code.specs.Code.{number, letter, size, direction}
@@ -191,6 +191,11 @@ listing_of protocol n bytes = judged (find (has_size protocol n bytes) listed) (
 abbrev pub kind_of : Protocol → ℕ → Result Kind CodeFault
 kind_of protocol code =
     if is_of protocol code then listing_of protocol (number code) (size code) else Err Direction
+
+-- each of these words means the kind beside it
+abbrev pub AreWords : Protocol → List (ℕ × Kind) → Type 0
+AreWords protocol [] = ⊤
+AreWords protocol (line ∷ lines) = (kind_of protocol line.0 ≡ Ok line.1) × AreWords protocol lines
 
 -- the protocol that a code word's letter names; `Return` where it names none
 abbrev pub protocol_of_word : ℕ → Protocol

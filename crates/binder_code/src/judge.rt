@@ -1,5 +1,5 @@
-ghost use Rattle.std.specs.Prelude.{◌≡◌, ◌↔◌, ◌==◌, if◌then◌else◌, IsSome};
-ghost use Rattle.binder_code.specs.Commands.{IsOf, HasCode, ListsCode, ListsNumber, row_of, listing_of, kind_of, letter_of, is_of, payload_direction};
+ghost use Rattle.std.specs.Prelude.{◌≡◌, ◌↔◌, ◌==◌, if◌then◌else◌, IfSome, IsSome};
+ghost use Rattle.binder_code.specs.Commands.{AreWords, IsOf, HasCode, ListsCode, ListsNumber, row_of, listing_of, kind_of, letter_of, is_of, payload_direction};
 ghost use Rattle.binder_code.specs.Code.{number};
 ghost use Rattle.binder_code.specs.declared.protocol.Protocol.TheVariants.{Command, Return};
 ghost use Rattle.binder_code.specs.declared.record_kind.Kind.{Kind};
@@ -120,6 +120,96 @@ fn listing(protocol: Protocol, number: u8, size: u16) -> Result<Kind, CodeFault>
     }
 }
 
+// The code words of the listed commands, each with its kind, by number.
+const COMMANDS: [(u32, Kind); 19] = [
+    (0x40406300, Kind::BcTransaction),
+    (0x40406301, Kind::BcReply),
+    (0x40046302, Kind::BcAcquireResult),
+    (0x40086303, Kind::BcFreeBuffer),
+    (0x40046304, Kind::BcIncrefs),
+    (0x40046305, Kind::BcAcquire),
+    (0x40046306, Kind::BcRelease),
+    (0x40046307, Kind::BcDecrefs),
+    (0x40106308, Kind::BcIncrefsDone),
+    (0x40106309, Kind::BcAcquireDone),
+    (0x4008630a, Kind::BcAttemptAcquire),
+    (0x0000630b, Kind::BcRegisterLooper),
+    (0x0000630c, Kind::BcEnterLooper),
+    (0x0000630d, Kind::BcExitLooper),
+    (0x400c630e, Kind::BcRequestDeathNotification),
+    (0x400c630f, Kind::BcClearDeathNotification),
+    (0x40086310, Kind::BcDeadBinderDone),
+    (0x40486311, Kind::BcTransactionSg),
+    (0x40486312, Kind::BcReplySg),
+];
+
+// The code words of the listed returns, each with its kind, by number; of the two words of number 2
+// the commoner.
+const RETURNS: [(u32, Kind); 21] = [
+    (0x80047200, Kind::BrError),
+    (0x00007201, Kind::BrOk),
+    (0x80407202, Kind::BrTransaction),
+    (0x80407203, Kind::BrReply),
+    (0x80047204, Kind::BrAcquireResult),
+    (0x00007205, Kind::BrDeadReply),
+    (0x00007206, Kind::BrTransactionComplete),
+    (0x80107207, Kind::BrIncrefs),
+    (0x80107208, Kind::BrAcquire),
+    (0x80107209, Kind::BrRelease),
+    (0x8010720a, Kind::BrDecrefs),
+    (0x8018720b, Kind::BrAttemptAcquire),
+    (0x0000720c, Kind::BrNoop),
+    (0x0000720d, Kind::BrSpawnLooper),
+    (0x0000720e, Kind::BrFinished),
+    (0x8008720f, Kind::BrDeadBinder),
+    (0x80087210, Kind::BrClearDeathNotificationDone),
+    (0x00007211, Kind::BrFailedReply),
+    (0x00007212, Kind::BrFrozenReply),
+    (0x00007213, Kind::BrOnewaySpamSuspect),
+    (0x00007214, Kind::BrTransactionPendingFrozen),
+];
+
+// The protocol's words.
+fn words(protocol: Protocol) -> &'static [(u32, Kind)]
+    ensures { AreWords protocol result.now }
+{
+    match protocol {
+        Protocol::Command => &COMMANDS,
+        Protocol::Return => &RETURNS,
+    }
+}
+
+// The kind of a code that is one of the words. Most records of a capture have such a code.
+fn of_word(protocol: Protocol, code: Code) -> Option<Kind>
+    ensures { IfSome result (λ kind. kind_of protocol code.0 ≡ Ok kind) }
+{
+    match words(protocol).get(code.number() as usize) {
+        Some((word, kind)) if *word == code.0 => Some(*kind),
+        _ => None,
+    }
+}
+
+// What a code means in a frame of the protocol, by its fields.
+fn by_fields(protocol: Protocol, code: Code) -> Result<Kind, CodeFault>
+    ensures { result ≡ kind_of protocol code.0 }
+{
+    if is_of(protocol, code) {
+        listing(protocol, code.number(), code.size())
+    } else {
+        Err(CodeFault::Direction)
+    }
+}
+
+// What a code means in a frame of the protocol: by its word, else by its fields.
+fn meaning(protocol: Protocol, code: Code) -> Result<Kind, CodeFault>
+    ensures { result ≡ kind_of protocol code.0 }
+{
+    match of_word(protocol, code) {
+        Some(kind) => Ok(kind),
+        None => by_fields(protocol, code),
+    }
+}
+
 /// What a code means in a frame of the protocol.
 pub fn kind(protocol: Protocol, code: Code) -> Result<Kind, CodeFault>
     ensures exact { result ≡ kind_of protocol code.0 }
@@ -134,9 +224,5 @@ pub fn kind(protocol: Protocol, code: Code) -> Result<Kind, CodeFault>
         (IsOf protocol code.0 × ListsNumber protocol (number code.0)
         × ¬ ListsCode protocol code.0) }
 {
-    if is_of(protocol, code) {
-        listing(protocol, code.number(), code.size())
-    } else {
-        Err(CodeFault::Direction)
-    }
+    meaning(protocol, code)
 }

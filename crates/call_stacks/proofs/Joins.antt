@@ -18,7 +18,7 @@ use Rattle.call_stacks.specs.declared.findings.CallFindings.{CallFindings}
 use Rattle.call_stacks.specs.declared.findings.RefusedSend.{RefusedSend}
 use Rattle.call_stacks.specs.declared.opener.Opener.{Opener}
 use Rattle.call_stacks.specs.declared.calls.Calls.{Calls}
-use Rattle.call_stacks.specs.Calls.{Reads, judged_with, judged_of, judged_part, opener_place, bracket_read, bracket_in_part, mark_behind_by, last_mark, is_error, is_refused, if_error_reply, undecided_of, refused_of, IsOpener, IsStrayEvent, CallsSum, AreFindings}
+use Rattle.call_stacks.specs.Calls.{Reads, bracketed_with, judged_of, bracketed_part, opener_place, bracket_read, bracket_in_part, mark_behind_by, last_mark, is_error, is_refused, if_error_reply, undecided_of, refused_of, IsOpener, IsStrayEvent, CallsSum, AreFindings}
 use Rattle.call_stacks.specs.Content.{Content, content_of, ClosesAll, appended}
 use Rattle.call_stacks.specs.Matching.{Side, opener, closer, neither, ListsInOrder}
 use Rattle.call_stacks.specs.Verdicts.{side_of}
@@ -73,7 +73,7 @@ module _ {E : Type 0} (reads : Reads E) where
   undecided_pairs before undecided = paired reads (bracket_in_part reads) before (option_to_list undecided)
 
   abbrev undecided_refused : Option Mark → Option E → List (RefusedSend E)
-  undecided_refused before undecided = refused_of (judged_with reads (bracket_in_part reads) before (option_to_list undecided))
+  undecided_refused before undecided = refused_of (bracketed_with reads (bracket_in_part reads) before (option_to_list undecided))
 
   part_error : (e : E) → is_error (bracket_read reads None e) ≡ true → bracket_in_part reads None e ≡ Neither
   part_error e error = ap (λ b. cond b Neither (bracket_read reads None e)) error
@@ -104,7 +104,7 @@ module _ {E : Type 0} (reads : Reads E) where
     strays_are : strays side (paired reads (bracket_in_part reads) before later)
         ≡ strays side (undecided_pairs before (undecided_of reads later) ++ strays side (paired reads (bracket_in_part reads) None later))
     openers_are : openers side (paired reads (bracket_in_part reads) before later) ≡ openers side (paired reads (bracket_in_part reads) None later)
-    refused_are : refused_of (judged_with reads (bracket_in_part reads) before later) ≡ undecided_refused before (undecided_of reads later) ++ refused_of (judged_part reads later)
+    refused_are : refused_of (bracketed_with reads (bracket_in_part reads) before later) ≡ undecided_refused before (undecided_of reads later) ++ refused_of (bracketed_part reads later)
 
   is_error_of : (later : List E) → IsError (undecided_of reads later)
   is_error_of later u e = error_found _ u e
@@ -115,7 +115,7 @@ module _ {E : Type 0} (reads : Reads E) where
       record {
         strays_are = sym (strays-strays side part) ∙ sym (undecided_strays (undecided_of reads later) (strays side part) (is_error_of later));
         openers_are = refl;
-        refused_are = ap (λ t. t ++ refused_of (judged_part reads later)) (sym (none_undecided_refused (undecided_of reads later) (is_error_of later)));
+        refused_are = ap (λ t. t ++ refused_of (bracketed_part reads later)) (sym (none_undecided_refused (undecided_of reads later) (is_error_of later)));
       }
   behind (Some mark) later =
       let settled = decided reads (Some mark) later in
@@ -125,7 +125,7 @@ module _ {E : Type 0} (reads : Reads E) where
       record {
         strays_are = ap (λ l. strays side (map pair l)) whole ∙ settled.strays_are ∙ ap (λ l. strays side (map pair l ++ strays side part)) (sym one);
         openers_are = ap (λ l. openers side (map pair l)) whole ∙ settled.openers_are;
-        refused_are = ap refused_of whole ∙ settled.refused_are ∙ ap (λ l. refused_of l ++ refused_of (judged_part reads later)) (sym one);
+        refused_are = ap refused_of whole ∙ settled.refused_are ∙ ap (λ l. refused_of l ++ refused_of (bracketed_part reads later)) (sym one);
       }
 
   -- ---- the sides of both parts
@@ -186,7 +186,7 @@ module _ {E : Type 0} (reads : Reads E) where
 
   -- ---- bounds
 
-  judged_length : (judge : Option Mark → E → Bracket) (before : Option Mark) (events : List E) → length (judged_with reads judge before events) ≡ length events
+  judged_length : (judge : Option Mark → E → Bracket) (before : Option Mark) (events : List E) → length (bracketed_with reads judge before events) ≡ length events
   judged_length judge before [] = refl
   judged_length judge before (e ∷ events) = ap suc (judged_length judge (mark_behind_by reads before e) events)
 
@@ -212,7 +212,7 @@ module _ {E : Type 0} (reads : Reads E) where
       let c = ap length (joined_openers first second)
       ∙ length-append (openers side (with_closers first second)) (openers side (paired reads (bracket_in_part reads) None second)) in
       let short = openers_short side (paired reads (bracket_in_part reads) None (first ++ second)) in
-      let long = length-map (judged_part reads (first ++ second)) pair ∙ judged_length (bracket_in_part reads) None (first ++ second) in
+      let long = length-map (bracketed_part reads (first ++ second)) pair ∙ judged_length (bracket_in_part reads) None (first ++ second) in
       omega arith
 
   -- ---- the join
@@ -301,9 +301,9 @@ module _ {E : Type 0} (reads : Reads E) where
             (ap (λ (c : Content E). c.openers) is) (ap (λ (c : Content E). c.unmatched) is) (ap (λ (c : Content E). c.strays) is);
         refused = ap (λ (c : Content E). c.refused) is
             ∙ ap (λ l. l ++ later.refused) (kept.2 ∙ front.refused ∙ refused-append reads (bracket_in_part reads) None first (option_to_list (undecided_of reads second)))
-            ∙ ap (λ l. refused_of (judged_part reads first) ++ undecided_refused (last_mark reads first) (undecided_of reads second) ++ l) back.refused
-            ∙ append_assoc (refused_of (judged_part reads first)) (undecided_refused (last_mark reads first) (undecided_of reads second)) (refused_of (judged_part reads second))
-            ∙ ap (λ l. refused_of (judged_part reads first) ++ l) (sym (behind (last_mark reads first) second).refused_are)
+            ∙ ap (λ l. refused_of (bracketed_part reads first) ++ undecided_refused (last_mark reads first) (undecided_of reads second) ++ l) back.refused
+            ∙ append_assoc (refused_of (bracketed_part reads first)) (undecided_refused (last_mark reads first) (undecided_of reads second)) (refused_of (bracketed_part reads second))
+            ∙ ap (λ l. refused_of (bracketed_part reads first) ++ l) (sym (behind (last_mark reads first) second).refused_are)
             ∙ sym (refused-append reads (bracket_in_part reads) None first second);
       }
 
@@ -342,7 +342,7 @@ module _ {E : Type 0} (reads : Reads E) where
         strays = subst (λ (l : List E). ListsInOrder reads.place (IsStrayEvent (judged_of reads events)) l) (sym strays_are)
             (strays_listed reads (bracket_read reads) None events rises);
         refused = refused_same ∙ held.refused
-            ∙ ap (λ l. l ++ refused_of (judged_part reads events)) (sym (whole_refused (undecided_of reads events) (is_error_of events)))
+            ∙ ap (λ l. l ++ refused_of (bracketed_part reads events)) (sym (whole_refused (undecided_of reads events) (is_error_of events)))
             ∙ sym settled.refused_are;
       }
 

@@ -9,7 +9,7 @@ use Rattle.event_core.specs.Brackets.{error_reply}
 use Rattle.event_core.specs.declared.marks.Mark.{Mark}
 use Rattle.event_core.specs.declared.marks.Mark.TheVariants.{Oneway, SentReply, Other}
 use Rattle.call_stacks.specs.declared.findings.RefusedSend.{RefusedSend}
-use Rattle.call_stacks.specs.Calls.{Reads, JudgedOf, judged_with, judged_part, mark_read, bracket_read, bracket_in_part, mark_behind_by, is_error, if_error_reply, undecided_of, refused_send, refused_of, is_refused, is_oneway_mark}
+use Rattle.call_stacks.specs.Calls.{Reads, Bracketed, bracketed_with, bracketed_part, mark_read, bracket_read, bracket_in_part, mark_behind_by, is_error, if_error_reply, undecided_of, refused_send, refused_of, is_refused, is_oneway_mark}
 use Rattle.call_stacks.specs.Matching.{Side}
 use Rattle.call_stacks.specs.Verdicts.{side_of}
 use Rattle.call_stacks.proofs.MarkLaws.{no_mark, same_bracket, error_bracket, none_refused}
@@ -29,13 +29,13 @@ true_or_false false = inr refl
 
 module _ {E : Type 0} where
   -- an event and its side
-  abbrev pub pair : JudgedOf E → E × Side
+  abbrev pub pair : Bracketed E → E × Side
   pair found = (found.event, side_of found.bracket)
 
   abbrev pub side : E × Side → Side
   side p = p.1
 
-  pub not_sent : (found : JudgedOf E) → is_refused found.bracket ≡ false → refused_send found ≡ None
+  pub not_sent : (found : Bracketed E) → is_refused found.bracket ≡ false → refused_send found ≡ None
   not_sent found e = ap (λ t. cond t (Some (record { event = found.event; oneway = is_oneway_mark found.before })) None) e
 
   no_opener : (before : Option Mark) (p : E × Side) (tail : List (E × Side))
@@ -48,21 +48,21 @@ module _ {E : Type 0} where
 module _ {E : Type 0} (reads : Reads E) where
   -- the events with their sides
   abbrev pub paired : (Option Mark → E → Bracket) → Option Mark → List E → List (E × Side)
-  paired judge before events = map pair (judged_with reads judge before events)
+  paired judge before events = map pair (bracketed_with reads judge before events)
 
   pub judged-append : (judge : Option Mark → E → Bracket) (before : Option Mark) (first second : List E)
-      → judged_with reads judge before (first ++ second) ≡ judged_with reads judge before first ++ judged_with reads judge (fold (mark_behind_by reads) before first) second
+      → bracketed_with reads judge before (first ++ second) ≡ bracketed_with reads judge before first ++ bracketed_with reads judge (fold (mark_behind_by reads) before first) second
   judged-append judge before [] second = refl
   judged-append judge before (e ∷ first) second =
       ap (λ rest. record { event = e; before = before; bracket = judge before e } ∷ rest) (judged-append judge (mark_behind_by reads before e) first second)
 
   -- behind a mark nothing is undecided
-  pub same_judging : (mark : Mark) (events : List E) → judged_with reads (bracket_in_part reads) (Some mark) events ≡ judged_with reads (bracket_read reads) (Some mark) events
+  pub same_judging : (mark : Mark) (events : List E) → bracketed_with reads (bracket_in_part reads) (Some mark) events ≡ bracketed_with reads (bracket_read reads) (Some mark) events
   same_judging mark [] = refl
   same_judging mark (e ∷ events) =
-      let head : JudgedOf E = record { event = e; before = Some mark; bracket = bracket_read reads (Some mark) e } in
+      let head : Bracketed E = record { event = e; before = Some mark; bracket = bracket_read reads (Some mark) e } in
       ap (λ rest. head ∷ rest)
-      (elim (mark_read reads e) as (λ o. judged_with reads (bracket_in_part reads) (option_or o (Some mark)) events ≡ judged_with reads (bracket_read reads) (option_or o (Some mark)) events) [
+      (elim (mark_read reads e) as (λ o. bracketed_with reads (bracket_in_part reads) (option_or o (Some mark)) events ≡ bracketed_with reads (bracket_read reads) (option_or o (Some mark)) events) [
         | None ↦ same_judging mark events
         | Some next ↦ same_judging next events
       ])
@@ -74,14 +74,14 @@ module _ {E : Type 0} (reads : Reads E) where
   decided_pairs before undecided = paired (bracket_read reads) before (option_to_list undecided)
 
   abbrev pub decided_refused : Option Mark → Option E → List (RefusedSend E)
-  decided_refused before undecided = refused_of (judged_with reads (bracket_read reads) before (option_to_list undecided))
+  decided_refused before undecided = refused_of (bracketed_with reads (bracket_read reads) before (option_to_list undecided))
 
   pub record Decided (before : Option Mark) (events : List E) : Type 0 where
     pub strays_are : strays side (paired (bracket_read reads) before events)
         ≡ strays side (decided_pairs before (undecided_of reads events) ++ strays side (paired (bracket_in_part reads) None events))
     pub openers_are : openers side (paired (bracket_read reads) before events) ≡ openers side (paired (bracket_in_part reads) None events)
-    pub refused_are : refused_of (judged_with reads (bracket_read reads) before events)
-        ≡ decided_refused before (undecided_of reads events) ++ refused_of (judged_part reads events)
+    pub refused_are : refused_of (bracketed_with reads (bracket_read reads) before events)
+        ≡ decided_refused before (undecided_of reads events) ++ refused_of (bracketed_part reads events)
 
   -- the undecided one of an event that leaves this mark, and later events
   abbrev undecided_from : E → List E → Option Mark → Option E
@@ -95,10 +95,10 @@ module _ {E : Type 0} (reads : Reads E) where
         (strays side (paired (bracket_read reads) (option_or mark before) later)) (openers side (paired (bracket_read reads) (option_or mark before) later))
         ≡ entry (side_of (bracket_in_part reads None e)) (e, side_of (bracket_in_part reads None e))
         (strays side (paired (bracket_in_part reads) (option_or mark None) later)) (openers side (paired (bracket_in_part reads) (option_or mark None) later))
-    refused_are : cons_option (refused_send (record { event = e; before = before; bracket = bracket_read reads before e })) (refused_of (judged_with reads (bracket_read reads)
+    refused_are : cons_option (refused_send (record { event = e; before = before; bracket = bracket_read reads before e })) (refused_of (bracketed_with reads (bracket_read reads)
         (option_or mark before) later))
         ≡ decided_refused before (undecided_from e later mark)
-        ++ cons_option (refused_send (record { event = e; before = None; bracket = bracket_in_part reads None e })) (refused_of (judged_with reads (bracket_in_part reads)
+        ++ cons_option (refused_send (record { event = e; before = None; bracket = bracket_in_part reads None e })) (refused_of (bracketed_with reads (bracket_in_part reads)
         (option_or mark None) later))
 
   -- an event that is no bracket
@@ -119,10 +119,10 @@ module _ {E : Type 0} (reads : Reads E) where
             ∙ decided.openers_are
             ∙ ap (λ (b : Bracket). entry (side_of b) (e, side_of b) (strays side part_later) (openers side part_later)) (sym part);
         refused_are = ap (λ (b : Bracket). cons_option (refused_send (record { event = e; before = before; bracket = b })) (refused_of
-            (judged_with reads (bracket_read reads) before later))) whole
+            (bracketed_with reads (bracket_read reads) before later))) whole
             ∙ decided.refused_are
             ∙ ap (λ (b : Bracket). decided_refused before (undecided_of reads later) ++ cons_option (refused_send (record { event = e; before = None; bracket = b }))
-            (refused_of (judged_part reads later))) (sym part);
+            (refused_of (bracketed_part reads later))) (sym part);
       }
 
   -- an event that is no error reply
@@ -142,8 +142,8 @@ module _ {E : Type 0} (reads : Reads E) where
       let at_open = λ (b : Bracket) (tail : List (E × Side)). entry (side_of b) (e, side_of b) (strays side tail) (openers side tail) in
       let none : if_error_reply reads e ≡ None = sure_undecided e sure in
       let plain : is_refused (bracket_read reads None e) ≡ false = none_refused (reads.kind e) (reads.oneway e) in
-      let whole_found : JudgedOf E = record { event = e; before = before; bracket = bracket_read reads before e } in
-      let part_found : JudgedOf E = record { event = e; before = None; bracket = bracket_in_part reads None e } in
+      let whole_found : Bracketed E = record { event = e; before = before; bracket = bracket_read reads before e } in
+      let part_found : Bracketed E = record { event = e; before = None; bracket = bracket_in_part reads None e } in
       let in_part : strays side ((e, side_of (bracket_in_part reads None e)) ∷ part_later) ≡ at (bracket_read reads before e) whole_later
       = ap (λ (b : Bracket). at b part_later) (part ∙ sym whole) ∙ ap (at (bracket_read reads before e)) rest_pairs in
       record {
@@ -151,10 +151,10 @@ module _ {E : Type 0} (reads : Reads E) where
             ∙ sym (strays-strays side ((e, side_of (bracket_in_part reads None e)) ∷ part_later))
             ∙ ap (λ u. strays side (decided_pairs before u ++ strays side ((e, side_of (bracket_in_part reads None e)) ∷ part_later))) (sym none);
         openers_are = ap (λ (b : Bracket). at_open b whole_later) (whole ∙ sym part) ∙ ap (at_open (bracket_in_part reads None e)) (sym rest_pairs);
-        refused_are = ap (λ o. cons_option o (refused_of (judged_with reads (bracket_read reads) (Some mark) later))) (not_sent whole_found (ap is_refused whole ∙ plain))
+        refused_are = ap (λ o. cons_option o (refused_of (bracketed_with reads (bracket_read reads) (Some mark) later))) (not_sent whole_found (ap is_refused whole ∙ plain))
             ∙ ap refused_of (sym rest)
-            ∙ ap (λ o. cons_option o (refused_of (judged_with reads (bracket_in_part reads) (Some mark) later))) (sym (not_sent part_found (ap is_refused part ∙ plain)))
-            ∙ ap (λ u. decided_refused before u ++ cons_option (refused_send part_found) (refused_of (judged_with reads (bracket_in_part reads) (Some mark) later))) (sym none);
+            ∙ ap (λ o. cons_option o (refused_of (bracketed_with reads (bracket_in_part reads) (Some mark) later))) (sym (not_sent part_found (ap is_refused part ∙ plain)))
+            ∙ ap (λ u. decided_refused before u ++ cons_option (refused_send part_found) (refused_of (bracketed_with reads (bracket_in_part reads) (Some mark) later))) (sym none);
       }
 
   -- an error reply
@@ -175,8 +175,8 @@ module _ {E : Type 0} (reads : Reads E) where
       let rest_pairs : part_later ≡ whole_later = ap (map pair) rest in
       let at = λ (b : Bracket) (tail : List (E × Side)). put (side_of b) (e, side_of b) (strays side tail) in
       let at_open = λ (b : Bracket) (tail : List (E × Side)). entry (side_of b) (e, side_of b) (strays side tail) (openers side tail) in
-      let whole_found : JudgedOf E = record { event = e; before = before; bracket = bracket_read reads before e } in
-      let part_found : JudgedOf E = record { event = e; before = None; bracket = bracket_in_part reads None e } in
+      let whole_found : Bracketed E = record { event = e; before = before; bracket = bracket_read reads before e } in
+      let part_found : Bracketed E = record { event = e; before = None; bracket = bracket_in_part reads None e } in
       let in_part : at (bracket_in_part reads None e) part_later ≡ strays side whole_later
       = ap (λ (b : Bracket). at b part_later) part ∙ ap (strays side) rest_pairs in
       let head = put (side_of (bracket_read reads before e)) (e, side_of (bracket_read reads before e)) in
@@ -188,10 +188,10 @@ module _ {E : Type 0} (reads : Reads E) where
             ∙ ap (openers side) (sym rest_pairs)
             ∙ ap (λ (b : Bracket). at_open b part_later) (sym part);
         refused_are = ap (λ t. cons_option (refused_send whole_found) (refused_of t)) (sym rest)
-            ∙ sym (cons_option_in_front (refused_send whole_found) (refused_of (judged_with reads (bracket_in_part reads) (Some mark) later)))
-            ∙ ap (λ o. cons_option (refused_send whole_found) [] ++ cons_option o (refused_of (judged_with reads (bracket_in_part reads) (Some mark) later)))
+            ∙ sym (cons_option_in_front (refused_send whole_found) (refused_of (bracketed_with reads (bracket_in_part reads) (Some mark) later)))
+            ∙ ap (λ o. cons_option (refused_send whole_found) [] ++ cons_option o (refused_of (bracketed_with reads (bracket_in_part reads) (Some mark) later)))
             (sym (not_sent part_found (ap is_refused part)))
-            ∙ ap (λ u. decided_refused before u ++ cons_option (refused_send part_found) (refused_of (judged_with reads (bracket_in_part reads) (Some mark) later)))
+            ∙ ap (λ u. decided_refused before u ++ cons_option (refused_send part_found) (refused_of (bracketed_with reads (bracket_in_part reads) (Some mark) later)))
             (sym undecided);
       }
 

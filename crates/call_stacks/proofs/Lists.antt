@@ -8,7 +8,7 @@ use Rattle.event_core.specs.declared.marks.Mark.{Mark}
 use Rattle.call_stacks.specs.declared.opener.Opener.{Opener}
 use Rattle.call_stacks.specs.declared.verdict.Verdict.{Verdict}
 use Rattle.call_stacks.specs.declared.verdict.Verdict.TheVariants.{Open}
-use Rattle.call_stacks.specs.Calls.{Reads, JudgedOf, judged_with, opener_place, mark_behind_by, sides_of, verdict_read, IsOpener, IsStrayEvent, HasVerdict, closed_by, left_open}
+use Rattle.call_stacks.specs.Calls.{Reads, Bracketed, bracketed_with, opener_place, mark_behind_by, sides_of, verdict_read, IsOpener, IsStrayEvent, HasVerdict, closed_by, left_open}
 use Rattle.call_stacks.specs.Matching.{Side, opener, closer, neither, ListsInOrder}
 use Rattle.call_stacks.specs.Verdicts.{side_of}
 use Rattle.call_stacks.proofs.Judging.{pair, side}
@@ -67,7 +67,7 @@ openers_rise side rank (x ∷ items) rises =
     (openers_rise side rank items rises.1)
 
 pub judged_events : {E : Type 0} (reads : Reads E) (judge : Option Mark → E → Bracket) (before : Option Mark) (events : List E)
-    → map (λ j. j.event) (judged_with reads judge before events) ≡ events
+    → map (λ j. j.event) (bracketed_with reads judge before events) ≡ events
 judged_events reads judge before [] = refl
 judged_events reads judge before (e ∷ events) = ap (λ rest. e ∷ rest) (judged_events reads judge (mark_behind_by reads before e) events)
 
@@ -76,40 +76,40 @@ module _ {E : Type 0} where
   event_of p = p.0
 
   -- the unmatched closers of judged events
-  abbrev pub strays_found : List (JudgedOf E) → List E
+  abbrev pub strays_found : List (Bracketed E) → List E
   strays_found items = map event_of (strays side (map pair items))
 
   -- ---- with positions
 
-  abbrev item_side : JudgedOf E → Side
+  abbrev item_side : Bracketed E → Side
   item_side item = side_of item.bracket
 
-  abbrev item_pair : ℕ × JudgedOf E → E × Side
+  abbrev item_pair : ℕ × Bracketed E → E × Side
   item_pair x = pair x.1
 
-  pairs_numbered : (n : ℕ) (items : List (JudgedOf E)) → map item_pair (enumerate_from n items) ≡ map pair items
+  pairs_numbered : (n : ℕ) (items : List (Bracketed E)) → map item_pair (enumerate_from n items) ≡ map pair items
   pairs_numbered n [] = refl
   pairs_numbered n (x ∷ items) = ap (λ rest. pair x ∷ rest) (pairs_numbered (n + 1) items)
 
-  abbrev strays_numbered : List (JudgedOf E) → List (ℕ × JudgedOf E)
+  abbrev strays_numbered : List (Bracketed E) → List (ℕ × Bracketed E)
   strays_numbered items = strays (numbered item_side) (enumerate_from 0 items)
 
-  abbrev openers_numbered : List (JudgedOf E) → List ((ℕ × JudgedOf E) × Option (ℕ × JudgedOf E))
+  abbrev openers_numbered : List (Bracketed E) → List ((ℕ × Bracketed E) × Option (ℕ × Bracketed E))
   openers_numbered items = openers (numbered item_side) (enumerate_from 0 items)
 
-  strays_are : (items : List (JudgedOf E)) → strays side (map pair items) ≡ map item_pair (strays_numbered items)
+  strays_are : (items : List (Bracketed E)) → strays side (map pair items) ≡ map item_pair (strays_numbered items)
   strays_are items = ap (strays side) (sym (pairs_numbered 0 items)) ∙ strays-map item_pair side (enumerate_from 0 items)
 
-  openers_are : (items : List (JudgedOf E)) → openers side (map pair items) ≡ map (both item_pair) (openers_numbered items)
+  openers_are : (items : List (Bracketed E)) → openers side (map pair items) ≡ map (both item_pair) (openers_numbered items)
   openers_are items = ap (openers side) (sym (pairs_numbered 0 items)) ∙ openers-map item_pair side (enumerate_from 0 items)
 
-  one_item : (items : List (JudgedOf E)) (i : ℕ) (x y : JudgedOf E) → slice_get items i ≡ Some x → slice_get items i ≡ Some y → x ≡ y
+  one_item : (items : List (Bracketed E)) (i : ℕ) (x y : Bracketed E) → slice_get items i ≡ Some x → slice_get items i ≡ Some y → x ≡ y
   one_item items i x y first second = let same : Some x ≡ Some y = sym first ∙ second in let e : x ≡ y = cc in e
 
-  side_at : (items : List (JudgedOf E)) (i : ℕ) (x : JudgedOf E) (s : Side) → slice_get items i ≡ Some x → side_of x.bracket ≡ s → slice_get (sides_of items) i ≡ Some s
+  side_at : (items : List (Bracketed E)) (i : ℕ) (x : Bracketed E) (s : Side) → slice_get items i ≡ Some x → side_of x.bracket ≡ s → slice_get (sides_of items) i ≡ Some s
   side_at items i x s stands e = side_there item_side items i x stands ∙ ap Some e
 
-  side_is : (items : List (JudgedOf E)) (i : ℕ) (x : JudgedOf E) (s : Side) → slice_get items i ≡ Some x → slice_get (sides_of items) i ≡ Some s → side_of x.bracket ≡ s
+  side_is : (items : List (Bracketed E)) (i : ℕ) (x : Bracketed E) (s : Side) → slice_get items i ≡ Some x → slice_get (sides_of items) i ≡ Some s → side_of x.bracket ≡ s
   side_is items i x s stands e =
       let same : Some (side_of x.bracket) ≡ Some s = sym (side_there item_side items i x stands) ∙ e in
       let is : side_of x.bracket ≡ s = cc in
@@ -117,7 +117,7 @@ module _ {E : Type 0} where
 
   -- ---- the unmatched closers
 
-  stray_sound : (items : List (JudgedOf E)) (event : E) → In event (strays_found items) → IsStrayEvent items event
+  stray_sound : (items : List (Bracketed E)) (event : E) → In event (strays_found items) → IsStrayEvent items event
   stray_sound items event there =
       let p = in-map event_of (strays side (map pair items)) event there in
       let x = in-map item_pair (strays_numbered items) p.0 (subst (λ (l : List (E × Side)). In p.0 l) (strays_are items) p.1) in
@@ -130,13 +130,13 @@ module _ {E : Type 0} where
         event = p.2 ∙ ap (λ (q : E × Side). q.0) x.2;
       }
 
-  stray_whole : (items : List (JudgedOf E)) (event : E) → IsStrayEvent items event → In event (strays_found items)
+  stray_whole : (items : List (Bracketed E)) (event : E) → IsStrayEvent items event → In event (strays_found items)
   stray_whole items event is =
       let here = has_stray item_side 0 items is.position is.stray in
       let same : is.there ≡ here.item = one_item items is.position is.there here.item is.stands here.stands in
       let listed_there = map-in item_pair (strays_numbered items) (0 + is.position, here.item) here.there in
       let in_pairs = subst (λ (l : List (E × Side)). In (pair here.item) l) (sym (strays_are items)) listed_there in
-      subst (λ (e : E). In e (strays_found items)) (sym (is.event ∙ ap (λ (j : JudgedOf E). j.event) same))
+      subst (λ (e : E). In e (strays_found items)) (sym (is.event ∙ ap (λ (j : Bracketed E). j.event) same))
       (map-in event_of (strays side (map pair items)) (pair here.item) in_pairs)
 
   abbrev opener_of : E → Verdict → Option ℕ → Opener E
@@ -162,12 +162,12 @@ module _ {E : Type 0} (reads : Reads E) where
   found p = record { event = p.0.0; verdict = verdict_found p.0.0 p.1; closer = closer_found p.1 }
 
   -- the openers of judged events
-  abbrev pub openers_found : List (JudgedOf E) → List (Opener E)
+  abbrev pub openers_found : List (Bracketed E) → List (Opener E)
   openers_found items = map found (openers side (map pair items))
 
   -- ---- the openers
 
-  opener_sound_at : (items : List (JudgedOf E)) (x : ℕ × JudgedOf E) (h : Option (ℕ × JudgedOf E)) → In (x, h) (openers_numbered items)
+  opener_sound_at : (items : List (Bracketed E)) (x : ℕ × Bracketed E) (h : Option (ℕ × Bracketed E)) → In (x, h) (openers_numbered items)
       → IsOpener reads items (found (item_pair x, option_map item_pair h))
   opener_sound_at items x None there =
       let at_x = unmatched_of item_side 0 items x there in
@@ -190,14 +190,14 @@ module _ {E : Type 0} (reads : Reads E) where
         verdict = closed_by at_x.to y.1 at_x.found at_x.to_stands refl refl;
       }
 
-  opener_sound : (items : List (JudgedOf E)) (call : Opener E) → In call (openers_found items) → IsOpener reads items call
+  opener_sound : (items : List (Bracketed E)) (call : Opener E) → In call (openers_found items) → IsOpener reads items call
   opener_sound items call there =
       let p = in-map found (openers side (map pair items)) call there in
       let x = in-map (both item_pair) (openers_numbered items) p.0
       (subst (λ (l : List ((E × Side) × Option (E × Side))). In p.0 l) (openers_are items) p.1) in
       subst (λ (o : Opener E). IsOpener reads items o) (sym (p.2 ∙ ap found x.2)) (opener_sound_at items x.0.0 x.0.1 x.1)
 
-  opener_listed : (items : List (JudgedOf E)) (call : Opener E) (x : ℕ × JudgedOf E) (h : Option (ℕ × JudgedOf E)) → In (x, h) (openers_numbered items)
+  opener_listed : (items : List (Bracketed E)) (call : Opener E) (x : ℕ × Bracketed E) (h : Option (ℕ × Bracketed E)) → In (x, h) (openers_numbered items)
       → found (item_pair x, option_map item_pair h) ≡ call → In call (openers_found items)
   opener_listed items call x h there same =
       let listed_there = map-in (both item_pair) (openers_numbered items) (x, h) there in
@@ -206,48 +206,48 @@ module _ {E : Type 0} (reads : Reads E) where
       subst (λ (o : Opener E). In o (openers_found items)) same
       (map-in found (openers side (map pair items)) (item_pair x, option_map item_pair h) in_pairs)
 
-  opener_whole_at : (items : List (JudgedOf E)) (call : Opener E) (position : ℕ) (there : JudgedOf E) → slice_get items position ≡ Some there
+  opener_whole_at : (items : List (Bracketed E)) (call : Opener E) (position : ℕ) (there : Bracketed E) → slice_get items position ≡ Some there
       → side_of there.bracket ≡ opener → call.event ≡ there.event → HasVerdict reads items position call → In call (openers_found items)
   opener_whole_at items call position there stands opens event (closed_by j answer matched answer_stands verdict place) =
       let here = has_match item_side 0 items position j matched in
       let call_same : there ≡ here.opener = one_item items position there here.opener stands here.opener_stands in
       let answer_same : answer ≡ here.closer = one_item items j answer here.closer answer_stands here.closer_stands in
-      let event_same : call.event ≡ here.opener.event = event ∙ ap (λ (x : JudgedOf E). x.event) call_same in
+      let event_same : call.event ≡ here.opener.event = event ∙ ap (λ (x : Bracketed E). x.event) call_same in
       opener_listed items call (0 + position, here.opener) (Some (0 + j, here.closer)) here.there
       (opener_is call here.opener.event (verdict_read reads here.opener.event here.closer.event) (Some (reads.place here.closer.event)) event_same
-      (verdict ∙ ap (λ e. verdict_read reads e answer.event) event_same ∙ ap (λ (x : JudgedOf E). verdict_read reads here.opener.event x.event) answer_same)
-      (place ∙ ap (λ (x : JudgedOf E). Some (reads.place x.event)) answer_same))
+      (verdict ∙ ap (λ e. verdict_read reads e answer.event) event_same ∙ ap (λ (x : Bracketed E). verdict_read reads here.opener.event x.event) answer_same)
+      (place ∙ ap (λ (x : Bracketed E). Some (reads.place x.event)) answer_same))
   opener_whole_at items call position there stands opens event (left_open none verdict place) =
       let here = has_unmatched item_side 0 items position (side_at items position there opener stands opens, none) in
       let call_same : there ≡ here.item = one_item items position there here.item stands here.stands in
       opener_listed items call (0 + position, here.item) None here.there
-      (opener_is call here.item.event Open None (event ∙ ap (λ (x : JudgedOf E). x.event) call_same) verdict place)
+      (opener_is call here.item.event Open None (event ∙ ap (λ (x : Bracketed E). x.event) call_same) verdict place)
 
-  opener_whole : (items : List (JudgedOf E)) (call : Opener E) → IsOpener reads items call → In call (openers_found items)
+  opener_whole : (items : List (Bracketed E)) (call : Opener E) → IsOpener reads items call → In call (openers_found items)
   opener_whole items call is = opener_whole_at items call is.position is.there is.stands is.opens is.event is.verdict
 
   pairs_rise : (judge : Option Mark → E → Bracket) (before : Option Mark) (events : List E) → Rises reads.place events
-      → Rises (λ p. reads.place p.0) (map pair (judged_with reads judge before events))
+      → Rises (λ p. reads.place p.0) (map pair (bracketed_with reads judge before events))
   pairs_rise judge before events rises =
-      rises-map pair (λ p. reads.place p.0) (judged_with reads judge before events)
-      (map-rises (λ (j : JudgedOf E). j.event) reads.place (judged_with reads judge before events)
+      rises-map pair (λ p. reads.place p.0) (bracketed_with reads judge before events)
+      (map-rises (λ (j : Bracketed E). j.event) reads.place (bracketed_with reads judge before events)
       (subst (λ (l : List E). Rises reads.place l) (sym (judged_events reads judge before events)) rises))
 
   -- ---- the lists of the definitions
 
   pub strays_listed : (judge : Option Mark → E → Bracket) (before : Option Mark) (events : List E) → Rises reads.place events
-      → ListsInOrder reads.place (IsStrayEvent (judged_with reads judge before events)) (strays_found (judged_with reads judge before events))
+      → ListsInOrder reads.place (IsStrayEvent (bracketed_with reads judge before events)) (strays_found (bracketed_with reads judge before events))
   strays_listed judge before events rises =
-      let items = judged_with reads judge before events in
+      let items = bracketed_with reads judge before events in
       listed reads.place (IsStrayEvent items) (strays_found items)
       (rises-map event_of reads.place (strays side (map pair items)) (strays_rise side (λ p. reads.place p.0) (map pair items)
       (pairs_rise judge before events rises)))
       (stray_sound items) (stray_whole items)
 
   pub openers_listed : (judge : Option Mark → E → Bracket) (before : Option Mark) (events : List E) → Rises reads.place events
-      → ListsInOrder (opener_place reads) (IsOpener reads (judged_with reads judge before events)) (openers_found (judged_with reads judge before events))
+      → ListsInOrder (opener_place reads) (IsOpener reads (bracketed_with reads judge before events)) (openers_found (bracketed_with reads judge before events))
   openers_listed judge before events rises =
-      let items = judged_with reads judge before events in
+      let items = bracketed_with reads judge before events in
       listed (opener_place reads) (IsOpener reads items) (openers_found items)
       (rises-map found (opener_place reads) (openers side (map pair items)) (openers_rise side (λ p. reads.place p.0) (map pair items)
       (pairs_rise judge before events rises)))

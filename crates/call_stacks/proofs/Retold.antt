@@ -14,7 +14,7 @@ use Rattle.summary_law.specs.Fits.{PlacesRise}
 use Rattle.call_stacks.specs.declared.findings.CallFindings.{CallFindings}
 use Rattle.call_stacks.specs.declared.findings.RefusedSend.{RefusedSend}
 use Rattle.call_stacks.specs.declared.opener.Opener.{Opener}
-use Rattle.call_stacks.specs.Calls.{Reads, JudgedOf, bracket_read, mark_behind_by, judged_with, judged_of, sides_of, verdict_read}
+use Rattle.call_stacks.specs.Calls.{Reads, Bracketed, bracket_read, mark_behind_by, bracketed_with, judged_of, sides_of, verdict_read}
 use Rattle.call_stacks.specs.Calls.{HasVerdict, closed_by, left_open, opener_place, IsOpener, IsStrayEvent, IsRefusedSend, is_refused, is_oneway_mark}
 use Rattle.call_stacks.specs.Calls.{refused_send, refused_of, AreFindings}
 use Rattle.call_stacks.specs.Matching.{Side, Match, IsStray, ListsInOrder}
@@ -33,7 +33,7 @@ pub record ReadAlike {E F : Type 0} (from : Reads E) (into : Reads F) (tell : E 
   pub kind : (e : E) → into.kind (tell e) ≡ from.kind e
   pub oneway : (e : E) → into.oneway (tell e) ≡ from.oneway e
 
-abbrev pub told_judged : {E F : Type 0} → (E → F) → JudgedOf E → JudgedOf F
+abbrev pub told_judged : {E F : Type 0} → (E → F) → Bracketed E → Bracketed F
 told_judged tell found = record { event = tell found.event; before = found.before; bracket = found.bracket }
 
 abbrev pub told_opener : {E F : Type 0} → (E → F) → Opener E → Opener F
@@ -43,12 +43,12 @@ abbrev pub told_send : {E F : Type 0} → (E → F) → RefusedSend E → Refuse
 told_send tell sent = record { event = tell sent.event; oneway = sent.oneway }
 
 -- an event of a thread, by what stands at a position of its judged ones
-pub stands_judged : {E : Type 0} (reads : Reads E) (events : List E) (position : ℕ) (there : JudgedOf E) (e : E)
+pub stands_judged : {E : Type 0} (reads : Reads E) (events : List E) (position : ℕ) (there : Bracketed E) (e : E)
     → slice_get (judged_of reads events) position ≡ Some there → e ≡ there.event → Contains events e
 stands_judged {E} reads events position there e stands same =
     let items = judged_of reads events in
-    let here : In there.event (map (λ (j : JudgedOf E). j.event) items)
-    = map-in (λ (j : JudgedOf E). j.event) items there (get_in items position there stands) in
+    let here : In there.event (map (λ (j : Bracketed E). j.event) items)
+    = map-in (λ (j : Bracketed E). j.event) items there (get_in items position there stands) in
     contained events e (subst (λ (x : E). In x events) (sym same) (subst (In there.event) (judged_events reads (bracket_read reads) None events) here))
 
 module _ {E F : Type 0} (from : Reads E) (into : Reads F) (tell : E → F) (alike : ReadAlike from into tell) where
@@ -59,12 +59,12 @@ module _ {E F : Type 0} (from : Reads E) (into : Reads F) (tell : E → F) (alik
   behind_told before e = ap (λ (m : Option Mark). option_or m before) (ap₂ mark_of (alike.kind e) (alike.oneway e))
 
   judged_from : (before : Option Mark) (events : List E)
-      → judged_with into (bracket_read into) before (map tell events) ≡ map (told_judged tell) (judged_with from (bracket_read from) before events)
+      → bracketed_with into (bracket_read into) before (map tell events) ≡ map (told_judged tell) (bracketed_with from (bracket_read from) before events)
   judged_from before [] = refl
   judged_from before (e ∷ events) =
-      let head : Bracket → JudgedOf F = λ b. record { event = tell e; before = before; bracket = b } in
-      ap₂ (λ (b : Bracket) (rest : List (JudgedOf F)). head b ∷ rest) (bracket_told before e)
-      (ap (λ (m : Option Mark). judged_with into (bracket_read into) m (map tell events)) (behind_told before e)
+      let head : Bracket → Bracketed F = λ b. record { event = tell e; before = before; bracket = b } in
+      ap₂ (λ (b : Bracket) (rest : List (Bracketed F)). head b ∷ rest) (bracket_told before e)
+      (ap (λ (m : Option Mark). bracketed_with into (bracket_read into) m (map tell events)) (behind_told before e)
       ∙ judged_from (mark_behind_by from before e) events)
 
   pub judged_told : (events : List E) → judged_of into (map tell events) ≡ map (told_judged tell) (judged_of from events)
@@ -78,7 +78,7 @@ module _ {E F : Type 0} (from : Reads E) (into : Reads F) (tell : E → F) (alik
   abbrev told_pair : E × Side → F × Side
   told_pair p = (tell p.0, p.1)
 
-  pairs_told : (items : List (JudgedOf E)) → map pair (map (told_judged tell) items) ≡ map told_pair (map pair items)
+  pairs_told : (items : List (Bracketed E)) → map pair (map (told_judged tell) items) ≡ map told_pair (map pair items)
   pairs_told [] = refl
   pairs_told (j ∷ items) = ap (λ ps. (tell j.event, side_of j.bracket) ∷ ps) (pairs_told items)
 
@@ -92,13 +92,13 @@ module _ {E F : Type 0} (from : Reads E) (into : Reads F) (tell : E → F) (alik
   all_told [] = refl
   all_told (p ∷ ps) = ap₂ (λ (call : Opener F) calls. call ∷ calls) (found_told p) (all_told ps)
 
-  openers_told : (items : List (JudgedOf E)) → openers_found into (map (told_judged tell) items) ≡ map (told_opener tell) (openers_found from items)
+  openers_told : (items : List (Bracketed E)) → openers_found into (map (told_judged tell) items) ≡ map (told_opener tell) (openers_found from items)
   openers_told items =
       ap (λ ps. map (found into) (openers side ps)) (pairs_told items)
       ∙ ap (map (found into)) (openers-map told_pair side (map pair items))
       ∙ all_told (openers side (map pair items))
 
-  strays_told : (items : List (JudgedOf E)) → strays_found (map (told_judged tell) items) ≡ map tell (strays_found items)
+  strays_told : (items : List (Bracketed E)) → strays_found (map (told_judged tell) items) ≡ map tell (strays_found items)
   strays_told items =
       ap (λ ps. map event_of (strays side ps)) (pairs_told items)
       ∙ ap (map event_of) (strays-map told_pair side (map pair items))
@@ -114,7 +114,7 @@ module _ {E F : Type 0} (from : Reads E) (into : Reads F) (tell : E → F) (alik
 
 -- ---- refused sends
 
-refused_at : {E : Type 0} (found : JudgedOf E) (sent : RefusedSend E) → refused_send found ≡ Some sent
+refused_at : {E : Type 0} (found : Bracketed E) (sent : RefusedSend E) → refused_send found ≡ Some sent
     → (is_refused found.bracket ≡ true) × (sent.event ≡ found.event) × (sent.oneway ≡ is_oneway_mark found.before)
 refused_at {E} found sent is =
     let made : RefusedSend E = record { event = found.event; oneway = is_oneway_mark found.before } in
@@ -148,18 +148,18 @@ pub sends_listed : {E : Type 0} (reads : Reads E) (events : List E) → PlacesRi
     → ListsInOrder (λ s. reads.place s.event) (IsRefusedSend (judged_of reads events)) (refused_of (judged_of reads events))
 sends_listed {E} reads events rise = listed (λ (s : RefusedSend E). reads.place s.event) (IsRefusedSend items) (refused_of items) rises sound whole
   where
-    items : List (JudgedOf E)
+    items : List (Bracketed E)
     items = judged_of reads events
 
     rises : Rises (λ (s : RefusedSend E). reads.place s.event) (refused_of items)
     rises =
-        let event : JudgedOf E → E = λ j. j.event in
-        let own : Rises (λ (j : JudgedOf E). reads.place j.event) items
+        let event : Bracketed E → E = λ j. j.event in
+        let own : Rises (λ (j : Bracketed E). reads.place j.event) items
         = map-rises event reads.place items
         (subst (Rises reads.place) (sym (judged_events reads (bracket_read reads) None events)) (rises_from_pairs reads.place events rise)) in
         rises_from_pairs (λ (s : RefusedSend E). reads.place s.event) (refused_of items)
-        (rising_read refused_send (λ (s : RefusedSend E). reads.place s.event) (λ (j : JudgedOf E). reads.place j.event)
-        (λ j s is. ap reads.place (refused_at j s is).1) items (pairs_from_rises (λ (j : JudgedOf E). reads.place j.event) items own))
+        (rising_read refused_send (λ (s : RefusedSend E). reads.place s.event) (λ (j : Bracketed E). reads.place j.event)
+        (λ j s is. ap reads.place (refused_at j s is).1) items (pairs_from_rises (λ (j : Bracketed E). reads.place j.event) items own))
 
     sound : (sent : RefusedSend E) → In sent (refused_of items) → IsRefusedSend items sent
     sound sent here =
@@ -176,7 +176,7 @@ sends_listed {E} reads events rise = listed (λ (s : RefusedSend E). reads.place
         subst (λ (s : RefusedSend E). In s (refused_of items)) (sym same)
         (read_in refused_send items is.there made (get_in items is.position is.there is.stands) read)
 
-refused_told : {E F : Type 0} (tell : E → F) (items : List (JudgedOf E)) → refused_of (map (told_judged tell) items) ≡ map (told_send tell) (refused_of items)
+refused_told : {E F : Type 0} (tell : E → F) (items : List (Bracketed E)) → refused_of (map (told_judged tell) items) ≡ map (told_send tell) (refused_of items)
 refused_told tell [] = refl
 refused_told {E} {F} tell (j ∷ items) =
     let own : RefusedSend E = record { event = j.event; oneway = is_oneway_mark j.before } in
@@ -197,10 +197,10 @@ module _ {E F : Type 0} (from : Reads E) (into : Reads F) (tell : E → F) (alik
   rise_told : Rises into.place (map tell events)
   rise_told = rises-map tell into.place events (rises_told from into tell alike events own_rise)
 
-  abbrev items : List (JudgedOf E)
+  abbrev items : List (Bracketed E)
   items = judged_of from events
 
-  abbrev told_items : List (JudgedOf F)
+  abbrev told_items : List (Bracketed F)
   told_items = judged_of into (map tell events)
 
   pub openers_of : (openers : List (Opener E)) × ListsInOrder (opener_place from) (IsOpener from items) openers
@@ -220,7 +220,7 @@ module _ {E F : Type 0} (from : Reads E) (into : Reads F) (tell : E → F) (alik
     strays_listed from (bracket_read from) None events own_rise,
     only_list into.place (IsStrayEvent told_items) findings.strays.items (strays_found told_items) are.strays
         (strays_listed into (bracket_read into) None (map tell events) rise_told)
-        ∙ ap (λ (found : List (JudgedOf F)). strays_found found) (judged_told from into tell alike events)
+        ∙ ap (λ (found : List (Bracketed F)). strays_found found) (judged_told from into tell alike events)
         ∙ strays_told from into tell alike items,
   )
 

@@ -13,7 +13,7 @@ use Rattle.event_core.specs.declared.marks.Mark.{Mark}
 use Rattle.summary_law.specs.Fits.{IsPlaced}
 use Rattle.call_stacks.specs.declared.opener.Opener.{Opener}
 use Rattle.call_stacks.specs.declared.calls.Calls.{Calls}
-use Rattle.call_stacks.specs.Calls.{Reads, JudgedOf, judged_with, judged_part, opener_place, mark_read, bracket_read, bracket_in_part, mark_behind_by, last_mark, is_error, is_refused, if_error_reply, undecided_of, refused_of, refused_send, IsOpener, IsStrayEvent, IsLeftOpen, CallsSum}
+use Rattle.call_stacks.specs.Calls.{Reads, Bracketed, bracketed_with, bracketed_part, opener_place, mark_read, bracket_read, bracket_in_part, mark_behind_by, last_mark, is_error, is_refused, if_error_reply, undecided_of, refused_of, refused_send, IsOpener, IsStrayEvent, IsLeftOpen, CallsSum}
 use Rattle.call_stacks.specs.Content.{Content, content_of, Closes, closes_last, closes_none, Enters}
 use Rattle.call_stacks.specs.Matching.{Side, ListsInOrder}
 use Rattle.call_stacks.specs.Verdicts.{side_of}
@@ -39,7 +39,7 @@ unmatched_rise n ((x, None) ∷ later) =
 unmatched_rise n ((x, Some c) ∷ later) = unmatched_rise (n + 1) later
 
 module _ {E : Type 0} where
-  none_sent : (judged : JudgedOf E) → is_refused judged.bracket ≡ false → refused_of (judged ∷ []) ≡ []
+  none_sent : (judged : Bracketed E) → is_refused judged.bracket ≡ false → refused_of (judged ∷ []) ≡ []
   none_sent judged plain = ap (λ o. cons_option o []) (not_sent judged plain)
 
   pub none_of_one : (bracket : Bracket) (e : E) (before : Option Mark) → is_refused bracket ≡ false
@@ -53,7 +53,7 @@ module _ {E : Type 0} (reads : Reads E) where
     pub last : content.last ≡ last_mark reads events
     pub undecided : content.undecided ≡ undecided_of reads events
     pub models : Models reads content (paired reads (bracket_in_part reads) None events)
-    pub refused : content.refused ≡ refused_of (judged_part reads events)
+    pub refused : content.refused ≡ refused_of (bracketed_part reads events)
 
   -- the entry at an index
   pub record EntryAt (n : ℕ) (items : List ((E × Side) × Option (E × Side))) (index : ℕ) : Type 0 where
@@ -106,7 +106,7 @@ module _ {E : Type 0} (reads : Reads E) where
       let rises = rises_from_pairs reads.place events sums.placed.1 in
       let pairs = paired reads (bracket_in_part reads) None events in
       let openers_same : calls.openers.items ≡ map (found reads) (openers side pairs)
-      = only_list (opener_place reads) (IsOpener reads (judged_part reads events)) calls.openers.items (openers_found reads (judged_part reads events)) sums.openers
+      = only_list (opener_place reads) (IsOpener reads (bracketed_part reads events)) calls.openers.items (openers_found reads (bracketed_part reads events)) sums.openers
       (openers_listed reads (bracket_in_part reads) None events rises) in
       record {
         placed = sums.placed;
@@ -117,7 +117,7 @@ module _ {E : Type 0} (reads : Reads E) where
           unmatched_are = only_list (λ index. index) (IsLeftOpen (map (found reads) (openers side pairs))) calls.unmatched.items (unmatched_at 0 (openers side pairs))
               (subst (λ (l : List (Opener E)). ListsInOrder (λ index. index) (IsLeftOpen l) calls.unmatched.items) openers_same sums.unmatched)
               (unmatched_listed (openers side pairs));
-          strays_are = only_list reads.place (IsStrayEvent (judged_part reads events)) calls.strays.items (strays_found (judged_part reads events)) sums.strays
+          strays_are = only_list reads.place (IsStrayEvent (bracketed_part reads events)) calls.strays.items (strays_found (bracketed_part reads events)) sums.strays
               (strays_listed reads (bracket_in_part reads) None events rises);
         };
         refused = sums.refused;
@@ -132,12 +132,12 @@ module _ {E : Type 0} (reads : Reads E) where
         placed = holds.placed;
         last = holds.last;
         undecided = holds.undecided;
-        openers = subst (λ (l : List (Opener E)). ListsInOrder (opener_place reads) (IsOpener reads (judged_part reads events)) l) (sym models.openers_are)
+        openers = subst (λ (l : List (Opener E)). ListsInOrder (opener_place reads) (IsOpener reads (bracketed_part reads events)) l) (sym models.openers_are)
             (openers_listed reads (bracket_in_part reads) None events rises);
         unmatched = subst (λ (l : List (Opener E)). ListsInOrder (λ index. index) (IsLeftOpen l) calls.unmatched.items) (sym models.openers_are)
             (subst (λ (l : List ℕ). ListsInOrder (λ index. index) (IsLeftOpen (map (found reads) (openers side pairs))) l) (sym models.unmatched_are)
             (unmatched_listed (openers side pairs)));
-        strays = subst (λ (l : List E). ListsInOrder reads.place (IsStrayEvent (judged_part reads events)) l) (sym models.strays_are)
+        strays = subst (λ (l : List E). ListsInOrder reads.place (IsStrayEvent (bracketed_part reads events)) l) (sym models.strays_are)
             (strays_listed reads (bracket_in_part reads) None events rises);
         refused = holds.refused;
       }
@@ -208,24 +208,24 @@ module _ {E : Type 0} (reads : Reads E) where
       → paired reads judge before (first ++ second) ≡ paired reads judge before first ++ paired reads judge (fold (mark_behind_by reads) before first) second
   paired-append judge before first second =
       ap (map pair) (judged-append reads judge before first second)
-      ∙ map-append pair (judged_with reads judge before first) (judged_with reads judge (fold (mark_behind_by reads) before first) second)
+      ∙ map-append pair (bracketed_with reads judge before first) (bracketed_with reads judge (fold (mark_behind_by reads) before first) second)
 
   pub refused-append : (judge : Option Mark → E → Bracket) (before : Option Mark) (first second : List E)
-      → refused_of (judged_with reads judge before (first ++ second)) ≡ refused_of (judged_with reads judge before first) ++ refused_of (judged_with reads judge
+      → refused_of (bracketed_with reads judge before (first ++ second)) ≡ refused_of (bracketed_with reads judge before first) ++ refused_of (bracketed_with reads judge
       (fold (mark_behind_by reads) before first) second)
   refused-append judge before first second =
       ap refused_of (judged-append reads judge before first second)
-      ∙ filter_map-append refused_send (judged_with reads judge before first) (judged_with reads judge (fold (mark_behind_by reads) before first) second)
+      ∙ filter_map-append refused_send (bracketed_with reads judge before first) (bracketed_with reads judge (fold (mark_behind_by reads) before first) second)
 
   -- ---- one more event
 
-  abbrev judged_one : Option Mark → E → List (JudgedOf E)
+  abbrev judged_one : Option Mark → E → List (Bracketed E)
   judged_one before e = record { event = e; before = before; bracket = bracket_in_part reads before e } ∷ []
 
   holds_push : (new : Content E) (events : List E) (e : E) (before : Option Mark) → IsPlaced reads.place (events ++ e ∷ []) → before ≡ last_mark reads events
       → new.last ≡ mark_behind_by reads before e → new.undecided ≡ undecided_of reads (events ++ e ∷ [])
       → Models reads new (paired reads (bracket_in_part reads) None events ++ (e, side_of (bracket_in_part reads before e)) ∷ [])
-      → new.refused ≡ refused_of (judged_part reads events) ++ refused_of (judged_one before e)
+      → new.refused ≡ refused_of (bracketed_part reads events) ++ refused_of (judged_one before e)
       → Holds new (events ++ e ∷ [])
   holds_push new events e before placed is last undecided models refused = record {
     placed = placed;
@@ -233,7 +233,7 @@ module _ {E : Type 0} (reads : Reads E) where
     undecided = undecided;
     models = subst (λ (l : List (E × Side)). Models reads new l) (sym (paired-append (bracket_in_part reads) None events (e ∷ [])))
         (subst (λ (o : Option Mark). Models reads new (paired reads (bracket_in_part reads) None events ++ (e, side_of (bracket_in_part reads o e)) ∷ [])) is models);
-    refused = refused ∙ ap (λ o. refused_of (judged_part reads events) ++ refused_of (judged_one o e)) is ∙ sym (refused-append (bracket_in_part reads) None events (e ∷ []));
+    refused = refused ∙ ap (λ o. refused_of (bracketed_part reads events) ++ refused_of (judged_one o e)) is ∙ sym (refused-append (bracket_in_part reads) None events (e ∷ []));
   }
 
   pub error_alone : (e : E) → is_error (bracket_read reads None e) ≡ true → undecided_of reads (e ∷ []) ≡ Some e
@@ -260,8 +260,8 @@ module _ {E : Type 0} (reads : Reads E) where
       (ap (λ (c : Content E). c.undecided) is ∙ sym (error_alone e error) ∙ sym (undecided_later events (e ∷ []) first))
       (subst (λ (b : Bracket). Models reads new (paired reads (bracket_in_part reads) None events ++ (e, side_of b) ∷ [])) (sym part)
       (passes_models reads new (paired reads (bracket_in_part reads) None events) e models))
-      (ap (λ (c : Content E). c.refused) is ∙ holds.refused ∙ sym (append-nil (refused_of (judged_part reads events)))
-      ∙ ap (λ (b : Bracket). refused_of (judged_part reads events) ++ refused_of (record { event = e; before = old.last; bracket = b } ∷ [])) (sym part))
+      (ap (λ (c : Content E). c.refused) is ∙ holds.refused ∙ sym (append-nil (refused_of (bracketed_part reads events)))
+      ∙ ap (λ (b : Bracket). refused_of (bracketed_part reads events) ++ refused_of (record { event = e; before = old.last; bracket = b } ∷ [])) (sym part))
 
   -- what an event leaves as it is
   record Keeps (bracket : Bracket) (e : E) (old new : Content E) : Type 0 where
@@ -329,4 +329,4 @@ module _ {E : Type 0} (reads : Reads E) where
       (subst (λ (b : Bracket). Models reads new (paired reads (bracket_in_part reads) None events ++ (e, side_of b) ∷ [])) (sym part) models)
       (ap (λ (c : Content E). c.refused) is ∙ kept.refused
       ∙ ap (λ l. l ++ refused_of (record { event = e; before = old.last; bracket = bracket } ∷ [])) holds.refused
-      ∙ ap (λ (b : Bracket). refused_of (judged_part reads events) ++ refused_of (record { event = e; before = old.last; bracket = b } ∷ [])) (sym part))
+      ∙ ap (λ (b : Bracket). refused_of (bracketed_part reads events) ++ refused_of (record { event = e; before = old.last; bracket = b } ∷ [])) (sym part))

@@ -12,7 +12,7 @@ use Rattle.summary_law.specs.Fits.{IsPlaced}
 use Rattle.call_stacks.specs.declared.calls.Calls.{Calls}
 use Rattle.call_stacks.specs.declared.findings.RefusedSend.{RefusedSend}
 use Rattle.call_stacks.specs.declared.opener.Opener.{Opener}
-use Rattle.call_stacks.specs.Calls.{Reads, JudgedOf, IsOpener, IsStrayEvent, IsRefusedSend, bracket_read, judged_of, judged_with, mark_read, mark_behind_by}
+use Rattle.call_stacks.specs.Calls.{Reads, Bracketed, IsOpener, IsStrayEvent, IsRefusedSend, bracket_read, judged_of, bracketed_with, mark_read, mark_behind_by}
 use Rattle.call_stacks.specs.Calls.{CallsSum, bracket_in_part, if_error_reply, is_error, is_refused, refused_of, refused_send}
 use Rattle.call_stacks.specs.Matching.{opener, closer, neither}
 use Rattle.call_stacks.specs.Verdicts.{side_of}
@@ -29,7 +29,7 @@ module _ {E : Type 0} (reads : Reads E) where
   record SameWithout (before : Option Mark) (events : List E) : Type 0 where
     strays_are : strays side (paired reads (bracket_in_part reads) before (filter (marked reads) events)) ≡ strays side (paired reads (bracket_in_part reads) before events)
     openers_are : openers side (paired reads (bracket_in_part reads) before (filter (marked reads) events)) ≡ openers side (paired reads (bracket_in_part reads) before events)
-    refused_are : refused_of (judged_with reads (bracket_in_part reads) before (filter (marked reads) events)) ≡ refused_of (judged_with reads (bracket_in_part reads) before events)
+    refused_are : refused_of (bracketed_with reads (bracket_in_part reads) before (filter (marked reads) events)) ≡ refused_of (bracketed_with reads (bracket_in_part reads) before events)
     last_is : fold (mark_behind_by reads) before (filter (marked reads) events) ≡ fold (mark_behind_by reads) before events
 
   plain_bracket : (before : Option Mark) (e : E) → mark_read reads e ≡ None → bracket_in_part reads before e ≡ Neither
@@ -46,7 +46,7 @@ module _ {E : Type 0} (reads : Reads E) where
       let bracket = plain_bracket before e none in
       let later = λ (m : Option Mark). paired reads (bracket_in_part reads) m events in
       let sent = λ (b : Bracket) (m : Option Mark).
-      cons_option (refused_send (record { event = e; before = before; bracket = b })) (refused_of (judged_with reads (bracket_in_part reads) m events)) in
+      cons_option (refused_send (record { event = e; before = before; bracket = b })) (refused_of (bracketed_with reads (bracket_in_part reads) m events)) in
       record {
         strays_are = ap (λ l. strays side (paired reads (bracket_in_part reads) before l)) kept ∙ rest.strays_are
             ∙ ap (λ (m : Option Mark). strays side (later m)) (sym behind)
@@ -55,8 +55,8 @@ module _ {E : Type 0} (reads : Reads E) where
             ∙ ap (λ (m : Option Mark). openers side (later m)) (sym behind)
             ∙ ap (λ (b : Bracket). entry (side_of b) (e, side_of b) (strays side (later (mark_behind_by reads before e)))
             (openers side (later (mark_behind_by reads before e)))) (sym bracket);
-        refused_are = ap (λ l. refused_of (judged_with reads (bracket_in_part reads) before l)) kept ∙ rest.refused_are
-            ∙ ap (λ (m : Option Mark). refused_of (judged_with reads (bracket_in_part reads) m events)) (sym behind)
+        refused_are = ap (λ l. refused_of (bracketed_with reads (bracket_in_part reads) before l)) kept ∙ rest.refused_are
+            ∙ ap (λ (m : Option Mark). refused_of (bracketed_with reads (bracket_in_part reads) m events)) (sym behind)
             ∙ ap (λ (b : Bracket). sent b (mark_behind_by reads before e)) (sym bracket);
         last_is = ap (fold (mark_behind_by reads) before) kept ∙ rest.last_is ∙ ap (λ (m : Option Mark). fold (mark_behind_by reads) m events) (sym behind);
       }
@@ -72,7 +72,7 @@ module _ {E : Type 0} (reads : Reads E) where
         strays_are = ap (λ l. strays side (paired reads (bracket_in_part reads) before l)) kept ∙ ap (put (side_of b) (e, side_of b)) rest.strays_are;
         openers_are = ap (λ l. openers side (paired reads (bracket_in_part reads) before l)) kept
             ∙ ap₂ (entry (side_of b) (e, side_of b)) rest.strays_are rest.openers_are;
-        refused_are = ap (λ l. refused_of (judged_with reads (bracket_in_part reads) before l)) kept
+        refused_are = ap (λ l. refused_of (bracketed_with reads (bracket_in_part reads) before l)) kept
             ∙ ap (cons_option (refused_send (record { event = e; before = before; bracket = b }))) rest.refused_are;
         last_is = ap (fold (mark_behind_by reads) before) kept ∙ rest.last_is;
       }
@@ -115,15 +115,15 @@ module _ {E : Type 0} (reads : Reads E) where
 -- ---- what is found is of events that leave a mark
 
 module _ {E : Type 0} (reads : Reads E) where
-  judged_is : (before : Option Mark) (events : List E) (there : JudgedOf E) → In there (judged_with reads (bracket_read reads) before events)
+  judged_is : (before : Option Mark) (events : List E) (there : Bracketed E) → In there (bracketed_with reads (bracket_read reads) before events)
       → there.bracket ≡ bracket_read reads there.before there.event
   judged_is before [] there here = absurd here
   judged_is before (e ∷ events) there (inl same) =
-      ap (λ (j : JudgedOf E). j.bracket) same ∙ sym (ap (λ (j : JudgedOf E). bracket_read reads j.before j.event) same)
+      ap (λ (j : Bracketed E). j.bracket) same ∙ sym (ap (λ (j : Bracketed E). bracket_read reads j.before j.event) same)
   judged_is before (e ∷ events) there (inr later) = judged_is (mark_behind_by reads before e) events there later
 
   -- what stands there as a bracket leaves a mark
-  pub bracket_marks : (events : List E) (position : ℕ) (there : JudgedOf E) → slice_get (judged_of reads events) position ≡ Some there
+  pub bracket_marks : (events : List E) (position : ℕ) (there : Bracketed E) → slice_get (judged_of reads events) position ≡ Some there
       → (there.bracket ≡ Neither → ⊥) → is_some (mark_read reads there.event) ≡ true
   bracket_marks events position there stands bracket =
       let is = judged_is None events there (get_in (judged_of reads events) position there stands) in
@@ -143,8 +143,8 @@ module _ {E : Type 0} (reads : Reads E) where
   pub stray_marks : (events : List E) (e : E) → IsStrayEvent (judged_of reads events) e → is_some (mark_read reads e) ≡ true
   stray_marks events e is =
       let side : Some (side_of is.there.bracket) ≡ Some closer
-      = sym (slice_get-map (λ (j : JudgedOf E). side_of j.bracket) (judged_of reads events) is.position
-      ∙ ap (option_map (λ (j : JudgedOf E). side_of j.bracket)) is.stands) ∙ is.stray.0 in
+      = sym (slice_get-map (λ (j : Bracketed E). side_of j.bracket) (judged_of reads events) is.position
+      ∙ ap (option_map (λ (j : Bracketed E). side_of j.bracket)) is.stands) ∙ is.stray.0 in
       ap (λ (x : E). is_some (mark_read reads x)) is.event
       ∙ bracket_marks events is.position is.there is.stands
       (λ neither. no_closer (ap (λ (b : Bracket). Some (side_of b)) (sym neither) ∙ side))

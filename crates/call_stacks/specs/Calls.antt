@@ -40,24 +40,24 @@ abbrev pub mark_behind_by : {E : Type 0} → Reads E → Option Mark → E → O
 mark_behind_by reads before event = option_or (mark_read reads event) before
 
 -- an event with the latest mark before it, and with what it is by that mark
-pub record JudgedOf (E : Type 0) : Type 0 where
+pub record Bracketed (E : Type 0) : Type 0 where
   pub event : E
   pub before : Option Mark
   pub bracket : Bracket
 
 -- the events, each judged by the latest mark before it, which before the first one is this
-abbrev pub judged_with : {E : Type 0} → Reads E → (Option Mark → E → Bracket) → Option Mark → List E → List (JudgedOf E)
-judged_with reads judge before [] = []
-judged_with reads judge before (event ∷ later) =
+abbrev pub bracketed_with : {E : Type 0} → Reads E → (Option Mark → E → Bracket) → Option Mark → List E → List (Bracketed E)
+bracketed_with reads judge before [] = []
+bracketed_with reads judge before (event ∷ later) =
     record { event = event; before = before; bracket = judge before event }
-    ∷ judged_with reads judge (mark_behind_by reads before event) later
+    ∷ bracketed_with reads judge (mark_behind_by reads before event) later
 
 -- the events of a whole thread
-abbrev pub judged_of : {E : Type 0} → Reads E → List E → List (JudgedOf E)
-judged_of reads events = judged_with reads (bracket_read reads) None events
+abbrev pub judged_of : {E : Type 0} → Reads E → List E → List (Bracketed E)
+judged_of reads events = bracketed_with reads (bracket_read reads) None events
 
 -- what the events are to the matching of calls
-abbrev pub sides_of : {E : Type 0} → List (JudgedOf E) → List Side
+abbrev pub sides_of : {E : Type 0} → List (Bracketed E) → List Side
 sides_of judged = map (λ found. side_of found.bracket) judged
 
 -- The verdict of an opener by a closer. Which opener or closer an event is does not depend on the mark before it.
@@ -65,27 +65,27 @@ abbrev pub verdict_read : {E : Type 0} → Reads E → E → E → Verdict
 verdict_read reads call answer = verdict_of (bracket_read reads None call) (bracket_read reads None answer)
 
 -- what becomes of the opener at a position: the closer that matches it says so, or there is none
-pub data HasVerdict {E : Type 0} (reads : Reads E) (judged : List (JudgedOf E)) (i : ℕ)
+pub data HasVerdict {E : Type 0} (reads : Reads E) (judged : List (Bracketed E)) (i : ℕ)
     (call : Opener E) : Type 0 where
-  closed_by : (j : ℕ) (answer : JudgedOf E) → Match (sides_of judged) i j → slice_get judged j ≡ Some answer
+  closed_by : (j : ℕ) (answer : Bracketed E) → Match (sides_of judged) i j → slice_get judged j ≡ Some answer
       → call.verdict ≡ verdict_read reads call.event answer.event → call.closer ≡ Some (reads.place answer.event)
       → HasVerdict reads judged i call
   left_open : ((j : ℕ) → ¬ (Match (sides_of judged) i j)) → call.verdict ≡ Open → call.closer ≡ None
       → HasVerdict reads judged i call
 
 -- one of the openers, with what becomes of it
-pub record IsOpener {E : Type 0} (reads : Reads E) (judged : List (JudgedOf E)) (call : Opener E) : Type 0 where
+pub record IsOpener {E : Type 0} (reads : Reads E) (judged : List (Bracketed E)) (call : Opener E) : Type 0 where
   pub position : ℕ
-  pub there : JudgedOf E
+  pub there : Bracketed E
   pub stands : slice_get judged position ≡ Some there
   pub opens : side_of there.bracket ≡ opener
   pub event : call.event ≡ there.event
   pub verdict : HasVerdict reads judged position call
 
 -- one of the closers that match no opener
-pub record IsStrayEvent {E : Type 0} (judged : List (JudgedOf E)) (answer : E) : Type 0 where
+pub record IsStrayEvent {E : Type 0} (judged : List (Bracketed E)) (answer : E) : Type 0 where
   pub position : ℕ
-  pub there : JudgedOf E
+  pub there : Bracketed E
   pub stands : slice_get judged position ≡ Some there
   pub stray : IsStray (sides_of judged) position
   pub event : answer ≡ there.event
@@ -100,23 +100,23 @@ is_oneway_mark (Some Oneway) = true
 is_oneway_mark _ = false
 
 -- one of the refused sends
-pub record IsRefusedSend {E : Type 0} (judged : List (JudgedOf E)) (sent : RefusedSend E) : Type 0 where
+pub record IsRefusedSend {E : Type 0} (judged : List (Bracketed E)) (sent : RefusedSend E) : Type 0 where
   pub position : ℕ
-  pub there : JudgedOf E
+  pub there : Bracketed E
   pub stands : slice_get judged position ≡ Some there
   pub refused : is_refused there.bracket ≡ true
   pub event : sent.event ≡ there.event
   pub oneway : sent.oneway ≡ is_oneway_mark there.before
 
 -- the refused send that an event tells of
-abbrev pub refused_send : {E : Type 0} → JudgedOf E → Option (RefusedSend E)
+abbrev pub refused_send : {E : Type 0} → Bracketed E → Option (RefusedSend E)
 refused_send found =
     if is_refused found.bracket
     then Some (record { event = found.event; oneway = is_oneway_mark found.before })
     else None
 
 -- the refused sends, in their order
-abbrev pub refused_of : {E : Type 0} → List (JudgedOf E) → List (RefusedSend E)
+abbrev pub refused_of : {E : Type 0} → List (Bracketed E) → List (RefusedSend E)
 refused_of judged = filter_map refused_send judged
 
 -- the place of an opener
@@ -164,8 +164,8 @@ bracket_in_part reads None event = if is_error (bracket_read reads None event) t
 bracket_in_part reads (Some mark) event = bracket_read reads (Some mark) event
 
 -- the events of a part of a thread
-abbrev pub judged_part : {E : Type 0} → Reads E → List E → List (JudgedOf E)
-judged_part reads events = judged_with reads (bracket_in_part reads) None events
+abbrev pub bracketed_part : {E : Type 0} → Reads E → List E → List (Bracketed E)
+bracketed_part reads events = bracketed_with reads (bracket_in_part reads) None events
 
 -- the event, where it is an error reply
 abbrev pub if_error_reply : {E : Type 0} → Reads E → E → Option E
@@ -184,10 +184,10 @@ pub record CallsSum {E : Type 0} (reads : Reads E) (calls : Calls E) (events : L
   pub placed : IsPlaced reads.place events
   pub last : calls.last ≡ last_mark reads events
   pub undecided : calls.undecided ≡ undecided_of reads events
-  pub openers : ListsInOrder (opener_place reads) (IsOpener reads (judged_part reads events)) calls.openers.items
+  pub openers : ListsInOrder (opener_place reads) (IsOpener reads (bracketed_part reads events)) calls.openers.items
   pub unmatched : ListsInOrder (λ index. index) (IsLeftOpen calls.openers.items) calls.unmatched.items
-  pub strays : ListsInOrder reads.place (IsStrayEvent (judged_part reads events)) calls.strays.items
-  pub refused : calls.refused.items ≡ refused_of (judged_part reads events)
+  pub strays : ListsInOrder reads.place (IsStrayEvent (bracketed_part reads events)) calls.strays.items
+  pub refused : calls.refused.items ≡ refused_of (bracketed_part reads events)
 
 -- the calls of whatever events the value sums
 abbrev pub GivesFindings : {E : Type 0} → Reads E → Calls E → CallFindings E → Type 0

@@ -58,7 +58,7 @@ pub data Closes {E : Type 0} (reads : Reads E) (old : Content E) (closer : E) (n
       → Closes reads old closer new
   closes_none : old.unmatched ≡ [] → new ≡ record old { strays = old.strays ++ closer ∷ [] } → Closes reads old closer new
 
--- the same of each of the closers in turn
+-- each of the closers in turn closes the last opener that is open, or is a stray
 abbrev pub ClosesAll : {E : Type 0} → Reads E → Content E → List E → Content E → Type 0
 ClosesAll {E} reads old [] new = new ≡ old
 ClosesAll {E} reads old (closer ∷ closers) new = (next : Content E) × Closes reads old closer next × ClosesAll reads next closers new

@@ -8,7 +8,7 @@ use Rattle.capture_frame.specs.declared.frame.Frame.{Frame}
 use Rattle.capture_frame.specs.declared.version.Version.{Version}
 use Rattle.capture_frame.specs.declared.version.Version.TheVariants.{Two}
 use Rattle.capture_frame.specs.Units.{Placed, placed_at, placed}
-use Rattle.capture_frame.specs.Envelope.{FrameText, MayStand, Before, in_version, file_header, frame_text, placed_frame, frame_bytes}
+use Rattle.capture_frame.specs.Envelope.{FrameText, MayCome, Before, in_version, file_header, frame_text, placed_frame, frame_bytes}
 use Rattle.capture_frame.specs.Parts.{last_after}
 use Rattle.capture_frame.specs.FirstFault.{HeaderFails, frame_format, in_header, in_frames}
 use Rattle.capture_frame.specs.Reading.{Reading, behind_header, frame_source, frames_after, Steps}
@@ -16,7 +16,7 @@ use Rattle.capture_frame.specs.Cut.{AreFrames, AreFramesBefore, AreViewsOf, fram
 use Rattle.capture_frame.proofs.UnitLaws.{state_after-snoc}
 use Rattle.capture_frame.proofs.FrameLaws.{frames_decided}
 use Rattle.capture_frame.proofs.PartLaws.{IsWide}
-use Rattle.capture_frame.proofs.ReaderLaws.{StandsBehind, stands_at_start, stands_behind_next, steps_from, units_end}
+use Rattle.capture_frame.proofs.ReaderLaws.{HasGiven, stands_at_start, stands_behind_next, steps_from, units_end}
 use Rattle.capture_frame.proofs.ReaderLaws as readers
 
 pub placed-snoc : {U : Type 0} (spelling : U → List ℕ) (place : ℕ) (units : List U) (unit : U)
@@ -29,7 +29,7 @@ placed-snoc spelling place (u ∷ units) unit =
     ap (λ (l : List _). placed_at place u ∷ l) (placed-snoc spelling (place + length (spelling u)) units unit
     ∙ ap (λ (n : ℕ). placed spelling (place + length (spelling u)) units ++ placed_at n unit ∷ []) far)
 
-two_stands : (version : Version) (last : Option ℕ) (frame : FrameText) → MayStand (in_version version last) frame → MayStand (in_version Two last) frame
+two_stands : (version : Version) (last : Option ℕ) (frame : FrameText) → MayCome (in_version version last) frame → MayCome (in_version Two last) frame
 two_stands version last frame stands = record { fits = stands.fits; above = stands.above; device = tt }
 
 -- a version 1 frame may stand in version 2
@@ -40,7 +40,7 @@ frames_wide = record { after_in = λ version last frame. refl; stands_in_two = t
 pub record HasCut (part : List ℕ) (base : ℕ) (before : Option ℕ) (reader : Reading) (frames : List Frame) : Type 0 where
   pub version : Version
   pub header : take 16 part ≡ file_header version
-  pub stands : StandsBehind frame_source frame_format (behind_header part base) (in_version version before) reader (map frame_text frames)
+  pub stands : HasGiven frame_source frame_format (behind_header part base) (in_version version before) reader (map frame_text frames)
   pub views : map placed_frame frames ≡ placed frame_bytes (base + 16) (map frame_text frames)
 
 cut_start : (version : Version) (part : List ℕ) (base : ℕ) (before : Option ℕ) (reader : Reading) → take 16 part ≡ file_header version
@@ -65,7 +65,7 @@ cut_next part base before reader frames found new has steps =
     record {
       version = has.version;
       header = has.header;
-      stands = subst (StandsBehind frame_source frame_format text state new) (sym texts)
+      stands = subst (HasGiven frame_source frame_format text state new) (sym texts)
           (stands_behind_next frame_source frame_format text state reader done has.stands found new (frame_text found) steps s.0.may_stand refl refl);
       views =
           map-append placed_frame frames (found ∷ []) ∙ ap (λ (l : List (Placed FrameText)). l ++ placed_frame found ∷ []) has.views

@@ -7,12 +7,12 @@ use Rattle.std.proofs.lemmas.List.{get_or_default}
 use Rattle.std.proofs.lemmas.List.Sorted.{IsPartitionedBy-leb}
 use Rattle.std.proofs.lemmas.List.Elements.{All-contains}
 use Rattle.capture_frame.specs.declared.frame.Frame.{Frame}
-use Rattle.capture_frame.specs.Lookup.{span_of, StandApart, Holds, IsFrameAt, IsSplitAt}
+use Rattle.capture_frame.specs.Lookup.{span_of, AreApart, Holds, IsFrameAt, IsSplitAt}
 
 -- ---- the frames that have begun
 
 -- each of frames that stand apart begins behind those before it
-begin_in_order : (frames : List Frame) → AllPairs StandApart frames → IsNonDecreasingBy (λ (f : Frame). f.place) frames
+begin_in_order : (frames : List Frame) → AllPairs AreApart frames → IsNonDecreasingBy (λ (f : Frame). f.place) frames
 begin_in_order frames apart i j d upto within = elim (cases_lt i j) [
   | inl below ↦ let far = apart i j d below within in omega (arith, far)
   | inr above ↦
@@ -22,7 +22,7 @@ begin_in_order frames apart i j d upto within = elim (cases_lt i j) [
 ]
 
 -- so those that begin at a place or before it are the first ones
-pub begun_first : (frames : List Frame) (place : ℕ) → AllPairs StandApart frames → IsPartitionedBy (λ (f : Frame). leb f.place place) frames
+pub begun_first : (frames : List Frame) (place : ℕ) → AllPairs AreApart frames → IsPartitionedBy (λ (f : Frame). leb f.place place) frames
 begun_first frames place apart = IsPartitionedBy-leb (λ (f : Frame). f.place) frames place (begin_in_order frames apart)
 
 pub split_at_point : (frames : List Frame) (place n : ℕ) → n ≤ length frames
@@ -42,7 +42,7 @@ none_before frames place split i d within holds =
     absurd (omega (arith, behind, from))
 
 -- the last frame before the place ends before it, and so does every earlier one
-pub none_at : (frames : List Frame) (place count : ℕ) → AllPairs StandApart frames → IsSplitAt frames place count → (last : Frame)
+pub none_at : (frames : List Frame) (place count : ℕ) → AllPairs AreApart frames → IsSplitAt frames place count → (last : Frame)
     → ((d : Frame) → last ≡ slice_index_or frames (count - 1) d) → 0 < count → last.place + span_of last ≤ place → IsFrameAt frames place None
 none_at frames place count apart split last is some ended i d within holds =
     let from = holds.0 in
@@ -62,7 +62,7 @@ none_at frames place count apart split last is some ended i d within holds =
     ]
 
 -- the last frame before the place, where it ends behind it
-pub one_at : (frames : List Frame) (place count : ℕ) → AllPairs StandApart frames → IsSplitAt frames place count → (last : Frame)
+pub one_at : (frames : List Frame) (place count : ℕ) → AllPairs AreApart frames → IsSplitAt frames place count → (last : Frame)
     → ((d : Frame) → last ≡ slice_index_or frames (count - 1) d) → 0 < count → place < last.place + span_of last → IsFrameAt frames place (Some last)
 one_at frames place count apart split last is some ends =
     let bound = split.within in

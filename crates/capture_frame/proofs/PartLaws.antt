@@ -28,8 +28,8 @@ state_after-append format state (u ∷ us) vs = state_after-append format (forma
 pub record IsWide {U : Type 0} (format : Format Before U FaultKind) : Type 0 where
   pub after_in : (version : Version) (last : Option ℕ) (unit : U)
       → format.after (in_version version last) unit ≡ in_version version (format.after (in_version Two last) unit).last
-  pub stands_in_two : (version : Version) (last : Option ℕ) (unit : U) → format.MayStand (in_version version last) unit
-      → format.MayStand (in_version Two last) unit
+  pub stands_in_two : (version : Version) (last : Option ℕ) (unit : U) → format.MayCome (in_version version last) unit
+      → format.MayCome (in_version Two last) unit
 
 last_after-cons : {U : Type 0} (format : Format Before U FaultKind) (wide : IsWide format) (last : Option ℕ) (unit : U) (units : List U)
     → last_after format last (unit ∷ units) ≡ last_after format (format.after (in_version Two last) unit).last units

@@ -71,7 +71,7 @@ pub record IsPushed (part : List ℕ) (base : ℕ) (before last : Option ℕ) (o
   pub views : AreViewsFrom (base + file_header_length) texts more
   pub last_is : last ≡ last_after frame_format before texts
 
--- the same of those before the part's first fault
+-- the frames of the part before its first fault are pushed
 pub record IsPushedBefore (part : List ℕ) (base : ℕ) (before : Option ℕ) (old new : List Frame)
     (fault : Fault) : Type 0 where
   pub more : List Frame

@@ -5,7 +5,7 @@ use Rattle.capture_frame.specs.declared.fault.FaultKind.{FaultKind}
 use Rattle.capture_frame.specs.declared.fault.FaultKind.TheVariants.{HeaderShort, HeaderMagic, HeaderProtocol, HeaderReserved, FrameShort, FrameSequence, FrameDirection, FrameReserved, FrameLength}
 use Rattle.capture_frame.specs.declared.version.Version.{Version}
 use Rattle.capture_frame.specs.Units.{Format, Reads, FirstFailure}
-use Rattle.capture_frame.specs.Envelope.{FrameText, Before, in_version, magic, file_header, frame_bytes, MayStand, IsAbove, IsDirection, AreZero, number_at, sequence_at, direction_at, command_length, attachment_length}
+use Rattle.capture_frame.specs.Envelope.{FrameText, Before, in_version, magic, file_header, frame_bytes, MayCome, IsAbove, IsDirection, AreZero, number_at, sequence_at, direction_at, command_length, attachment_length}
 
 -- the bytes begin with those that name a version
 abbrev pub NamesVersion : List ℕ → Type 0
@@ -40,7 +40,7 @@ FrameFails before bytes _ = ⊥
 abbrev pub frame_format : Format Before FrameText FaultKind
 frame_format = record {
   spelling = frame_bytes;
-  MayStand = MayStand;
+  MayCome = MayCome;
   after = λ before f. in_version before.version (Some f.sequence);
   Fails = λ before bytes kind within. FrameFails before bytes kind × (within ≡ 0);
 }

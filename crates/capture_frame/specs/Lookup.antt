@@ -8,8 +8,8 @@ abbrev pub span_of : Frame → ℕ
 span_of frame = frame_header_length + length frame.commands.now + length frame.attachments.now
 
 -- the earlier frame ends before the later one begins
-abbrev pub StandApart : Frame → Frame → Type 0
-StandApart earlier later = earlier.place + span_of earlier ≤ later.place
+abbrev pub AreApart : Frame → Frame → Type 0
+AreApart earlier later = earlier.place + span_of earlier ≤ later.place
 
 -- the byte at this place is one of the frame's
 abbrev pub Holds : ℕ → Frame → Type 0

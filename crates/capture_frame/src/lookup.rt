@@ -1,14 +1,14 @@
 //! Which of the frames of a capture holds a place.
 
 ghost use Rattle.std.specs.Prelude.{◌≡◌, ◌+◌, leb, AllPairs};
-ghost use Rattle.capture_frame.specs.Lookup.{span_of, StandApart, IsFrameAt, IsSplitAt};
+ghost use Rattle.capture_frame.specs.Lookup.{span_of, AreApart, IsFrameAt, IsSplitAt};
 
 use crate::frame::Frame;
 
 /// Which of these frames, each of which ends before every later one begins, holds the byte at a
 /// place of the capture; None where none does.
 pub fn frame_at<'c>(frames: &[Frame<'c>], place: u64) -> Option<Frame<'c>>
-    requires { AllPairs StandApart frames.now }
+    requires { AllPairs AreApart frames.now }
     ensures { IsFrameAt frames.entry.now place result }
 {
     let count = count_begun(frames, place);
@@ -26,7 +26,7 @@ pub fn frame_at<'c>(frames: &[Frame<'c>], place: u64) -> Option<Frame<'c>>
 /// How many of these frames, each of which ends before every later one begins, begin at a place of
 /// the capture or before it.
 pub fn count_begun(frames: &[Frame<'_>], place: u64) -> usize
-    requires { AllPairs StandApart frames.now }
+    requires { AllPairs AreApart frames.now }
     ensures { IsSplitAt frames.entry.now place result }
 {
     frames.partition_point(

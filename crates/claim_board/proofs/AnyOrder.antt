@@ -13,7 +13,7 @@ use Rattle.claim_board.specs.declared.job.Act.{Act}
 use Rattle.claim_board.specs.declared.job.Act.TheVariants.{Claim, Look, Lower}
 use Rattle.claim_board.specs.declared.job.Step.{Step}
 use Rattle.claim_board.specs.Board.{BoardState, AreJobs, MayClaim, Acts, opening_of, is_least_below, state_by_fault, state_after_look, lesser_of}
-use Rattle.claim_board.specs.Orders.{Runs, EndsOnce, HaveAllStopped, AreFaultless, IsLeastFault, AreDone, IsOrderly, AllOrders}
+use Rattle.claim_board.specs.Orders.{LeadsTo, EndsOnce, HaveAllStopped, AreFaultless, IsLeastFault, AreDone, IsOrderly, AllOrders}
 use Rattle.claim_board.specs.Running.{bit, total, blank_job}
 use Rattle.claim_board.proofs.Lists.{get_set, get_set_else, get_replicate, got_replicate}
 use Rattle.claim_board.proofs.Totals.{total-put, total-replicate, total_few, bit_le}
@@ -228,7 +228,7 @@ module _ (jobs : List Job) (workers steps : ℕ) (s : BoardState) (old : IsReach
   act_reached Look w t a = subst (λ (u : BoardState). IsReached jobs workers (steps + 1) u) (sym a.4) (look_reached w a.0 a.1 a.2 a.3)
   act_reached Lower w t a = subst (λ (u : BoardState). IsReached jobs workers (steps + 1) u) (sym a.6) (lower_reached w a.0 a.1 a.2 a.3 a.4 a.5)
 
-runs_reached : (jobs : List Job) (workers : ℕ) (list : List Step) (steps : ℕ) (s t : BoardState) → IsReached jobs workers steps s → Runs s list t
+runs_reached : (jobs : List Job) (workers : ℕ) (list : List Step) (steps : ℕ) (s t : BoardState) → IsReached jobs workers steps s → LeadsTo s list t
     → IsReached jobs workers (steps + length list) t
 runs_reached jobs workers [] steps s t r e =
     let n : steps ≡ steps + 0 = omega arith in

@@ -7,9 +7,9 @@ use Rattle.claim_board.specs.declared.job.Step.{Step}
 use Rattle.claim_board.specs.Board.{BoardState, AreJobs, IsStep, opening_of}
 
 -- a list of steps leads from s to t
-abbrev pub Runs : BoardState → List Step → BoardState → Type 0
-Runs s [] t = t ≡ s
-Runs s (x ∷ xs) t = (u : BoardState) × IsStep s x u × Runs u xs t
+abbrev pub LeadsTo : BoardState → List Step → BoardState → Type 0
+LeadsTo s [] t = t ≡ s
+LeadsTo s (x ∷ xs) t = (u : BoardState) × IsStep s x u × LeadsTo u xs t
 
 -- the job is Done, Skipped or Lowered by the worker w
 abbrev pub IsEndedBy : ℕ → JobState → Type 0
@@ -55,7 +55,7 @@ pub record IsOrderly (jobs : List Job) (workers steps : ℕ) (t : BoardState) : 
   pub faultless : HaveAllStopped t → AreFaultless jobs → AreDone jobs t
   pub faulty : HaveAllStopped t → (AreFaultless jobs → ⊥) → (x : ℕ) × (t.least ≡ Some x) × IsLeastFault jobs x
 
--- so it is for every list of jobs, number of workers from 1 on and list of steps from the opening
+-- every list of steps from the opening is orderly, for every list of jobs and number of workers from 1 on
 abbrev pub AllOrders : Type 0
 AllOrders = (jobs : List Job) (workers : ℕ) (steps : List Step) (t : BoardState)
-    → AreJobs jobs → 1 ≤ workers → Runs (opening_of jobs workers) steps t → IsOrderly jobs workers (length steps) t
+    → AreJobs jobs → 1 ≤ workers → LeadsTo (opening_of jobs workers) steps t → IsOrderly jobs workers (length steps) t

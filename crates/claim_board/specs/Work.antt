@@ -62,7 +62,7 @@ pub record IsSameCrew (old new : View) : Type 0 where
   pub workers : new.workers ≡ old.workers
   pub crew : map (λ m. m.worker) new.crew ≡ map (λ m. m.worker) old.crew
 
--- the same seat, which stands for the same workers
+-- the seat is the one that it was, and its workers are those that they were
 abbrev pub StandsForSame : Seat (Unit {0}) View → Seat (Unit {0}) View → Type 0
 StandsForSame old new = IsSameSeat old new × IsSameCrew old.me.0 new.me.0
 

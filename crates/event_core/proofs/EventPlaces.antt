@@ -15,7 +15,7 @@ use Rattle.transaction_view.proofs.EntryLaws as entry_laws
 use Rattle.transaction_view.specs.FirstFault.{HasGoodContent}
 use Rattle.transaction_view.proofs.RecordPlaces.{span_of-snoc, stands_behind, stands_within}
 use Rattle.event_core.specs.declared.event.Event.{Event}
-use Rattle.event_core.specs.Events.{EventText, event_of, events_of, event_at_place, HasRecordAt}
+use Rattle.event_core.specs.Events.{EventRead, event_of, events_of, event_at_place, HasRecordAt}
 use Rattle.event_core.specs.Reading.{Reading, reading_at, record_of, event_text, Steps, events_start, IsEventAt}
 
 -- a reading whose first unit is known, and what is behind that unit
@@ -31,7 +31,7 @@ first_ahead {S} {U} {K} format decided state bytes (u ∷ us) unit View reads be
     (us, ap (λ (x : U). x ∷ us) same.0, subst (λ (x : U). Reads format (format.after state x) (drop (length (format.spelling unit)) bytes) us) same.0 behind)
 
 -- the events of records that stand from there on
-abbrev events_from : Placed FrameText → List EntryText → ℕ → List RecordText → List EventText
+abbrev events_from : Placed FrameText → List EntryText → ℕ → List RecordText → List EventRead
 events_from frame entries offset ahead = map (event_of frame entries) (placed record_bytes (commands_place frame.place + offset) ahead)
 
 -- the reader has passed no event at this place
@@ -107,14 +107,14 @@ gives_first frame place reading looks found new steps =
       reading_is = s.1;
       none_passed =
           looks.none_passed ∙ ap (λ (l : List RecordText). event_at_place place (events_from pf looks.entries looks.offset l)) first.1
-          ∙ ap (λ (e : EventText). event_at_place place (e ∷ others (commands_place frame.place + looks.offset + width))) (sym text)
+          ∙ ap (λ (e : EventRead). event_at_place place (e ∷ others (commands_place frame.place + looks.offset + width))) (sym text)
           ∙ ap (λ (n : ℕ). event_at_place place (event_text found ∷ others n)) far;
     }
 
 -- it stands where the reader stood
 place_of : (frame : Frame) (place : ℕ) (reading : Reading) (looks : Looks frame place reading) (found : Event) (new : Reading)
     → GivesFirst frame place reading looks found new → found.place ≡ commands_place frame.place + looks.offset
-place_of frame place reading looks found new g = ap (λ (e : EventText). e.place) g.text
+place_of frame place reading looks found new g = ap (λ (e : EventRead). e.place) g.text
 
 -- and the frame's records are those passed, its own, and others
 records_with : (frame : Frame) (place : ℕ) (reading : Reading) (looks : Looks frame place reading) (found : Event) (new : Reading)

@@ -26,11 +26,11 @@ use Rattle.transaction_view.specs.Reading.{entry_text, entry_source}
 use Rattle.transaction_view.specs.Reading as entries
 use Rattle.transaction_view.specs.FirstFault.{HasGoodContent}
 use Rattle.transaction_view.proofs.EntryLaws.{entries_decided}
-use Rattle.transaction_view.proofs.EntryWalk.{StandsBehind, stands_at_start, stands_behind_next, given_says, entries_end, entries_never_fail}
+use Rattle.transaction_view.proofs.EntryWalk.{HasGiven, stands_at_start, stands_behind_next, given_says, entries_end, entries_never_fail}
 use Rattle.transaction_view.proofs.RecordPlaces.{span_of-snoc, stands_behind}
 use Rattle.transaction_view.proofs.SearchLaws.{Searches, Gives, gives, search_never_fails}
 use Rattle.event_core.specs.declared.event.Event.{Event}
-use Rattle.event_core.specs.Events.{AttachmentText, EventText, attachment_text, belongs_to, placed_entries, attachment_of, bare_event, event_of}
+use Rattle.event_core.specs.Events.{AttachmentText, EventRead, attachment_text, belongs_to, placed_entries, attachment_of, bare_event, event_of}
 use Rattle.event_core.specs.Reading.{Reading, entry_attachment, event_text, text_of_event, record_of, Steps}
 use Rattle.event_core.specs.State.{HasRead, IsNext, all_given, one_ahead, IsWithin, TakesAt, reading_of, entries_span}
 use Rattle.event_core.proofs.EntryPlaces.{find-behind, find-here, find-other, find-past}
@@ -40,7 +40,7 @@ some_is x y same = ap (λ (o : Option _). unwrap_or o x) same
 
 -- ---- the entry that comes next
 
-stands_of : (frame : Frame) (reading : entries.Reading) (done : List EntryText) → HasRead frame reading done → StandsBehind frame reading done
+stands_of : (frame : Frame) (reading : entries.Reading) (done : List EntryText) → HasRead frame reading done → HasGiven frame reading done
 stands_of frame reading done has = record {
   offset = has.distance;
   reading_is = has.reading_is;
@@ -48,7 +48,7 @@ stands_of frame reading done has = record {
       record { splits = has.splits; length_is = has.distance_is };
 }
 
-read_of : (frame : Frame) (reading : entries.Reading) (done : List EntryText) → StandsBehind frame reading done → HasRead frame reading done
+read_of : (frame : Frame) (reading : entries.Reading) (done : List EntryText) → HasGiven frame reading done → HasRead frame reading done
 read_of frame reading done stands = record {
   distance = stands.offset;
   reading_is = stands.reading_is;
@@ -59,7 +59,7 @@ read_of frame reading done stands = record {
 
 -- a call of the reader of entries, behind these, leaves the next one at hand, or there is none
 pub next_at_hand : (frame : Frame) (reading new : entries.Reading) (done : List EntryText) (offset : ℕ) → HasGoodContent (frame_text frame)
-    → StandsBehind frame reading done
+    → HasGiven frame reading done
     → ((e : EntryText) → MayStandEntry (frame_text frame) (state_after (entry_format (frame_text frame)) None done) e → offset ≤ e.offset)
     → (result : Result (Option Entry) Fault) (ahead : Option Entry) → entries.Steps reading result new → ahead ≡ result_unwrap_or result None
     → IsNext frame offset new done ahead
@@ -328,7 +328,7 @@ pub event_is : (frame : Frame) (found : Record) (entry : Option Entry) (place : 
     → option_map entry_attachment entry ≡ attachment → text_of_event frame found entry
     ≡ record (bare_event (frame_text frame) (placed_at place (record_text found))) { entry = attachment }
 event_is frame found entry place attachment is kind attached_is =
-    let make : ℕ → Kind → Option AttachmentText → EventText =
+    let make : ℕ → Kind → Option AttachmentText → EventRead =
     λ p k a. record {
       place = p;
       device = frame.device;
@@ -346,7 +346,7 @@ event_is frame found entry place attachment is kind attached_is =
 
 same_record : (frame : Frame) (found : Record) (entry : Option Entry) (event : Event) → event_text event ≡ text_of_event frame found entry → record_text found
     ≡ record_of event
-same_record frame found entry event is = sym (ap (λ (t : EventText). let r : RecordText = record { code = t.code; payload = t.payload } in r) is)
+same_record frame found entry event is = sym (ap (λ (t : EventRead). let r : RecordText = record { code = t.code; payload = t.payload } in r) is)
 
 -- a record that is given, as an event
 pub steps_on : (frame : Frame) (reading new : records.Reading) (attachments : entries.Reading) (ahead : Option Entry)
@@ -365,7 +365,7 @@ steps_on frame reading new attachments ahead within found steps entry has event 
     let stands : BeginsWith (format_of (frame_text frame)) tt rest (record_of event)
     ((es : List EntryText) × HasEntries (frame_text frame) es × (event_text event ≡ event_of (placed_frame frame) es (placed_at place (record_of event)))) =
     record {
-      may_stand = subst (λ (r : RecordText). (format_of (frame_text frame)).MayStand tt r) same s.0.may_stand;
+      may_stand = subst (λ (r : RecordText). (format_of (frame_text frame)).MayCome tt r) same s.0.may_stand;
       joined = subst (λ (r : RecordText). rest ≡ record_bytes r ++ drop (length (record_bytes r)) rest) same s.0.joined;
       view = (has.0, has.1, text);
     } in

@@ -8,7 +8,7 @@ use Rattle.capture_frame.specs.Units.{Placed}
 use Rattle.record_view.specs.Records.{RecordText, HasRecords}
 use Rattle.transaction_view.specs.Attachments.{EntryText, HasEntries}
 use Rattle.event_core.specs.declared.event.Event.{Event}
-use Rattle.event_core.specs.Events.{EventText, events_of}
+use Rattle.event_core.specs.Events.{EventRead, events_of}
 use Rattle.event_core.specs.Reading.{Reading, Steps, event_text, events_start, GiveEvents}
 use Rattle.event_core.proofs.EventCalls.{events_given}
 
@@ -36,23 +36,23 @@ some_is : {A : Type 0} (x y : A) → Some x ≡ Some y → x ≡ y
 some_is x y same = ap (λ (o : Option _). unwrap_or o x) same
 
 -- what was given is what the events begin with
-begins : (events : List EventText) (given : List Event) (results : List (Option Event)) → GiveEvents events (map Some given ++ results)
-    → (rest : List EventText) × (events ≡ map event_text given ++ rest) × GiveEvents rest results
+begins : (events : List EventRead) (given : List Event) (results : List (Option Event)) → GiveEvents events (map Some given ++ results)
+    → (rest : List EventRead) × (events ≡ map event_text given ++ rest) × GiveEvents rest results
 begins events [] results give = (events, refl, give)
 begins [] (g ∷ given) results give = let wrong : Some g ≡ None = give.0 in cc
 begins (e ∷ events) (g ∷ given) results give =
     let more = begins events given results give.1 in
     let first : event_text g ≡ e = some_is (event_text g) e give.0 in
-    (more.0, rw first (ap (λ (t : List EventText). e ∷ t) more.1), more.2)
+    (more.0, rw first (ap (λ (t : List EventRead). e ∷ t) more.1), more.2)
 
-nothing_left : (rest : List EventText) → GiveEvents rest (None ∷ []) → rest ≡ []
+nothing_left : (rest : List EventRead) → GiveEvents rest (None ∷ []) → rest ≡ []
 nothing_left [] give = refl
 nothing_left (e ∷ rest) give = let wrong : None ≡ Some e = give.0 in cc
 
 -- what a reader has given are the first events of its frame
 pub given_first : (frame : Placed FrameText) (reading : Reading) (given : List Event) (records : List RecordText) (entries : List EntryText)
     → HasRecords frame.unit records → HasEntries frame.unit entries → Given frame reading given
-    → (rest : List EventText) × (events_of frame records entries ≡ map event_text given ++ rest)
+    → (rest : List EventRead) × (events_of frame records entries ≡ map event_text given ++ rest)
 given_first frame reading given records entries has_records has_entries so_far =
     let calls = calls_of frame reading given so_far [] (no_more reading) in
     let split = begins (events_of frame records entries) given [] (events_given frame records entries has_records has_entries _ calls) in
@@ -65,4 +65,4 @@ pub given_all : (frame : Placed FrameText) (reading new : Reading) (given : List
 given_all frame reading new given records entries has_records has_entries so_far steps =
     let calls = calls_of frame reading given so_far (None ∷ []) (one_more reading new None [] steps (no_more new)) in
     let split = begins (events_of frame records entries) given (None ∷ []) (events_given frame records entries has_records has_entries _ calls) in
-    split.1 ∙ ap (λ (t : List EventText). map event_text given ++ t) (nothing_left split.0 split.2) ∙ append-nil (map event_text given)
+    split.1 ∙ ap (λ (t : List EventRead). map event_text given ++ t) (nothing_left split.0 split.2) ∙ append-nil (map event_text given)

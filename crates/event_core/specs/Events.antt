@@ -22,7 +22,7 @@ pub record AttachmentText : Type 0 where
 
 -- a record with its place in the capture, the device, the process and the thread of its frame, what its code stands
 -- for, and its attachment if it has one
-pub record EventText : Type 0 where
+pub record EventRead : Type 0 where
   pub place : ℕ
   pub device : ℕ
   pub process : ℕ
@@ -33,11 +33,11 @@ pub record EventText : Type 0 where
   pub entry : Option AttachmentText
 
 -- the process of an event
-abbrev pub process_of : EventText → Process
+abbrev pub process_of : EventRead → Process
 process_of e = record { device = e.device; number = e.process }
 
 -- the thread of an event
-abbrev pub thread_of : EventText → Thread
+abbrev pub thread_of : EventRead → Thread
 thread_of e = record { process = process_of e; number = e.thread }
 
 -- what a code stands for in a frame, whose own records' codes all stand for something
@@ -45,7 +45,7 @@ abbrev pub kind_in : FrameText → ℕ → Kind
 kind_in frame code = result_unwrap_or (kind_of (protocol_of frame.direction) code) Opaque
 
 -- the event of a record of a frame, with the attachment left out
-abbrev pub bare_event : FrameText → Placed RecordText → EventText
+abbrev pub bare_event : FrameText → Placed RecordText → EventRead
 bare_event frame there = record {
   place = there.place;
   device = frame.device;
@@ -75,7 +75,7 @@ attachment_of frame entries place =
     option_map attachment_text (find (belongs_to (commands_place frame.place) place) (placed_entries frame entries))
 
 -- the event of a record of a frame that has these entries
-abbrev pub event_of : Placed FrameText → List EntryText → Placed RecordText → EventText
+abbrev pub event_of : Placed FrameText → List EntryText → Placed RecordText → EventRead
 event_of frame entries there = record (bare_event frame.unit there) { entry = attachment_of frame entries there.place }
 
 -- the records of a frame with their places
@@ -83,7 +83,7 @@ abbrev pub placed_records : Placed FrameText → List RecordText → List (Place
 placed_records frame records = placed record_bytes (commands_place frame.place) records
 
 -- the events of a frame with these records and these entries: one for each record, in rising place
-abbrev pub events_of : Placed FrameText → List RecordText → List EntryText → List EventText
+abbrev pub events_of : Placed FrameText → List RecordText → List EntryText → List EventRead
 events_of frame records entries = map (event_of frame entries) (placed_records frame records)
 
 -- where a whole frame stands, and what its header and its bytes tell
@@ -91,7 +91,7 @@ abbrev pub placed_text : Placed WholeFrame → Placed FrameText
 placed_text there = placed_at there.place there.unit.frame
 
 -- the events of a whole frame of a capture
-abbrev pub events_of_whole : Placed WholeFrame → List EventText
+abbrev pub events_of_whole : Placed WholeFrame → List EventRead
 events_of_whole there = events_of (placed_text there) there.unit.records there.unit.entries
 
 -- the whole frames of a capture, with their places behind its file header
@@ -99,11 +99,11 @@ abbrev pub wholes_of : List WholeFrame → List (Placed WholeFrame)
 wholes_of frames = placed (λ whole. frame_bytes whole.frame) file_header_length frames
 
 -- the events of these whole frames: those of each frame, in rising place
-abbrev pub events_of_wholes : List (Placed WholeFrame) → List EventText
+abbrev pub events_of_wholes : List (Placed WholeFrame) → List EventRead
 events_of_wholes wholes = flat_map events_of_whole wholes
 
 -- the event at a place, where one of these stands there
-abbrev pub event_at_place : ℕ → List EventText → Option EventText
+abbrev pub event_at_place : ℕ → List EventRead → Option EventRead
 event_at_place place events = find (λ e. e.place == place) events
 
 -- this record of the frame begins at this place of the capture

@@ -10,14 +10,14 @@ use Rattle.record_view.specs.Records.{RecordText, record_bytes, format_of, HasRe
 use Rattle.transaction_view.specs.declared.entry.Entry.{Entry}
 use Rattle.transaction_view.specs.Attachments.{EntryText, HasEntries}
 use Rattle.event_core.specs.declared.event.Event.{Event}
-use Rattle.event_core.specs.Events.{AttachmentText, EventText, event_of, events_of, event_at_place}
+use Rattle.event_core.specs.Events.{AttachmentText, EventRead, event_of, events_of, event_at_place}
 
 -- what an attachment of the capture says
 abbrev pub entry_attachment : Entry → AttachmentText
 entry_attachment found = record { place = found.place; body = found.body.now; offset_bytes = found.offsets.now }
 
 -- what an event of the capture says
-abbrev pub event_text : Event → EventText
+abbrev pub event_text : Event → EventRead
 event_text found = record {
   place = found.place;
   device = found.device;
@@ -30,7 +30,7 @@ event_text found = record {
 }
 
 -- what the event of a record of a frame says, with this attachment
-abbrev pub text_of_event : Frame → Record → Option Entry → EventText
+abbrev pub text_of_event : Frame → Record → Option Entry → EventRead
 text_of_event frame found entry = record {
   place = found.place;
   device = frame.device;
@@ -74,11 +74,11 @@ abbrev pub events_start : Placed FrameText → Reading
 events_start frame = reading_at frame 0
 
 -- the call gives this event
-abbrev pub GivesEvent : Option Event → EventText → Type 0
+abbrev pub GivesEvent : Option Event → EventRead → Type 0
 GivesEvent result e = option_map event_text result ≡ Some e
 
 -- the results of calls are these events, one by one, and then nothing again and again
-abbrev pub GiveEvents : List EventText → List (Option Event) → Type 0
+abbrev pub GiveEvents : List EventRead → List (Option Event) → Type 0
 GiveEvents events results = GiveInOrder GivesEvent None None events results
 
 -- the event of a frame at a place of the capture, or none where no event of the frame stands there

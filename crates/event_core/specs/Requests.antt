@@ -24,7 +24,7 @@ request_change BcClearDeathNotification payload = Some (Clear (request_key paylo
 request_change BrDeadBinder payload = Some (Dead (cookie_alone payload))
 request_change _ payload = None
 
--- the same, with the record's place
+-- what a record does to the requests of its process, with the record's place
 abbrev pub request_item : ℕ → Kind → List ℕ → Option RequestItem
 request_item place kind payload =
     option_map (λ change. record { place = place; change = change }) (request_change kind payload)

@@ -26,7 +26,7 @@ pub use death::death_step;
 pub use event::Event;
 pub use events::Events;
 pub use handle::{HandleChange, HandleItem, handle_step};
-pub use lookup::{bare_event_at, event_at};
+pub use lookup::{event_at, event_without_attachment_at};
 pub use marks::{Bracket, Mark};
 pub use node::{NodeChange, NodeItem, NodeKey, node_step};
 pub use oneway::{OnewayItem, OnewayKey, oneway_step};

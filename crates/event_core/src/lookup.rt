@@ -33,7 +33,7 @@ pub fn event_at<'c>(frame: Frame<'c>, place: u64) -> Option<Event<'c>>
 
 /// The event of the record of a frame that begins at a place of the capture, with the attachment
 /// left out. Unlike `event_at` it does not pass the records before.
-pub fn bare_event_at<'c>(frame: Frame<'c>, place: u64) -> Event<'c>
+pub fn event_without_attachment_at<'c>(frame: Frame<'c>, place: u64) -> Event<'c>
     requires { HasRecordAt (placed_frame frame) place }
     ensures { (found : RecordText) → RecordStandsAt (placed_frame frame.entry) place found →
         event_text result ≡ bare_event (frame_text frame.entry) (placed_at place found) }

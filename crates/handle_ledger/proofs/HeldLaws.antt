@@ -29,7 +29,7 @@ use Rattle.handle_ledger.specs.Rows.{is_named}
 use Rattle.handle_ledger.specs.declared.handle_counts.HandleCounts.{HandleCounts}
 use Rattle.handle_ledger.specs.declared.handle_row.HandleRow.{HandleRow}
 use Rattle.handle_ledger.specs.declared.held_row.HeldRow.{HeldRow}
-use Rattle.summary_law.specs.ByKey.{IsPart, SumsByKey}
+use Rattle.summary_law.specs.ByKey.{IsOwn, SumsByKey}
 use Rattle.summary_law.specs.Count.{IsCount, IsCountOf}
 use Rattle.summary_law.specs.Tally.{AreTallyRows, count_of}
 use Rattle.summary_law.specs.declared.count.Count.{Count}
@@ -83,7 +83,7 @@ next_inserted old new first q rows i d in' updates before =
     (updates.0 q ∙ ap (λ b. cond b true (contains nat_cmp old q)) (turned (get_or rows i d).0.0 q)) before
     ∙ ap (λ b. first || b) (sym more)
 
-named_part : (part : Option HandleCounts) (items : List HandleItem) (q : ℕ) → IsPart HandleCountsSum part (own nat_cmp handle_of q items)
+named_part : (part : Option HandleCounts) (items : List HandleItem) (q : ℕ) → IsOwn HandleCountsSum part (own nat_cmp handle_of q items)
     → is_some part ≡ is_named nat_cmp handle_of itself items q
 named_part None items q nil =
     both_ways false (is_named nat_cmp handle_of itself items q) (λ h. absurd (cc)) (λ named. absurd (some_named nat_cmp handle_of q items named nil))
@@ -96,7 +96,7 @@ named_entries m items sums q = sym (is_some-lookup (eq_by_cmp nat_cmp q) m.entri
 
 -- the row of a handle of which there are counts
 pub row_of_counts : (handle : ℕ) (items : List HandleItem) (counts : HandleCounts)
-    → IsPart HandleCountsSum (Some counts) (own nat_cmp handle_of handle items)
+    → IsOwn HandleCountsSum (Some counts) (own nat_cmp handle_of handle items)
     → IsHandleRow itself items (record { handle = handle; strong = counts.strong; weak = counts.weak })
 row_of_counts handle items counts part = record {
   strong = count_at nat_cmp handle_of (handle_change Strong) counts.strong handle items part.1.strong;
@@ -105,7 +105,7 @@ row_of_counts handle items counts part = record {
 
 -- the row of a handle that no item names
 pub row_of_none : (handle : ℕ) (items : List HandleItem) (strong weak : Count) → IsCount strong [] → IsCount weak []
-    → IsPart HandleCountsSum None (own nat_cmp handle_of handle items)
+    → IsOwn HandleCountsSum None (own nat_cmp handle_of handle items)
     → IsHandleRow itself items (record { handle = handle; strong = strong; weak = weak })
 row_of_none handle items strong weak no_strong no_weak nil = record {
   strong = count_at nat_cmp handle_of (handle_change Strong) strong handle items

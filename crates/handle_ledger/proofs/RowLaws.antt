@@ -16,7 +16,7 @@ use Rattle.std.specs.Prelude.{All}
 use Rattle.std.specs.declared.cmp.Ordering.{Ordering}
 use Rattle.handle_ledger.proofs.KeyLaws.{itself, keyed, own, named_some, some_named, named_read}
 use Rattle.handle_ledger.specs.Rows.{is_named, AreRows}
-use Rattle.summary_law.specs.ByKey.{IsPart, SumsByKey}
+use Rattle.summary_law.specs.ByKey.{IsOwn, SumsByKey}
 
 module _ {K I : Type 0} (cmp : K → K → Ordering) (key_of : I → K) {R : Type 0} (row_key : R → K) where
   -- rows over the items that are read from things are rows over the things, where each single one is
@@ -43,7 +43,7 @@ module _ {K I : Type 0} (cmp : K → K → Ordering) (key_of : I → K) {R : Typ
     listed key [] = refl
     listed key (e ∷ es) = ap₂ ◌||◌ (ap (eq_by_cmp cmp key) (same e)) (listed key es)
 
-    found : (Sums : P → List I → Type 0) (part : Option P) (items : List I) → IsPart Sums part items → items ≢ [] → is_some part ≡ true
+    found : (Sums : P → List I → Type 0) (part : Option P) (items : List I) → IsOwn Sums part items → items ≢ [] → is_some part ≡ true
     found Sums None items nil some = absurd (some nil)
     found Sums (Some part) items sums some = refl
 
@@ -53,19 +53,19 @@ module _ {K I : Type 0} (cmp : K → K → Ordering) (key_of : I → K) {R : Typ
         → ((e : K × P) → Sums e.1 (own cmp key_of e.0 items) → IsRow (row_of e)) → (rows : List R) → rows ≡ map row_of m.entries
         → AreRows cmp row_key (is_named cmp key_of itself items) IsRow rows
     map_rows laws Sums m ordered items sums IsRow right rows are =
-        let parts = All-weaker (λ (e : K × P). get cmp m e.0 ≡ Some e.1) (λ e. IsPart Sums (Some e.1) (own cmp key_of e.0 items))
-        (λ e there. subst (λ (o : Option P). IsPart Sums o (own cmp key_of e.0 items)) there (sums e.0)) m.entries (All-found laws m ordered) in
+        let parts = All-weaker (λ (e : K × P). get cmp m e.0 ≡ Some e.1) (λ e. IsOwn Sums (Some e.1) (own cmp key_of e.0 items))
+        (λ e there. subst (λ (o : Option P). IsOwn Sums o (own cmp key_of e.0 items)) there (sums e.0)) m.entries (All-found laws m ordered) in
         rw are (record {
           rising = subst (IsStrictlySortedBy cmp) (sym (keys_of_rows m.entries)) ordered;
           named = All-map (λ row. is_named cmp key_of itself items (row_key row) ≡ true) row_of m.entries
-              (All-weaker (λ (e : K × P). IsPart Sums (Some e.1) (own cmp key_of e.0 items))
+              (All-weaker (λ (e : K × P). IsOwn Sums (Some e.1) (own cmp key_of e.0 items))
               (λ e. is_named cmp key_of itself items (row_key (row_of e)) ≡ true)
               (λ e part. ap (is_named cmp key_of itself items) (same e) ∙ named_some cmp key_of e.0 items part.0) m.entries parts);
           whole = λ key named.
               listed key m.entries ∙ sym (is_some-lookup (eq_by_cmp cmp key) m.entries)
               ∙ found Sums (get cmp m key) (own cmp key_of key items) (sums key) (some_named cmp key_of key items named);
           right = All-map IsRow row_of m.entries
-              (All-weaker (λ (e : K × P). IsPart Sums (Some e.1) (own cmp key_of e.0 items)) (λ e. IsRow (row_of e))
+              (All-weaker (λ (e : K × P). IsOwn Sums (Some e.1) (own cmp key_of e.0 items)) (λ e. IsRow (row_of e))
               (λ e part. right e part.1) m.entries parts);
         })
 

@@ -48,9 +48,9 @@ AreHeldRows read things held rows =
 
 -- it is so of all items that the ledger may have summed and all held references that the tally may have summed
 abbrev pub OfSums : HandleLedger → Tally Held → (List HandleItem → List (Held × ℕ) → Type 0) → Type 0
-OfSums ledger tally IsSo =
+OfSums ledger tally IsHere =
     (items : List HandleItem) (held : List (Held × ℕ)) → HandleLedgerSums ledger items
-    → TallySums held_cmp tally held → IsSo items held
+    → TallySums held_cmp tally held → IsHere items held
 
 -- these are the rows of the items and the held references that were summed
 abbrev pub GivesHeldRows : HandleLedger → Tally Held → List HeldRow → Type 0

@@ -68,7 +68,7 @@ ObjectFails body end list cause = (8 ≤ length list) × FailsAt body end (first
 abbrev pub object_format : List ℕ → Format ℕ ObjectText Cause
 object_format body = record {
   spelling = λ o. little_bytes 8 o.offset;
-  MayStand = MayStandObject body;
+  MayCome = MayStandObject body;
   after = λ end o. o.offset + sort_length o.sort;
   Fails = λ end list cause within. ObjectFails body end list cause × (within ≡ 0);
 }

@@ -19,7 +19,7 @@ use Rattle.pending_ledger.proofs.ListLaws.{contains_none, contains_here, contain
 use Rattle.pending_ledger.specs.Pending.{ArePlacesOf}
 use Rattle.pending_ledger.specs.Sums.{gather}
 use Rattle.summary_law.proofs.ReadLaws.{rising_read}
-use Rattle.summary_law.specs.ByKey.{items_of, under, IsPart, SumsByKey}
+use Rattle.summary_law.specs.ByKey.{items_of, under, IsOwn, SumsByKey}
 use Rattle.summary_law.specs.Fits.{PlacesRise}
 
 -- a place that is gathered is one of some entry
@@ -83,7 +83,7 @@ module _ {K S I : Type 0} (cmp : K → K → Ordering) (laws : IsTotalOrder cmp)
   pub parts_sum : IsOrdered cmp m → SumsByKey cmp Sums m items → All (λ (e : K × S). Sums e.1 (items_of (eq_by_cmp cmp) e.0 items)) m.entries
   parts_sum ordered sums =
       All-weaker (λ (e : K × S). get cmp m e.0 ≡ Some e.1) (λ e. Sums e.1 (items_of (eq_by_cmp cmp) e.0 items))
-      (λ e found. (subst (λ (o : Option S). IsPart Sums o (items_of (eq_by_cmp cmp) e.0 items)) found (sums e.0)).1)
+      (λ e found. (subst (λ (o : Option S). IsOwn Sums o (items_of (eq_by_cmp cmp) e.0 items)) found (sums e.0)).1)
       m.entries (All-found laws m ordered)
 
   -- what is listed of a key's items is gathered
@@ -92,7 +92,7 @@ module _ {K S I : Type 0} (cmp : K → K → Ordering) (laws : IsTotalOrder cmp)
       → SumsByKey cmp Sums m items → (key : K) (p : ℕ) → Lists (items_of (eq_by_cmp cmp) key items) p → Contains (gather places m.entries) p
   listed_gathered places Lists none has sums key p listed =
       let is = items_of (eq_by_cmp cmp) key items in
-      elim (get cmp m key) as (λ o. (get cmp m key ≡ o) → IsPart Sums o is → Contains (gather places m.entries) p) [
+      elim (get cmp m key) as (λ o. (get cmp m key ≡ o) → IsOwn Sums o is → Contains (gather places m.entries) p) [
         | None ↦ λ found nil. absurd (none p (subst (λ (t : List I). Lists t p) nil listed))
         | Some s ↦ λ found part. into_gather places (eq_by_cmp cmp key) m.entries s p found (has s is part.1 p listed)
       ] refl (sums key)

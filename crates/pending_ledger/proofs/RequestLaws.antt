@@ -26,7 +26,7 @@ use Rattle.pending_ledger.specs.declared.key_event.KeyEvent.{KeyEvent}
 use Rattle.pending_ledger.specs.declared.opens.Opens.{Opens}
 use Rattle.pending_ledger.specs.declared.requests.Requests.{Requests}
 use Rattle.pending_ledger.specs.KeyEvents.{event_place, is_closing, behind_last, open_places}
-use Rattle.pending_ledger.specs.Requests.{change_ends, ends, IsStanding, AreStanding, request_place}
+use Rattle.pending_ledger.specs.Requests.{change_ends, ends, IsStanding, AreOutstandingRequests, request_place}
 use Rattle.pending_ledger.specs.Sums.{OpensSums, change_cookie, by_cookie, change_of_handle, handle_event, is_dead, is_death, handle_events, gather}
 use Rattle.pending_ledger.specs.Sums.{opens_list, standing_places, CookieSums, RequestsSums}
 use Rattle.summary_law.proofs.ReadLaws.{each_short, rising_read}
@@ -312,7 +312,7 @@ cookie_apart requests items good rise =
 -- the gathered requests, sorted
 pub standing_sorted : (requests : Requests) → IsOrdered nat_cmp requests.cookies.entries → All HasOrder requests.cookies.entries.entries
     → (items : List RequestItem) → RequestsSums requests items
-    → (places : List ℕ) → IsPermutation (gather standing_places requests.cookies.entries.entries) places → IsSorted nat_cmp places → AreStanding items places
+    → (places : List ℕ) → IsPermutation (gather standing_places requests.cookies.entries.entries) places → IsSorted nat_cmp places → AreOutstandingRequests items places
 standing_sorted requests ordered handles_ordered items sums places moved sorted =
     let eq = eq_by_cmp nat_cmp in
     let m = requests.cookies.entries in

@@ -29,8 +29,8 @@ pub record IsStanding (items : List RequestItem) (place : ℕ) : Type 0 where
   pub never_ended : list_any (ends key) later ≡ false
 
 -- the places of all standing requests, rising
-abbrev pub AreStanding : List RequestItem → List ℕ → Type 0
-AreStanding items places = ArePlacesOf (IsStanding items) places
+abbrev pub AreOutstandingRequests : List RequestItem → List ℕ → Type 0
+AreOutstandingRequests items places = ArePlacesOf (IsStanding items) places
 
 -- where an item stands
 abbrev pub request_place : RequestItem → ℕ

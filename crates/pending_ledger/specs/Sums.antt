@@ -21,7 +21,7 @@ use Rattle.pending_ledger.specs.declared.strays.Strays.{Strays}
 use Rattle.pending_ledger.specs.KeyEvents.{event_change, is_closing, behind_last, open_places, unmet_places, first_change}
 use Rattle.pending_ledger.specs.Ledgers.{AreLeaked, AreStrayFrees}
 use Rattle.pending_ledger.specs.Pending.{AreOutstanding, AreStrays, place_of}
-use Rattle.pending_ledger.specs.Requests.{AreStanding, request_place}
+use Rattle.pending_ledger.specs.Requests.{AreOutstandingRequests, request_place}
 use Rattle.summary_law.specs.ByKey.{SumsByKey}
 use Rattle.summary_law.specs.Fits.{IsPlaced}
 
@@ -36,7 +36,7 @@ pub record StraysSums (strays : Strays) (events : List KeyEvent) : Type 0 where
   pub first : strays.first ≡ first_change events
   pub last : strays.last ≡ last_or None (map event_change events)
 
--- both
+-- a key's ledger has the opens and the strays of its events
 abbrev pub KeySums : KeyLedger → List KeyEvent → Type 0
 KeySums ledger events = OpensSums ledger.opens events × StraysSums ledger.strays events
 
@@ -128,4 +128,4 @@ RequestsSums requests items =
 
 -- the standing requests of whatever items the value sums
 abbrev pub GivesStanding : Requests → List ℕ → Type 0
-GivesStanding requests places = (items : List RequestItem) → RequestsSums requests items → AreStanding items places
+GivesStanding requests places = (items : List RequestItem) → RequestsSums requests items → AreOutstandingRequests items places

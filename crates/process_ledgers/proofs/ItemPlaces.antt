@@ -6,7 +6,7 @@ use Rattle.binder_code.specs.declared.record_kind.Kind.TheVariants.{BcFreeBuffer
 use Rattle.event_core.specs.Buffers.{buffer_item, buffer_pending}
 use Rattle.event_core.specs.Clears.{clear_item}
 use Rattle.event_core.specs.Deaths.{death_change}
-use Rattle.event_core.specs.Events.{EventText, process_of}
+use Rattle.event_core.specs.Events.{EventRead, process_of}
 use Rattle.event_core.specs.Requests.{request_change}
 use Rattle.event_core.specs.declared.buffer.BufferItem.{BufferItem}
 use Rattle.event_core.specs.declared.pending.PendingItem.{PendingItem}
@@ -19,7 +19,7 @@ use Rattle.process_ledgers.specs.Processes.{read_of}
 use Rattle.capture_frame.specs.Process.{same_process}
 
 -- what keeps its event's place does so among those of one process
-pub read_keeps : {I : Type 0} (place : I → ℕ) (read : EventText → Option I) (process : Process) → KeepsPlace place read → KeepsPlace place (read_of read process)
+pub read_keeps : {I : Type 0} (place : I → ℕ) (read : EventRead → Option I) (process : Process) → KeepsPlace place read → KeepsPlace place (read_of read process)
 read_keeps place read process keeps e i is =
     elim (same_process process (process_of e)) as (λ b. cond b (read e) None ≡ Some i → place i ≡ e.place) [
       | true ↦ λ found. keeps e i found

@@ -1,4 +1,4 @@
 pub mod OnewayLaws
 pub mod ItemPlaces
 pub mod FitLaws
-pub mod OfProcesses
+pub mod EachProcess

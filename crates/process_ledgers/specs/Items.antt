@@ -4,7 +4,7 @@ use Rattle.std.specs.Option.{option_map}
 use Rattle.event_core.specs.Buffers.{buffer_item, buffer_pending}
 use Rattle.event_core.specs.Clears.{clear_item}
 use Rattle.event_core.specs.Deaths.{death_item}
-use Rattle.event_core.specs.Events.{EventText}
+use Rattle.event_core.specs.Events.{EventRead}
 use Rattle.event_core.specs.Handles.{handle_item}
 use Rattle.event_core.specs.Nodes.{node_item}
 use Rattle.event_core.specs.Oneway.{oneway_item}
@@ -17,37 +17,37 @@ use Rattle.event_core.specs.declared.pending.PendingItem.{PendingItem}
 use Rattle.event_core.specs.declared.request.RequestItem.{RequestItem}
 
 -- the change of a handle's counts
-abbrev pub handle_item_of : EventText → Option HandleItem
+abbrev pub handle_item_of : EventRead → Option HandleItem
 handle_item_of e = handle_item e.kind e.payload
 
 -- the change of a node's counts
-abbrev pub node_item_of : EventText → Option NodeItem
+abbrev pub node_item_of : EventRead → Option NodeItem
 node_item_of e = node_item e.kind e.payload
 
 -- the delivery or the free
-abbrev pub buffer_item_of : EventText → Option BufferItem
+abbrev pub buffer_item_of : EventRead → Option BufferItem
 buffer_item_of e = buffer_item e.place e.kind e.payload
 
 -- a delivery opens its address, and a free closes it
-abbrev pub buffer_pending_of : EventText → Option (PendingItem ℕ)
+abbrev pub buffer_pending_of : EventRead → Option (PendingItem ℕ)
 buffer_pending_of e = option_map buffer_pending (buffer_item_of e)
 
 -- what it does to the requests
-abbrev pub request_item_of : EventText → Option RequestItem
+abbrev pub request_item_of : EventRead → Option RequestItem
 request_item_of e = request_item e.place e.kind e.payload
 
 -- the death or the acknowledgement
-abbrev pub death_item_of : EventText → Option (PendingItem ℕ)
+abbrev pub death_item_of : EventRead → Option (PendingItem ℕ)
 death_item_of e = death_item e.place e.kind e.payload
 
 -- the clear or the confirmation
-abbrev pub clear_item_of : EventText → Option (PendingItem ℕ)
+abbrev pub clear_item_of : EventRead → Option (PendingItem ℕ)
 clear_item_of e = clear_item e.place e.kind e.payload
 
 -- the oneway transaction
-abbrev pub oneway_item_of : EventText → Option OnewayItem
+abbrev pub oneway_item_of : EventRead → Option OnewayItem
 oneway_item_of e = oneway_item e.kind e.payload
 
 -- the item that is read from an event has the place of the event
-abbrev pub KeepsPlace : {I : Type 0} → (I → ℕ) → (EventText → Option I) → Type 0
-KeepsPlace {I} place read = (e : EventText) (i : I) → read e ≡ Some i → place i ≡ e.place
+abbrev pub KeepsPlace : {I : Type 0} → (I → ℕ) → (EventRead → Option I) → Type 0
+KeepsPlace {I} place read = (e : EventRead) (i : I) → read e ≡ Some i → place i ≡ e.place

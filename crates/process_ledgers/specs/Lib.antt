@@ -3,4 +3,4 @@ pub mod Processes
 pub mod OnewayLedger
 pub mod Concerns
 pub mod ProcessLedgers
-pub mod OfProcess
+pub mod EachProcess

@@ -1,7 +1,7 @@
 -- What the ledgers of a process come to over its events.
 use Rattle.std.specs.Prelude.{ℕ, List, Option}
 use Rattle.std.specs.Ordering.{nat_cmp}
-use Rattle.event_core.specs.Events.{EventText}
+use Rattle.event_core.specs.Events.{EventRead}
 use Rattle.event_core.specs.Reading.{event_text}
 use Rattle.event_core.specs.declared.event.Event.{Event}
 use Rattle.handle_ledger.specs.Handles.{HandleLedgerSums}
@@ -22,7 +22,7 @@ abbrev pub ArePlaced : List Event → Type 0
 ArePlaced events = IsPlaced event_place events
 
 -- what is picked from an event of the capture
-abbrev pub picked_by : {I : Type 0} → (EventText → Option I) → Event → Option I
+abbrev pub picked_by : {I : Type 0} → (EventRead → Option I) → Event → Option I
 picked_by read event = read (event_text event)
 
 -- each ledger is that of what it picks from these events

@@ -5,7 +5,7 @@ use Rattle.capture_frame.specs.declared.process.Process.{Process}
 use Rattle.capture_frame.specs.Process.{same_process, process_of_frame}
 use Rattle.capture_frame.specs.Units.{Placed}
 use Rattle.transaction_view.specs.Grammar.{WholeFrame}
-use Rattle.event_core.specs.Events.{EventText, process_of}
+use Rattle.event_core.specs.Events.{EventRead, process_of}
 use Rattle.summary_law.specs.InOrder.{firsts}
 
 -- the process of a whole frame
@@ -17,9 +17,9 @@ abbrev pub processes_of : List (Placed WholeFrame) → List Process
 processes_of wholes = firsts same_process (map process_of_whole wholes)
 
 -- what is read from an event of this process, and nothing from one of another
-abbrev pub read_of : {I : Type 0} → (EventText → Option I) → Process → EventText → Option I
+abbrev pub read_of : {I : Type 0} → (EventRead → Option I) → Process → EventRead → Option I
 read_of read process e = if same_process process (process_of e) then read e else None
 
 -- what is read from the events of this process, in their order
-abbrev pub items_of_process : {I : Type 0} → (EventText → Option I) → Process → List EventText → List I
+abbrev pub items_of_process : {I : Type 0} → (EventRead → Option I) → Process → List EventRead → List I
 items_of_process read process events = filter_map (read_of read process) events

@@ -17,13 +17,13 @@ pub struct Processes<'a, 'c> {
 }
 
 impl<'a, 'c> Processes<'a, 'c> {
-    ghost use Rattle.process_ledgers.specs.OfProcess.{ledgers_in};
+    ghost use Rattle.process_ledgers.specs.EachProcess.{ledgers_in};
 
     /// The ledgers of the process. For processes in their order, each with the guess that the call
     /// before left and the first with 0, mostly nothing is looked up.
     pub fn ledgers(self, process: Process, guess: &mut usize) -> &'a ProcessLedgers<'c>
         ensures { result.now ≡ ledgers_in self.entry process }
     {
-        self.own.part_or(process, self.none, guess)
+        self.own.own_or(process, self.none, guess)
     }
 }

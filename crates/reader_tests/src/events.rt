@@ -9,8 +9,8 @@ use binder_code::Kind;
 use capture_frame::{Frame, Frames, Process, Thread};
 use captures::{COMMANDS, DEVICE, RETURNS, WITH_ATTACHMENTS};
 use event_core::{
-    BufferItem, Event, Events, Mark, OnewayItem, PendingChange, PendingItem, bare_event_at,
-    bracket, buffer_step, clear_step, death_step, event_at, handle_step, mark, node_step,
+    BufferItem, Event, Events, Mark, OnewayItem, PendingChange, PendingItem, bracket, buffer_step,
+    clear_step, death_step, event_at, event_without_attachment_at, handle_step, mark, node_step,
     oneway_step, request_step,
 };
 use rows::{Buffer, COMMAND_ROWS, COOKIE, DATA_SIZE, HANDLE, NODE, RETURN_ROWS, Row};
@@ -100,7 +100,7 @@ fn expect_at(rt: &impl Abort, frame: Frame<'_>, place: u64) {
     same_at(rt, place, event.is_some(), start.is_some());
     if let (Some(event), Some(start)) = (event, start) {
         expect_start(rt, event, start);
-        let bare = bare_event_at(frame, place);
+        let bare = event_without_attachment_at(frame, place);
         same(rt, bare.place, place);
         same(rt, bare.device, DEVICE);
         same_at(rt, place, bare.kind, start.kind);

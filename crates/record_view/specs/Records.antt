@@ -56,7 +56,7 @@ RecordFails protocol bytes _ = ⊥
 abbrev pub record_format : Protocol → Format (Unit {0}) RecordText FaultKind
 record_format protocol = record {
   spelling = record_bytes;
-  MayStand = λ _ r. IsRecord protocol r;
+  MayCome = λ _ r. IsRecord protocol r;
   after = λ _ r. tt;
   Fails = λ _ bytes kind within. RecordFails protocol bytes kind × (within ≡ 0);
 }

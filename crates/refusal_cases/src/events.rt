@@ -3,7 +3,7 @@
 ghost use Rattle.std.specs.Prelude.{IfOk};
 ghost use Rattle.capture_frame.specs.Cut.{AreFrames};
 
-use crate::no_answer::NoAnswer;
+use crate::no_answer::{NoAnswer, Printed};
 use crate::told;
 use capture_frame::{Cut, Frame, Thread, cut};
 use event_core::{Event, Events};
@@ -12,16 +12,12 @@ use std::io::Write;
 use transaction_view::check_frame;
 
 /// Prints the frames of a capture, or its first fault and the frames before.
-pub(crate) fn cut_all<W: Write>(
-    alloc: Global,
-    capture: &[u8],
-    out: &mut W,
-) -> Result<(), NoAnswer> {
+pub(crate) fn cut_all<W: Write>(alloc: Global, capture: &[u8], out: &mut W) -> Printed {
     match cut(alloc, capture) {
         Ok(frames) => told::frames(frames.as_slice(), out),
         Err(Cut::Memory) => Err(NoAnswer::Memory),
         Err(Cut::Bad { fault, before }) => {
-            told::fault(fault, out)?;
+            told::value(&fault, out)?;
             told::frames(before.as_slice(), out)
         }
     }
@@ -38,40 +34,38 @@ pub(crate) fn frames_of<'c>(alloc: Global, capture: &'c [u8]) -> Result<Vec<Fram
     }
 }
 
-/// The events of the process that the first frame is of.
-pub(crate) fn events_of_process<'c>(
-    alloc: Global,
-    capture: &'c [u8],
-) -> Result<Vec<Event<'c>>, NoAnswer> {
-    let frames = frames_of(alloc, capture)?;
-    let process = frames.first().map(|frame| frame.of_process());
-    let mut events = Vec::new(alloc);
-    for frame in &frames {
-        if Some(frame.of_process()) == process {
-            push_events(*frame, &mut events)?;
-        }
-    }
-    Ok(events)
+/// Whose events a ledger takes.
+#[derive(Clone, Copy)]
+pub(crate) enum Whose {
+    /// Those of the process that the first frame is of.
+    Process,
+    /// Those of its thread alone.
+    Thread,
 }
 
-/// The thread that a frame is of.
-fn thread_of(frame: Frame<'_>) -> Thread {
-    Thread {
-        process: frame.of_process(),
-        number: frame.thread,
+impl Whose {
+    /// The thread that a frame is of, or one that stands for all of its process.
+    fn seat(self, frame: Frame<'_>) -> Thread {
+        let process = frame.of_process();
+        let number = match self {
+            Whose::Process => 0,
+            Whose::Thread => frame.thread,
+        };
+        Thread { process, number }
     }
 }
 
-/// The events of the thread that the first frame is of.
-pub(crate) fn events_of_thread<'c>(
+/// The events of the first frame's process, or of its thread.
+pub(crate) fn events_of<'c>(
     alloc: Global,
     capture: &'c [u8],
+    whose: Whose,
 ) -> Result<Vec<Event<'c>>, NoAnswer> {
     let frames = frames_of(alloc, capture)?;
-    let thread = frames.first().map(|frame| thread_of(*frame));
+    let first = frames.first().map(|frame| whose.seat(*frame));
     let mut events = Vec::new(alloc);
     for frame in &frames {
-        if Some(thread_of(*frame)) == thread {
+        if Some(whose.seat(*frame)) == first {
             push_events(*frame, &mut events)?;
         }
     }

@@ -6,9 +6,10 @@ ghost use Rattle.claim_board.specs.Board.{AreJobs, EndsBefore};
 ghost use Rattle.claim_board.specs.Running.{no_place};
 
 use crate::events::frames_of;
-use crate::no_answer::NoAnswer;
+use crate::given::Given;
+use crate::no_answer::{NoAnswer, Printed};
 use crate::told;
-use claim_board::{Board, Job, JobState, JobStop, NoGate, Stop, Work, Workers, run_all};
+use claim_board::{Board, Job, JobStop, NoGate, Stop, Work, Workers, run_all};
 use std::alloc::{AllocError, Global};
 use std::io::Write;
 use std::thread::Threads;
@@ -106,7 +107,7 @@ fn are_jobs(jobs: &[Job]) -> bool
 }
 
 /// Prints the board of two workers on which nothing is claimed.
-pub(crate) fn board<W: Write>(alloc: Global, capture: &[u8], out: &mut W) -> Result<(), NoAnswer> {
+pub(crate) fn board<W: Write>(alloc: Global, capture: &[u8], out: &mut W) -> Printed {
     let jobs = jobs_of(alloc, capture)?;
     if !are_jobs(jobs.as_slice()) {
         return Err(NoAnswer::Unfit);
@@ -114,37 +115,23 @@ pub(crate) fn board<W: Write>(alloc: Global, capture: &[u8], out: &mut W) -> Res
     let count = jobs.len() as u64;
     let board = Board::new(alloc, jobs, Workers::new(2).unwrap())?;
     for i in 0..count {
-        let is_untouched = board.state(i) == JobState::Untouched;
-        told::line(out, "untouched", &[i, is_untouched as u64])?;
+        told::value(&board.state(i), out)?;
     }
-    let (first, second) = (board.stopped(0) as u64, board.stopped(1) as u64);
-    let least = board.least().unwrap_or(0);
-    told::line(out, "stopped and least", &[first, second, least])
+    told::value(&(board.stopped(0), board.stopped(1), board.least()), out)
 }
 
-/// Prints the results of all jobs, or their least fault.
-pub(crate) fn shared<T: Threads + Sync, W: Write>(
-    rt: &T,
-    alloc: Global,
-    capture: &[u8],
-    workers: Workers,
-    out: &mut W,
-) -> Result<(), NoAnswer> {
-    let jobs = jobs_of(alloc, capture)?;
-    if !are_jobs(jobs.as_slice()) || jobs.len() > MOST_JOBS {
-        return Err(NoAnswer::Unfit);
+impl<T: Threads + Sync> Given<'_, T> {
+    /// Prints the results of all jobs, or their least fault.
+    pub(crate) fn shared<W: Write>(&self, workers: Workers, out: &mut W) -> Printed {
+        let jobs = jobs_of(self.alloc, self.bytes)?;
+        if !are_jobs(jobs.as_slice()) || jobs.len() > MOST_JOBS {
+            return Err(NoAnswer::Unfit);
+        }
+        let work = Listed { jobs };
+        match run_all(self.rt, self.alloc, &work, workers, &NoGate) {
+            Ok(starts) => told::value(&starts, out),
+            Err(Stop::Memory) => Err(NoAnswer::Memory),
+            Err(Stop::Least(place)) => told::value(&place, out),
+        }
     }
-    let work = Listed { jobs };
-    match run_all(rt, alloc, &work, workers, &NoGate) {
-        Ok(results) => tell_starts(results.as_slice(), out),
-        Err(Stop::Memory) => Err(NoAnswer::Memory),
-        Err(Stop::Least(place)) => told::line(out, "least", &[place]),
-    }
-}
-
-fn tell_starts<W: Write>(results: &[Vec<u64>], out: &mut W) -> Result<(), NoAnswer> {
-    for start in results {
-        told::line(out, "start", start.as_slice())?;
-    }
-    Ok(())
 }

@@ -3,6 +3,7 @@
 
 mod events;
 mod fits;
+mod given;
 mod jobs;
 mod ledgers;
 mod no_answer;

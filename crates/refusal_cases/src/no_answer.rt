@@ -2,7 +2,10 @@ use audit_streams::RunError;
 use std::alloc::AllocError;
 use std::io;
 
-/// Why the answer of a call is not printed.
+/// Whether the answer of a call is printed.
+pub(crate) type Printed = Result<(), NoAnswer>;
+
+/// Why it is not.
 #[derive(Clone, Copy, Debug, PartialEq, Eq)]
 pub(crate) enum NoAnswer {
     /// The call, or what makes its arguments, was refused memory.

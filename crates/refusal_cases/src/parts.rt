@@ -5,10 +5,11 @@ ghost use Rattle.std.specs.List.{sum_by};
 ghost use Rattle.std.specs.Prelude.{◌≤◌, length, map, vec_len, IfOk};
 ghost use Rattle.audit_join.specs.declared.limits.TheConstants.{CAPTURE_LIMIT};
 
-use crate::no_answer::NoAnswer;
-use crate::{runs, told};
+use crate::given::Given;
+use crate::no_answer::{NoAnswer, Printed};
+use crate::told;
 use audit_join::{CAPTURE_LIMIT, PartsError, Piece, audit_parts};
-use audit_run::{PartsWritten, Question, answer, run_first_fault_parts, run_parts};
+use audit_run::{Question, answer, run_first_fault_parts, run_parts};
 use audit_streams::read_parts;
 use capture_frame::{PartCut, cut_parts};
 use claim_board::{NoGate, Workers};
@@ -67,83 +68,30 @@ fn parts_of<'c>(alloc: Global, input: &'c [u8]) -> Result<Vec<&'c [u8]>, NoAnswe
 }
 
 /// Prints the bytes of each part that is read.
-pub(crate) fn read<W: Write>(alloc: Global, input: &[u8], out: &mut W) -> Result<(), NoAnswer> {
+pub(crate) fn read<W: Write>(alloc: Global, input: &[u8], out: &mut W) -> Printed {
     let readers = parts_of(alloc, input)?;
     let parts = read_parts(alloc, readers, CAPTURE_LIMIT)?;
-    for part in &parts {
-        writeln!(out, "{part:?}")?;
-    }
-    Ok(())
+    told::value(&parts, out)
 }
 
 /// Prints the frames of the parts, or the first fault of their headers and the frames before.
-pub(crate) fn cut_all<W: Write>(alloc: Global, input: &[u8], out: &mut W) -> Result<(), NoAnswer> {
+pub(crate) fn cut_all<W: Write>(alloc: Global, input: &[u8], out: &mut W) -> Printed {
     let parts = parts_of(alloc, input)?;
     match cut_parts(alloc, parts.as_slice()) {
         Ok(frames) => told::frames(frames.as_slice(), out),
         Err(PartCut::Memory) => Err(NoAnswer::Memory),
         Err(PartCut::Bad { found, before }) => {
-            told::part_fault(found, out)?;
+            told::value(&found, out)?;
             told::frames(before.as_slice(), out)
         }
     }
 }
 
-/// Prints the findings of the parts, or their first fault.
-pub(crate) fn audited<T: Threads + Sync, W: Write>(
-    rt: &T,
-    alloc: Global,
-    input: &[u8],
-    workers: Workers,
-    out: &mut W,
-) -> Result<(), NoAnswer> {
-    let parts = parts_of(alloc, input)?;
-    audited_slices(rt, alloc, parts.as_slice(), workers, out)
-}
-
-fn audited_slices<T: Threads + Sync, W: Write>(
-    rt: &T,
-    alloc: Global,
-    parts: &[&[u8]],
-    workers: Workers,
-    out: &mut W,
-) -> Result<(), NoAnswer>
-    requires few { length parts.now ≤ 256 }
-    requires limit { sum_by length (map (λ part. part.now) parts.now) ≤ CAPTURE_LIMIT }
-{
-    let piece = Piece::new(1).unwrap();
-    match audit_parts(rt, alloc, parts, workers, piece, &NoGate) {
-        Ok(found) => runs::tell_findings(&found, out),
-        Err(PartsError::Memory) => Err(NoAnswer::Memory),
-        Err(PartsError::Malformed(found)) => told::part_fault(found, out),
-    }
-}
-
-pub(crate) fn ran<T: Threads + Sync, W: Write>(
-    rt: &T,
-    alloc: Global,
-    input: &[u8],
-    workers: Workers,
-    out: &mut W,
-) -> Result<(), NoAnswer> {
+/// Prints what is written of the parts for the first fault, and that fault.
+pub(crate) fn ran_first_fault<W: Write>(alloc: Global, input: &[u8], out: &mut W) -> Printed {
     let readers = parts_of(alloc, input)?;
-    let piece = Piece::new(1).unwrap();
-    match run_parts(rt, alloc, readers, out, workers, piece, &NoGate)? {
-        PartsWritten::Report => told::line(out, "a report", &[]),
-        PartsWritten::Malformed(found) => told::part_fault(found, out),
-    }
-}
-
-pub(crate) fn ran_first_fault<W: Write>(
-    alloc: Global,
-    input: &[u8],
-    out: &mut W,
-) -> Result<(), NoAnswer> {
-    let readers = parts_of(alloc, input)?;
-    match run_first_fault_parts(alloc, readers, out)? {
-        None => told::line(out, "no fault", &[]),
-        Some(found) => told::part_fault(found, out),
-    }
+    let found = run_first_fault_parts(alloc, readers, out)?;
+    told::value(&found, out)
 }
 
 /// The question for a report, by so many workers and a frame at a time.
@@ -152,14 +100,31 @@ pub(crate) fn report_by(workers: Workers) -> Question {
     Question::Report { workers, piece }
 }
 
-pub(crate) fn answered<T: Threads + Sync, W: Write>(
-    rt: &T,
-    alloc: Global,
-    input: &[u8],
-    question: Question,
-    out: &mut W,
-) -> Result<(), NoAnswer> {
-    let readers = parts_of(alloc, input)?;
-    let status = answer(rt, alloc, question, readers, out)?;
-    told::line(out, "status", &[status as u64])
+impl<T: Threads + Sync> Given<'_, T> {
+    /// Prints the findings of the parts, or their first fault.
+    pub(crate) fn audited_parts<W: Write>(&self, workers: Workers, out: &mut W) -> Printed {
+        let (rt, alloc) = (self.rt, self.alloc);
+        let parts = parts_of(alloc, self.bytes)?;
+        let piece = Piece::new(1).unwrap();
+        match audit_parts(rt, alloc, parts.as_slice(), workers, piece, &NoGate) {
+            Ok(found) => told::findings(&found, out),
+            Err(PartsError::Memory) => Err(NoAnswer::Memory),
+            Err(PartsError::Malformed(found)) => told::value(&found, out),
+        }
+    }
+
+    /// Prints what is written of the parts, and which of both that is.
+    pub(crate) fn ran_parts<W: Write>(&self, workers: Workers, out: &mut W) -> Printed {
+        let readers = parts_of(self.alloc, self.bytes)?;
+        let piece = Piece::new(1).unwrap();
+        let written = run_parts(self.rt, self.alloc, readers, out, workers, piece, &NoGate)?;
+        told::value(&written, out)
+    }
+
+    /// Prints the answer to a question about the parts, and the status.
+    pub(crate) fn answered<W: Write>(&self, question: Question, out: &mut W) -> Printed {
+        let readers = parts_of(self.alloc, self.bytes)?;
+        let status = answer(self.rt, self.alloc, question, readers, out)?;
+        told::value(&status, out)
+    }
 }

@@ -6,7 +6,7 @@ ghost use Rattle.audit_findings.specs.Summary.{SumsPiece};
 ghost use Rattle.audit_join.specs.Jobs.{AreSound};
 
 use crate::events::frames_of;
-use crate::no_answer::NoAnswer;
+use crate::no_answer::{NoAnswer, Printed};
 use crate::sums::{self, Way};
 use crate::told;
 use audit_findings::PieceSummary;
@@ -17,7 +17,7 @@ use std::io::Write;
 use transaction_view::check_frame;
 
 /// Prints the frames in runs of one.
-pub(crate) fn plan<W: Write>(alloc: Global, capture: &[u8], out: &mut W) -> Result<(), NoAnswer> {
+pub(crate) fn plan<W: Write>(alloc: Global, capture: &[u8], out: &mut W) -> Printed {
     let frames = frames_of(alloc, capture)?;
     let piece = Piece::new(1).unwrap();
     let plan = Plan::new(alloc, frames.as_slice(), piece)?;
@@ -57,7 +57,7 @@ fn tell<'c, W: Write>(
     frames: &[Frame<'c>],
     summary: PieceSummary<'c>,
     out: &mut W,
-) -> Result<(), NoAnswer>
+) -> Printed
     requires good { AreGoodFrames frames.now }
     requires sums { SumsPiece summary frames.now }
 {
@@ -71,13 +71,8 @@ fn tell<'c, W: Write>(
     told::sections(&sections, out)
 }
 
-pub(crate) fn summed<W: Write>(
-    alloc: Global,
-    capture: &[u8],
-    way: Way,
-    out: &mut W,
-) -> Result<(), NoAnswer> {
-    let frames = good_frames(alloc, capture)?;
+pub(crate) fn summed<W: Write>(alloc: Global, bytes: &[u8], way: Way, out: &mut W) -> Printed {
+    let frames = good_frames(alloc, bytes)?;
     let summary = sums::summed(alloc, frames.as_slice(), way)?;
     tell(alloc, frames.as_slice(), summary, out)
 }

@@ -1,10 +1,11 @@
 //! From a capture, or a command line, to findings, to text and to streams.
 
-use crate::no_answer::NoAnswer;
+use crate::given::Given;
+use crate::no_answer::{NoAnswer, Printed};
 use crate::told;
 use audit_join::{AuditError, CAPTURE_LIMIT, Findings, Piece, audit, audit_one};
 use audit_program::program;
-use audit_run::{Question, Request, Written, answer_files, run, run_first_fault, run_gated};
+use audit_run::{Question, Request, answer_files, run, run_first_fault, run_gated};
 use audit_streams::read_capture;
 use claim_board::{NoGate, Workers};
 use report_text::{rows, text};
@@ -17,156 +18,94 @@ use std::thread::Threads;
 const MOST_FILES: usize = 256;
 
 /// Prints the bytes that are read.
-pub(crate) fn read<W: Write>(alloc: Global, bytes: &[u8], out: &mut W) -> Result<(), NoAnswer> {
+pub(crate) fn read<W: Write>(alloc: Global, bytes: &[u8], out: &mut W) -> Printed {
     let mut reader = bytes;
     let capture = read_capture(alloc, &mut reader, CAPTURE_LIMIT)?;
-    writeln!(out, "{capture:?}")?;
-    Ok(())
+    told::value(&capture, out)
+}
+
+/// Prints what is written for the first fault, and that fault.
+pub(crate) fn ran_first_fault<W: Write>(alloc: Global, bytes: &[u8], out: &mut W) -> Printed {
+    let mut reader = bytes;
+    let found = run_first_fault(alloc, &mut reader, out)?;
+    told::value(&found, out)
 }
 
 /// Prints findings, or a fault.
-fn tell<W: Write>(audited: Result<Findings<'_>, AuditError>, out: &mut W) -> Result<(), NoAnswer> {
+fn tell<W: Write>(audited: Result<Findings<'_>, AuditError>, out: &mut W) -> Printed {
     match audited {
-        Ok(found) => tell_findings(&found, out),
+        Ok(found) => told::findings(&found, out),
         Err(AuditError::Memory) => Err(NoAnswer::Memory),
-        Err(AuditError::Malformed(fault)) => told::fault(fault, out),
+        Err(AuditError::Malformed(fault)) => told::value(&fault, out),
     }
 }
 
-pub(crate) fn tell_findings<W: Write>(found: &Findings<'_>, out: &mut W) -> Result<(), NoAnswer> {
-    told::frames(found.frames(), out)?;
-    told::sections(found.sections(), out)
-}
-
-fn tell_written<W: Write>(written: Written, out: &mut W) -> Result<(), NoAnswer> {
-    match written {
-        Written::Report => told::line(out, "a report", &[]),
-        Written::Malformed(fault) => told::fault(fault, out),
+impl<T: Threads + Sync> Given<'_, T> {
+    pub(crate) fn audited<W: Write>(&self, workers: Workers, out: &mut W) -> Printed {
+        if self.bytes.len() > CAPTURE_LIMIT {
+            return Err(NoAnswer::Unfit);
+        }
+        let piece = Piece::new(1).unwrap();
+        let audited = audit(self.rt, self.alloc, self.bytes, workers, piece, &NoGate);
+        tell(audited, out)
     }
-}
 
-pub(crate) fn audited<T: Threads + Sync, W: Write>(
-    rt: &T,
-    alloc: Global,
-    capture: &[u8],
-    workers: Workers,
-    out: &mut W,
-) -> Result<(), NoAnswer> {
-    if capture.len() > CAPTURE_LIMIT {
-        return Err(NoAnswer::Unfit);
+    pub(crate) fn audited_by_one<W: Write>(&self, out: &mut W) -> Printed {
+        if self.bytes.len() > CAPTURE_LIMIT {
+            return Err(NoAnswer::Unfit);
+        }
+        tell(audit_one(self.rt, self.alloc, self.bytes), out)
     }
-    let piece = Piece::new(1).unwrap();
-    tell(audit(rt, alloc, capture, workers, piece, &NoGate), out)
-}
 
-pub(crate) fn audited_by_one<T: Threads + Sync, W: Write>(
-    rt: &T,
-    alloc: Global,
-    capture: &[u8],
-    out: &mut W,
-) -> Result<(), NoAnswer> {
-    if capture.len() > CAPTURE_LIMIT {
-        return Err(NoAnswer::Unfit);
+    /// The findings of a capture without a fault.
+    fn findings(&self) -> Result<Findings<'_>, NoAnswer> {
+        if self.bytes.len() > CAPTURE_LIMIT {
+            return Err(NoAnswer::Unfit);
+        }
+        match audit_one(self.rt, self.alloc, self.bytes) {
+            Ok(found) => Ok(found),
+            Err(AuditError::Memory) => Err(NoAnswer::Memory),
+            Err(AuditError::Malformed(_)) => Err(NoAnswer::Unfit),
+        }
     }
-    tell(audit_one(rt, alloc, capture), out)
-}
 
-/// The findings of a capture without a fault.
-fn findings<'c, T: Threads + Sync>(
-    rt: &T,
-    alloc: Global,
-    capture: &'c [u8],
-) -> Result<Findings<'c>, NoAnswer> {
-    if capture.len() > CAPTURE_LIMIT {
-        return Err(NoAnswer::Unfit);
+    pub(crate) fn rows_told<W: Write>(&self, out: &mut W) -> Printed {
+        let found = self.findings()?;
+        let rows = rows(self.rt, self.alloc, &found)?;
+        for row in &rows {
+            let row = row.as_str();
+            writeln!(out, "{row}")?;
+        }
+        Ok(())
     }
-    match audit_one(rt, alloc, capture) {
-        Ok(found) => Ok(found),
-        Err(AuditError::Memory) => Err(NoAnswer::Memory),
-        Err(AuditError::Malformed(_)) => Err(NoAnswer::Unfit),
+
+    pub(crate) fn text_told<W: Write>(&self, out: &mut W) -> Printed {
+        let found = self.findings()?;
+        let text = text(self.rt, self.alloc, &found)?;
+        writeln!(out, "{text}")?;
+        Ok(())
     }
-}
 
-pub(crate) fn rows_told<T: Threads + Sync, W: Write>(
-    rt: &T,
-    alloc: Global,
-    capture: &[u8],
-    out: &mut W,
-) -> Result<(), NoAnswer> {
-    let found = findings(rt, alloc, capture)?;
-    tell_rows(rt, alloc, &found, out)
-}
-
-fn tell_rows<T: Threads + Sync, W: Write>(
-    rt: &T,
-    alloc: Global,
-    found: &Findings<'_>,
-    out: &mut W,
-) -> Result<(), NoAnswer> {
-    let rows = rows(rt, alloc, found)?;
-    for row in &rows {
-        let row = row.as_str();
-        writeln!(out, "{row}")?;
+    pub(crate) fn ran<W: Write>(&self, workers: Workers, out: &mut W) -> Printed {
+        let mut reader = self.bytes;
+        let piece = Piece::new(1).unwrap();
+        let written = run(self.rt, self.alloc, &mut reader, out, workers, piece)?;
+        told::value(&written, out)
     }
-    Ok(())
-}
 
-pub(crate) fn text_told<T: Threads + Sync, W: Write>(
-    rt: &T,
-    alloc: Global,
-    capture: &[u8],
-    out: &mut W,
-) -> Result<(), NoAnswer> {
-    let found = findings(rt, alloc, capture)?;
-    tell_text(rt, alloc, &found, out)
-}
-
-fn tell_text<T: Threads + Sync, W: Write>(
-    rt: &T,
-    alloc: Global,
-    found: &Findings<'_>,
-    out: &mut W,
-) -> Result<(), NoAnswer> {
-    let text = text(rt, alloc, found)?;
-    writeln!(out, "{text}")?;
-    Ok(())
-}
-
-pub(crate) fn ran<T: Threads + Sync, W: Write>(
-    rt: &T,
-    alloc: Global,
-    capture: &[u8],
-    workers: Workers,
-    out: &mut W,
-) -> Result<(), NoAnswer> {
-    let mut reader = capture;
-    let piece = Piece::new(1).unwrap();
-    let written = run(rt, alloc, &mut reader, out, workers, piece)?;
-    tell_written(written, out)
-}
-
-pub(crate) fn ran_gated<T: Threads + Sync, W: Write>(
-    rt: &T,
-    alloc: Global,
-    capture: &[u8],
-    workers: Workers,
-    out: &mut W,
-) -> Result<(), NoAnswer> {
-    let mut reader = capture;
-    let piece = Piece::new(1).unwrap();
-    let written = run_gated(rt, alloc, &mut reader, out, workers, piece, &NoGate)?;
-    tell_written(written, out)
-}
-
-pub(crate) fn ran_first_fault<W: Write>(
-    alloc: Global,
-    capture: &[u8],
-    out: &mut W,
-) -> Result<(), NoAnswer> {
-    let mut reader = capture;
-    match run_first_fault(alloc, &mut reader, out)? {
-        None => told::line(out, "no fault", &[]),
-        Some(fault) => told::fault(fault, out),
+    pub(crate) fn ran_gated<W: Write>(&self, workers: Workers, out: &mut W) -> Printed {
+        let mut reader = self.bytes;
+        let piece = Piece::new(1).unwrap();
+        let written = run_gated(
+            self.rt,
+            self.alloc,
+            &mut reader,
+            out,
+            workers,
+            piece,
+            &NoGate,
+        )?;
+        told::value(&written, out)
     }
 }
 
@@ -179,25 +118,6 @@ fn words_of(alloc: Global, line: &str) -> Result<Vec<String>, AllocError> {
     Ok(words)
 }
 
-/// The bytes are a command line. Status 3 tells that memory was refused.
-pub(crate) fn programmed<T: Files + Threads + Sync, W: Write, E: Write>(
-    rt: &T,
-    alloc: Global,
-    bytes: &[u8],
-    out: &mut W,
-    err: &mut E,
-) -> Result<(), NoAnswer> {
-    let Ok(line) = str::from_utf8(bytes) else {
-        return Err(NoAnswer::Unfit);
-    };
-    let words = words_of(alloc, line)?;
-    let status = program(rt, alloc, words.as_slice(), out, err);
-    if status == 3 {
-        return Err(NoAnswer::Memory);
-    }
-    told::line(out, "status", &[status as u64])
-}
-
 /// The names of the files, which are parted by one tab each.
 fn files_of(alloc: Global, line: &str) -> Result<Vec<&str>, AllocError> {
     let mut files = Vec::new(alloc);
@@ -207,22 +127,31 @@ fn files_of(alloc: Global, line: &str) -> Result<Vec<&str>, AllocError> {
     Ok(files)
 }
 
-/// The bytes are names of files.
-pub(crate) fn answered_files<T: Files + Threads + Sync, W: Write>(
-    rt: &T,
-    alloc: Global,
-    bytes: &[u8],
-    question: Question,
-    out: &mut W,
-) -> Result<(), NoAnswer> {
-    let Ok(line) = str::from_utf8(bytes) else {
-        return Err(NoAnswer::Unfit);
-    };
-    let files = files_of(alloc, line)?;
-    if files.len() > MOST_FILES {
-        return Err(NoAnswer::Unfit);
+impl<T: Files + Threads + Sync> Given<'_, T> {
+    /// The bytes are a command line. Status 3 tells that memory was refused.
+    pub(crate) fn programmed<W: Write, E: Write>(&self, out: &mut W, err: &mut E) -> Printed {
+        let Ok(line) = str::from_utf8(self.bytes) else {
+            return Err(NoAnswer::Unfit);
+        };
+        let words = words_of(self.alloc, line)?;
+        let status = program(self.rt, self.alloc, words.as_slice(), out, err);
+        if status == 3 {
+            return Err(NoAnswer::Memory);
+        }
+        told::value(&status, out)
     }
-    let files = files.as_slice();
-    let status = answer_files(rt, alloc, Request { question, files }, out)?;
-    told::line(out, "status", &[status as u64])
+
+    /// The bytes are names of files.
+    pub(crate) fn answered_files<W: Write>(&self, question: Question, out: &mut W) -> Printed {
+        let Ok(line) = str::from_utf8(self.bytes) else {
+            return Err(NoAnswer::Unfit);
+        };
+        let files = files_of(self.alloc, line)?;
+        if files.len() > MOST_FILES {
+            return Err(NoAnswer::Unfit);
+        }
+        let files = files.as_slice();
+        let status = answer_files(self.rt, self.alloc, Request { question, files }, out)?;
+        told::value(&status, out)
+    }
 }

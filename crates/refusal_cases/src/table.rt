@@ -1,6 +1,7 @@
 //! The names of the calls, and what each of them is.
 
-use crate::no_answer::NoAnswer;
+use crate::given::Given;
+use crate::no_answer::{NoAnswer, Printed};
 use crate::parts::report_by;
 use crate::sums::Way;
 use crate::{events, jobs, ledgers, parts, pieces, runs};
@@ -37,44 +38,29 @@ pub(crate) fn answer<T: Files + Threads + Sync, R: Read, W: Write, E: Write>(
     input: &mut R,
     out: &mut W,
     err: &mut E,
-) -> Result<(), NoAnswer> {
+) -> Printed {
     let input = read_capture(alloc, input, CAPTURE_LIMIT)?;
-    answer_to(rt, alloc, input.as_slice(), out, err)
-}
-
-/// The same, where the input is read.
-fn answer_to<T: Files + Threads + Sync, W: Write, E: Write>(
-    rt: &T,
-    alloc: Global,
-    input: &[u8],
-    out: &mut W,
-    err: &mut E,
-) -> Result<(), NoAnswer> {
-    let (name, bytes) = first_line(input);
+    let (name, bytes) = first_line(input.as_slice());
     let Ok(name) = str::from_utf8(name) else {
         return Err(NoAnswer::Unknown);
     };
+    let given = Given { rt, alloc, bytes };
     match of_lists(alloc, name, bytes, out) {
         Err(NoAnswer::Unknown) => {}
         answered => return answered,
     }
-    match of_frames(rt, alloc, name, bytes, out) {
+    match given.of_frames(name, out) {
         Err(NoAnswer::Unknown) => {}
         answered => return answered,
     }
-    match of_captures(rt, alloc, name, bytes, out, err) {
+    match given.of_captures(name, out, err) {
         Err(NoAnswer::Unknown) if name.is_empty() => Ok(()),
         answered => answered,
     }
 }
 
 /// The calls that read, and those that sum a list.
-fn of_lists<W: Write>(
-    alloc: Global,
-    name: &str,
-    bytes: &[u8],
-    out: &mut W,
-) -> Result<(), NoAnswer> {
+fn of_lists<W: Write>(alloc: Global, name: &str, bytes: &[u8], out: &mut W) -> Printed {
     by_name! { name, out;
         "read_capture" => runs::read(alloc, bytes, out),
         "read_parts" => parts::read(alloc, bytes, out),
@@ -103,59 +89,48 @@ fn of_lists<W: Write>(
     }
 }
 
-/// The calls that share frames, and those that find what is in them.
-fn of_frames<T: Threads + Sync, W: Write>(
-    rt: &T,
-    alloc: Global,
-    name: &str,
-    bytes: &[u8],
-    out: &mut W,
-) -> Result<(), NoAnswer> {
-    let one = Workers::new(1).unwrap();
-    let four = Workers::new(4).unwrap();
-    by_name! { name, out;
-        "Board::new" => jobs::board(alloc, bytes, out),
-        "run_all by 1" => jobs::shared(rt, alloc, bytes, one, out),
-        "run_all by 4" => jobs::shared(rt, alloc, bytes, four, out),
-        "Plan::new" => pieces::plan(alloc, bytes, out),
-        "PieceSummary: add, sections" => pieces::summed(alloc, bytes, Way::Add, out),
-        "PieceSummary: join, sections" => pieces::summed(alloc, bytes, Way::Join, out),
-        "audit by 1" => runs::audited(rt, alloc, bytes, one, out),
-        "audit by 4" => runs::audited(rt, alloc, bytes, four, out),
-        "audit_parts by 1" => parts::audited(rt, alloc, bytes, one, out),
-        "audit_parts by 4" => parts::audited(rt, alloc, bytes, four, out),
-        "audit_one" => runs::audited_by_one(rt, alloc, bytes, out),
+impl<T: Threads + Sync> Given<'_, T> {
+    /// The calls that share frames, and those that find what is in them.
+    fn of_frames<W: Write>(&self, name: &str, out: &mut W) -> Printed {
+        let (one, four) = (Workers::new(1).unwrap(), Workers::new(4).unwrap());
+        by_name! { name, out;
+            "Board::new" => jobs::board(self.alloc, self.bytes, out),
+            "run_all by 1" => self.shared(one, out),
+            "run_all by 4" => self.shared(four, out),
+            "Plan::new" => pieces::plan(self.alloc, self.bytes, out),
+            "PieceSummary: add, sections" => pieces::summed(self.alloc, self.bytes, Way::Add, out),
+            "PieceSummary: join, sections" => {
+                pieces::summed(self.alloc, self.bytes, Way::Join, out)
+            },
+            "audit by 1" => self.audited(one, out),
+            "audit by 4" => self.audited(four, out),
+            "audit_parts by 1" => self.audited_parts(one, out),
+            "audit_parts by 4" => self.audited_parts(four, out),
+            "audit_one" => self.audited_by_one(out),
+        }
     }
 }
 
-/// The calls from a capture, or a command line, to a text.
-fn of_captures<T: Files + Threads + Sync, W: Write, E: Write>(
-    rt: &T,
-    alloc: Global,
-    name: &str,
-    bytes: &[u8],
-    out: &mut W,
-    err: &mut E,
-) -> Result<(), NoAnswer> {
-    let one = Workers::new(1).unwrap();
-    let four = Workers::new(4).unwrap();
-    by_name! { name, out;
-        "rows" => runs::rows_told(rt, alloc, bytes, out),
-        "text" => runs::text_told(rt, alloc, bytes, out),
-        "run by 1" => runs::ran(rt, alloc, bytes, one, out),
-        "run by 4" => runs::ran(rt, alloc, bytes, four, out),
-        "run_gated by 1" => runs::ran_gated(rt, alloc, bytes, one, out),
-        "run_parts by 1" => parts::ran(rt, alloc, bytes, one, out),
-        "run_parts by 4" => parts::ran(rt, alloc, bytes, four, out),
-        "run_first_fault" => runs::ran_first_fault(alloc, bytes, out),
-        "run_first_fault_parts" => parts::ran_first_fault(alloc, bytes, out),
-        "answer: report by 1" => parts::answered(rt, alloc, bytes, report_by(one), out),
-        "answer: first fault" => parts::answered(rt, alloc, bytes, Question::FirstFault, out),
-        "answer_files: report by 1" => runs::answered_files(rt, alloc, bytes, report_by(one), out),
-        "answer_files: first fault" => {
-            runs::answered_files(rt, alloc, bytes, Question::FirstFault, out)
-        },
-        "program" => runs::programmed(rt, alloc, bytes, out, err),
+impl<T: Files + Threads + Sync> Given<'_, T> {
+    /// The calls from a capture, or a command line, to a text.
+    fn of_captures<W: Write, E: Write>(&self, name: &str, out: &mut W, err: &mut E) -> Printed {
+        let (one, four) = (Workers::new(1).unwrap(), Workers::new(4).unwrap());
+        by_name! { name, out;
+            "rows" => self.rows_told(out),
+            "text" => self.text_told(out),
+            "run by 1" => self.ran(one, out),
+            "run by 4" => self.ran(four, out),
+            "run_gated by 1" => self.ran_gated(one, out),
+            "run_parts by 1" => self.ran_parts(one, out),
+            "run_parts by 4" => self.ran_parts(four, out),
+            "run_first_fault" => runs::ran_first_fault(self.alloc, self.bytes, out),
+            "run_first_fault_parts" => parts::ran_first_fault(self.alloc, self.bytes, out),
+            "answer: report by 1" => self.answered(report_by(one), out),
+            "answer: first fault" => self.answered(Question::FirstFault, out),
+            "answer_files: report by 1" => self.answered_files(report_by(one), out),
+            "answer_files: first fault" => self.answered_files(Question::FirstFault, out),
+            "program" => self.programmed(out, err),
+        }
     }
 }
 

@@ -2,8 +2,8 @@
 use Rattle.std.proofs.Common.{◌≡◌, ℕ, List, [], ◌∷◌, ◌++◌, map, refl, sym, ap, ap₂, subst}
 use Rattle.std.specs.List.{AllZip, FoldsTo}
 use Rattle.transaction_view.specs.Grammar.{WholeFrame}
-use Rattle.audit_findings.specs.Findings.{FindingsText}
-use Rattle.audit_findings.specs.Kept.{KeptFindings, Tell}
+use Rattle.audit_findings.specs.Findings.{FindingsSaid}
+use Rattle.audit_findings.specs.Kept.{KeptFindings, AreSectionsOf}
 use Rattle.report_text.specs.Pushed.{TakesLines}
 
 -- some lines, and then others
@@ -21,8 +21,8 @@ AllZip-mapped R f (x ∷ xs) [] all = absurd all
 AllZip-mapped R f (x ∷ xs) (y ∷ ys) all = (all.0, AllZip-mapped R f xs ys all.1)
 
 -- one line that is pushed
-pub one_pushed : {L : Type 0} {takes : L → List ℕ → L → Type 0} {found : KeptFindings} {old new : L} (line : List ℕ) (line_of : FindingsText → List ℕ)
-    → takes old line new → ((wholes : List WholeFrame) (said : FindingsText) → Tell wholes said found.frames found.sections → line ≡ line_of said)
+pub one_pushed : {L : Type 0} {takes : L → List ℕ → L → Type 0} {found : KeptFindings} {old new : L} (line : List ℕ) (line_of : FindingsSaid → List ℕ)
+    → takes old line new → ((wholes : List WholeFrame) (said : FindingsSaid) → AreSectionsOf wholes said found.frames found.sections → line ≡ line_of said)
     → TakesLines takes (λ said. line_of said ∷ []) found old new
 one_pushed {new = new} line line_of takes told = record {
   lines = line ∷ [];
@@ -36,7 +36,7 @@ none_pushed = record { lines = []; taken = refl; told = λ wholes said tell. ref
 
 infixr 20 ◌⨾◌
 -- lines that are pushed, and then others
-pub ◌⨾◌ : {L : Type 0} {takes : L → List ℕ → L → Type 0} {found : KeptFindings} {p q : FindingsText → List (List ℕ)} {a b c : L}
+pub ◌⨾◌ : {L : Type 0} {takes : L → List ℕ → L → Type 0} {found : KeptFindings} {p q : FindingsSaid → List (List ℕ)} {a b c : L}
     → TakesLines takes p found a b → TakesLines takes q found b c → TakesLines takes (λ said. p said ++ q said) found a c
 ◌⨾◌ {takes = takes} {a = a} {b = b} {c = c} first others = record {
   lines = first.lines ++ others.lines;

@@ -10,11 +10,11 @@ use Rattle.capture_frame.specs.declared.fault.FaultKind.TheVariants.{RecordDirec
 use Rattle.object_view.specs.declared.bad_object.Cause.TheVariants.{ListLength, Misaligned, Overlap, Short, UnknownSort}
 use Rattle.object_view.specs.Objects.{bad_at}
 use Rattle.event_core.specs.declared.oneway.OnewayKey.TheVariants.{Sent, Received}
-use Rattle.event_core.specs.Events.{EventText}
+use Rattle.event_core.specs.Events.{EventRead}
 use Rattle.call_stacks.specs.declared.verdict.Verdict.TheVariants.{Failed, Crossed, Open}
 use Rattle.capture_frame.specs.declared.process.Process.{Process}
-use Rattle.audit_findings.specs.Findings.{FindingsText}
-use Rattle.audit_findings.specs.InTurn.{of_process}
+use Rattle.audit_findings.specs.Findings.{FindingsSaid}
+use Rattle.audit_findings.specs.InTurn.{process_row}
 use Rattle.report_text.specs.Calls.{calls_row}
 use Rattle.report_text.specs.Codes.{codes_row}
 use Rattle.report_text.specs.Deaths.{deaths_row}
@@ -33,7 +33,7 @@ use Rattle.report_text.specs.Text.{report_text}
 abbrev numbered : ℕ → Process
 numbered number = record { device = 1; number = number }
 
-nothing : FindingsText
+nothing : FindingsSaid
 nothing = record {
   frames = 0;
   missing = 0;
@@ -66,7 +66,7 @@ nothing = record {
 }
 
 -- `BC_TRANSACTION` to the handle 1 with flags 0x82, on the device 1
-send : EventText
+send : EventRead
 send = record {
   place = 48;
   device = 1;
@@ -131,11 +131,11 @@ error_row : kind_row (record send { kind = BrFailedReply; payload = [] }) ≡ co
 unfolding send digits
 error_row = refl
 
-sent_row : oneway_row (of_process (numbered 100) (Sent 3, 2, 36893488147419103230)) ≡ codes "  1 100 sent 3 2 36893488147419103230"
+sent_row : oneway_row (process_row (numbered 100) (Sent 3, 2, 36893488147419103230)) ≡ codes "  1 100 sent 3 2 36893488147419103230"
 unfolding digits
 sent_row = refl
 
-received_row : oneway_row (of_process (numbered 100) (Received, 2, 0)) ≡ codes "  1 100 received 2 0"
+received_row : oneway_row (process_row (numbered 100) (Received, 2, 0)) ≡ codes "  1 100 received 2 0"
 unfolding digits
 received_row = refl
 
@@ -155,7 +155,7 @@ address_number : hex_number 0x70a0 ≡ codes "0x70a0"
 unfolding digits
 address_number = refl
 
-negative_row : handles_row (of_process (numbered 100) (record {
+negative_row : handles_row (process_row (numbered 100) (record {
   taken = record { handle = 2; strong = record { sum = pos 0; low = negsuc 1 }; weak = record { sum = pos 1; low = pos 0 } };
   held_strong = 0;
   held_weak = 2;
@@ -224,7 +224,7 @@ unfolding most digits
 widest_objects = refl
 
 -- the least number is `negsuc` of one less than its amount
-widest_handle : handles_row (of_process (numbered 4294967295) (record {
+widest_handle : handles_row (process_row (numbered 4294967295) (record {
   taken = record {
     handle = 0;
     strong = record { sum = negsuc 0; low = negsuc 9223372036854775807 };
@@ -236,7 +236,7 @@ widest_handle : handles_row (of_process (numbered 4294967295) (record {
 unfolding digits
 widest_handle = refl
 
-widest_node : nodes_row (of_process (numbered 7) (record {
+widest_node : nodes_row (process_row (numbered 7) (record {
   key = record { ptr = 0; cookie = most };
   strong = record { sum = pos 10; low = negsuc 9 };
   weak = record { sum = pos 2; low = negsuc 2 };

@@ -2,7 +2,7 @@
 use Rattle.std.specs.Prelude.{ℕ, List, [], ◌++◌, codes, Option, Some}
 use Rattle.std.specs.Fmt.{decimal}
 use Rattle.binder_code.specs.Commands.{name_of}
-use Rattle.event_core.specs.Events.{EventText}
+use Rattle.event_core.specs.Events.{EventRead}
 use Rattle.event_core.specs.declared.buffer.BufferItem.{BufferItem}
 use Rattle.event_core.specs.declared.buffer.BufferItem.TheVariants.{Delivery}
 use Rattle.process_ledgers.specs.Items.{buffer_item_of}
@@ -21,11 +21,11 @@ delivery_fields (Some (Delivery place address data_size kind)) =
 delivery_fields _ = []
 
 -- a row: place, process, and these fields
-abbrev pub buffers_row : EventText → List ℕ
+abbrev pub buffers_row : EventRead → List ℕ
 buffers_row e = row_start e ++ delivery_fields (buffer_item_of e)
 
 -- the section
-abbrev pub buffers_section : SectionText EventText
+abbrev pub buffers_section : SectionText EventRead
 buffers_section = record {
   head = λ said rows. buffers_head said.events.counts.deliveries rows;
   rows = λ said. said.processes.leaked;

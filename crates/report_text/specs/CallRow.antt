@@ -3,7 +3,7 @@
 use Rattle.std.specs.Prelude.{ℕ, if◌then◌else◌, List, [], ◌++◌, codes, Option, Some, None}
 use Rattle.std.specs.Fmt.{decimal}
 use Rattle.transaction_view.specs.Transaction.{has_transaction_data, code}
-use Rattle.event_core.specs.Events.{EventText}
+use Rattle.event_core.specs.Events.{EventRead}
 use Rattle.audit_findings.specs.declared.calls.CallRow.{CallRow}
 use Rattle.call_stacks.specs.declared.opener.Opener.{Opener}
 use Rattle.call_stacks.specs.declared.verdict.Verdict.{Verdict}
@@ -24,18 +24,18 @@ closer_field None = codes "-"
 closer_field (Some place) = decimal place
 
 -- what a row says of a call's record: the section's own field, the code; and nothing of what is no transaction
-abbrev pub record_fields : (List ℕ → List ℕ) → EventText → List ℕ
+abbrev pub record_fields : (List ℕ → List ℕ) → EventRead → List ℕ
 record_fields other_side e =
     if has_transaction_data e.kind
     then codes " " ++ other_side e.payload ++ codes " " ++ decimal (code e.payload)
     else []
 
 -- a row: place, process, thread, these fields, what became of the call, its closer
-abbrev pub call_row : (List ℕ → List ℕ) → Opener EventText → List ℕ
+abbrev pub call_row : (List ℕ → List ℕ) → Opener EventRead → List ℕ
 call_row other_side call =
     thread_start call.event ++ record_fields other_side call.event
     ++ codes " " ++ verdict_name call.verdict ++ codes " " ++ closer_field call.closer
 
 -- the row of a call that is kept so, by its event
-abbrev pub row_of_kept : (List ℕ → List ℕ) → CallRow → EventText → List ℕ
+abbrev pub row_of_kept : (List ℕ → List ℕ) → CallRow → EventRead → List ℕ
 row_of_kept other_side call e = call_row other_side (record { event = e; verdict = call.verdict; closer = call.closer })

@@ -2,7 +2,7 @@
 use Rattle.std.specs.Prelude.{ℕ, ◌+◌, List, ◌++◌, codes}
 use Rattle.std.specs.Fmt.{decimal}
 use Rattle.transaction_view.specs.Transaction.{target_handle}
-use Rattle.event_core.specs.Events.{EventText}
+use Rattle.event_core.specs.Events.{EventRead}
 use Rattle.call_stacks.specs.declared.opener.Opener.{Opener}
 use Rattle.report_text.specs.CallRow.{call_row}
 use Rattle.report_text.specs.Section.{SectionText}
@@ -18,11 +18,11 @@ abbrev pub target_field : List ℕ → List ℕ
 target_field payload = decimal (target_handle payload)
 
 -- a row: place, process, thread, target handle, code, what became of the call, its closer
-abbrev pub calls_row : Opener EventText → List ℕ
+abbrev pub calls_row : Opener EventRead → List ℕ
 calls_row call = call_row target_field call
 
 -- the section
-abbrev pub calls_section : SectionText (Opener EventText)
+abbrev pub calls_section : SectionText (Opener EventRead)
 calls_section = record {
   head = λ said rows. calls_head said.calls.calls.answered said.calls.calls.failed said.calls.calls.unanswered;
   rows = λ said. said.calls.calls.rows;

@@ -1,7 +1,7 @@
 -- The lines of the section `clears`: requests taken back that are not confirmed, and confirmations of
 -- none (docs/REPORT.md).
 use Rattle.std.specs.Prelude.{ℕ, List, codes}
-use Rattle.event_core.specs.Events.{EventText}
+use Rattle.event_core.specs.Events.{EventRead}
 use Rattle.process_ledgers.specs.Items.{clear_item_of}
 use Rattle.report_text.specs.OpenAndStray.{open_and_stray_head, open_and_stray_row}
 use Rattle.report_text.specs.Section.{SectionText}
@@ -11,11 +11,11 @@ abbrev pub clears_head : ℕ → ℕ → ℕ → List ℕ
 clears_head all unclosed strays = open_and_stray_head (codes "clears") (codes "unconfirmed") all unclosed strays
 
 -- a row: place, process, cookie, what it is called
-abbrev pub clears_row : EventText → List ℕ
+abbrev pub clears_row : EventRead → List ℕ
 clears_row e = open_and_stray_row (codes "unconfirmed") clear_item_of e
 
 -- the section
-abbrev pub clears_section : SectionText EventText
+abbrev pub clears_section : SectionText EventRead
 clears_section = record {
   head = λ said rows. clears_head said.events.counts.clears said.processes.clears.unclosed said.processes.clears.strays;
   rows = λ said. said.processes.clears.rows;

@@ -1,6 +1,6 @@
 -- The lines of the section `deaths`: deaths that are not acknowledged, and acknowledgements of none (docs/REPORT.md).
 use Rattle.std.specs.Prelude.{ℕ, List, codes}
-use Rattle.event_core.specs.Events.{EventText}
+use Rattle.event_core.specs.Events.{EventRead}
 use Rattle.process_ledgers.specs.Items.{death_item_of}
 use Rattle.report_text.specs.OpenAndStray.{open_and_stray_head, open_and_stray_row}
 use Rattle.report_text.specs.Section.{SectionText}
@@ -10,11 +10,11 @@ abbrev pub deaths_head : ℕ → ℕ → ℕ → List ℕ
 deaths_head all unclosed strays = open_and_stray_head (codes "deaths") (codes "unacknowledged") all unclosed strays
 
 -- a row: place, process, cookie, what it is called
-abbrev pub deaths_row : EventText → List ℕ
+abbrev pub deaths_row : EventRead → List ℕ
 deaths_row e = open_and_stray_row (codes "unacknowledged") death_item_of e
 
 -- the section
-abbrev pub deaths_section : SectionText EventText
+abbrev pub deaths_section : SectionText EventRead
 deaths_section = record {
   head = λ said rows. deaths_head said.events.counts.deaths said.processes.deaths.unclosed said.processes.deaths.strays;
   rows = λ said. said.processes.deaths.rows;

@@ -2,17 +2,17 @@
 use Rattle.std.specs.Prelude.{ℕ, List, ◌++◌, codes}
 use Rattle.std.specs.Fmt.{decimal}
 use Rattle.binder_code.specs.Commands.{name_of}
-use Rattle.event_core.specs.Events.{EventText, process_of}
+use Rattle.event_core.specs.Events.{EventRead, process_of}
 use Rattle.report_text.specs.Process.{process_field, thread_field}
 
--- place and process of its record
-abbrev pub row_start : EventText → List ℕ
+-- a row's beginning: place and process of the event's record
+abbrev pub row_start : EventRead → List ℕ
 row_start e = codes "  " ++ decimal e.place ++ codes " " ++ process_field (process_of e)
 
--- and its thread
-abbrev pub thread_start : EventText → List ℕ
+-- a row's beginning, with the record's thread
+abbrev pub thread_start : EventRead → List ℕ
 thread_start e = row_start e ++ codes " " ++ thread_field e.thread
 
--- and its kind
-abbrev pub kind_row : EventText → List ℕ
+-- a row's beginning, with the record's thread and kind
+abbrev pub kind_row : EventRead → List ℕ
 kind_row e = thread_start e ++ codes " " ++ name_of e.kind

@@ -1,7 +1,7 @@
 -- The lines of the section `flags` (docs/REPORT.md).
 use Rattle.std.specs.Prelude.{ℕ, List, ◌++◌, codes}
 use Rattle.std.specs.Fmt.{decimal}
-use Rattle.event_core.specs.Events.{EventText}
+use Rattle.event_core.specs.Events.{EventRead}
 use Rattle.audit_findings.specs.Flags.{unknown_flags}
 use Rattle.report_text.specs.EventRow.{row_start}
 use Rattle.report_text.specs.Line.{hex_word}
@@ -12,9 +12,9 @@ abbrev pub flags_head : ℕ → List ℕ
 flags_head rows = codes "flags " ++ decimal rows
 
 -- a row: place, process, unknown bits
-abbrev pub flags_row : EventText → List ℕ
+abbrev pub flags_row : EventRead → List ℕ
 flags_row e = row_start e ++ codes " " ++ hex_word (unknown_flags e)
 
 -- the section
-abbrev pub flags_section : SectionText EventText
+abbrev pub flags_section : SectionText EventRead
 flags_section = record { head = λ said. flags_head; rows = λ said. said.events.flags; line = flags_row }

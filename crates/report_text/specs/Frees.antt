@@ -1,7 +1,7 @@
 -- The lines of the section `frees` (docs/REPORT.md).
 use Rattle.std.specs.Prelude.{ℕ, List, [], ◌++◌, codes, Option, Some}
 use Rattle.std.specs.Fmt.{decimal}
-use Rattle.event_core.specs.Events.{EventText}
+use Rattle.event_core.specs.Events.{EventRead}
 use Rattle.event_core.specs.declared.buffer.BufferItem.{BufferItem}
 use Rattle.event_core.specs.declared.buffer.BufferItem.TheVariants.{Free}
 use Rattle.process_ledgers.specs.Items.{buffer_item_of}
@@ -19,11 +19,11 @@ free_fields (Some (Free place address)) = codes " " ++ hex_number address
 free_fields _ = []
 
 -- a row: place, process, and this field
-abbrev pub frees_row : EventText → List ℕ
+abbrev pub frees_row : EventRead → List ℕ
 frees_row e = row_start e ++ free_fields (buffer_item_of e)
 
 -- the section
-abbrev pub frees_section : SectionText EventText
+abbrev pub frees_section : SectionText EventRead
 frees_section = record {
   head = λ said rows. frees_head said.events.counts.frees rows;
   rows = λ said. said.processes.stray_frees;

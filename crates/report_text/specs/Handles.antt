@@ -2,13 +2,13 @@
 use Rattle.std.specs.Prelude.{List, ℕ, ◌++◌, codes}
 use Rattle.std.specs.Fmt.{decimal}
 use Rattle.handle_ledger.specs.declared.held_row.HeldRow.{HeldRow}
-use Rattle.audit_findings.specs.declared.in_turn.OfProcess.{OfProcess}
+use Rattle.audit_findings.specs.declared.in_turn.ProcessRow.{ProcessRow}
 use Rattle.report_text.specs.ProcessRow.{process_start, count_fields, unbalanced_head}
 use Rattle.report_text.specs.Section.{SectionText}
 
 -- a row: process, handle, the strong count and its low, the weak count and its low, and how many strong and how many
 -- weak references those deliveries of the process hold that it never frees
-abbrev pub handles_row : OfProcess HeldRow → List ℕ
+abbrev pub handles_row : ProcessRow HeldRow → List ℕ
 handles_row of =
     process_start of.process ++ codes " " ++ decimal of.row.taken.handle
     ++ count_fields of.row.taken.strong.sum of.row.taken.strong.low
@@ -16,7 +16,7 @@ handles_row of =
     ++ decimal of.row.held_weak
 
 -- the section
-abbrev pub handles_section : SectionText (OfProcess HeldRow)
+abbrev pub handles_section : SectionText (ProcessRow HeldRow)
 handles_section = record {
   head = λ said rows. unbalanced_head (codes "handles") rows said.processes.handles.unbalanced;
   rows = λ said. said.processes.handles.rows;

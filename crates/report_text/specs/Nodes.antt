@@ -2,21 +2,21 @@
 use Rattle.std.specs.Prelude.{List, ℕ, ◌++◌, codes}
 use Rattle.std.specs.Fmt.{signed_decimal}
 use Rattle.handle_ledger.specs.declared.node_row.NodeRow.{NodeRow}
-use Rattle.audit_findings.specs.declared.in_turn.OfProcess.{OfProcess}
+use Rattle.audit_findings.specs.declared.in_turn.ProcessRow.{ProcessRow}
 use Rattle.report_text.specs.Line.{hex_number}
 use Rattle.report_text.specs.ProcessRow.{process_start, count_fields, unbalanced_head}
 use Rattle.report_text.specs.Section.{SectionText}
 
 -- a row: process, ptr, cookie, the strong count and its low, the weak count and its low, the strong references that are
 -- due, and the weak ones
-abbrev pub nodes_row : OfProcess NodeRow → List ℕ
+abbrev pub nodes_row : ProcessRow NodeRow → List ℕ
 nodes_row of =
     process_start of.process ++ codes " " ++ hex_number of.row.key.ptr ++ codes " " ++ hex_number of.row.key.cookie
     ++ count_fields of.row.strong.sum of.row.strong.low ++ count_fields of.row.weak.sum of.row.weak.low
     ++ codes " " ++ signed_decimal of.row.strong_due ++ codes " " ++ signed_decimal of.row.weak_due
 
 -- the section
-abbrev pub nodes_section : SectionText (OfProcess NodeRow)
+abbrev pub nodes_section : SectionText (ProcessRow NodeRow)
 nodes_section = record {
   head = λ said rows. unbalanced_head (codes "nodes") rows said.processes.nodes.unbalanced;
   rows = λ said. said.processes.nodes.rows;

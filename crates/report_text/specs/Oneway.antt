@@ -3,7 +3,7 @@ use Rattle.std.specs.Prelude.{ℕ, List, ◌++◌, codes}
 use Rattle.std.specs.Fmt.{decimal}
 use Rattle.event_core.specs.declared.oneway.OnewayKey.{OnewayKey}
 use Rattle.event_core.specs.declared.oneway.OnewayKey.TheVariants.{Sent, Received}
-use Rattle.audit_findings.specs.declared.in_turn.OfProcess.{OfProcess}
+use Rattle.audit_findings.specs.declared.in_turn.ProcessRow.{ProcessRow}
 use Rattle.report_text.specs.ProcessRow.{process_start}
 use Rattle.report_text.specs.Section.{SectionText}
 
@@ -19,13 +19,13 @@ key_fields (Sent handle) = codes "sent " ++ decimal handle
 key_fields Received = codes "received"
 
 -- a row: process, these fields, count, sum
-abbrev pub oneway_row : OfProcess (OnewayKey × ℕ × ℕ) → List ℕ
+abbrev pub oneway_row : ProcessRow (OnewayKey × ℕ × ℕ) → List ℕ
 oneway_row of =
     process_start of.process ++ codes " " ++ key_fields of.row.0 ++ codes " " ++ decimal of.row.1
     ++ codes " " ++ decimal of.row.2
 
 -- the section
-abbrev pub oneway_section : SectionText (OfProcess (OnewayKey × ℕ × ℕ))
+abbrev pub oneway_section : SectionText (ProcessRow (OnewayKey × ℕ × ℕ))
 oneway_section = record {
   head = λ said rows. oneway_head said.events.oneway.sent said.events.oneway.received said.calls.refused.oneway;
   rows = λ said. said.processes.oneway;

@@ -2,7 +2,7 @@
 -- an unclosed open.
 use Rattle.std.specs.Prelude.{ℕ, List, [], ◌++◌, codes, Option, Some, None}
 use Rattle.std.specs.Fmt.{decimal}
-use Rattle.event_core.specs.Events.{EventText}
+use Rattle.event_core.specs.Events.{EventRead}
 use Rattle.event_core.specs.declared.pending.PendingChange.{PendingChange}
 use Rattle.event_core.specs.declared.pending.PendingChange.TheVariants.{Open, Close}
 use Rattle.event_core.specs.declared.pending.PendingItem.{PendingItem}
@@ -27,5 +27,5 @@ open_and_stray_fields word (Some item) =
 open_and_stray_fields word None = []
 
 -- a row: place, process, and these fields
-abbrev pub open_and_stray_row : List ℕ → (EventText → Option (PendingItem ℕ)) → EventText → List ℕ
+abbrev pub open_and_stray_row : List ℕ → (EventRead → Option (PendingItem ℕ)) → EventRead → List ℕ
 open_and_stray_row word read e = row_start e ++ open_and_stray_fields word (read e)

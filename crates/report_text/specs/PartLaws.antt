@@ -17,6 +17,6 @@ HaveExactlyOneLine = (parts : List (List ℕ)) → All IsBytes parts
 abbrev pub HasTextOfCapture : Type 0
 HasTextOfCapture = (capture text : List ℕ) → IsTextOfParts (capture ∷ []) text ↔ IsTextOf capture text
 
--- and so is its line
+-- the line of a single part is that of the capture
 abbrev pub HasLineOfCapture : Type 0
 HasLineOfCapture = (capture line : List ℕ) → IsLineOnParts (capture ∷ []) line ↔ IsLineOn capture line

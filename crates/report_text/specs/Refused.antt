@@ -1,7 +1,7 @@
 -- The lines of the section `refused` (docs/REPORT.md).
 use Rattle.std.specs.Prelude.{ℕ, List, ◌++◌, codes}
 use Rattle.std.specs.Fmt.{decimal}
-use Rattle.event_core.specs.Events.{EventText}
+use Rattle.event_core.specs.Events.{EventRead}
 use Rattle.report_text.specs.EventRow.{kind_row}
 use Rattle.report_text.specs.Section.{SectionText}
 
@@ -10,5 +10,5 @@ abbrev pub refused_head : ℕ → List ℕ
 refused_head rows = codes "refused " ++ decimal rows
 
 -- the section; a row has place, process, thread, kind of the error reply
-abbrev pub refused_section : SectionText EventText
+abbrev pub refused_section : SectionText EventRead
 refused_section = record { head = λ said. refused_head; rows = λ said. said.calls.refused.rows; line = kind_row }

@@ -1,7 +1,7 @@
 -- The lines of the section `requests` (docs/REPORT.md).
 use Rattle.std.specs.Prelude.{ℕ, List, [], ◌++◌, codes, Option, Some}
 use Rattle.std.specs.Fmt.{decimal}
-use Rattle.event_core.specs.Events.{EventText}
+use Rattle.event_core.specs.Events.{EventRead}
 use Rattle.event_core.specs.declared.request.RequestChange.{RequestChange}
 use Rattle.event_core.specs.declared.request.RequestChange.TheVariants.{Request}
 use Rattle.event_core.specs.declared.request.RequestItem.{RequestItem}
@@ -25,11 +25,11 @@ request_fields (Some item) = change_fields item.change
 request_fields _ = []
 
 -- a row: place, process, and these fields
-abbrev pub requests_row : EventText → List ℕ
+abbrev pub requests_row : EventRead → List ℕ
 requests_row e = row_start e ++ request_fields (request_item_of e)
 
 -- the section
-abbrev pub requests_section : SectionText EventText
+abbrev pub requests_section : SectionText EventRead
 requests_section = record {
   head = λ said rows. requests_head said.events.counts.requests rows;
   rows = λ said. said.processes.standing;

@@ -2,7 +2,7 @@
 use Rattle.std.specs.Prelude.{ℕ, ◌+◌, List, ◌++◌, codes}
 use Rattle.std.specs.Fmt.{decimal, signed_decimal}
 use Rattle.transaction_view.specs.Transaction.{sender_pid}
-use Rattle.event_core.specs.Events.{EventText}
+use Rattle.event_core.specs.Events.{EventRead}
 use Rattle.call_stacks.specs.declared.opener.Opener.{Opener}
 use Rattle.report_text.specs.CallRow.{call_row}
 use Rattle.report_text.specs.Section.{SectionText}
@@ -18,11 +18,11 @@ abbrev pub sender_field : List ℕ → List ℕ
 sender_field payload = signed_decimal (sender_pid payload)
 
 -- a row: place, process, thread, sender's process, code, what became of the call, its closer
-abbrev pub served_row : Opener EventText → List ℕ
+abbrev pub served_row : Opener EventRead → List ℕ
 served_row call = call_row sender_field call
 
 -- the section
-abbrev pub served_section : SectionText (Opener EventText)
+abbrev pub served_section : SectionText (Opener EventRead)
 served_section = record {
   head = λ said rows. served_head said.calls.served.replied said.calls.served.crossed said.calls.served.left_open;
   rows = λ said. said.calls.served.rows;

@@ -1,7 +1,7 @@
 -- The lines of the section `strays` (docs/REPORT.md).
 use Rattle.std.specs.Prelude.{ℕ, List, ◌++◌, codes}
 use Rattle.std.specs.Fmt.{decimal}
-use Rattle.event_core.specs.Events.{EventText}
+use Rattle.event_core.specs.Events.{EventRead}
 use Rattle.report_text.specs.EventRow.{kind_row}
 use Rattle.report_text.specs.Section.{SectionText}
 
@@ -10,5 +10,5 @@ abbrev pub strays_head : ℕ → List ℕ
 strays_head rows = codes "strays " ++ decimal rows
 
 -- the section; a row has place, process, thread, kind
-abbrev pub strays_section : SectionText EventText
+abbrev pub strays_section : SectionText EventRead
 strays_section = record { head = λ said. strays_head; rows = λ said. said.calls.strays; line = kind_row }

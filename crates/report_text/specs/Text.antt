@@ -3,7 +3,7 @@ use Rattle.std.specs.Prelude.{◌≡◌, ℕ, List, [], ◌∷◌, ◌++◌, cod
 use Rattle.std.specs.List.{flat_map}
 use Rattle.std.specs.Fmt.{decimal}
 use Rattle.transaction_view.specs.Grammar.{WholeFrame, IsInGrammar}
-use Rattle.audit_findings.specs.Findings.{FindingsText, AreFindings}
+use Rattle.audit_findings.specs.Findings.{FindingsSaid, AreFindings}
 use Rattle.event_core.specs.Events.{wholes_of}
 use Rattle.report_text.specs.Line.{ended}
 use Rattle.report_text.specs.Section.{lines_of}
@@ -27,7 +27,7 @@ use Rattle.report_text.specs.Flags.{flags_section}
 abbrev pub title : List ℕ
 title = codes "BINDER AUDIT 2"
 
-abbrev pub title_lines : FindingsText → List (List ℕ)
+abbrev pub title_lines : FindingsSaid → List (List ℕ)
 title_lines said = title ∷ []
 
 -- the line of totals: frames, records, opaque ones among them, missing frames
@@ -36,11 +36,11 @@ totals frames records opaque missing =
     codes "frames " ++ decimal frames ++ codes " records " ++ decimal records
     ++ codes " opaque " ++ decimal opaque ++ codes " missing " ++ decimal missing
 
-abbrev pub totals_lines : FindingsText → List (List ℕ)
+abbrev pub totals_lines : FindingsSaid → List (List ℕ)
 totals_lines said = totals said.frames said.events.records said.events.opaque said.missing ∷ []
 
 -- what gives the lines of the report, in their order: the first two lines, and the sections
-abbrev pub lines_in_order : List (FindingsText → List (List ℕ))
+abbrev pub lines_in_order : List (FindingsSaid → List (List ℕ))
 lines_in_order =
     title_lines ∷ totals_lines ∷ lines_of codes_section ∷ lines_of calls_section ∷ lines_of served_section
     ∷ lines_of strays_section ∷ lines_of refused_section ∷ lines_of handles_section ∷ lines_of nodes_section
@@ -48,15 +48,15 @@ lines_in_order =
     ∷ lines_of clears_section ∷ lines_of oneway_section ∷ lines_of objects_section ∷ lines_of flags_section ∷ []
 
 -- the lines of the report, without their line feeds
-abbrev pub report_lines : FindingsText → List (List ℕ)
+abbrev pub report_lines : FindingsSaid → List (List ℕ)
 report_lines said = flat_map (λ lines. lines said) lines_in_order
 
 -- the report
-unfoldable pub report_text : FindingsText → List ℕ
+unfoldable pub report_text : FindingsSaid → List ℕ
 report_text said = flat_map ended (report_lines said)
 
 -- the text is the report on a capture in the grammar
 abbrev pub IsReportOn : List ℕ → List ℕ → Type 0
 IsReportOn capture text =
-    (wholes : List WholeFrame) × (said : FindingsText) × IsInGrammar capture wholes
+    (wholes : List WholeFrame) × (said : FindingsSaid) × IsInGrammar capture wholes
     × AreFindings (wholes_of wholes) said × (text ≡ report_text said)

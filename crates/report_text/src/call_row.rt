@@ -18,7 +18,7 @@ use transaction_view::Transaction;
 pub(crate) trait CallSection {
     ghost use Rattle.std.specs.Prelude.{◌≡◌, ◌≤◌, ◌+◌, ◌++◌, ℕ, List};
     ghost use Rattle.arrayvec.specs.ArrayString.{array_string_len};
-    ghost use Rattle.event_core.specs.Events.{EventText};
+    ghost use Rattle.event_core.specs.Events.{EventRead};
     ghost use Rattle.call_stacks.specs.declared.opener.Opener.{Opener};
     ghost use Rattle.audit_findings.specs.declared.findings.Sections.{Sections};
     ghost use Rattle.audit_findings.specs.Kept.{kept_call};
@@ -27,7 +27,7 @@ pub(crate) trait CallSection {
     ghost use Rattle.report_text.specs.Section.{SectionText};
 
     /// The section.
-    ghost section: { SectionText (Opener EventText) };
+    ghost section: { SectionText (Opener EventRead) };
 
     /// Its head, of what findings keep, where it has so many rows.
     ghost head_of: { Sections → ℕ → List ℕ };
@@ -36,7 +36,7 @@ pub(crate) trait CallSection {
     ghost field: { List ℕ → List ℕ };
 
     /// A row is told with that field.
-    ghost tells: { (call : Opener EventText) → call_row field call ≡ section.line call };
+    ghost tells: { (call : Opener EventRead) → call_row field call ≡ section.line call };
 
     /// The head, without its line feed.
     fn head(&self, sections: &Sections, rows: usize) -> Row

@@ -14,20 +14,20 @@ use event_core::Event;
 /// A section each of whose rows is an event, kept as the place of its record.
 pub(crate) trait EventSection {
     ghost use Rattle.std.specs.Prelude.{◌≡◌, ℕ, List, None};
-    ghost use Rattle.event_core.specs.Events.{EventText};
+    ghost use Rattle.event_core.specs.Events.{EventRead};
     ghost use Rattle.event_core.specs.Reading.{event_text};
     ghost use Rattle.audit_findings.specs.declared.findings.Sections.{Sections};
     ghost use Rattle.report_text.specs.Pushed.{KeepsRows, HaveEvents};
     ghost use Rattle.report_text.specs.Section.{SectionText};
 
     /// The section.
-    ghost section: { SectionText EventText };
+    ghost section: { SectionText EventRead };
 
     /// Its head, of what findings keep, where it has so many rows.
     ghost head_of: { Sections → ℕ → List ℕ };
 
     /// A row says nothing of an attachment.
-    ghost bare: { (e : EventText) → section.line (record e { entry = None }) ≡ section.line e };
+    ghost bare: { (e : EventRead) → section.line (record e { entry = None }) ≡ section.line e };
 
     /// The head, without its line feed.
     fn head(&self, sections: &Sections, rows: usize) -> Row

@@ -3,7 +3,7 @@
 use crate::line::{Row, push_counted};
 use crate::process_row::{process_start, push_count, unbalanced_head};
 use crate::whole_rows::WholeSection;
-use audit_findings::{Findings, OfProcess, Sections};
+use audit_findings::{Findings, ProcessRow, Sections};
 use handle_ledger::HeldRow;
 
 /// The section.
@@ -15,7 +15,7 @@ impl WholeSection for Handles {
     ghost use Rattle.report_text.specs.Handles.{handles_section};
     ghost use Rattle.report_text.specs.ProcessRow.{unbalanced_head};
 
-    type Kept = OfProcess<HeldRow>;
+    type Kept = ProcessRow<HeldRow>;
 
     ghost section = { handles_section };
 
@@ -26,11 +26,11 @@ impl WholeSection for Handles {
         unbalanced_head("handles", rows, sections.processes.handles.unbalanced)
     }
 
-    fn rows<'f>(&self, found: &'f Findings<'_>) -> &'f [OfProcess<HeldRow>] {
+    fn rows<'f>(&self, found: &'f Findings<'_>) -> &'f [ProcessRow<HeldRow>] {
         found.sections().processes.handles.rows.as_slice()
     }
 
-    fn line(&self, of: &OfProcess<HeldRow>) -> Row {
+    fn line(&self, of: &ProcessRow<HeldRow>) -> Row {
         let row = &of.row;
         let mut line = process_start(of.process);
         let taken = &row.taken;

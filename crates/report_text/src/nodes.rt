@@ -3,7 +3,7 @@
 use crate::line::{Row, push_hex_number, push_signed};
 use crate::process_row::{process_start, push_count, unbalanced_head};
 use crate::whole_rows::WholeSection;
-use audit_findings::{Findings, OfProcess, Sections};
+use audit_findings::{Findings, ProcessRow, Sections};
 use handle_ledger::NodeRow;
 
 /// The section.
@@ -15,7 +15,7 @@ impl WholeSection for Nodes {
     ghost use Rattle.report_text.specs.Nodes.{nodes_section};
     ghost use Rattle.report_text.specs.ProcessRow.{unbalanced_head};
 
-    type Kept = OfProcess<NodeRow>;
+    type Kept = ProcessRow<NodeRow>;
 
     ghost section = { nodes_section };
 
@@ -26,11 +26,11 @@ impl WholeSection for Nodes {
         unbalanced_head("nodes", rows, sections.processes.nodes.unbalanced)
     }
 
-    fn rows<'f>(&self, found: &'f Findings<'_>) -> &'f [OfProcess<NodeRow>] {
+    fn rows<'f>(&self, found: &'f Findings<'_>) -> &'f [ProcessRow<NodeRow>] {
         found.sections().processes.nodes.rows.as_slice()
     }
 
-    fn line(&self, of: &OfProcess<NodeRow>) -> Row {
+    fn line(&self, of: &ProcessRow<NodeRow>) -> Row {
         let row = &of.row;
         let mut line = process_start(of.process);
         line.push_str(" ");

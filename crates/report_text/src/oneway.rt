@@ -7,7 +7,7 @@ ghost use Rattle.report_text.specs.Oneway.{key_fields};
 use crate::line::{Row, push_counted, push_wide};
 use crate::process_row::process_start;
 use crate::whole_rows::WholeSection;
-use audit_findings::{Findings, OfProcess, OnewayRow, Sections};
+use audit_findings::{Findings, OnewayRow, ProcessRow, Sections};
 use event_core::OnewayKey;
 
 /// The section.
@@ -17,7 +17,7 @@ pub(crate) struct Oneway;
 impl WholeSection for Oneway {
     ghost use Rattle.report_text.specs.Oneway.{oneway_head, oneway_section};
 
-    type Kept = OfProcess<OnewayRow>;
+    type Kept = ProcessRow<OnewayRow>;
 
     ghost section = { oneway_section };
 
@@ -32,11 +32,11 @@ impl WholeSection for Oneway {
         line
     }
 
-    fn rows<'f>(&self, found: &'f Findings<'_>) -> &'f [OfProcess<OnewayRow>] {
+    fn rows<'f>(&self, found: &'f Findings<'_>) -> &'f [ProcessRow<OnewayRow>] {
         found.sections().processes.oneway.as_slice()
     }
 
-    fn line(&self, of: &OfProcess<OnewayRow>) -> Row {
+    fn line(&self, of: &ProcessRow<OnewayRow>) -> Row {
         let (key, count, sum) = of.row;
         let mut line = process_start(of.process);
         line.push_str(" ");

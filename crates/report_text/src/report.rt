@@ -2,8 +2,8 @@
 
 ghost use Rattle.std.specs.Prelude.{◌≡◌, ◌≤◌, List, All, map, length, IfOk, OnOk, string_bytes};
 ghost use Rattle.transaction_view.specs.Grammar.{WholeFrame};
-ghost use Rattle.audit_findings.specs.Findings.{FindingsText};
-ghost use Rattle.audit_findings.specs.Kept.{Tell};
+ghost use Rattle.audit_findings.specs.Findings.{FindingsSaid};
+ghost use Rattle.audit_findings.specs.Kept.{AreSectionsOf};
 ghost use Rattle.report_text.specs.Pushed.{TakesLines};
 ghost use Rattle.report_text.specs.Text.{title, totals, report_lines, report_text};
 
@@ -39,8 +39,8 @@ pub fn rows<T: Threads + Sync>(
     alloc: Global,
     found: &Findings<'_>,
 ) -> Result<Vec<Row>, AllocError>
-    ensures lines { IfOk result (λ rows. (wholes : List WholeFrame) (said : FindingsText)
-        → Tell wholes said found.now.frames found.now.sections
+    ensures lines { IfOk result (λ rows. (wholes : List WholeFrame) (said : FindingsSaid)
+        → AreSectionsOf wholes said found.now.frames found.now.sections
         → map (λ row. row.bytes) rows.items ≡ report_lines said) }
     ensures short { IfOk result (λ rows. All (λ row. length row.bytes ≤ 256) rows.items) }
 {
@@ -55,8 +55,8 @@ pub fn text<T: Threads + Sync>(
     alloc: Global,
     found: &Findings<'_>,
 ) -> Result<String, AllocError>
-    ensures { IfOk result (λ text. (wholes : List WholeFrame) (said : FindingsText)
-        → Tell wholes said found.now.frames found.now.sections
+    ensures { IfOk result (λ text. (wholes : List WholeFrame) (said : FindingsSaid)
+        → AreSectionsOf wholes said found.now.frames found.now.sections
         → string_bytes text ≡ report_text said) }
 {
     let mut text = String::new(alloc);

@@ -19,7 +19,7 @@ pub(crate) trait Section {
     ghost use Rattle.std.specs.Prelude.{◌≡◌, ℕ, List, All};
     ghost use Rattle.capture_frame.specs.declared.frame.Frame.{Frame};
     ghost use Rattle.audit_findings.specs.declared.findings.Sections.{Sections};
-    ghost use Rattle.audit_findings.specs.Findings.{FindingsText};
+    ghost use Rattle.audit_findings.specs.Findings.{FindingsSaid};
     ghost use Rattle.audit_findings.specs.Kept.{AreOfFrames};
     ghost use Rattle.report_text.specs.Pushed.{TellsLines};
 
@@ -27,7 +27,7 @@ pub(crate) trait Section {
     type Kept: Sync;
 
     /// Its lines, of what findings tell.
-    ghost lines: { FindingsText → List (List ℕ) };
+    ghost lines: { FindingsSaid → List (List ℕ) };
 
     /// Its head, of what findings keep, where it has so many rows.
     ghost head_of: { Sections → ℕ → List ℕ };

@@ -7,7 +7,7 @@ use Rattle.std.proofs.lemmas.Map.Views.{lookup-from_Contains}
 use Rattle.std.specs.Cmp.{IsEquivalence}
 use Rattle.std.specs.List.{list_any, AllByRecursion, IsDistinct}
 use Rattle.std.specs.Map.{lookup, keys_of}
-use Rattle.summary_law.specs.ByKey.{items_of, IsPart}
+use Rattle.summary_law.specs.ByKey.{items_of, IsOwn}
 use Rattle.summary_law.specs.InOrder.{firsts, SumsInOrder}
 use Rattle.summary_law.proofs.FirstLaws.{list_any-firsts}
 
@@ -84,9 +84,9 @@ module _ {K : Type 0} {eq : K → K → Bool} (laws : IsEquivalence eq) where
     each_sums k d within =
         let e = slice_index_or entries k d in
         let found : lookup (eq e.0) entries ≡ Some e.1 = lookup-from_Contains laws e.0 e.1 entries entries_distinct (Contains-get_or entries k d within) in
-        subst (λ (o : Option S). IsPart Sums o (items_of eq e.0 items)) found (sums.parts e.0)
+        subst (λ (o : Option S). IsOwn Sums o (items_of eq e.0 items)) found (sums.parts e.0)
 
-    no_part : (part : Option S) (own : List I) → IsPart Sums part own → is_some part ≡ false → own ≡ []
+    no_part : (part : Option S) (own : List I) → IsOwn Sums part own → is_some part ≡ false → own ≡ []
     no_part None own is none = is
     no_part (Some part) own is none = absurd (true≢false none)
 

@@ -12,7 +12,7 @@ use Rattle.std.specs.Map.{keys_of}
 use Rattle.std.specs.Ordering.{eq_by_cmp}
 use Rattle.std.specs.declared.cmp.Ordering.{Ordering}
 use Rattle.summary_law.proofs.ReadLaws.{each_short, each_all}
-use Rattle.summary_law.specs.ByKey.{items_of, IsPart, EachFits, SumsByKey}
+use Rattle.summary_law.specs.ByKey.{items_of, IsOwn, EachFits, SumsByKey}
 use Rattle.summary_law.specs.Fits.{IsShort}
 use Rattle.summary_law.specs.Amount.{IsAmount, AreWeights}
 use Rattle.summary_law.specs.Tally.{count_of, AreKeys, IsTallyRow, AreTallyRows, AreWeighted}
@@ -43,7 +43,7 @@ keys_of_rows : {K : Type 0} (es : List (K × Amount)) → map (λ (r : K × ℕ 
 keys_of_rows [] = refl
 keys_of_rows (e ∷ es) = ap (λ t. e.0 ∷ t) (keys_of_rows es)
 
-some_came : (weights : List ℕ) (found : Option Amount) → IsPart IsAmount found weights → 0 < length weights → is_some found ≡ true
+some_came : (weights : List ℕ) (found : Option Amount) → IsOwn IsAmount found weights → 0 < length weights → is_some found ≡ true
 some_came weights None part h = absurd (let none = ap length part in omega arith)
 some_came weights (Some amount) part h = refl
 
@@ -53,8 +53,8 @@ came (i ∷ is) some = omega arith
 
 module _ {K : Type 0} (cmp : K → K → Ordering) (laws : IsTotalOrder cmp) (m : BTreeMap K Amount) (ordered : IsOrdered cmp m)
     (items : List (K × ℕ)) (sums : SumsByKey cmp IsAmount m items) where
-  entry_part : (e : K × Amount) → get cmp m e.0 ≡ Some e.1 → IsPart IsAmount (Some e.1) (items_of (eq_by_cmp cmp) e.0 items)
-  entry_part e found = subst (λ (o : Option Amount). IsPart IsAmount o (items_of (eq_by_cmp cmp) e.0 items)) found (sums e.0)
+  entry_part : (e : K × Amount) → get cmp m e.0 ≡ Some e.1 → IsOwn IsAmount (Some e.1) (items_of (eq_by_cmp cmp) e.0 items)
+  entry_part e found = subst (λ (o : Option Amount). IsOwn IsAmount o (items_of (eq_by_cmp cmp) e.0 items)) found (sums e.0)
 
   -- the map's keys are those that items stand under
   pub map_keys : AreKeys cmp items (keys_of m.entries)

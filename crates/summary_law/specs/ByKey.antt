@@ -17,15 +17,15 @@ abbrev pub items_of : {K I : Type 0} → (K → K → Bool) → K → List (K ×
 items_of eq key items = filter_map (under eq key) items
 
 -- for a key with items their summary is found, and for one without items none
-abbrev pub IsPart : {S I : Type 0} → (S → List I → Type 0) → Option S → List I → Type 0
-IsPart Sums None items = items ≡ []
-IsPart Sums (Some part) items = (items ≢ []) × Sums part items
+abbrev pub IsOwn : {S I : Type 0} → (S → List I → Type 0) → Option S → List I → Type 0
+IsOwn Sums None items = items ≡ []
+IsOwn Sums (Some part) items = (items ≢ []) × Sums part items
 
 -- the map has, under each key that items stand under and no other, a summary of those items
 abbrev pub SumsByKey : {K S I : Type 0}
     → (K → K → Ordering) → (S → List I → Type 0) → BTreeMap K S → List (K × I) → Type 0
 SumsByKey {K} cmp Sums entries items =
-    (key : K) → IsPart Sums (get cmp entries key) (items_of (eq_by_cmp cmp) key items)
+    (key : K) → IsOwn Sums (get cmp entries key) (items_of (eq_by_cmp cmp) key items)
 
 -- the items of each key can be summarised
 abbrev pub EachFits : {K I : Type 0} → (K → K → Bool) → (List I → Type 0) → List (K × I) → Type 0

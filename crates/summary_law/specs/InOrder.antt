@@ -2,7 +2,7 @@
 -- summary of the items that stand under it.
 use Rattle.std.specs.Prelude.{◌≡◌, Bool, List, [], ◌∷◌, filter, not}
 use Rattle.std.specs.Map.{lookup, keys_of}
-use Rattle.summary_law.specs.ByKey.{items_of, IsPart}
+use Rattle.summary_law.specs.ByKey.{items_of, IsOwn}
 
 -- the keys, each once, in the order in which they first come
 abbrev pub firsts : {K : Type 0} → (K → K → Bool) → List K → List K
@@ -14,4 +14,4 @@ firsts eq (key ∷ keys) = key ∷ filter (λ other. not (eq other key)) (firsts
 pub record SumsInOrder {K S I : Type 0} (eq : K → K → Bool) (Sums : S → List I → Type 0) (entries : List (K × S))
     (items : List (K × I)) : Type 0 where
   pub order : keys_of entries ≡ firsts eq (keys_of items)
-  pub parts : (key : K) → IsPart Sums (lookup (eq key) entries) (items_of eq key items)
+  pub parts : (key : K) → IsOwn Sums (lookup (eq key) entries) (items_of eq key items)

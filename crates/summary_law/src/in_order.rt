@@ -39,7 +39,7 @@ impl<K: Eq + Hash + Copy, S: Summary> InOrder<K, S> {
     /// The summary of the items under the key, or this one where there are none. Where the key has
     /// the entry that is guessed, nothing is looked up. The guess becomes the entry behind the key's,
     /// so keys that come in the order of the entries take no look-up.
-    pub fn part_or<'a>(&'a self, key: K, none: &'a S, guess: &mut usize) -> &'a S
+    pub fn own_or<'a>(&'a self, key: K, none: &'a S, guess: &mut usize) -> &'a S
         ensures { result.now ≡ unwrap_or (lookup (K.eq key) self.now.entries.entries) none.now }
     {
         match self.index_of(key, *guess) {

@@ -5,7 +5,7 @@ use Rattle.capture_frame.specs.declared.fault.Fault.{Fault}
 use Rattle.capture_frame.specs.declared.fault.PartFault.{PartFault}
 use Rattle.capture_frame.specs.declared.fault.FaultKind.{FaultKind}
 use Rattle.capture_frame.specs.Units.{Format}
-use Rattle.capture_frame.specs.Envelope.{FrameText, Before, in_version, frame_bytes, MayStand}
+use Rattle.capture_frame.specs.Envelope.{FrameText, Before, in_version, frame_bytes, MayCome}
 use Rattle.capture_frame.specs.FirstFault.{IsCapture, IsFirstFault}
 use Rattle.capture_frame.specs.Parts.{AreParts, IsFirstPartFault}
 use Rattle.record_view.specs.Records.{RecordText, HasRecords}
@@ -20,7 +20,7 @@ pub record WholeFrame : Type 0 where
 
 -- a whole frame may stand where its header may, its command bytes are its records, and its attachment bytes its entries
 pub record MayStandWhole (before : Before) (whole : WholeFrame) : Type 0 where
-  pub header : MayStand before whole.frame
+  pub header : MayCome before whole.frame
   pub has_records : HasRecords whole.frame whole.records
   pub has_entries : HasEntries whole.frame whole.entries
 
@@ -28,7 +28,7 @@ pub record MayStandWhole (before : Before) (whole : WholeFrame) : Type 0 where
 abbrev pub whole_format : Format Before WholeFrame FaultKind
 whole_format = record {
   spelling = λ whole. frame_bytes whole.frame;
-  MayStand = MayStandWhole;
+  MayCome = MayStandWhole;
   after = λ before whole. in_version before.version (Some whole.frame.sequence);
   Fails = WholeFrameFails;
 }
@@ -45,7 +45,7 @@ IsReadable capture = (frames : List WholeFrame) × IsInGrammar capture frames
 abbrev pub HasFirstFault : List ℕ → Fault → Type 0
 HasFirstFault capture fault = IsFirstFault whole_format capture fault
 
--- the same of a capture that is read in parts: they are in the grammar, as these frames
+-- the parts of a capture are in the grammar, as these frames
 abbrev pub AreInGrammar : List (List ℕ) → List WholeFrame → Type 0
 AreInGrammar parts frames = AreParts whole_format None parts frames
 

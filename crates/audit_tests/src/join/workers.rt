@@ -7,10 +7,9 @@ use super::captures::{eight_frames, within_limit};
 use super::expect_sections;
 use crate::expected::{Expected, expect};
 use crate::meeting::{Meeting, RELEASE_FIRST};
-use audit_join::{AuditError, Findings, OfProcess, Piece, audit};
-use capture_frame::{Fault, FaultKind, Process};
+use audit_join::{AuditError, Findings, Piece, audit};
+use capture_frame::{Fault, FaultKind};
 use claim_board::{NoGate, Workers};
-use handle_ledger::{HandleRow, HeldRow};
 use std::alloc::{AllocError, Global};
 use std::process::Abort;
 use std::test::Fail;
@@ -231,34 +230,20 @@ fn more_workers_than_pieces(rt: HostRuntime) -> Result<(), Fail> {
     Ok(())
 }
 
-/// The handle that is let go before it is taken.
-const HANDLES: &[OfProcess<HeldRow>] = &[OfProcess {
-    process: Process {
-        device: 0,
-        number: 100,
-    },
-    row: HeldRow {
-        taken: HandleRow {
-            handle: 3,
-            strong: Count { sum: 0, low: -1 },
-            weak: Count { sum: 0, low: 0 },
-        },
-        held_strong: 0,
-        held_weak: 0,
-    },
-}];
-
-/// The findings have the rows of handles of these processes.
+/// The findings have one row of handles: of this one, with its strong references.
 #[derive(Clone, Copy)]
-struct HasHandles<'r, R> {
+struct HasHandle<'r, R> {
     rt: &'r R,
-    handles: &'static [OfProcess<HeldRow>],
+    handle: u32,
+    strong: Count,
 }
 
-impl<'r, R: Abort> Expected for HasHandles<'r, R> {
+impl<'r, R: Abort> Expected for HasHandle<'r, R> {
     fn hold(&self, found: &Findings<'_>) {
         let rows = found.sections().processes.handles.rows.as_slice();
-        assert_eq!(self.rt; rows, self.handles);
+        assert_eq!(self.rt; rows.len(), 1);
+        assert_eq!(self.rt; rows[0].row.taken.handle, self.handle);
+        assert_eq!(self.rt; rows[0].row.taken.strong, self.strong);
     }
 }
 
@@ -269,8 +254,14 @@ fn two_pieces_meet(rt: HostRuntime) -> Result<(), Fail> {
     let (workers, piece) = shares(2, 1)?;
     let capture = within_limit(&rt, RELEASE_FIRST);
     let found = audit(&rt, rt.alloc(), capture, workers, piece, &gate)?;
-    let handles = HANDLES;
-    expect(found, &HasHandles { rt: &rt, handles });
+    // The handle is let go before it is taken.
+    let strong = Count { sum: 0, low: -1 };
+    let due = HasHandle {
+        rt: &rt,
+        handle: 3,
+        strong,
+    };
+    expect(found, &due);
     assert!(rt; gate.was_held());
     Ok(())
 }

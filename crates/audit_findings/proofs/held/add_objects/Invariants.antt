@@ -3,13 +3,13 @@ use Rattle.std.specs.List.{filter_map}
 use Rattle.object_view.specs.Objects.{ObjectText}
 use Rattle.audit_findings.specs.Held.{held_in}
 use Rattle.audit_findings.specs.HeldCounts.{CountsMore}
-use Rattle.audit_findings.proofs.ObjectWalk.{StandsBehind, left_of}
+use Rattle.audit_findings.proofs.ObjectWalk.{HasGiven, left_of}
 use Rattle.audit_findings.proofs.held.add_objects.Given as goal
 
 -- the reader stands behind these objects, and their references are counted besides
 abbrev pub invariant-loop-next : goal.invariant-loop-next
 invariant-loop-next l =
-    (done : List ObjectText) × StandsBehind l.fn.entry.body.now l.fn.entry.offsets.now l.objects done
+    (done : List ObjectText) × HasGiven l.fn.entry.body.now l.fn.entry.offsets.now l.objects done
     × CountsMore l.initial.held (length l.fn.entry.offsets.now) (filter_map held_in done) l.held
 
 abbrev pub decreases-loop-next : goal.decreases-loop-next

@@ -2,13 +2,13 @@ use Rattle.std.proofs.Common.{◌≡◌, ◌+◌, List}
 use Rattle.object_view.specs.declared.sort.Sort.{Sort}
 use Rattle.object_view.specs.Objects.{ObjectText}
 use Rattle.audit_findings.specs.Objects.{count_of, times_of}
-use Rattle.audit_findings.proofs.ObjectWalk.{StandsBehind, left_of}
+use Rattle.audit_findings.proofs.ObjectWalk.{HasGiven, left_of}
 use Rattle.audit_findings.proofs.objects.count_entry.Given as goal
 
 -- the reader stands behind these objects, and they are counted besides
 abbrev pub invariant-loop-next : goal.invariant-loop-next
 invariant-loop-next l =
-    (done : List ObjectText) × StandsBehind l.fn.entry.body.now l.fn.entry.offsets.now l.objects done
+    (done : List ObjectText) × HasGiven l.fn.entry.body.now l.fn.entry.offsets.now l.objects done
     × ((sort : Sort) → count_of l.counts sort ≡ count_of l.initial.counts sort + times_of sort done)
 
 abbrev pub decreases-loop-next : goal.decreases-loop-next

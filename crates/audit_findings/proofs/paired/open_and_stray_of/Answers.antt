@@ -6,7 +6,7 @@ use Rattle.audit_findings.proofs.paired.open_and_stray_of.Goals as goal
 
 pub returns : goal.returns
 returns g c = λ keeps wholes of rise.
-    let read = g.P.Paired.read in
+    let read = g.P.OpensAndCloses.read in
     let opens = c.in_ok-places.places.items in
     let closes = c.in_ok-closes.closes.items in
     let joined : c.extend_from_slice.new.self.items ≡ opens ++ closes

@@ -21,5 +21,5 @@ returns g c = λ stands wholes rise are.
     let whole = take_all c.loop-list.list-index lists (omega arith) in
     let gathered : c.loop-list.places.items ≡ flat_map (λ own. own) (lists_of lists) =
     c.loop-list.invariant ∙ ap (λ (ls : List (Vec ℕ Global)). flat_map (λ own. own) (lists_of ls)) whole in
-    gathered_sorted g.L.Listed.is_so stands wholes rise (lists_of lists) sorted are
+    gathered_sorted g.L.ListsPlaces.is_here stands wholes rise (lists_of lists) sorted are
     (subst (λ (ps : List ℕ). IsPermutation ps sorted) gathered c.sort_unstable.ensures.permutation) c.sort_unstable.ensures.sorted

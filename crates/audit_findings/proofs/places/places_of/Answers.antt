@@ -9,5 +9,5 @@ returns g c =
     IfOk-weaker c.gathered.result _ _
     (λ places gives stands wholes of rise.
     gives stands wholes rise
-    (subst (λ lists. AreListsOf g.L.Listed.is_so wholes (lists_of lists)) (sym c.as_slice.ensures.value) (c.in_ok-lists.ensures.lists wholes of)))
+    (subst (λ lists. AreListsOf g.L.ListsPlaces.is_here wholes (lists_of lists)) (sym c.as_slice.ensures.value) (c.in_ok-lists.ensures.lists wholes of)))
     c.gathered.ensures

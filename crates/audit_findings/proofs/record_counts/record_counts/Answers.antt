@@ -1,7 +1,7 @@
 use Rattle.std.proofs.Common.{◌≡◌, length, arith}
 use Rattle.std.proofs.lemmas.List.{length-map}
 use Rattle.binder_code.specs.declared.record_kind.Kind.TheVariants.{BrTransaction, BrTransactionSecCtx, BrReply}
-use Rattle.event_core.specs.Events.{EventText}
+use Rattle.event_core.specs.Events.{EventRead}
 use Rattle.audit_findings.specs.Codes.{code_words}
 use Rattle.audit_findings.specs.RecordCounts.{times}
 use Rattle.audit_findings.proofs.RecordCountLaws.{three_counts, word_count}
@@ -13,7 +13,7 @@ overflow_add-result c =
     let one = word_count c.args.codes.now c.amount.result 0x80407202 c.amount.ensures events c.requires.1 in
     let two = word_count c.args.codes.now c.amount-2.result 0x80487202 c.amount-2.ensures events c.requires.1 in
     let all = three_counts 0x80407202 0x80407203 0x80487202 (omega arith) (omega arith) (code_words events) in
-    let long : length (code_words events) ≡ length events = length-map events (λ (e : EventText). e.code) in
+    let long : length (code_words events) ≡ length events = length-map events (λ (e : EventRead). e.code) in
     let few = c.requires.2 in
     omega (arith, one, two, all, long, few)
 
@@ -24,7 +24,7 @@ overflow_add-result-2 c =
     let two = word_count c.args.codes.now c.amount-2.result 0x80487202 c.amount-2.ensures events c.requires.1 in
     let three = word_count c.args.codes.now c.amount-3.result 0x80407203 c.amount-3.ensures events c.requires.1 in
     let all = three_counts 0x80407202 0x80407203 0x80487202 (omega arith) (omega arith) (code_words events) in
-    let long : length (code_words events) ≡ length events = length-map events (λ (e : EventText). e.code) in
+    let long : length (code_words events) ≡ length events = length-map events (λ (e : EventRead). e.code) in
     let few = c.requires.2 in
     omega (arith, one, two, three, all, long, few)
 

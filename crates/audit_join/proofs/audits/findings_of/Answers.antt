@@ -3,7 +3,7 @@ use Rattle.capture_frame.specs.declared.frame.Frame.{Frame}
 use Rattle.event_core.specs.Events.{wholes_of}
 use Rattle.audit_findings.proofs.HandleRows.{ListOfRows, lists_of}
 use Rattle.audit_findings.specs.Buffers.{AreUnfreed}
-use Rattle.audit_findings.specs.Frames.{AreGoodFrames, Show}
+use Rattle.audit_findings.specs.Frames.{AreGoodFrames, AreViews}
 use Rattle.audit_findings.specs.Handles.{AreListedHandles}
 use Rattle.audit_findings.specs.Summary.{SumsPiece}
 use Rattle.audit_join.specs.Jobs.{AreSound}
@@ -33,7 +33,7 @@ new-requires g c =
     let shown = c.requires.shown in
     let wholes = wholes_of shown.0 in
     let unfreed = c.in_ok-unfreed.ensures.places frames wholes sums shown.1 in
-    let listed = c.in_ok-handles.ensures wholes (subst (λ (fs : List Frame). Show fs wholes) (sym c.as_slice-2.ensures.value) shown.1)
+    let listed = c.in_ok-handles.ensures wholes (subst (λ (fs : List Frame). AreViews fs wholes) (sym c.as_slice-2.ensures.value) shown.1)
     (subst (λ (lists : List (Vec ℕ Global)). AreUnfreed wholes (lists_of lists)) (sym c.as_slice-3.ensures.value) unfreed) in
     let said = c.in_ok-sections.ensures frames wholes sums (good_cut frames c.requires.cut c.requires.sound) shown.1
     (subst (λ (lists : List (Vec ℕ Global)). AreUnfreed wholes (lists_of lists)) (sym c.as_slice-4.ensures.value) unfreed)
@@ -46,7 +46,7 @@ returns g c units show =
     let sums = subst (SumsPiece c.in_ok-whole.whole) c.as_slice.ensures.value c.in_ok-whole.ensures in
     let wholes = wholes_of units in
     let unfreed = c.in_ok-unfreed.ensures.places frames wholes sums show in
-    let listed = c.in_ok-handles.ensures wholes (subst (λ (fs : List Frame). Show fs wholes) (sym c.as_slice-2.ensures.value) show)
+    let listed = c.in_ok-handles.ensures wholes (subst (λ (fs : List Frame). AreViews fs wholes) (sym c.as_slice-2.ensures.value) show)
     (subst (λ (lists : List (Vec ℕ Global)). AreUnfreed wholes (lists_of lists)) (sym c.as_slice-3.ensures.value) unfreed) in
     let said = c.in_ok-sections.ensures frames wholes sums (good_cut frames c.requires.cut c.requires.sound) show
     (subst (λ (lists : List (Vec ℕ Global)). AreUnfreed wholes (lists_of lists)) (sym c.as_slice-4.ensures.value) unfreed)

@@ -3,16 +3,16 @@ use Rattle.std.proofs.lemmas.List.{length-map}
 use Rattle.std.proofs.lemmas.Result.{on_ok_weaker}
 use Rattle.capture_frame.specs.Envelope.{placed_frame}
 use Rattle.transaction_view.specs.Grammar.{WholeFrame}
-use Rattle.audit_findings.specs.Findings.{FindingsText}
+use Rattle.audit_findings.specs.Findings.{FindingsSaid}
 use Rattle.event_core.specs.Events.{wholes_of}
 use Rattle.event_core.specs.Events.{placed_text}
-use Rattle.audit_findings.specs.Kept.{KeptFindings, Tell}
+use Rattle.audit_findings.specs.Kept.{KeptFindings, AreSectionsOf}
 use Rattle.report_text.specs.Text.{title, totals}
 use Rattle.report_text.proofs.Pushes.{one_pushed, none_pushed, ◌⨾◌}
 use Rattle.report_text.proofs.report.push_report.Goals as goal
 
 -- the totals are those of what the findings tell
-totals_told : (found : KeptFindings) (wholes : List WholeFrame) (said : FindingsText) (line : List ℕ) → Tell wholes said found.frames found.sections
+totals_told : (found : KeptFindings) (wholes : List WholeFrame) (said : FindingsSaid) (line : List ℕ) → AreSectionsOf wholes said found.frames found.sections
     → line ≡ totals (length found.frames) found.sections.events.records found.sections.events.opaque found.sections.missing
     → line ≡ totals said.frames said.events.records said.events.opaque said.missing
 totals_told found wholes said line tell is =

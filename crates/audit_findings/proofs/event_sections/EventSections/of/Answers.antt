@@ -1,5 +1,5 @@
 use Rattle.std.proofs.Common.{refl, ◌∙◌, arith}
-use Rattle.audit_findings.specs.Findings.{EventSectionsText}
+use Rattle.audit_findings.specs.Findings.{EventSectionsSaid}
 use Rattle.audit_findings.specs.Flags.{flagged}
 use Rattle.audit_findings.proofs.event_sections.EventSections.of.Goals as goal
 
@@ -10,7 +10,7 @@ record_counts-requires c =
 
 pub returns : goal.returns
 returns c events sums =
-    let said : EventSectionsText = record {
+    let said : EventSectionsSaid = record {
       records = c.args.ledgers.records;
       opaque = c.args.ledgers.opaque;
       codes = c.in_ok-codes.codes;

@@ -1,14 +1,14 @@
 use Rattle.std.proofs.Common.{List, ap, subst, sym, ◌∙◌}
 use Rattle.std.specs.Prelude.{AllPairs}
 use Rattle.capture_frame.specs.declared.frame.Frame.{Frame}
-use Rattle.capture_frame.specs.Lookup.{StandApart}
+use Rattle.capture_frame.specs.Lookup.{AreApart}
 use Rattle.capture_frame.specs.Lookup.{IsFrameAt}
 use Rattle.audit_findings.proofs.PlacesRise.{stand_apart}
 use Rattle.audit_findings.proofs.findings.Findings.frame_at.Goals as goal
 
 pub frame_at-requires : goal.frame_at-requires
 frame_at-requires c =
-    subst (AllPairs StandApart) (sym c.as_slice.ensures.value) (stand_apart _ c.self.invariant.0 c.self.invariant.2.show)
+    subst (AllPairs AreApart) (sym c.as_slice.ensures.value) (stand_apart _ c.self.invariant.0 c.self.invariant.2.show)
 
 -- these frames are the findings' own
 pub returns : goal.returns

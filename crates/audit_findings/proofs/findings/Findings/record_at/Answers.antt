@@ -15,8 +15,8 @@ unwrap-frame-requires c =
     some_held c.args.self.now.frames c.args.place c.frame_at.result c.requires.0 c.frame_at.ensures c.requires.1
     (record_held c.requires.0 c.args.place c.requires.2)
 
-pub bare_event_at-requires : goal.bare_event_at-requires
-bare_event_at-requires c =
+pub event_without_attachment_at-requires : goal.event_without_attachment_at-requires
+event_without_attachment_at-requires c =
     let at = subst (IsFrameAt c.args.self.now.frames c.args.place) c.unwrap-frame.ensures c.frame_at.ensures in
     let same = one_held c.args.self.now.frames c.args.place c.unwrap-frame.result c.requires.0 at c.requires.1
     (record_held c.requires.0 c.args.place c.requires.2) in
@@ -33,6 +33,6 @@ returns c wholes show e there is =
     let stands : RecordStandsAt (placed_frame c.unwrap-frame.result) c.args.place event.found =
     subst (λ (f : Frame). RecordStandsAt (placed_frame f) c.args.place event.found) same
     (subst (λ n. RecordStandsAt (placed_frame in_frames.frame) n event.found) is event.stands) in
-    c.bare_event_at.ensures event.found stands
+    c.event_without_attachment_at.ensures event.found stands
     ∙ ap (λ (f : Frame). bare_event (frame_text f) (placed_at c.args.place event.found)) (sym same)
     ∙ ap (λ n. bare_event (frame_text in_frames.frame) (placed_at n event.found)) (sym is) ∙ event.bare

@@ -2,11 +2,11 @@ use Rattle.std.proofs.Common.{◌++◌, map, sym, ap, subst, ◌∙◌}
 use Rattle.std.specs.List.{slice_get}
 use Rattle.event_core.specs.Events.{events_of_wholes}
 use Rattle.capture_frame.specs.declared.process.Process.{Process}
-use Rattle.process_ledgers.specs.OfProcess.{AreLedgersOf}
+use Rattle.process_ledgers.specs.EachProcess.{AreLedgersOf}
 use Rattle.summary_law.specs.declared.nothing.Nothing.{Nothing}
 use Rattle.audit_findings.specs.Buffers.{AreUnfreedIn}
 use Rattle.audit_findings.specs.Handles.{AreHandlesOf}
-use Rattle.audit_findings.specs.InTurn.{AreRowsOf, of_process}
+use Rattle.audit_findings.specs.InTurn.{AreRowsOf, process_row}
 use Rattle.audit_findings.proofs.HandleRows.{entry_at}
 use Rattle.audit_findings.proofs.piece_summary.PieceSummary.handles.Goals as goal
 
@@ -18,8 +18,8 @@ returns c sums wholes d show unfreed =
     let is = entry_at c.processes.result wholes c.args.number e of
     (ap (λ order. slice_get order.entries.entries c.args.number) c.processes.ensures.order ∙ sym (rw c.unwrap.ensures at c.get_index.ensures.entry)) d in
     let own = subst (λ ledgers. AreLedgersOf ledgers events e.0) (sym c.ledgers-ledgers.ensures) (of.each e.0) in
-    let pushed = c.in_ok-push_rows_of.ensures ∙ ap (λ rows. rows ++ map (of_process e.0) c.as_slice.result.now) c.new-rows.ensures.items
-    ∙ ap (map (of_process e.0)) c.as_slice.ensures.value in
+    let pushed = c.in_ok-push_rows_of.ensures ∙ ap (λ rows. rows ++ map (process_row e.0) c.as_slice.result.now) c.new-rows.ensures.items
+    ∙ ap (map (process_row e.0)) c.as_slice.ensures.value in
     subst (λ process. AreRowsOf (AreHandlesOf events) process c.push_rows_of.new.rows.items) (sym is) (
       c.in_ok-own.own.items,
       c.in_ok-own.ensures wholes e.0 show own (subst (λ process. AreUnfreedIn events process c.args.unfreed.now) is unfreed),

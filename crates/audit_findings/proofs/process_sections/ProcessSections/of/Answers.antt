@@ -2,7 +2,7 @@ use Rattle.std.proofs.Common.{refl, ◌∙◌}
 use Rattle.event_core.specs.Events.{events_of_wholes}
 use Rattle.process_ledgers.proofs.ItemPlaces.{clear_keeps, death_keeps, pending_keeps}
 use Rattle.process_ledgers.specs.Items.{buffer_pending_of}
-use Rattle.audit_findings.specs.Findings.{ProcessSectionsText}
+use Rattle.audit_findings.specs.Findings.{ProcessSectionsSaid}
 use Rattle.audit_findings.proofs.EventsAt.{events_at, stands_somewhere}
 use Rattle.audit_findings.proofs.StandLaws.{open_stands, request_stands, stray_stands}
 use Rattle.audit_findings.proofs.process_sections.ProcessSections.of.Goals as goal
@@ -19,7 +19,7 @@ returns c wholes of unfreed listed rise =
     let standing = events_at _ events (stands_somewhere _ request_stands events) _ (c.in_ok-places_of-2.ensures request_stands wholes of rise) in
     let deaths = c.in_ok-open_and_stray_of.ensures death_keeps wholes of rise in
     let clears = c.in_ok-open_and_stray_of-2.ensures clear_keeps wholes of rise in
-    let said : ProcessSectionsText = record {
+    let said : ProcessSectionsSaid = record {
       handles = c.in_ok-handles_of.field-0;
       nodes = c.in_ok-nodes_of.field-0;
       leaked = leaked.0;

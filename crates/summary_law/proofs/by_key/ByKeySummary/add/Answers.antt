@@ -5,7 +5,7 @@ use Rattle.std.specs.BTreeMap.{get}
 use Rattle.std.specs.HashMap.Eq.{lookup_congr}
 use Rattle.std.specs.Map.{lookup}
 use Rattle.std.specs.Ordering.{eq_by_cmp}
-use Rattle.summary_law.specs.ByKey.{items_of, IsPart}
+use Rattle.summary_law.specs.ByKey.{items_of, IsOwn}
 use Rattle.summary_law.proofs.ByKeyLaws.{fits_at, added_part, rewritten}
 use Rattle.summary_law.proofs.by_key.ByKeySummary.add.Goals as goal
 
@@ -17,8 +17,8 @@ add-requires g c =
     let key = c.args.item.0 in
     let items = c.requires.0 in
     let found : get g.K.Ord.cmp c.args.self.now.entries key ≡ Some c.in-Some.part.now = search rules in
-    let part : IsPart sums (Some c.in-Some.part.now) (items_of eq key items)
-    = subst (λ (o : Option _). IsPart sums o (items_of eq key items)) found (c.requires.1 key) in
+    let part : IsOwn sums (Some c.in-Some.part.now) (items_of eq key items)
+    = subst (λ (o : Option _). IsOwn sums o (items_of eq key items)) found (c.requires.1 key) in
     (items_of eq key items, part.1, fits_at eq laws sums g.S.Summary.fits items key key c.args.item.1 (laws.refl key) c.requires.2)
 
 pub add-requires-in-None : goal.add-requires-in-None
@@ -29,7 +29,7 @@ add-requires-in-None g c =
     let key = c.args.item.0 in
     let items = c.requires.0 in
     let found : get g.K.Ord.cmp c.args.self.now.entries key ≡ None = search rules in
-    let nil : items_of eq key items ≡ [] = subst (λ (o : Option _). IsPart sums o (items_of eq key items)) found (c.requires.1 key) in (
+    let nil : items_of eq key items ≡ [] = subst (λ (o : Option _). IsOwn sums o (items_of eq key items)) found (c.requires.1 key) in (
       [],
       c.empty-part.ensures,
       subst (λ (t : List _). g.S.Summary.fits (t ++ c.args.item.1 ∷ [])) nil
@@ -48,7 +48,7 @@ returns-in-Some g c =
     (λ x y e. lookup_congr (eq_by_cmp cmp) laws.congr c.args.self.now.entries.entries x y e)
     c.args.item.0 c.args.item.1 c.add.new.self
     (λ q. ((c.get_mut.follows.holds c.add.new.self).3 (search rules)).0 q)
-    (λ front part. step front (subst (λ (o : Option _). IsPart sums o front) found part).1))
+    (λ front part. step front (subst (λ (o : Option _). IsOwn sums o front) found part).1))
     c.add.ensures
 
 pub returns-in_ok-insert-in-None : goal.returns-in_ok-insert-in-None
@@ -64,5 +64,5 @@ returns-in_ok-insert-in-None g c =
     c.args.item.0 c.args.item.1 c.add-in-None.new.self
     (λ q. rewritten (eq c.args.item.0 q) _ (c.in_ok-insert-in-None.ensures.updates.0 q) (ap (λ (es : List _). lookup (eq q) es) same))
     (λ front part fits.
-    let nil : front ≡ [] = subst (λ (o : Option _). IsPart sums o front) found part in
+    let nil : front ≡ [] = subst (λ (o : Option _). IsOwn sums o front) found part in
     rw nil (c.in_ok-add-in-None.ensures [] c.empty-part.ensures (rw nil at fits)))

@@ -4,7 +4,7 @@ use Rattle.std.specs.HashMap.Eq.{lookup_congr}
 use Rattle.indexmap.specs.IndexMap.{get, index_of, keys, with_value_at}
 use Rattle.indexmap.proofs.CallerLemmas.{insert_entry-new, keys-with_value_at}
 use Rattle.indexmap.proofs.MapLemmas.{Found-position, Missing-position}
-use Rattle.summary_law.specs.ByKey.{items_of, IsPart}
+use Rattle.summary_law.specs.ByKey.{items_of, IsOwn}
 use Rattle.summary_law.proofs.ByKeyLaws.{fits_at, added_part}
 use Rattle.summary_law.proofs.FirstLaws.{key_there, key_missing, firsts_stay, entries_grow}
 use Rattle.summary_law.proofs.IndexLaws.{written_at}
@@ -20,8 +20,8 @@ add-requires g c =
     let old = c.args.self.now.entries in
     let index : index_of eq old key ≡ Some c.in-Some.index = search rules in
     let found : get eq old key ≡ Some c.index_mut.result.now = (Found-position (eq key) old.entries c.in-Some.index index).value ∙ c.index_mut.ensures.value in
-    let part : IsPart sums (Some c.index_mut.result.now) (items_of eq key items)
-    = subst (λ (o : Option _). IsPart sums o (items_of eq key items)) found (c.requires.1.parts key) in
+    let part : IsOwn sums (Some c.index_mut.result.now) (items_of eq key items)
+    = subst (λ (o : Option _). IsOwn sums o (items_of eq key items)) found (c.requires.1.parts key) in
     (items_of eq key items, part.1, fits_at eq laws sums g.S.Summary.fits items key key c.args.item.1 (laws.refl key) c.requires.2)
 
 pub add-requires-in-None : goal.add-requires-in-None
@@ -34,7 +34,7 @@ add-requires-in-None g c =
     let old = c.args.self.now.entries in
     let index : index_of eq old key ≡ None = search rules in
     let found : get eq old key ≡ None = (Missing-position (eq key) old.entries index).value in
-    let nil : items_of eq key items ≡ [] = subst (λ (o : Option _). IsPart sums o (items_of eq key items)) found (c.requires.1.parts key) in (
+    let nil : items_of eq key items ≡ [] = subst (λ (o : Option _). IsOwn sums o (items_of eq key items)) found (c.requires.1.parts key) in (
       [],
       c.empty-part.ensures,
       subst (λ (t : List _). g.S.Summary.fits (t ++ c.args.item.1 ∷ [])) nil
@@ -62,7 +62,7 @@ returns-in-Some g c =
           (λ x y e. lookup_congr eq laws.congr old.entries x y e)
           key c.args.item.1 c.add.new.self
           (written_at laws old c.index_of.ensures.unique key i part c.add.new.self index)
-          (λ front mine. step front (subst (λ (o : Option _). IsPart sums o front) found mine).1)
+          (λ front mine. step front (subst (λ (o : Option _). IsOwn sums o front) found mine).1)
           items before.parts fits;
     })
     c.add.ensures
@@ -89,7 +89,7 @@ returns-in_ok-index-in-None g c = λ items before fits.
           (λ x y e. lookup_congr eq laws.congr old.entries x y e)
           key c.args.item.1 part grown.updates.0
           (λ front mine step.
-          let nil : front ≡ [] = subst (λ (o : Option _). IsPart sums o front) found mine in
+          let nil : front ≡ [] = subst (λ (o : Option _). IsOwn sums o front) found mine in
           rw nil (c.in_ok-add-in-None.ensures [] c.empty-part.ensures (rw nil at step)))
           items before.parts fits;
     }

@@ -1,0 +1,39 @@
+use Rattle.std.proofs.Common.{◌++◌, map, sym, subst, length-append, arith}
+use Rattle.audit_findings.proofs.SequenceLaws.{frame_count}
+use Rattle.process_ledgers.specs.Processes.{process_of_whole}
+use Rattle.audit_findings.specs.Ledgers.{AreFewEvents}
+use Rattle.audit_findings.proofs.GivenLaws.{both_given, order_both}
+use Rattle.audit_findings.proofs.ledgers.FrameLedgers.join.Goals as goal
+
+pub then-requires : goal.then-requires
+then-requires c =
+    let first = c.requires.0 in
+    let second = c.requires.1 in
+    let count = frame_count c.args.self.sequences first c.requires.2.sequences in
+    let more = frame_count c.args.later.sequences second c.requires.3.sequences in
+    let long = length-append first second in
+    let short = c.requires.4.0 in
+    omega (arith, count, more, long, short)
+
+pub join-requires : goal.join-requires
+join-requires c =
+    (map (λ w. (process_of_whole w, tt)) c.requires.0, map (λ w. (process_of_whole w, tt)) c.requires.1, c.requires.2.order, c.requires.3.order, λ key. tt)
+
+pub join-requires-2 : goal.join-requires-2
+join-requires-2 c =
+    let sums = c.requires.2 in
+    let others = c.requires.3 in
+    let both = both_given c.requires.0 c.requires.1 sums.given others.given sums.are_all others.are_all in
+    (sums.given, others.given, sums.sums, others.sums, subst AreFewEvents (sym both) c.requires.4.1)
+
+pub returns : goal.returns
+returns c first second sums others fits =
+    let both = both_given first second sums.given others.given sums.are_all others.are_all in
+    record {
+      sequences = c.then.ensures first second sums.sequences others.sequences;
+      order = order_both _ first second
+          (c.in_ok-join.ensures (map (λ w. (process_of_whole w, tt)) first) (map (λ w. (process_of_whole w, tt)) second) sums.order others.order (λ key. tt));
+      given = sums.given ++ others.given;
+      are_all = both;
+      sums = c.in_ok-join-2.ensures sums.given others.given sums.sums others.sums (subst AreFewEvents (sym both) fits.1);
+    }

@@ -1,5 +1,0 @@
-use Rattle.std.proofs.Common.{[], refl}
-use Rattle.audit_findings.proofs.ledgers.Ledgers.empty.Goals as goal
-
-pub returns : goal.returns
-returns c = record { sequences = refl; order = c.empty.ensures; given = []; are_all = refl; sums = c.empty-2.ensures }

@@ -1,0 +1,48 @@
+-- What the ledgers of a process come to in the end.
+use Rattle.std.specs.Prelude.{◌≡◌, ℕ, List, map, ⊤}
+use Rattle.std.specs.Map.{lookup, keys_of}
+use Rattle.std.specs.Option.{unwrap_or}
+use Rattle.capture_frame.specs.Process.{same_process}
+use Rattle.capture_frame.specs.Units.{Placed}
+use Rattle.transaction_view.specs.Grammar.{WholeFrame}
+use Rattle.summary_law.specs.InOrder.{SumsInOrder}
+use Rattle.summary_law.specs.declared.nothing.Nothing.{Nothing}
+use Rattle.process_ledgers.specs.declared.processes.Processes.{Processes}
+use Rattle.std.specs.Ordering.{nat_cmp}
+use Rattle.capture_frame.specs.declared.process.Process.{Process}
+use Rattle.event_core.specs.Events.{EventRead, events_of_wholes}
+use Rattle.handle_ledger.specs.Handles.{HandleLedgerSums}
+use Rattle.handle_ledger.specs.Nodes.{NodeLedgerSums}
+use Rattle.pending_ledger.specs.Sums.{BuffersSums, PendingSums, RequestsSums}
+use Rattle.process_ledgers.specs.declared.process_ledgers.ProcessLedgers.{ProcessLedgers}
+use Rattle.process_ledgers.specs.Items.{buffer_item_of, clear_item_of, death_item_of, handle_item_of, node_item_of, oneway_item_of, request_item_of}
+use Rattle.process_ledgers.specs.OnewayLedger.{OnewayLedgerSums}
+use Rattle.process_ledgers.specs.Processes.{items_of_process, process_of_whole, processes_of}
+
+-- the ledgers are those of this process among these events
+pub record AreLedgersOf (ledgers : ProcessLedgers) (events : List EventRead) (process : Process) : Type 0 where
+  pub handles : HandleLedgerSums ledgers.handles.own (items_of_process handle_item_of process events)
+  pub nodes : NodeLedgerSums ledgers.nodes.own (items_of_process node_item_of process events)
+  pub buffers : BuffersSums ledgers.buffers.own (items_of_process buffer_item_of process events)
+  pub requests : RequestsSums ledgers.requests.own (items_of_process request_item_of process events)
+  pub deaths : PendingSums nat_cmp ledgers.deaths.own (items_of_process death_item_of process events)
+  pub clears : PendingSums nat_cmp ledgers.clears.own (items_of_process clear_item_of process events)
+  pub oneway : OnewayLedgerSums ledgers.oneway.own (items_of_process oneway_item_of process events)
+
+-- the ledgers of this process: those of no event where it has none
+abbrev pub ledgers_in : Processes → Process → ProcessLedgers
+ledgers_in processes process = unwrap_or (lookup (same_process process) processes.own.now.entries.entries) processes.none.now
+
+-- the keys are the processes of these frames, in the order of their first frames
+abbrev pub SumsOrder : List (Process × Nothing) → List (Placed WholeFrame) → Type 0
+SumsOrder entries wholes = SumsInOrder same_process (λ (v : Nothing) (items : List ⊤). ⊤) entries (map (λ w. (process_of_whole w, tt)) wholes)
+
+-- they are the processes of these frames, in the order of their first frames, each with its ledgers
+pub record SumsEach (processes : Processes) (wholes : List (Placed WholeFrame)) : Type 0 where
+  pub order : keys_of processes.order.now.entries.entries ≡ processes_of wholes
+  pub each : (process : Process) → AreLedgersOf (ledgers_in processes process) (events_of_wholes wholes) process
+
+-- what is listed of whatever process the ledgers are of
+abbrev pub GivesOf : {R : Type 0} → (List EventRead → Process → List R → Type 0) → ProcessLedgers → List R → Type 0
+GivesOf AreOf ledgers rows =
+    (events : List EventRead) (process : Process) → AreLedgersOf ledgers events process → AreOf events process rows
