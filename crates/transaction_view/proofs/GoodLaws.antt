@@ -1,5 +1,5 @@
 -- Bytes that are entries begin with a whole one, or are none.
-use Rattle.std.proofs.Common.{◌≡◌, ℕ, ◌+◌, ◌<◌, ◌≤◌, ◌⊎◌, ⊎_elim, List, [], ◌∷◌, ◌++◌, length, drop, Option, Some, Ok, refl, sym, ap, subst, ◌∙◌, length-append, arith}
+use Rattle.std.proofs.Common.{◌≡◌, ℕ, ◌+◌, ◌<◌, ◌≤◌, ◌⊎◌, ⊎_elim, List, [], ◌∷◌, ◌++◌, length, drop, Option, Some, Ok, sym, ap, subst, ◌∙◌, length-append, arith}
 use Rattle.std.proofs.lemmas.List.{drop-drop, take_rest}
 use Rattle.capture_frame.specs.Readers.{at}
 use Rattle.capture_frame.specs.Units.{Placed, Reads, spelling_of}
