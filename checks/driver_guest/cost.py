@@ -1,6 +1,5 @@
 #!/usr/bin/env python3
-"""cost.py FOLDER WORK: how long the loads of a boot took, bare, under the recorder and under the witness; and of another
-boot, in which an instruction of any processor counts as a nanosecond, how much all processors did meanwhile."""
+"""cost.py FOLDER: how long the loads of a boot took, bare, under the recorder and under the witness."""
 
 import pathlib
 import re
@@ -14,7 +13,7 @@ def seconds(folder):
     return (last - first) / 1e9 - 0.3
 
 
-def table(folder, unit):
+def main(folder):
     times = defaultdict(list)
     for path in sorted(pathlib.Path(folder).iterdir()):
         if found := re.match(r"(bare|record|witness)-(\d+)", path.name):
@@ -22,15 +21,10 @@ def table(folder, unit):
                 times[int(found[2]), found[1]].append(seconds(path))
     if not times:
         sys.exit(f"cost.py: {folder} has no load")
-    print(f"{'threads':>8} {'how':8} {unit:24} {'times the bare one':>18}")
+    print(f"{'threads':>8} {'how':8} {'seconds':20} {'times the bare one':>18}")
     for (threads, how), taken in sorted(times.items()):
         bare = min(times[threads, "bare"])
-        print(f"{threads:8} {how:8} {' '.join(f'{one:.2f}' for one in taken):24} {min(taken) / bare:18.1f}")
-
-
-def main(by_clock, by_work):
-    table(by_clock, "seconds")
-    table(by_work, "10^9 instructions")
+        print(f"{threads:8} {how:8} {' '.join(f'{one:.1f}' for one in taken):20} {min(taken) / bare:18.1f}")
 
 
 if __name__ == "__main__":

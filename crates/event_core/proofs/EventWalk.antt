@@ -26,7 +26,7 @@ use Rattle.transaction_view.specs.Reading.{entry_text, entry_source}
 use Rattle.transaction_view.specs.Reading as entries
 use Rattle.transaction_view.specs.FirstFault.{HasGoodContent}
 use Rattle.transaction_view.proofs.EntryLaws.{entries_decided}
-use Rattle.transaction_view.proofs.EntryWalk.{HasGiven, stands_at_start, stands_behind_next, given_says, entries_end, entries_never_fail}
+use Rattle.transaction_view.proofs.EntryWalk.{HasGiven, stands_at_start, stands_behind_next, given_says, entries_end}
 use Rattle.transaction_view.proofs.RecordPlaces.{span_of-snoc, stands_behind}
 use Rattle.transaction_view.proofs.SearchLaws.{Searches, Gives, gives, search_never_fails}
 use Rattle.event_core.specs.declared.event.Event.{Event}
@@ -58,21 +58,17 @@ read_of frame reading done stands = record {
 }
 
 -- a call of the reader of entries, behind these, leaves the next one at hand, or there is none
-pub next_at_hand : (frame : Frame) (reading new : entries.Reading) (done : List EntryText) (offset : ℕ) → HasGoodContent (frame_text frame)
-    → HasGiven frame reading done
+pub next_at_hand : (frame : Frame) (reading new : entries.Reading) (done : List EntryText) (offset : ℕ) → HasGiven frame reading done
     → ((e : EntryText) → MayStandEntry (frame_text frame) (state_after (entry_format (frame_text frame)) None done) e → offset ≤ e.offset)
-    → (result : Result (Option Entry) Fault) (ahead : Option Entry) → entries.Steps reading result new → ahead ≡ result_unwrap_or result None
-    → IsNext frame offset new done ahead
-next_at_hand frame reading new done offset good stands later (Ok None) ahead steps is = all_given is (entries_end frame reading done stands new steps)
-next_at_hand frame reading new done offset good stands later (Err fault) ahead steps is =
-    absurd (entries_never_fail frame reading done stands fault new good steps)
-next_at_hand frame reading new done offset good stands later (Ok (Some found)) ahead steps is =
+    → (ahead : Option Entry) → entries.Steps reading (Ok ahead) new → IsNext frame offset new done ahead
+next_at_hand frame reading new done offset stands later None steps = all_given refl (entries_end frame reading done stands new steps)
+next_at_hand frame reading new done offset stands later (Some found) steps =
     let s = readers.steps_from entry_source (entry_format (frame_text frame)) (placed_frame frame) None reading done stands (Ok (Some found)) new steps in
     let e = entry_text frame.place found in
     let says = given_says frame reading done stands found new steps in
     let owner = says.owner in
     let far = later e s.0.may_stand in
-    one_ahead found is (omega (arith, owner, far)) (s.0.view.place_is ∙ ap (λ (n : ℕ). attachments_place (frame_text frame) frame.place + n)
+    one_ahead found refl (omega (arith, owner, far)) (s.0.view.place_is ∙ ap (λ (n : ℕ). attachments_place (frame_text frame) frame.place + n)
     stands.walks.length_is)
     (read_of frame new (done ++ e ∷ []) (stands_behind_next frame reading done stands found new steps))
 
@@ -224,17 +220,15 @@ taken_before given e near far less here before =
     All-append IsBefore given (e ∷ []) (still_before given near far less before) (All-cons IsBefore e [] (omega (arith, less, here)) (All-nil IsBefore))
 
 -- the entries given out with the one at hand, and the next one
-takes_next : (frame : Frame) (near far : ℕ) (reading next : entries.Reading) (given : List EntryText) (ahead : Option Entry)
-    → HasGoodContent (frame_text frame) → near < far
+takes_next : (frame : Frame) (near far : ℕ) (reading next : entries.Reading) (given : List EntryText) (ahead : Option Entry) → near < far
     → ((offset : ℕ) (owner : RecordText) → StandsAt (frame_text frame) offset owner → near < offset → far ≤ offset)
     → All (λ (e : EntryText). e.offset < near) given → (found : Entry) → ahead ≡ Some found → found.owner ≡ commands_place frame.place + near
     → IsNext frame near reading given ahead
-    → (result : Result (Option Entry) Fault) (answer : Option Entry) → entries.Steps reading result next → answer ≡ result_unwrap_or result None
+    → (answer : Option Entry) → entries.Steps reading (Ok answer) next
     → (more : List EntryText) × All (λ (e : EntryText). e.offset < far) more × IsNext frame far next more answer
-takes_next frame near far reading next given ahead good less not_inside before found is here (all_given none has) result answer steps answer_is =
+takes_next frame near far reading next given ahead less not_inside before found is here (all_given none has) answer steps =
     let wrong : None ≡ Some found = sym none ∙ is in cc
-takes_next frame near far reading next given ahead good less not_inside before found is here (one_ahead other is_too at_or_past place_is has) result answer
-    steps answer_is =
+takes_next frame near far reading next given ahead less not_inside before found is here (one_ahead other is_too at_or_past place_is has) answer steps =
     let format = entry_format (frame_text frame) in
     let e = entry_text frame.place other in
     let same : other ≡ found = some_is other found (sym is_too ∙ is) in
@@ -243,25 +237,25 @@ takes_next frame near far reading next given ahead good less not_inside before f
     let is_here : e.offset ≡ near = omega (arith, owner) in (
       given ++ e ∷ [],
       taken_before given e near far less is_here before,
-      next_at_hand frame reading next (given ++ e ∷ []) far good (stands_of frame reading (given ++ e ∷ []) has)
+      next_at_hand frame reading next (given ++ e ∷ []) far (stands_of frame reading (given ++ e ∷ []) has)
           (λ later stands.
           let above : e.offset < later.offset = (subst (λ (b : Option ℕ). MayStandEntry (frame_text frame) b later) state stands).owned.1.above in
           not_inside later.offset stands.owned.0 stands.owned.1.stands (omega (arith, above, is_here)))
-          result answer steps answer_is,
+          answer steps,
     )
 
 takes : (frame : Frame) (reading new : records.Reading) (attachments next : entries.Reading) (ahead : Option Entry)
     (within : IsWithin frame reading attachments ahead) (found : Record) → records.Steps reading (Ok (Some found)) new
     → (e : Entry) → ahead ≡ Some e → e.owner ≡ commands_place frame.place + span_of within.passed
-    → (result : Result (Option Entry) Fault) (answer : Option Entry) → entries.Steps attachments result next → answer ≡ result_unwrap_or result None
+    → (answer : Option Entry) → entries.Steps attachments (Ok answer) next
     → IsWithin frame new next answer
-takes frame reading new attachments next ahead within found steps e is here result answer entry_steps answer_is =
+takes frame reading new attachments next ahead within found steps e is here answer entry_steps =
     let r = record_text found in
     let g = given_of frame reading new attachments ahead within found steps in
-    let after = takes_next frame (span_of within.passed) (span_of (within.passed ++ r ∷ [])) attachments next within.given ahead within.good
+    let after = takes_next frame (span_of within.passed) (span_of (within.passed ++ r ∷ [])) attachments next within.given ahead
     (longer frame within.passed r)
     (λ offset owner stands less. stands_behind (frame_text frame) within.passed g.behind r offset owner g.has_records stands less) within.given_before e is
-    here within.next result answer entry_steps answer_is in
+    here within.next answer entry_steps in
     record {
       good = within.good;
       passed = within.passed ++ r ∷ [];
@@ -276,11 +270,11 @@ takes frame reading new attachments next ahead within found steps e is here resu
 -- ---- one call
 
 -- a reader at the start
-pub starts : (frame : Frame) (reading : records.Reading) (attachments new : entries.Reading) (result : Result (Option Entry) Fault) (ahead : Option Entry)
+pub starts : (frame : Frame) (reading : records.Reading) (attachments new : entries.Reading) (ahead : Option Entry)
     → HasGoodContent (frame_text frame)
-    → reading ≡ records.records_start (placed_frame frame) → attachments ≡ entries.entries_start (placed_frame frame) → entries.Steps attachments result new
-    → ahead ≡ result_unwrap_or result None → IsWithin frame reading new ahead
-starts frame reading attachments new result ahead good is attachments_is steps ahead_is = record {
+    → reading ≡ records.records_start (placed_frame frame) → attachments ≡ entries.entries_start (placed_frame frame) → entries.Steps attachments (Ok ahead) new
+    → IsWithin frame reading new ahead
+starts frame reading attachments new ahead good is attachments_is steps = record {
   good = good;
   passed = [];
   further = good.0.0;
@@ -288,7 +282,7 @@ starts frame reading attachments new result ahead good is attachments_is steps a
   reading_is = is;
   given = [];
   given_before = All-nil (λ (e : EntryText). e.offset < 0);
-  next = next_at_hand frame attachments new [] 0 good (stands_at_start frame attachments attachments_is) (λ e stands. omega arith) result ahead steps ahead_is;
+  next = next_at_hand frame attachments new [] 0 (stands_at_start frame attachments attachments_is) (λ e stands. omega arith) ahead steps;
 }
 
 -- a reader behind a record, and the attachment that it gives with it
@@ -307,7 +301,7 @@ goes_on frame reading new attachments next ahead new_ahead within found steps No
 goes_on frame reading new attachments next ahead new_ahead within found steps (Some e) takes_at =
     let here : e.owner ≡ commands_place frame.place + span_of within.passed = takes_at.1
     ∙ (given_of frame reading new attachments ahead within found steps).place_is in (
-      takes frame reading new attachments next ahead within found steps e takes_at.0 here takes_at.2 new_ahead takes_at.3 takes_at.4,
+      takes frame reading new attachments next ahead within found steps e takes_at.0 here new_ahead takes_at.2,
       one_at frame (span_of within.passed) attachments within.given ahead within.good within.given_before e takes_at.0 here within.next,
     )
 

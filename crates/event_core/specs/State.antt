@@ -1,7 +1,5 @@
 -- What the values of the code's reader of events stand for.
-use Rattle.std.specs.Prelude.{◌≡◌, ◌≢◌, ◌<◌, ◌≤◌, ℕ, ◌+◌, List, [], ◌∷◌, ◌++◌, length, drop, All, Option, Some, None, Result}
-use Rattle.std.specs.Result.{result_unwrap_or}
-use Rattle.capture_frame.specs.declared.fault.Fault.{Fault}
+use Rattle.std.specs.Prelude.{◌≡◌, ◌≢◌, ◌<◌, ◌≤◌, ℕ, ◌+◌, List, [], ◌∷◌, ◌++◌, length, drop, All, Option, Some, None, Ok}
 use Rattle.capture_frame.specs.declared.frame.Frame.{Frame}
 use Rattle.capture_frame.specs.Envelope.{frame_text, placed_frame, commands_place, attachments_place}
 use Rattle.capture_frame.specs.Units.{Splits, state_after, spelling_of}
@@ -61,8 +59,6 @@ pub record IsWithin (frame : Frame) (reading : records.Reading) (attachments : e
 -- the entry ahead is that of the record at this place, and is given out; or it is not, and all stays
 abbrev pub TakesAt : ℕ → Option Entry → entries.Reading → Option Entry → Option Entry → entries.Reading → Type 0
 TakesAt place ahead reading (Some found) new_ahead new =
-    (ahead ≡ Some found) × (found.owner ≡ place)
-    × (result : Result (Option Entry) Fault) × entries.Steps reading result new
-    × (new_ahead ≡ result_unwrap_or result None)
+    (ahead ≡ Some found) × (found.owner ≡ place) × entries.Steps reading (Ok new_ahead) new
 TakesAt place ahead reading None new_ahead new =
     (new_ahead ≡ ahead) × (new ≡ reading) × ((found : Entry) → ahead ≡ Some found → found.owner ≢ place)

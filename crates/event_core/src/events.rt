@@ -10,15 +10,16 @@ use crate::record_event::event_of;
 use capture_frame::Frame;
 use record_view::Records;
 use std::marker::Model;
-use transaction_view::{Attachments, Entry};
+use transaction_view::{Entry, GoodEntries};
 
 /// Reads the events of a frame in order: its records, each with its attachment. Records and
-/// attachments are passed once, side by side. One that has ended gives nothing more.
+/// attachments are passed once, side by side: the next attachment is that of the record at whose
+/// place it has its owner. One that has ended gives nothing more.
 #[derive(Drop)]
 pub struct Events<'c> {
     frame: Frame<'c>,
     records: Records<'c>,
-    attachments: Attachments<'c>,
+    attachments: GoodEntries<'c>,
     /// The first attachment whose record is still ahead.
     ahead: Option<Entry<'c>>,
 }
@@ -45,9 +46,8 @@ impl<'c> Events<'c> {
         requires { HasGoodContent (frame_text frame) }
         ensures { result ≡ events_start (placed_frame frame.entry) }
     {
-        let mut attachments = Attachments::of(frame);
-        // The entries are good, so there is no fault to give.
-        let ahead = attachments.next_entry().unwrap_or(None);
+        let mut attachments = GoodEntries::of(frame);
+        let ahead = attachments.next_entry();
         Events {
             frame,
             records: Records::of(frame),
@@ -72,7 +72,7 @@ impl<'c> Events<'c> {
 /// The attachment ahead, where it is that of the record at this place; then the next one is ahead.
 fn take_at<'c>(
     ahead: &mut Option<Entry<'c>>,
-    attachments: &mut Attachments<'c>,
+    attachments: &mut GoodEntries<'c>,
     place: u64,
 ) -> Option<Entry<'c>>
     ensures { TakesAt place ahead.old attachments.old result ahead.new attachments.new }
@@ -83,6 +83,6 @@ fn take_at<'c>(
     if entry.owner != place {
         return None;
     }
-    *ahead = attachments.next_entry().unwrap_or(None);
+    *ahead = attachments.next_entry();
     Some(entry)
 }

@@ -3,5 +3,5 @@ use Rattle.event_core.proofs.events.Events.of.Goals as goal
 
 pub invariant_of-result : goal.invariant_of-result
 invariant_of-result c =
-    starts c.args.frame c.of.result c.of-attachments.result c.next_entry.new.self c.next_entry.result c.unwrap_or-ahead.result c.requires c.of.ensures
-    c.of-attachments.ensures c.next_entry.ensures c.unwrap_or-ahead.ensures
+    starts c.args.frame c.of.result c.of-attachments.result c.next_entry-ahead.new.self c.next_entry-ahead.result c.requires c.of.ensures
+    c.of-attachments.ensures c.next_entry-ahead.ensures

@@ -1,0 +1,71 @@
+//! The reader of the attachment entries of a frame that was judged.
+
+ghost use Rattle.capture_frame.specs.Envelope.{frame_text};
+
+use crate::attachments::{ENTRY_HEADER, parts_of};
+use crate::entry::Entry;
+use capture_frame::Frame;
+use std::marker::Model;
+
+/// Reads the attachment entries of a frame whose entries have no fault, in order. It looks at no
+/// record: that each entry has one was judged before. One that has ended gives `None`.
+#[derive(Drop)]
+pub struct GoodEntries<'c> {
+    frame: Frame<'c>,
+    /// How many attachment bytes have been read.
+    distance: usize,
+    /// Where the record of the last entry begins in the command bytes.
+    before: Option<u32>,
+}
+
+impl<'c> Model for GoodEntries<'c> {
+    ghost use Rattle.capture_frame.specs.Envelope.{frame_text, placed_frame};
+    ghost use Rattle.capture_frame.specs.Readers.{at};
+    ghost use Rattle.transaction_view.specs.Reading.{Reading};
+    ghost use Rattle.transaction_view.specs.State.{AreEntriesAhead};
+
+    ghost Value = { Reading };
+
+    ghost view = { λ r. at (placed_frame r.frame) r.distance r.before };
+
+    ghost invariant = { λ r. AreEntriesAhead (frame_text r.frame) r.distance r.before };
+}
+
+impl<'c> GoodEntries<'c> {
+    ghost use Rattle.std.specs.Prelude.{◌≡◌, Ok};
+    ghost use Rattle.capture_frame.specs.Envelope.{placed_frame};
+    ghost use Rattle.transaction_view.specs.Attachments.{HasReadableEntries};
+    ghost use Rattle.transaction_view.specs.Reading.{Steps, entries_start};
+
+    /// A reader of the frame's entries, where they have no fault.
+    pub fn of(frame: Frame<'c>) -> GoodEntries<'c>
+        requires { HasReadableEntries (frame_text frame) }
+        ensures { result ≡ entries_start (placed_frame frame.entry) }
+    {
+        GoodEntries {
+            frame,
+            distance: 0,
+            before: None,
+        }
+    }
+
+    /// The next entry, or the end.
+    pub fn next_entry(&mut self) -> Option<Entry<'c>>
+        ensures { Steps self.old (Ok result) self.new }
+    {
+        let rest = &self.frame.attachments[self.distance..];
+        let Some(parts) = parts_of(rest) else {
+            return None;
+        };
+        let place = self.frame.attachments_place() + self.distance as u64;
+        let owner = self.frame.commands_place() + u64::from(parts.offset);
+        self.distance += ENTRY_HEADER + parts.body.len() + parts.offsets.len();
+        self.before = Some(parts.offset);
+        Some(Entry {
+            place,
+            owner,
+            body: parts.body,
+            offsets: parts.offsets,
+        })
+    }
+}
