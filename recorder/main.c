@@ -206,6 +206,7 @@ int main(int count, char **words)
 	need_kernel();
 	need_no_lockdown();
 	need_driver();
+	program_keep_signals();
 	catch_signals();
 	kernel_load(&options, &ring);
 	if (signal_got)

@@ -9,14 +9,25 @@
 #include <sys/wait.h>
 #include <unistd.h>
 
+static const int signals[] = { SIGINT, SIGTERM, SIGHUP, SIGPIPE };	/* that the recorder takes in another way */
+#define SIGNALS (sizeof signals / sizeof *signals)
+
+static struct sigaction kept[SIGNALS];
 static pid_t process;
 static int gate[2], ended, status;
+
+void program_keep_signals(void)
+{
+	for (size_t i = 0; i < SIGNALS; i++)
+		sigaction(signals[i], NULL, kept + i);
+}
 
 static void run(char **words)
 {
 	char byte;
 	close(gate[1]);
-	signal(SIGPIPE, SIG_DFL);
+	for (size_t i = 0; i < SIGNALS; i++)
+		sigaction(signals[i], kept + i, NULL);
 	if (read(gate[0], &byte, 1) != 1)
 		_exit(126);			/* there was no recording, and so there is no program */
 	execvp(words[0], words);

@@ -2,6 +2,8 @@
 #ifndef RECORDER_PROGRAM_H
 #define RECORDER_PROGRAM_H
 
+/* Keeps what signals do now: so they will in the program. */
+void program_keep_signals(void);
 /* Makes the process. It waits until program_go. */
 void program_prepare(char **words);
 void program_go(void);
