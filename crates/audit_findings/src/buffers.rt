@@ -1,8 +1,8 @@
 //! The deliveries and frees of a process.
 
 use crate::paired::OpensAndCloses;
+use pending_ledger::Pending;
 use process_ledgers::ProcessLedgers;
-use std::alloc::AllocError;
 
 /// Deliveries, which open their buffer's address, and frees, which close it.
 pub(crate) struct BufferPairs;
@@ -12,11 +12,7 @@ impl OpensAndCloses for BufferPairs {
 
     ghost read = { buffer_pending_of };
 
-    fn outstanding(ledgers: &ProcessLedgers<'_>) -> Result<Vec<u64>, AllocError> {
-        ledgers.buffers.own.outstanding()
-    }
-
-    fn strays(ledgers: &ProcessLedgers<'_>) -> Result<Vec<u64>, AllocError> {
-        ledgers.buffers.own.strays()
+    fn ledger<'l>(ledgers: &'l ProcessLedgers<'_>) -> &'l Pending<u64> {
+        ledgers.buffers.own.pending()
     }
 }

@@ -1,8 +1,8 @@
 //! The clears and confirmations of a process.
 
 use crate::paired::OpensAndCloses;
+use pending_ledger::Pending;
 use process_ledgers::ProcessLedgers;
-use std::alloc::AllocError;
 
 /// Clears, which open their cookie, and confirmations, which close it.
 pub(crate) struct ClearPairs;
@@ -12,11 +12,7 @@ impl OpensAndCloses for ClearPairs {
 
     ghost read = { clear_item_of };
 
-    fn outstanding(ledgers: &ProcessLedgers<'_>) -> Result<Vec<u64>, AllocError> {
-        ledgers.clears.own.outstanding()
-    }
-
-    fn strays(ledgers: &ProcessLedgers<'_>) -> Result<Vec<u64>, AllocError> {
-        ledgers.clears.own.strays()
+    fn ledger<'l>(ledgers: &'l ProcessLedgers<'_>) -> &'l Pending<u64> {
+        &ledgers.clears.own
     }
 }

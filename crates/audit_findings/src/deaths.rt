@@ -1,8 +1,8 @@
 //! The deaths and acknowledgements of a process.
 
 use crate::paired::OpensAndCloses;
+use pending_ledger::Pending;
 use process_ledgers::ProcessLedgers;
-use std::alloc::AllocError;
 
 /// Deaths, which open their cookie, and acknowledgements, which close it.
 pub(crate) struct DeathPairs;
@@ -12,11 +12,7 @@ impl OpensAndCloses for DeathPairs {
 
     ghost read = { death_item_of };
 
-    fn outstanding(ledgers: &ProcessLedgers<'_>) -> Result<Vec<u64>, AllocError> {
-        ledgers.deaths.own.outstanding()
-    }
-
-    fn strays(ledgers: &ProcessLedgers<'_>) -> Result<Vec<u64>, AllocError> {
-        ledgers.deaths.own.strays()
+    fn ledger<'l>(ledgers: &'l ProcessLedgers<'_>) -> &'l Pending<u64> {
+        &ledgers.deaths.own
     }
 }

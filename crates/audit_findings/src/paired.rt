@@ -13,34 +13,30 @@ ghost use Rattle.audit_findings.specs.Places.{RiseInPlace, OpenAndStraySaid, Are
 use crate::open_and_stray::OpenAndStray;
 use crate::places::{ListsPlaces, places_of};
 use crate::rows::Rows;
+use pending_ledger::Pending;
 use process_ledgers::{ProcessLedgers, Processes};
 use std::alloc::{AllocError, Global};
 use std::marker::PhantomData;
 
 /// A ledger of opens and closes among those of a process.
 pub(crate) trait OpensAndCloses {
-    ghost use Rattle.std.specs.Prelude.{ℕ, List, Option, IfOk};
+    ghost use Rattle.std.specs.Ordering.{nat_cmp};
+    ghost use Rattle.std.specs.Prelude.{ℕ, List, Option};
     ghost use Rattle.capture_frame.specs.declared.process.Process.{Process};
     ghost use Rattle.event_core.specs.Events.{EventRead};
     ghost use Rattle.event_core.specs.declared.pending.PendingItem.{PendingItem};
-    ghost use Rattle.pending_ledger.specs.Pending.{ArePlacesOf};
+    ghost use Rattle.pending_ledger.specs.Sums.{PendingSums};
     ghost use Rattle.process_ledgers.specs.EachProcess.{AreLedgersOf};
-    ghost use Rattle.audit_findings.specs.Places.{IsOpenIn, IsStrayIn};
+    ghost use Rattle.process_ledgers.specs.Processes.{items_of_process};
 
     /// The open or the close that an event is.
     ghost read: { EventRead → Option (PendingItem ℕ) };
 
-    /// The places of the opens that no later close has the key of.
-    fn outstanding(ledgers: &ProcessLedgers<'_>) -> Result<Vec<u64>, AllocError>
-        ensures { IfOk result (λ places. (events : List EventRead) (process : Process) →
+    /// The ledger.
+    fn ledger<'l>(ledgers: &'l ProcessLedgers<'_>) -> &'l Pending<u64>
+        ensures { (events : List EventRead) (process : Process) →
             AreLedgersOf ledgers.now events process →
-            ArePlacesOf (IsOpenIn read events process) places.items) };
-
-    /// The places of the closes whose latest earlier item of their key, if any, is no open.
-    fn strays(ledgers: &ProcessLedgers<'_>) -> Result<Vec<u64>, AllocError>
-        ensures { IfOk result (λ places. (events : List EventRead) (process : Process) →
-            AreLedgersOf ledgers.now events process →
-            ArePlacesOf (IsStrayIn read events process) places.items) };
+            PendingSums nat_cmp result.now (items_of_process read process events) };
 }
 
 /// The opens that nothing closes, as a list.
@@ -54,7 +50,7 @@ impl<P: OpensAndCloses> ListsPlaces for Unclosed<P> {
     ghost is_here = { IsOpenIn P.read };
 
     fn places(ledgers: &ProcessLedgers<'_>) -> Result<Vec<u64>, AllocError> {
-        P::outstanding(ledgers)
+        P::ledger(ledgers).outstanding()
     }
 }
 
@@ -69,7 +65,7 @@ impl<P: OpensAndCloses> ListsPlaces for Strays<P> {
     ghost is_here = { IsStrayIn P.read };
 
     fn places(ledgers: &ProcessLedgers<'_>) -> Result<Vec<u64>, AllocError> {
-        P::strays(ledgers)
+        P::ledger(ledgers).strays()
     }
 }
 

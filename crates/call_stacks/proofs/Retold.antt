@@ -1,11 +1,10 @@
 -- The calls of events that are told in another form, in which what their calls go by reads the same.
-use Rattle.std.proofs.Common.{◌≡◌, ℕ, ◌<◌, Bool, true, false, cond, Option, Some, None, refl, sym, ap, ap₂, subst, ◌∙◌, inl, inr, arith}
+use Rattle.std.proofs.Common.{◌≡◌, ℕ, ◌<◌, Bool, true, false, cond, Option, Some, None, refl, sym, ap, ap₂, subst, ◌∙◌, inl, inr}
 use Rattle.std.proofs.Common.{List, [], ◌∷◌, map, filter_map}
-use Rattle.std.proofs.lemmas.Option.{slice_get-map}
 use Rattle.std.proofs.lemmas.Simd.{map-map}
 use Rattle.std.specs.List.{cons_option}
 use Rattle.std.specs.Option.{option_or}
-use Rattle.std.specs.Prelude.{Contains, slice_get, option_map}
+use Rattle.std.specs.Prelude.{Contains, slice_get}
 use Rattle.event_core.specs.Brackets.{mark_of, bracket_of}
 use Rattle.event_core.specs.declared.marks.Bracket.{Bracket}
 use Rattle.event_core.specs.declared.marks.Mark.{Mark}
@@ -14,16 +13,16 @@ use Rattle.summary_law.specs.Fits.{PlacesRise}
 use Rattle.call_stacks.specs.declared.findings.CallFindings.{CallFindings}
 use Rattle.call_stacks.specs.declared.findings.RefusedSend.{RefusedSend}
 use Rattle.call_stacks.specs.declared.opener.Opener.{Opener}
-use Rattle.call_stacks.specs.Calls.{Reads, Bracketed, bracket_read, mark_behind_by, bracketed_with, judged_of, sides_of, verdict_read}
-use Rattle.call_stacks.specs.Calls.{HasVerdict, closed_by, left_open, opener_place, IsOpener, IsStrayEvent, IsRefusedSend, is_refused, is_oneway_mark}
+use Rattle.call_stacks.specs.Calls.{Reads, Bracketed, bracket_read, mark_behind_by, bracketed_with, judged_of, verdict_read}
+use Rattle.call_stacks.specs.Calls.{opener_place, IsOpener, IsStrayEvent, IsRefusedSend, is_refused, is_oneway_mark}
 use Rattle.call_stacks.specs.Calls.{refused_send, refused_of, AreFindings}
-use Rattle.call_stacks.specs.Matching.{Side, Match, IsStray, ListsInOrder}
+use Rattle.call_stacks.specs.Matching.{Side, ListsInOrder}
 use Rattle.call_stacks.specs.Verdicts.{side_of, verdict_of}
 use Rattle.call_stacks.specs.declared.verdict.Verdict.{Verdict}
 use Rattle.call_stacks.proofs.Judging.{pair, side}
 use Rattle.call_stacks.proofs.Lists.{found, event_of, openers_found, strays_found, openers_listed, strays_listed, judged_events}
 use Rattle.call_stacks.proofs.Model.{both, openers, strays, openers-map, strays-map}
-use Rattle.call_stacks.proofs.Members.{In, in_list, contained, in-map, map-in, in_get, get_in, Rises, rises_from_pairs, pairs_from_rises, rises-map, map-rises, listed, only_list}
+use Rattle.call_stacks.proofs.Members.{In, contained, map-in, in_get, get_in, Rises, rises_from_pairs, pairs_from_rises, rises-map, map-rises, listed, only_list}
 
 -- ---- judged events
 

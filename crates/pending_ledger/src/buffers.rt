@@ -1,6 +1,6 @@
 //! Buffers that are delivered and never freed, and frees of what was not delivered.
 
-ghost use Rattle.std.specs.Prelude.{IfOk};
+ghost use Rattle.std.specs.Prelude.{◌≡◌, IfOk};
 ghost use Rattle.pending_ledger.specs.Ledgers.{buffer_place};
 ghost use Rattle.pending_ledger.specs.Sums.{BuffersSums, GivesLeaked, GivesStrayFrees};
 ghost use Rattle.summary_law.specs.Fits.{IsPlaced, placed_parts};
@@ -17,6 +17,13 @@ pub struct Buffers {
 }
 
 impl Buffers {
+    /// The deliveries as opens of their address, and the frees as closes.
+    pub fn pending(&self) -> &Pending<u64>
+        ensures { result.now ≡ self.now.pending }
+    {
+        &self.pending
+    }
+
     /// The places of the deliveries whose address no later free has, rising: these are leaked.
     pub fn outstanding(&self) -> Result<Vec<u64>, AllocError>
         ensures { IfOk result (λ places. GivesLeaked self.now places.items) }

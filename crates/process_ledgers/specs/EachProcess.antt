@@ -1,5 +1,5 @@
 -- What the ledgers of a process come to in the end.
-use Rattle.std.specs.Prelude.{◌≡◌, ℕ, List, map, ⊤}
+use Rattle.std.specs.Prelude.{◌≡◌, List, map, ⊤}
 use Rattle.std.specs.Map.{lookup, keys_of}
 use Rattle.std.specs.Option.{unwrap_or}
 use Rattle.capture_frame.specs.Process.{same_process}
