@@ -1,8 +1,8 @@
 -- Code words counted by kind: one word more, and the words of two lists.
-use Rattle.std.proofs.Common.{◌≡◌, ◌+◌, ◌-◌, ◌<◌, ◌≤◌, ◌^◌, inl, inr, ℕ, Bool, true, false, cond, List, [], ◌∷◌, ◌++◌, length, map, filter, take, replicate, get_or, refl, sym, ap, subst, ◌∙◌, append-nil, length-append, arith}
+use Rattle.std.proofs.Common.{◌≡◌, ◌+◌, ◌<◌, ◌≤◌, ◌^◌, inl, inr, ℕ, Bool, true, false, cond, List, [], ◌∷◌, ◌++◌, length, map, filter, get_or, sym, ap, subst, ◌∙◌, append-nil, length-append, arith}
 use Rattle.std.proofs.Math.ListN.{set}
-use Rattle.std.proofs.lemmas.Bool.{cases_eq, cases_lt, ltb-true, ltb-false}
-use Rattle.std.proofs.lemmas.List.{get_or-set_same, get_or-set_other, get_or_append_left, get_or-append_right, get_or-replicate, get_or_past, length-replicate, map-append, take_all}
+use Rattle.std.proofs.lemmas.Bool.{cases_eq}
+use Rattle.std.proofs.lemmas.List.{get_or-set_same, get_or-set_other, map-append}
 use Rattle.std.proofs.lemmas.List.Sums.{sum_by-append, count_by-le-length, length-filter}
 use Rattle.std.proofs.lemmas.List.Elements.{filter-append}
 use Rattle.binder_code.specs.declared.record_kind.Kind.{Kind}
@@ -10,7 +10,7 @@ use Rattle.summary_law.specs.Fits.{IsShort}
 use Rattle.summary_law.specs.Tally.{AreWeighted}
 use Rattle.summary_law.proofs.TallyLaws.{weighted_map}
 use Rattle.audit_findings.specs.declared.codes.CodeRow.{CodeRow}
-use Rattle.audit_findings.specs.CodeCounts.{IsKindRow, CountListed, has_records, is_opaque_word, no_record, row_plus, word_item}
+use Rattle.audit_findings.specs.CodeCounts.{IsKindRow, CountListed, is_opaque_word, no_record, word_item}
 use Rattle.audit_findings.specs.RecordCounts.{is_word_of, times}
 use Rattle.audit_findings.proofs.KindWords.{kind_at, not_true, one_place}
 
@@ -46,9 +46,6 @@ own_row kind words word row own is =
     let count = is.count in
     record { count = omega (arith, more, count); word = λ some. own }
 
-pub no_words : CountListed [] []
-no_words k = record { count = refl; word = λ some. absurd (omega (arith, some)) }
-
 -- a word of no listed kind changes no row
 pub opaque_more : (rows : List CodeRow) (words : List ℕ) (word : ℕ) → ((k : ℕ) → is_word_of (kind_at k) word ≡ false) → CountListed rows words
     → CountListed rows (words ++ word ∷ [])
@@ -61,54 +58,16 @@ listed_more rows words word place within own counts k =
     let row : CodeRow = record { word = word; count = (get_or rows place no_record).count + 1 } in
     elim (cases_eq k place) [
       | inl same ↦ subst (λ (i : ℕ). IsKindRow (kind_at i) (words ++ word ∷ []) (get_or (set rows place row) i no_record)) (sym same)
-        (subst (IsKindRow (kind_at place) (words ++ word ∷ [])) (sym (get_or-set_same rows place row no_record within))
-        (own_row (kind_at place) words word (get_or rows place no_record) own (counts place)))
+          (subst (IsKindRow (kind_at place) (words ++ word ∷ [])) (sym (get_or-set_same rows place row no_record within))
+          (own_row (kind_at place) words word (get_or rows place no_record) own (counts place)))
       | inr other ↦ subst (IsKindRow (kind_at k) (words ++ word ∷ [])) (sym (get_or-set_other rows place k row no_record other))
-        (other_row (kind_at k) words word (get_or rows k no_record)
-        (not_true (is_word_of (kind_at k) word) (λ is. other (one_place k place word is own))) (counts k))
+          (other_row (kind_at k) words word (get_or rows k no_record)
+          (not_true (is_word_of (kind_at k) word) (λ is. other (one_place k place word is own))) (counts k))
     ]
 
-filled : (n k : ℕ) → get_or (replicate n no_record) k no_record ≡ no_record
-filled n k = elim (cases_lt k n) [
-  | inl inside ↦ get_or-replicate n k no_record no_record inside
-  | inr past ↦ let long = length-replicate n no_record in get_or_past (replicate n no_record) k no_record (omega (arith, long, past))
-]
-
 -- rows that are missing count nothing
-pub grown : (rows : List CodeRow) (n k : ℕ) → length rows ≤ n → get_or (take n rows ++ replicate (n - length rows) no_record) k no_record ≡ get_or rows k no_record
-grown rows n k low =
-    rw (take_all n rows low) (elim (cases_lt k (length rows)) [
-      | inl inside ↦ get_or_append_left rows (replicate (n - length rows) no_record) no_record k inside
-      | inr past ↦ get_or-append_right rows (replicate (n - length rows) no_record) (length rows) k no_record refl past
-        ∙ filled (n - length rows) (k - length rows) ∙ sym (get_or_past rows k no_record past)
-    ])
-
 pub grown_rows : (rows more : List CodeRow) (words : List ℕ) → ((k : ℕ) → get_or more k no_record ≡ get_or rows k no_record) → CountListed rows words → CountListed more words
 grown_rows rows more words same counts k = subst (IsKindRow (kind_at k) words) (sym (same k)) (counts k)
-
--- ---- the words of two lists
-
-plus_counts : (kind : Kind) (first second : List ℕ) (row more : CodeRow) (some : Bool) → has_records more ≡ some → IsKindRow kind first row → IsKindRow kind second more
-    → IsKindRow kind (first ++ second) (cond some (record { word = more.word; count = row.count + more.count }) row)
-plus_counts kind first second row more true some a b =
-    let both = times-append kind first second in
-    let one = a.count in
-    let two = b.count in
-    record { count = omega (arith, both, one, two); word = λ _. b.word (ltb-true 0 more.count some) }
-plus_counts kind first second row more false some a b =
-    let both = times-append kind first second in
-    let one = a.count in
-    let two = b.count in
-    let none : more.count ≤ 0 = ltb-false 0 more.count some in
-    record { count = omega (arith, both, one, two, none); word = a.word }
-
--- rows that are the sums of those of two lists count the words of both
-pub joined : (rows more both : List CodeRow) (first second : List ℕ) → ((k : ℕ) → get_or both k no_record ≡ row_plus (get_or rows k no_record) (get_or more k no_record))
-    → CountListed rows first → CountListed more second → CountListed both (first ++ second)
-joined rows more both first second sums a b k =
-    let row = get_or rows k no_record in
-    let other = get_or more k no_record in
-    subst (IsKindRow (kind_at k) (first ++ second)) (sym (sums k)) (plus_counts (kind_at k) first second row other (has_records other) refl (a k) (b k))
 
 -- few words leave each row small
 pub small_row : (rows : List CodeRow) (words more : List ℕ) → IsShort (words ++ more) → CountListed rows words → (k : ℕ) → (get_or rows k no_record).count ≤ 2 ^ 32

@@ -1,5 +1,5 @@
 -- A listed kind has one code word, its own, and stands at one place in the header's order.
-use Rattle.std.proofs.Common.{◌≡◌, ◌≢◌, ◌==◌, ◌+◌, ◌*◌, ◌^◌, ◌<◌, ◌⊎◌, inl, inr, ℕ, suc, Bool, true, false, cond, Option, Some, None, Result, Ok, Err, IsSome, IfSome, IsSomeAnd, List, [], ◌∷◌, map, get_or, refl, sym, ap, subst, ◌∙◌, arith, eqb-true, eq-eqb}
+use Rattle.std.proofs.Common.{◌≡◌, ◌≢◌, ◌==◌, ◌+◌, ◌*◌, ◌^◌, ◌<◌, ◌⊎◌, inl, inr, ℕ, suc, Bool, true, false, cond, Option, Some, None, Result, Ok, Err, IsSome, IfSome, IsSomeAnd, List, [], ◌∷◌, map, length, get_or, refl, sym, ap, subst, ◌∙◌, arith, eqb-true, eq-eqb}
 use Rattle.std.specs.List.{range_with_len}
 use Rattle.std.specs.Option.{option_map_or}
 use Rattle.std.specs.Result.{result_unwrap_or}
@@ -128,21 +128,21 @@ unfolding place_of place_in
 kind_at_place Opaque = refl
 kind_at_place _ = refl
 
-in_order : map place_of listed ≡ range_with_len 0 41
+in_order : map place_of listed ≡ range_with_len 0 (length listed)
 unfolding place_of place_in
 in_order = refl
 
-place_at : (k : ℕ) → k < 41 → place_of (kind_at k) ≡ k
+place_at : (k : ℕ) → k < length listed → place_of (kind_at k) ≡ k
 place_at k within =
     sym (get_or-map place_of listed k Opaque 0 within) ∙ ap (λ (places : List ℕ). get_or places k 0) in_order
-    ∙ get_or-range_with_len 0 41 k 0 within ∙ omega arith
+    ∙ get_or-range_with_len 0 (length listed) k 0 within ∙ omega arith
 
--- the places of listed kinds are the first 41
-pub place_inside : (k word : ℕ) → is_word_of (kind_at k) word ≡ true → k < 41
-place_inside k word is = elim (cases_lt k 41) [
+-- the places of listed kinds come first
+pub place_inside : (k word : ℕ) → is_word_of (kind_at k) word ≡ true → k < length listed
+place_inside k word is = elim (cases_lt k (length listed)) [
   | inl low ↦ low
   | inr past ↦ (let none : is_word_of Opaque word ≡ true
-    = subst (λ (kind : Kind). is_word_of kind word ≡ true) (get_or_past listed k Opaque past) is in absurd cc)
+      = subst (λ (kind : Kind). is_word_of kind word ≡ true) (get_or_past listed k Opaque past) is in absurd cc)
 ]
 
 -- a word is of the kind at one place at most
