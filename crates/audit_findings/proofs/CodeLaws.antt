@@ -1,21 +1,32 @@
--- The rows of a tally of code words.
-use Rattle.std.proofs.Common.{◌≡◌, ◌≢◌, ℕ, ◌+◌, ◌<◌, Bool, true, false, inl, inr, cond, eqb, List, [], ◌∷◌, map, All, refl, sym, ap, subst, ◌∙◌, arith}
+-- The rows of counted code words.
+use Rattle.std.proofs.Common.{◌≡◌, ◌≢◌, ℕ, ◌+◌, ◌<◌, Bool, true, false, inl, inr, cond, eqb, List, [], ◌∷◌, ◌++◌, length, map, filter, get_or, All, AllPairs, IsPermutation, refl, sym, ap, subst, ◌∙◌, arith, eqb-true}
 use Rattle.std.specs.Prelude.{count_by, sum_by, Contains}
-use Rattle.std.specs.List.Sorted.{IsStrictlyIncreasing}
+use Rattle.std.specs.List.Sorted.{IsNonDecreasingBy}
 use Rattle.std.specs.Ordering.{nat_cmp, eq_by_cmp}
-use Rattle.std.proofs.lemmas.Bool.{cases_eq, eq-eqb, ne_eqb}
-use Rattle.std.proofs.lemmas.List.Elements.{All-cons, All-head, All-nil, All-tail}
-use Rattle.std.proofs.lemmas.List.Sums.{sum_by-append}
+use Rattle.std.proofs.lemmas.Bool.{cases_Bool, cases_eq, cases_lt, eq-eqb, ne_eqb, lt-ltb, ltb-true}
+use Rattle.std.proofs.lemmas.List.{get_or_default, get_or_past, map-append, map-id}
+use Rattle.std.proofs.lemmas.List.Elements.{All-append, All-cons, All-contains_itself, All-head, All-nil, All-tail, All-weaker, Contains-get_or, filter_passes}
+use Rattle.std.proofs.lemmas.List.Kept.{AllPairs-filter, AllPairs-from_increasing}
+use Rattle.std.proofs.lemmas.List.Sorted.{All-permutation, Contains-permutation, IsPermutation-map}
+use Rattle.std.proofs.lemmas.List.Sums.{sum_by-append, sum_by-cons}
 use Rattle.std.proofs.lemmas.Map.Keys.{IsStrictlyIncreasing-from_sorted}
 use Rattle.std.proofs.lemmas.Map.Made.{Contains-tail}
 use Rattle.std.proofs.lemmas.Cmp.{nat_cmp_total, eq_by_cmp_equiv}
 use Rattle.std.proofs.lemmas.Map.Lookups.{exact_unsigned}
 use Rattle.std.proofs.lemmas.Map.Views.{Contains-from_any, tells_apart}
-use Rattle.event_core.specs.Events.{EventRead}
+use Rattle.binder_code.specs.declared.record_kind.Kind.{Kind}
+use Rattle.call_stacks.proofs.Members.{In, contained, in_list, map-in}
 use Rattle.summary_law.specs.Tally.{count_of, AreTallyRows, IsTallyRow}
+use Rattle.audit_findings.specs.declared.code_counts.CodeCounts.{CodeCounts}
 use Rattle.audit_findings.specs.declared.codes.CodeRow.{CodeRow}
-use Rattle.audit_findings.specs.Codes.{AreCodeRows, code_words}
-use Rattle.audit_findings.specs.Ledgers.{code_item, row_of}
+use Rattle.audit_findings.specs.CodeCounts.{CountListed, CountWords, IsKindRow, has_records, is_opaque_word, no_record, row_of, word_item}
+use Rattle.audit_findings.specs.Codes.{AreCodeRows}
+use Rattle.audit_findings.specs.RecordCounts.{is_word_of, times}
+use Rattle.audit_findings.proofs.KindWords.{kind_at, kind_at_place, kind_of_listed_word, not_true, one_place, one_word, place_of, word_is_listed}
+use Rattle.audit_findings.proofs.Listings.{in_back, in_front, in_kept, kept_in}
+use Rattle.audit_findings.proofs.OneCodes.{counted_there}
+use Rattle.audit_findings.proofs.Rising.{increasing_places, pairs_append, pairs_map, pairs_unmap}
+use Rattle.audit_findings.proofs.SortedRows.{rows_rise}
 
 -- what stands in a list is counted there
 counted_at_least_once : (words : List ℕ) (word : ℕ) → Contains words word → 0 < count_by (λ w. eqb w word) words
@@ -28,10 +39,6 @@ counted_at_least_once (w ∷ words) word has =
       | inr other ↦ (let more = counted_at_least_once words word (Contains-tail w words word other has) in omega (arith, split, more))
     ]
 
-not_true : (b : Bool) → b ≢ true → b ≡ false
-not_true true never = absurd (never refl)
-not_true false never = refl
-
 -- the order of numbers tells two apart where they are two
 same_key : (key word : ℕ) → eq_by_cmp nat_cmp key word ≡ eqb word key
 same_key key word = elim (cases_eq word key) [
@@ -39,61 +46,223 @@ same_key key word = elim (cases_eq word key) [
   | inr other ↦ rw (ne_eqb word key other) (not_true (eq_by_cmp nat_cmp key word) (λ is. other (sym (tells_apart exact_unsigned key word is))))
 ]
 
--- how many items of a word there are in the tally
-one_more : (key : ℕ) (e : EventRead) (events : List EventRead) (b : Bool) → eq_by_cmp nat_cmp key e.code ≡ b → eqb e.code key ≡ b
-    → count_of nat_cmp key (map code_item events) ≡ count_by (λ word. eqb word key) (code_words events)
-    → count_of nat_cmp key (map code_item (e ∷ events)) ≡ count_by (λ word. eqb word key) (code_words (e ∷ events))
-one_more key e events true found is others =
-    let split = sum_by-append (λ (x : ℕ). cond (eqb x key) 1 0) (e.code ∷ []) (code_words events) in
-    let first : sum_by (λ (x : ℕ). cond (eqb x key) 1 0) (e.code ∷ []) ≡ 1 = rw is refl in
-    let item : count_of nat_cmp key (map code_item (e ∷ events)) ≡ 1 + count_of nat_cmp key (map code_item events) = rw found (omega arith) in
+-- how many items of a word there are in a tally of words
+one_more : (key word : ℕ) (words : List ℕ) (b : Bool) → eq_by_cmp nat_cmp key word ≡ b → eqb word key ≡ b
+    → count_of nat_cmp key (map word_item words) ≡ count_by (λ w. eqb w key) words
+    → count_of nat_cmp key (map word_item (word ∷ words)) ≡ count_by (λ w. eqb w key) (word ∷ words)
+one_more key word words true found is others =
+    let split = sum_by-append (λ (x : ℕ). cond (eqb x key) 1 0) (word ∷ []) words in
+    let first : sum_by (λ (x : ℕ). cond (eqb x key) 1 0) (word ∷ []) ≡ 1 = rw is refl in
+    let item : count_of nat_cmp key (map word_item (word ∷ words)) ≡ 1 + count_of nat_cmp key (map word_item words) = rw found (omega arith) in
     omega (arith, split, first, item, others)
-one_more key e events false found is others =
-    let split = sum_by-append (λ (x : ℕ). cond (eqb x key) 1 0) (e.code ∷ []) (code_words events) in
-    let first : sum_by (λ (x : ℕ). cond (eqb x key) 1 0) (e.code ∷ []) ≡ 0 = rw is refl in
-    let item : count_of nat_cmp key (map code_item (e ∷ events)) ≡ count_of nat_cmp key (map code_item events) = rw found refl in
+one_more key word words false found is others =
+    let split = sum_by-append (λ (x : ℕ). cond (eqb x key) 1 0) (word ∷ []) words in
+    let first : sum_by (λ (x : ℕ). cond (eqb x key) 1 0) (word ∷ []) ≡ 0 = rw is refl in
+    let item : count_of nat_cmp key (map word_item (word ∷ words)) ≡ count_of nat_cmp key (map word_item words) = rw found refl in
     omega (arith, split, first, item, others)
 
-pub items_of_word : (key : ℕ) (events : List EventRead) → count_of nat_cmp key (map code_item events) ≡ count_by (λ word. eqb word key) (code_words events)
+items_of_word : (key : ℕ) (words : List ℕ) → count_of nat_cmp key (map word_item words) ≡ count_by (λ w. eqb w key) words
 items_of_word key [] = refl
-items_of_word key (e ∷ events) = one_more key e events (eqb e.code key) (same_key key e.code) refl (items_of_word key events)
+items_of_word key (word ∷ words) = one_more key word words (eqb word key) (same_key key word) refl (items_of_word key words)
+
+-- how many pass a test does not change where the others are left out
+kept_one : (p q : ℕ → Bool) (x : ℕ) (xs : List ℕ) (a b : Bool) → p x ≡ a → q x ≡ b → (b ≡ true → a ≡ true) → count_by q (filter p xs) ≡ count_by q xs
+    → count_by q (filter p (x ∷ xs)) ≡ count_by q (x ∷ xs)
+kept_one p q x xs true b keeps counts passes rest =
+    let one : ℕ → ℕ = λ y. cond (q y) 1 0 in
+    rw keeps (sum_by-cons one x (filter p xs) ∙ ap (λ (n : ℕ). one x + n) rest ∙ sym (sum_by-cons one x xs))
+kept_one p q x xs false true keeps counts passes rest = let no = passes refl in absurd cc
+kept_one p q x xs false false keeps counts passes rest =
+    let whole = sum_by-cons (λ (y : ℕ). cond (q y) 1 0) x xs in
+    let count : Bool → ℕ = λ b. cond b 1 0 in
+    let first : count (q x) ≡ 0 = ap count counts in
+    rw keeps (omega (arith, whole, first, rest))
+
+kept_count : (p q : ℕ → Bool) → ((x : ℕ) → q x ≡ true → p x ≡ true) → (xs : List ℕ) → count_by q (filter p xs) ≡ count_by q xs
+kept_count p q passes [] = refl
+kept_count p q passes (x ∷ xs) = kept_one p q x xs (p x) (q x) refl refl (passes x) (kept_count p q passes xs)
+
+-- a row that counts a word that stands there
+abbrev IsRightRow : List ℕ → CodeRow → Type 0
+IsRightRow words row = (0 < row.count) × (row.count ≡ count_by (λ word. eqb word row.word) words)
+
+abbrev Apart : CodeRow → CodeRow → Type 0
+Apart a b = a.word ≢ b.word
+
+-- ---- the rows of listed kinds
+
+-- of a kind's words as many as are its word
+times_word : (kind : Kind) (word : ℕ) (words : List ℕ) → is_word_of kind word ≡ true → times kind words ≡ count_by (λ w. eqb w word) words
+times_word kind word words own i = count_by (λ w. one_word kind word w own i) words
+
+module _ (rows : List CodeRow) (words : List ℕ) (counts : CountListed rows words) where
+  row_at : (k : ℕ) (d : CodeRow) → k < length rows → IsKindRow (kind_at k) words (get_or rows k d)
+  row_at k d within = subst (IsKindRow (kind_at k) words) (get_or_default rows k no_record d within) (counts k)
+
+  -- a row that counts records is that of a kind
+  of_kind : (row : CodeRow) → Contains (filter has_records rows) row → (k : ℕ) × IsKindRow (kind_at k) words row × (0 < row.count)
+  of_kind row has =
+      let kept = in_kept has_records rows row (in_list (filter has_records rows) row has) in
+      let there = contained rows row kept.0 in
+      (there.0, subst (IsKindRow (kind_at there.0) words) there.2 (row_at there.0 row there.1), ltb-true 0 row.count kept.1)
+
+  abbrev kept : List CodeRow
+  kept = filter has_records rows
+
+  kept_right : All (IsRightRow words) kept
+  kept_right =
+      All-weaker (Contains kept) (IsRightRow words)
+      (λ row has.
+      let found = of_kind row has in
+      (found.2, found.1.count ∙ times_word (kind_at found.0) row.word words (found.1.word found.2)))
+      kept (All-contains_itself kept)
+
+  kept_listed : All (λ row. is_opaque_word row.word ≡ false) kept
+  kept_listed =
+      All-weaker (Contains kept) (λ row. is_opaque_word row.word ≡ false)
+      (λ row has. let found = of_kind row has in word_is_listed (kind_at found.0) row.word (found.1.word found.2)) kept (All-contains_itself kept)
+
+  -- rows that count records have words of their own
+  rows_apart : AllPairs (λ a b. has_records a ≡ true → has_records b ≡ true → Apart a b) rows
+  rows_apart i j d below within = λ first second same.
+      let a = get_or rows i d in
+      let b = get_or rows j d in
+      let own = (row_at i d (omega (arith, below, within))).word (ltb-true 0 a.count first) in
+      let other = (row_at j d within).word (ltb-true 0 b.count second) in
+      let one = one_place i j b.word (subst (λ (w : ℕ). is_word_of (kind_at i) w ≡ true) same own) other in
+      absurd (omega (arith, one, below))
+
+  kept_apart : AllPairs Apart kept
+  kept_apart i j d below within =
+      let passes = filter_passes has_records rows in
+      AllPairs-filter (λ a b. has_records a ≡ true → has_records b ≡ true → Apart a b) has_records rows rows_apart i j d below within
+      (passes i d (omega (arith, below, within))) (passes j d within)
+
+  -- each listed word has a row
+  kept_whole : (word : ℕ) → Contains words word → is_opaque_word word ≡ false → In word (map (λ row. row.word) kept)
+  kept_whole word has listed =
+      let found = kind_of_listed_word word listed in
+      let k = place_of found.0 in
+      let own : is_word_of (kind_at k) word ≡ true = subst (λ (kind : Kind). is_word_of kind word ≡ true) (sym (kind_at_place found.0)) found.1 in
+      let row = get_or rows k no_record in
+      let is = counts k in
+      let count = is.count in
+      let times_is = times_word (kind_at k) word words own in
+      let once = counted_at_least_once words word has in
+      let some : 0 < row.count = omega (arith, count, times_is, once) in
+      let within : k < length rows = elim (cases_lt k (length rows)) [
+        | inl inside ↦ inside
+        | inr past ↦ (let none : row.count ≡ 0 = ap (λ (r : CodeRow). r.count) (get_or_past rows k no_record past) in absurd (omega (arith, none, some)))
+      ] in
+      let there = kept_in has_records rows row (in_list rows row (Contains-get_or rows k no_record within)) (lt-ltb 0 row.count some) in
+      let same : row.word ≡ word = eqb-true row.word word (sym (one_word (kind_at k) word row.word own) ∙ is.word some) in
+      subst (λ (w : ℕ). In w (map (λ row. row.word) kept)) same (map-in (λ (r : CodeRow). r.word) kept row there)
+
+-- ---- the rows of opaque words
 
 words_of_rows : (rows : List (ℕ × ℕ × ℕ)) → map (λ (row : CodeRow). row.word) (map row_of rows) ≡ map (λ (row : ℕ × ℕ × ℕ). row.0) rows
 words_of_rows [] = refl
 words_of_rows (row ∷ rows) = ap (λ (t : List ℕ). row.0 ∷ t) (words_of_rows rows)
 
--- a row that counts a word that stands there
-right_row : (events : List EventRead) (row : ℕ × ℕ × ℕ) → 0 < count_of nat_cmp row.0 (map code_item events) → IsTallyRow nat_cmp (map code_item events) row
-    → (0 < row.1) × (row.1 ≡ count_by (λ word. eqb word row.0) (code_words events))
-right_row events row came right =
-    let count = right.count in
-    (omega (arith, count, came), count ∙ items_of_word row.0 events)
+module _ (words : List ℕ) where
+  abbrev opaque : List ℕ
+  opaque = filter is_opaque_word words
 
-abbrev IsRightRow : List EventRead → CodeRow → Type 0
-IsRightRow events row = (0 < row.count) × (row.count ≡ count_by (λ word. eqb word row.word) (code_words events))
+  abbrev Comes : ℕ → Type 0
+  Comes key = 0 < count_of nat_cmp key (map word_item opaque)
 
-right_rows : (events : List EventRead) (rows : List (ℕ × ℕ × ℕ)) → All (λ (key : ℕ). 0 < count_of nat_cmp key (map code_item events)) (map (λ (row : ℕ × ℕ × ℕ). row.0) rows)
-    → All (IsTallyRow nat_cmp (map code_item events)) rows
-    → All (IsRightRow events) (map row_of rows)
-right_rows events [] came right = All-nil (IsRightRow events)
-right_rows events (row ∷ rows) came right =
-    let Comes = λ (key : ℕ). 0 < count_of nat_cmp key (map code_item events) in
-    let keys = map (λ (r : ℕ × ℕ × ℕ). r.0) rows in
-    let Right = IsTallyRow nat_cmp (map code_item events) in
-    All-cons (IsRightRow events) (row_of row) (map row_of rows) (right_row events row (All-head Comes row.0 keys came) (All-head Right row rows right))
-    (right_rows events rows (All-tail Comes row.0 keys came) (All-tail Right row rows right))
+  comes_opaque : (key : ℕ) → Comes key → is_opaque_word key ≡ true
+  comes_opaque key came =
+      let many = items_of_word key opaque in
+      (in_kept is_opaque_word words key (in_list opaque key (counted_there key opaque (omega (arith, many, came))))).1
 
--- the rows of the tally are those of the code words
-pub are_code_rows : (events : List EventRead) (rows : List (ℕ × ℕ × ℕ)) → AreTallyRows nat_cmp (map code_item events) rows
-    → AreCodeRows (code_words events) (map row_of rows)
-are_code_rows events rows are =
-    let keys = map (λ (row : ℕ × ℕ × ℕ). row.0) rows in
-    let same = sym (words_of_rows rows) in
-    record {
-      rising = subst IsStrictlyIncreasing same (IsStrictlyIncreasing-from_sorted keys are.keys.rising);
-      counted = right_rows events rows are.keys.came are.right;
-      whole = λ word has.
-          let some = counted_at_least_once (code_words events) word has in
-          let came : 0 < count_of nat_cmp word (map code_item events) = subst (λ (n : ℕ). 0 < n) (sym (items_of_word word events)) some in
-          subst (λ (t : List ℕ). Contains t word) same (Contains-from_any (tells_apart exact_unsigned) word keys (are.keys.whole word came));
-    }
+  -- an opaque word is left out nowhere
+  opaque_count : (key : ℕ) → is_opaque_word key ≡ true → count_by (λ w. eqb w key) opaque ≡ count_by (λ w. eqb w key) words
+  opaque_count key is =
+      kept_count is_opaque_word (λ w. eqb w key) (λ w same. subst (λ (v : ℕ). is_opaque_word v ≡ true) (sym (eqb-true w key same)) is) words
+
+  abbrev IsOpaqueRow : CodeRow → Type 0
+  IsOpaqueRow row = IsRightRow words row × (is_opaque_word row.word ≡ true)
+
+  opaque_row : (row : ℕ × ℕ × ℕ) → Comes row.0 → IsTallyRow nat_cmp (map word_item opaque) row → IsOpaqueRow (row_of row)
+  opaque_row row came right =
+      let count = right.count in
+      let is = comes_opaque row.0 came in
+      ((omega (arith, count, came), count ∙ items_of_word row.0 opaque ∙ opaque_count row.0 is), is)
+
+  opaque_rows : (rows : List (ℕ × ℕ × ℕ)) → All Comes (map (λ (row : ℕ × ℕ × ℕ). row.0) rows) → All (IsTallyRow nat_cmp (map word_item opaque)) rows
+      → All IsOpaqueRow (map row_of rows)
+  opaque_rows [] came right = All-nil IsOpaqueRow
+  opaque_rows (row ∷ rows) came right =
+      let keys = map (λ (r : ℕ × ℕ × ℕ). r.0) rows in
+      let Right = IsTallyRow nat_cmp (map word_item opaque) in
+      All-cons IsOpaqueRow (row_of row) (map row_of rows) (opaque_row row (All-head Comes row.0 keys came) (All-head Right row rows right))
+      (opaque_rows rows (All-tail Comes row.0 keys came) (All-tail Right row rows right))
+
+  module _ (tallied : List (ℕ × ℕ × ℕ)) (are : AreTallyRows nat_cmp (map word_item opaque) tallied) where
+    tally_apart : AllPairs Apart (map row_of tallied)
+    tally_apart =
+        let keys = map (λ (row : ℕ × ℕ × ℕ). row.0) tallied in
+        let rise = AllPairs-from_increasing keys (IsStrictlyIncreasing-from_sorted keys are.keys.rising) in
+        let differ : AllPairs (λ (a b : ℕ). a ≢ b) keys = λ i j d below within same. (let less = rise i j d below within in absurd (omega (arith, less, same))) in
+        pairs_map Apart row_of tallied (pairs_unmap (λ (a b : ℕ). a ≢ b) (λ (row : ℕ × ℕ × ℕ). row.0) tallied differ)
+
+    tally_whole : (word : ℕ) → Contains words word → is_opaque_word word ≡ true → In word (map (λ row. row.word) (map row_of tallied))
+    tally_whole word has is =
+        let keys = map (λ (row : ℕ × ℕ × ℕ). row.0) tallied in
+        let there = contained opaque word (kept_in is_opaque_word words word (in_list words word has) is) in
+        let once = counted_at_least_once opaque word there in
+        let many = items_of_word word opaque in
+        let found = Contains-from_any (tells_apart exact_unsigned) word keys (are.keys.whole word (omega (arith, once, many))) in
+        subst (In word) (sym (words_of_rows tallied)) (in_list keys word found)
+
+-- ---- all rows
+
+module _ (counts : CodeCounts) (words : List ℕ) (are : CountWords counts words) (tallied : List (ℕ × ℕ × ℕ))
+    (rows_are : AreTallyRows nat_cmp (map word_item (filter is_opaque_word words)) tallied) where
+  abbrev front : List CodeRow
+  front = filter has_records counts.listed.items
+
+  abbrev back : List CodeRow
+  back = map row_of tallied
+
+  opaque_back : All (IsOpaqueRow words) back
+  opaque_back = opaque_rows words tallied rows_are.keys.came rows_are.right
+
+  both_right : All (IsRightRow words) (front ++ back)
+  both_right =
+      All-append (IsRightRow words) front back (kept_right counts.listed.items words are.listed)
+      (All-weaker (IsOpaqueRow words) (IsRightRow words) (λ row is. is.0) back opaque_back)
+
+  both_apart : AllPairs Apart (front ++ back)
+  both_apart =
+      pairs_append Apart front back (kept_apart counts.listed.items words are.listed) (tally_apart words tallied rows_are)
+      (All-weaker (λ row. is_opaque_word row.word ≡ false) (λ row. All (Apart row) back)
+      (λ row listed.
+      All-weaker (IsOpaqueRow words) (Apart row)
+      (λ other is same. let no : true ≡ false = sym is.1 ∙ ap is_opaque_word (sym same) ∙ listed in absurd cc) back opaque_back)
+      front (kept_listed counts.listed.items words are.listed))
+
+  both_whole : (word : ℕ) → Contains words word → Contains (map (λ row. row.word) (front ++ back)) word
+  both_whole word has =
+      let split = map-append (λ (row : CodeRow). row.word) front back in
+      contained (map (λ row. row.word) (front ++ back)) word
+      (subst (In word) (sym split)
+      (elim (cases_Bool (is_opaque_word word)) [
+        | inl is ↦ in_back word (map (λ row. row.word) front) (map (λ row. row.word) back) (tally_whole words tallied rows_are word has is)
+        | inr not ↦ in_front word (map (λ row. row.word) front) (map (λ row. row.word) back) (kept_whole counts.listed.items words are.listed word has not)
+      ]))
+
+  -- sorted by word, the rows of listed kinds and of opaque words are those of all code words
+  pub sorted_code_rows : (rows : List CodeRow) → IsPermutation (front ++ back) rows → IsNonDecreasingBy (λ row. row.word) rows → AreCodeRows words rows
+  sorted_code_rows rows moved sorted =
+      let same : map (λ (row : CodeRow). row) (front ++ back) ≡ front ++ back = map-id (front ++ back) in
+      let rise = rows_rise (λ (row : CodeRow). row) (λ (row : CodeRow). row.word) (front ++ back) both_apart rows
+      (subst (λ (t : List CodeRow). IsPermutation t rows) (sym same) moved) sorted in
+      record {
+        rising = increasing_places (λ (row : CodeRow). row.word) rows rise;
+        counted = All-permutation (IsRightRow words) (front ++ back) rows moved both_right;
+        whole = λ word has.
+            Contains-permutation (map (λ row. row.word) (front ++ back)) (map (λ row. row.word) rows) word
+            (IsPermutation-map (λ (row : CodeRow). row.word) (front ++ back) rows moved) (both_whole word has);
+      }

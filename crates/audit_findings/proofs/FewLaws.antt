@@ -1,16 +1,14 @@
 -- Few events, and few frames.
-use Rattle.std.proofs.Common.{◌≡◌, ◌+◌, ◌<◌, ◌≤◌, ◌^◌, List, [], ◌∷◌, ◌++◌, length, map, cond, subst, arith}
+use Rattle.std.proofs.Common.{◌≡◌, ℕ, ◌+◌, ◌<◌, ◌≤◌, ◌^◌, List, [], ◌∷◌, ◌++◌, length, cond, subst, sym, arith}
 use Rattle.std.specs.Prelude.{count_by}
-use Rattle.std.proofs.lemmas.List.{map-append}
+use Rattle.std.proofs.lemmas.List.{length-map, map-append}
 use Rattle.std.proofs.lemmas.List.Sums.{sum_by-append, count_by-le-length}
-use Rattle.audit_findings.specs.Codes.{is_opaque}
+use Rattle.audit_findings.specs.Codes.{code_words, is_opaque}
 use Rattle.std.proofs.lemmas.List.Elements.{All-head}
 use Rattle.event_core.specs.Events.{EventRead}
-use Rattle.summary_law.specs.Fits.{all_parts, placed_parts}
+use Rattle.summary_law.specs.Fits.{IsShort, all_parts, placed_parts}
 use Rattle.summary_law.specs.Summary.{FitsInParts}
-use Rattle.summary_law.specs.Tally.{AreWeighted}
-use Rattle.summary_law.proofs.TallyLaws.{weighted_map}
-use Rattle.audit_findings.specs.Ledgers.{AreFewEvents, offset_bytes_of, code_item}
+use Rattle.audit_findings.specs.Ledgers.{AreFewEvents, offset_bytes_of}
 
 abbrev pub HasSmall : EventRead → Type 0
 HasSmall e = offset_bytes_of e < 2 ^ 32
@@ -26,12 +24,12 @@ few_parts first second few =
 pub last_small : (events : List EventRead) (e : EventRead) → AreFewEvents (events ++ e ∷ []) → offset_bytes_of e < 2 ^ 32
 last_small events e few = All-head HasSmall e [] (few_parts events (e ∷ []) few).1.1
 
--- their code words are few weights
-weighted_codes : (events : List EventRead) → AreFewEvents events → AreWeighted (map code_item events)
-weighted_codes events few = weighted_map code_item (λ e. omega arith) events few.0.0
-
-pub weighted_parts : (events more : List EventRead) → AreFewEvents (events ++ more) → AreWeighted (map code_item events ++ map code_item more)
-weighted_parts events more few = subst AreWeighted (map-append code_item events more) (weighted_codes (events ++ more) few)
+-- their code words are few
+pub few_words : (events more : List EventRead) → AreFewEvents (events ++ more) → IsShort (code_words events ++ code_words more)
+few_words events more few =
+    let word : EventRead → ℕ = λ e. e.code in
+    let both = map-append word events more in
+    subst (λ (words : List ℕ). IsShort words) both (subst (λ (n : ℕ). n ≤ 2 ^ 32) (sym (length-map (events ++ more) word)) few.0.0)
 
 -- how many opaque records there are in both parts
 pub opaque-append : (events more : List EventRead) → count_by is_opaque (events ++ more) ≡ count_by is_opaque events + count_by is_opaque more

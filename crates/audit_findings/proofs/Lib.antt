@@ -2,6 +2,10 @@ pub mod ObjectWalk
 pub mod FewLaws
 pub mod OutcomeLaws
 pub mod SequenceLaws
+mod OneCodes
+mod SortedRows
+mod KindWords
+mod CodeCountLaws
 pub mod CodeLaws
 pub mod FrameLaws
 pub mod HeldLaws
@@ -15,7 +19,6 @@ pub mod RecordsThere
 pub mod Rising
 pub mod PlacesRise
 pub mod SameMembers
-mod OneCodes
 mod OneObjects
 mod TallyRows
 pub mod OneFindings
@@ -23,7 +26,6 @@ pub mod StandLaws
 pub mod PlaceLaws
 mod GivenLaws
 pub mod ThreadFits
-mod SortedRows
 mod ThreadRowLaws
 mod ThreadTurns
 mod CallCounts

@@ -14,7 +14,7 @@ counted_here word w words more later = elim (cases_eq w word) [
   | inr other ↦ contains_behind word w words (later (rw (ne_eqb w word other) at more))
 ]
 
-counted_there : (word : ℕ) (words : List ℕ) → 0 < count_by (λ w. w == word) words → Contains words word
+pub counted_there : (word : ℕ) (words : List ℕ) → 0 < count_by (λ w. w == word) words → Contains words word
 counted_there word [] more = absurd (omega arith)
 counted_there word (w ∷ words) more = counted_here word w words more (counted_there word words)
 

@@ -1,20 +1,7 @@
 -- Counts of different words of one list.
-use Rattle.std.proofs.Common.{◌≡◌, ◌≢◌, ℕ, ◌+◌, ◌<◌, ◌≤◌, inl, inr, cond, eqb, List, [], ◌∷◌, length, map, count_by, ap, ◌∙◌, arith}
+use Rattle.std.proofs.Common.{◌≡◌, ◌≢◌, ℕ, ◌+◌, ◌<◌, ◌≤◌, inl, inr, cond, eqb, List, [], ◌∷◌, length, count_by, ap, arith}
 use Rattle.std.proofs.lemmas.Bool.{cases_eq, eq-eqb, ne_eqb}
 use Rattle.std.proofs.lemmas.List.Sums.{sum_by-cons}
-use Rattle.std.specs.Ordering.{nat_cmp}
-use Rattle.event_core.specs.Events.{EventRead}
-use Rattle.summary_law.specs.declared.amount.Amount.{Amount}
-use Rattle.summary_law.specs.declared.tally.Tally.{Tally}
-use Rattle.summary_law.specs.Tally.{TallySums, GivesAmount}
-use Rattle.audit_findings.specs.Codes.{code_words}
-use Rattle.audit_findings.specs.Ledgers.{code_item}
-use Rattle.audit_findings.proofs.CodeLaws.{items_of_word}
-
--- what a tally of events gives for a code word
-pub word_count : (codes : Tally ℕ) (amount : Amount) (key : ℕ) → GivesAmount nat_cmp codes key amount → (events : List EventRead)
-    → TallySums nat_cmp codes (map code_item events) → amount.count ≡ count_by (λ w. eqb w key) (code_words events)
-word_count codes amount key gives events sums = (gives (map code_item events) sums).count ∙ items_of_word key events
 
 abbrev one_if : ℕ → ℕ → ℕ
 one_if key word = cond (eqb word key) 1 0

@@ -58,7 +58,7 @@ told_rows {X} {R} row P (r ∷ rows) all =
 module _ {X R : Type 0} (row : X → R) (key : R → ℕ) (things : List X) (apart : AllPairs (λ x y. key (row x) ≢ key (row y)) things)
     (rows : List R) (moved : IsPermutation (map row things) rows) (sorted : IsNonDecreasingBy key rows) where
   -- the keys of the rows differ, so they rise strictly
-  rows_rise : AllPairs (λ a b. key a < key b) rows
+  pub rows_rise : AllPairs (λ a b. key a < key b) rows
   rows_rise i j d below within =
       let keys = map key rows in
       let first : AllPairs (λ (a b : ℕ). a ≢ b) (map key (map row things))

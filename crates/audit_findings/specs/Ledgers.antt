@@ -3,21 +3,19 @@ use Rattle.std.specs.Prelude.{◌≡◌, ℕ, ◌+◌, ◌<◌, ◌^◌, List, [
 use Rattle.std.proofs.Common.{subst}
 use Rattle.std.proofs.lemmas.List.{map-append}
 use Rattle.std.specs.Option.{option_map_or}
-use Rattle.std.specs.Ordering.{nat_cmp}
 use Rattle.capture_frame.specs.declared.frame.Frame.{Frame}
 use Rattle.capture_frame.specs.Units.{Placed}
 use Rattle.transaction_view.specs.Grammar.{WholeFrame}
 use Rattle.event_core.specs.Events.{AttachmentText, EventRead}
 use Rattle.summary_law.specs.Fits.{IsShort, IsPlaced, all_parts, placed_parts}
-use Rattle.summary_law.specs.Tally.{TallySums}
-use Rattle.audit_findings.specs.declared.codes.CodeRow.{CodeRow}
 use Rattle.audit_findings.specs.declared.event_ledgers.EventLedgers.{EventLedgers}
 use Rattle.audit_findings.specs.declared.findings.Sections.{Sections}
 use Rattle.audit_findings.specs.declared.flags.FlagLedger.{FlagLedger}
 use Rattle.audit_findings.specs.declared.ledgers.FrameLedgers.{FrameLedgers}
 use Rattle.audit_findings.specs.declared.objects.ObjectLedger.{ObjectLedger}
 use Rattle.audit_findings.specs.declared.sequences.Sequences.{Sequences}
-use Rattle.audit_findings.specs.Codes.{is_opaque}
+use Rattle.audit_findings.specs.CodeCounts.{CountWords}
+use Rattle.audit_findings.specs.Codes.{code_words, is_opaque}
 use Rattle.audit_findings.specs.Findings.{FindingsSaid, AreFindings, last_sequence}
 use Rattle.audit_findings.specs.Flags.{flagged}
 use Rattle.audit_findings.specs.Frames.{AreViews}
@@ -51,10 +49,6 @@ offset_bytes_of e = option_map_or (λ (a : AttachmentText). length a.offset_byte
 abbrev pub AreFewEvents : List EventRead → Type 0
 AreFewEvents events = IsPlaced (λ e. e.place) events × All (λ e. offset_bytes_of e < 2 ^ 32) events
 
--- an event in the tally of code words: its code word, with weight 0
-abbrev pub code_item : EventRead → ℕ × ℕ
-code_item e = (e.code, 0)
-
 -- the places are those of the events with flag bits that the header does not name
 abbrev pub ListsFlagged : FlagLedger → List EventRead → Type 0
 ListsFlagged ledger events = ledger.places.items ≡ map (λ e. e.place) (flagged events)
@@ -69,7 +63,7 @@ pub record SumsObjects (ledger : ObjectLedger) (events : List EventRead) : Type 
 pub record SumsEvents (ledgers : EventLedgers) (events : List EventRead) : Type 0 where
   pub records : ledgers.records ≡ length events
   pub opaque : ledgers.opaque ≡ count_by is_opaque events
-  pub codes : TallySums nat_cmp ledgers.codes (map code_item events)
+  pub codes : CountWords ledgers.codes (code_words events)
   pub oneway : CountsOneway ledgers.oneway events
   pub objects : SumsObjects ledgers.objects events
   pub flags : ListsFlagged ledgers.flags events
@@ -132,10 +126,6 @@ abbrev pub GiveSections : FrameLedgers → List (List ℕ) → List (List (Proce
 GiveSections ledgers unfreed handles sections =
     (wholes : List (Placed WholeFrame)) → SumsLedgers ledgers wholes → AreFewFrames wholes
     → AreUnfreed wholes unfreed → AreListedHandles wholes handles → (said : FindingsSaid) × AreFindings wholes said × Keep sections said
-
--- the key and the count of a tally's row
-abbrev pub row_of : ℕ × ℕ × ℕ → CodeRow
-row_of row = record { word = row.0; count = row.1 }
 
 -- whatever frames the ledgers are those of, these are their processes, with these ledgers where none has an item
 abbrev pub GivesProcesses : FrameLedgers → ProcessLedgers → Processes → Type 0

@@ -4,6 +4,7 @@ pub mod Codes
 pub mod Threads
 pub mod Calls
 pub mod RecordCounts
+pub mod CodeCounts
 pub mod InTurn
 pub mod References
 pub mod Handles

@@ -5,21 +5,20 @@ ghost use Rattle.event_core.specs.Reading.{event_text};
 ghost use Rattle.summary_law.specs.Summary.{CanAdd, Adds, CanJoin, Joins};
 ghost use Rattle.audit_findings.specs.Ledgers.{SumsEvents, AreFewEvents};
 
+use crate::code_counts::CodeCounts;
 use crate::codes::opaque_count;
 use crate::flags::FlagLedger;
 use crate::objects::ObjectLedger;
 use crate::oneway_counts::OnewayCounts;
 use event_core::Event;
 use std::alloc::{AllocError, Global};
-use summary_law::{Summary, Tally};
 
 /// How many events there are, and what `codes`, `oneway`, `objects` and `flags` keep of them all.
 #[derive(Drop)]
 pub(crate) struct EventLedgers {
     pub records: u64,
     pub opaque: u64,
-    /// The code words, each record with weight 0.
-    pub codes: Tally<u32>,
+    pub codes: CodeCounts,
     pub oneway: OnewayCounts,
     pub objects: ObjectLedger,
     pub flags: FlagLedger,
@@ -32,7 +31,7 @@ impl EventLedgers {
         EventLedgers {
             records: 0,
             opaque: 0,
-            codes: Tally::empty(alloc),
+            codes: CodeCounts::empty(alloc),
             oneway: OnewayCounts::NONE,
             objects: ObjectLedger::empty(alloc),
             flags: FlagLedger::empty(alloc),
@@ -48,7 +47,7 @@ impl EventLedgers {
         self.records += 1;
         self.opaque += opaque_count(event.kind);
         self.oneway = self.oneway.plus(OnewayCounts::of(event));
-        self.codes.add((event.code.0, 0))?;
+        self.codes.add(event.kind, event.code)?;
         self.objects.add(event)?;
         self.flags.add(event)
     }

@@ -5,6 +5,7 @@ mod buffers;
 mod call_sections;
 mod calls;
 mod clears;
+mod code_counts;
 mod codes;
 mod deaths;
 mod entries;

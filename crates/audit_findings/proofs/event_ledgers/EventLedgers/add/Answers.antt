@@ -1,18 +1,18 @@
 use Rattle.std.proofs.lemmas.Result.{on_ok_weaker}
-use Rattle.std.proofs.Common.{[], ◌∷◌, ◌++◌, map, sym, subst, length-append, arith}
+use Rattle.std.proofs.Common.{[], ◌∷◌, ◌++◌, sym, subst, length-append, arith}
 use Rattle.std.proofs.lemmas.List.{map-append}
-use Rattle.std.specs.Ordering.{nat_cmp}
+use Rattle.event_core.specs.Events.{EventRead}
 use Rattle.event_core.specs.Reading.{event_text}
-use Rattle.summary_law.specs.Tally.{TallySums}
-use Rattle.audit_findings.specs.Ledgers.{code_item}
-use Rattle.audit_findings.proofs.FewLaws.{weighted_parts, opaque-append, opaque_one, opaque_short}
+use Rattle.audit_findings.specs.CodeCounts.{CountWords}
+use Rattle.audit_findings.specs.Codes.{code_words}
+use Rattle.audit_findings.proofs.FewLaws.{few_words, opaque-append, opaque_one, opaque_short}
 use Rattle.audit_findings.proofs.OnewayCountLaws.{counts_both, counts_small}
 use Rattle.audit_findings.proofs.event_ledgers.EventLedgers.add.Goals as goal
 
-pub add-requires : goal.add-requires
-add-requires c =
+pub add-requires-clause-few : goal.add-requires-clause-few
+add-requires-clause-few c =
     let events = c.requires.0 in
-    (map code_item events, c.requires.1.codes, weighted_parts events (event_text c.args.event ∷ []) c.requires.2)
+    (code_words events, c.requires.1.codes, few_words events (event_text c.args.event ∷ []) c.requires.2)
 
 pub overflow_add-self-2 : goal.overflow_add-self-2
 overflow_add-self-2 c =
@@ -48,8 +48,8 @@ returns c =
     record {
       records = omega (arith, records, long);
       opaque = omega (arith, opaque, both, one, counted);
-      codes = subst (TallySums nat_cmp c.add.new.self) (sym (map-append code_item events (e ∷ [])))
-          (c.in_ok-add.ensures (map code_item events) sums.codes (weighted_parts events (e ∷ []) fits));
+      codes = subst (CountWords c.add.new.self) (sym (map-append (λ (other : EventRead). other.code) events (e ∷ [])))
+          (c.in_ok-add.ensures (code_words events) sums.codes (few_words events (e ∷ []) fits));
       oneway = counts_both c.args.self.now.oneway c.of.result c.plus-self.result events (e ∷ []) sums.oneway c.of.ensures
           c.plus-self.ensures.sent c.plus-self.ensures.received;
       objects = c.in_ok-add-2.ensures events sums.objects fits;

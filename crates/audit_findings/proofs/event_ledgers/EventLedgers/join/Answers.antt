@@ -1,9 +1,9 @@
-use Rattle.std.proofs.Common.{map, sym, subst, length-append, arith}
+use Rattle.std.proofs.Common.{sym, subst, length-append, arith}
 use Rattle.std.proofs.lemmas.List.{map-append}
-use Rattle.std.specs.Ordering.{nat_cmp}
-use Rattle.summary_law.specs.Tally.{TallySums}
-use Rattle.audit_findings.specs.Ledgers.{code_item}
-use Rattle.audit_findings.proofs.FewLaws.{weighted_parts, opaque-append}
+use Rattle.event_core.specs.Events.{EventRead}
+use Rattle.audit_findings.specs.CodeCounts.{CountWords}
+use Rattle.audit_findings.specs.Codes.{code_words}
+use Rattle.audit_findings.proofs.FewLaws.{few_words, opaque-append}
 use Rattle.audit_findings.proofs.OnewayCountLaws.{counts_both, counts_small}
 use Rattle.audit_findings.proofs.event_ledgers.EventLedgers.join.Goals as goal
 
@@ -11,7 +11,7 @@ pub join-codes-requires : goal.join-codes-requires
 join-codes-requires c =
     let first = c.requires.0 in
     let second = c.requires.1 in
-    (map code_item first, map code_item second, c.requires.2.codes, c.requires.3.codes, weighted_parts first second c.requires.4)
+    (code_words first, code_words second, c.requires.2.codes, c.requires.3.codes, few_words first second c.requires.4)
 
 pub plus-requires-clause-sent : goal.plus-requires-clause-sent
 plus-requires-clause-sent c =
@@ -32,8 +32,8 @@ returns c first second sums others fits =
     record {
       records = omega (arith, records, more, long);
       opaque = omega (arith, opaque, more_opaque, both);
-      codes = subst (TallySums nat_cmp c.in_ok-codes.field-0) (sym (map-append code_item first second))
-          (c.in_ok-codes.ensures (map code_item first) (map code_item second) sums.codes others.codes (weighted_parts first second fits));
+      codes = subst (CountWords c.in_ok-codes.field-0) (sym (map-append (λ (e : EventRead). e.code) first second))
+          (c.in_ok-codes.ensures (code_words first) (code_words second) sums.codes others.codes (few_words first second fits));
       oneway = counts_both c.args.self.oneway c.args.later.oneway c.plus.result first second sums.oneway others.oneway
           c.plus.ensures.sent c.plus.ensures.received;
       objects = c.in_ok-objects.ensures first second sums.objects others.objects fits;
