@@ -39,7 +39,7 @@ impl OpenerRow {
     }
 
     /// Whether its thread is at this end and its verdict is this one.
-    pub fn is_of(&self, end: End, verdict: Verdict) -> bool
+    fn is_of(&self, end: End, verdict: Verdict) -> bool
         ensures { result ≡ is_of end verdict self.now }
     {
         self.end == end && self.row.verdict == verdict
