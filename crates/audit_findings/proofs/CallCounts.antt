@@ -10,7 +10,8 @@ use Rattle.call_stacks.specs.declared.verdict.Verdict.TheVariants.{Answered, Fai
 use Rattle.audit_findings.specs.declared.opener_row.End.{End}
 use Rattle.audit_findings.specs.declared.opener_row.End.TheVariants.{Caller, Server}
 use Rattle.audit_findings.specs.declared.opener_row.OpenerRow.{OpenerRow}
-use Rattle.audit_findings.specs.Calls.{is_call, is_crossed, is_open, is_unanswered}
+use Rattle.audit_findings.specs.Calls.{is_call, is_unanswered}
+use Rattle.call_stacks.specs.Verdicts.{is_crossed, is_open}
 use Rattle.audit_findings.specs.Kept.{kept_call}
 use Rattle.audit_findings.specs.ThreadRows.{opener_row, is_at, is_verdict, is_of, is_but, is_listed}
 

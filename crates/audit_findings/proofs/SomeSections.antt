@@ -37,7 +37,8 @@ use Rattle.summary_law.specs.declared.count.Count.{Count}
 use Rattle.audit_findings.specs.declared.codes.CodeRow.{CodeRow}
 use Rattle.audit_findings.specs.declared.record_counts.RecordCounts.{RecordCounts}
 use Rattle.audit_findings.specs.Buffers.{AreLeaked, AreStrayFrees}
-use Rattle.audit_findings.specs.Calls.{CallsSaid, ServedSaid, RefusedSaid, AreCallFindings, AreRefused, is_call, is_answered, is_failed, is_replied, is_crossed, is_open, is_unanswered}
+use Rattle.audit_findings.specs.Calls.{CallsSaid, ServedSaid, RefusedSaid, AreCallFindings, AreRefused, is_call, is_unanswered}
+use Rattle.call_stacks.specs.Verdicts.{is_answered, is_failed, is_replied, is_crossed, is_open}
 use Rattle.audit_findings.specs.Codes.{AreCodeRows}
 use Rattle.event_core.specs.Events.{events_of_wholes, wholes_of}
 use Rattle.audit_findings.specs.Handles.{AreHandleFindings, AreHandlesOf, is_unbalanced_handle}

@@ -1,8 +1,8 @@
 -- Rows of things of several lists, gathered and then sorted by their ranks.
-use Rattle.std.proofs.Common.{◌≡◌, ◌≢◌, ℕ, ◌<◌, ◌≤◌, Bool, true, false, List, [], ◌∷◌, ◌++◌, map, All, AllPairs, Contains, get_or, eqb, refl, sym, ap, subst, ◌∙◌, ⊎_elim, inl, inr, arith}
+use Rattle.std.proofs.Common.{◌≡◌, ◌≢◌, ℕ, ◌<◌, Bool, true, false, List, [], ◌∷◌, ◌++◌, map, All, AllPairs, Contains, get_or, eqb, refl, sym, ap, subst, ◌∙◌, ⊎_elim, inl, inr, arith}
 use Rattle.std.proofs.Common.{IsPermutation}
 use Rattle.std.specs.Prelude.{◌↔◌}
-use Rattle.std.proofs.lemmas.Bool.{true≢false, cases_lt}
+use Rattle.std.proofs.lemmas.Bool.{true≢false}
 use Rattle.std.proofs.lemmas.Bool.Decides.{Decides-eqb}
 use Rattle.std.proofs.lemmas.Cmp.{nat_eq_equiv}
 use Rattle.std.proofs.lemmas.List.{map-append}
@@ -13,7 +13,7 @@ use Rattle.std.proofs.lemmas.Map.Keys.{IsDistinct-IsPermutation, IsDistinct-head
 use Rattle.std.proofs.lemmas.Map.Made.{AllPairs-from_IsDistinct, IsDistinct-from_AllPairs}
 use Rattle.std.specs.List.{AllByRecursion, AllZip, IsDistinct, flat_map}
 use Rattle.std.specs.List.Sorted.{IsNonDecreasingBy}
-use Rattle.call_stacks.proofs.Members.{In, in_list, contained, in-map, map-in}
+use Rattle.call_stacks.proofs.Members.{In, in_list, contained, in-map, map-in, pairs_from_rises, rises_sorted}
 use Rattle.std.specs.Prelude.{count_by, filter}
 use Rattle.audit_findings.proofs.CallCounts.{count_told}
 use Rattle.audit_findings.proofs.Listings.{in_kept, kept_in, counted_in_order}
@@ -59,18 +59,13 @@ module _ {X R : Type 0} (row : X → R) (key : R → ℕ) (things : List X) (apa
     (rows : List R) (moved : IsPermutation (map row things) rows) (sorted : IsNonDecreasingBy key rows) where
   -- the keys of the rows differ, so they rise strictly
   pub rows_rise : AllPairs (λ a b. key a < key b) rows
-  rows_rise i j d below within =
+  rows_rise =
       let keys = map key rows in
       let first : AllPairs (λ (a b : ℕ). a ≢ b) (map key (map row things))
       = pairs_map (λ (a b : ℕ). a ≢ b) key (map row things) (pairs_map (λ (a b : R). key a ≢ key b) row things apart) in
       let distinct = IsDistinct-IsPermutation eqb (λ x y. nat_eq_equiv.symm x y) (map key (map row things)) keys
       (IsPermutation-map key (map row things) rows moved) (IsDistinct-from_AllPairs Decides-eqb (map key (map row things)) first) in
-      let differ = pairs_unmap (λ (a b : ℕ). a ≢ b) key rows (AllPairs-from_IsDistinct Decides-eqb keys distinct) i j d below within in
-      let least = sorted i j d (omega (arith, below)) within in
-      ⊎_elim
-      (λ (less : key (get_or rows i d) < key (get_or rows j d)). less)
-      (λ (more : key (get_or rows j d) ≤ key (get_or rows i d)). absurd (differ (omega (arith, least, more))))
-      (cases_lt (key (get_or rows i d)) (key (get_or rows j d)))
+      pairs_from_rises key rows (rises_sorted key rows (AllPairs-from_IsDistinct Decides-eqb keys distinct) sorted)
 
   abbrev AreSorted : List X → Type 0
   AreSorted said = AllPairs (λ x y. key (row x) < key (row y)) said × ((x : X) → Contains said x ↔ Contains things x)

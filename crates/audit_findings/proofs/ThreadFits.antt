@@ -23,7 +23,7 @@ FitThreads fed = EachFits same_thread (IsPlaced event_place) fed
 
 -- and these entries sum it
 abbrev pub SumsFedCalls : List (Thread × Calls CallEvent) → List (Thread × CallEvent) → Type 0
-SumsFedCalls entries fed = SumsInOrder same_thread (CallsSum event_reads) entries fed
+SumsFedCalls entries fed = SumsInOrder same_thread (CallsSum event_reads false) entries fed
 
 pub filter_short : {X : Type 0} (test : X → Bool) (xs : List X) → length (filter test xs) ≤ length xs
 filter_short test [] = omega arith

@@ -1,8 +1,7 @@
 -- The rows of threads, one thread behind another.
-use Rattle.std.proofs.Common.{◌≡◌, ℕ, ◌+◌, ◌-◌, ◌^◌, min, List, [], ◌∷◌, ◌++◌, refl, sym, ap, ◌∙◌, append_assoc, arith}
-use Rattle.std.specs.Prelude.{count_by}
-use Rattle.std.specs.List.{flat_map}
-use Rattle.std.proofs.lemmas.List.Sums.{sum_by-append}
+use Rattle.std.proofs.Common.{◌≡◌, ℕ, false, ◌+◌, ◌-◌, ◌^◌, min, List, [], ◌∷◌, ◌++◌, refl, sym, ap, ◌∙◌, append_assoc, arith}
+use Rattle.std.specs.List.{sum_by}
+use Rattle.std.proofs.lemmas.List.Sums.{sum_by-cons}
 use Rattle.std.proofs.lemmas.List.{append-nil}
 use Rattle.std.proofs.lemmas.List.Concat.{flat_map-cons}
 use Rattle.call_stacks.specs.Calls.{GivesFindings, event_reads}
@@ -13,11 +12,7 @@ use Rattle.capture_frame.specs.declared.process.Thread.{Thread}
 use Rattle.audit_findings.specs.declared.opener_row.OpenerRow.{OpenerRow}
 use Rattle.audit_findings.specs.declared.refused.SendRow.{SendRow}
 use Rattle.audit_findings.specs.declared.thread_rows.ThreadRows.{ThreadRows}
-use Rattle.call_stacks.specs.declared.verdict.Verdict.{Verdict}
-use Rattle.call_stacks.specs.declared.verdict.Verdict.TheVariants.{Answered, Replied}
-use Rattle.audit_findings.specs.declared.opener_row.End.{End}
-use Rattle.audit_findings.specs.declared.opener_row.End.TheVariants.{Caller, Server}
-use Rattle.audit_findings.specs.ThreadRows.{openers_in, listed_in, count_in, strays_in, sends_in, is_of, TakesOver, IsCountIfSmall, AreRowsInTurn, AreGatheredRows}
+use Rattle.audit_findings.specs.ThreadRows.{listed_in, strays_in, sends_in, TakesOver, IsCountIfSmall, AreRowsInTurn, AreGatheredRows}
 
 pub no_threads : AreRowsInTurn [] [] 0 0 [] []
 no_threads = record {
@@ -30,28 +25,25 @@ no_threads = record {
   sends_are = refl;
 }
 
--- a count with that of a thread in front
-more_in_front : (end : End) (verdict : Verdict) (found : CallFindings CallEvent) (founds : List (CallFindings CallEvent)) (number : ℕ)
-    → IsCountIfSmall number (count_by (is_of end verdict) (flat_map openers_in founds))
-    → IsCountIfSmall (count_in end verdict found + number) (count_by (is_of end verdict) (flat_map openers_in (found ∷ founds)))
-more_in_front end verdict found founds number holds few =
-    let both : count_by (is_of end verdict) (flat_map openers_in (found ∷ founds))
-    ≡ count_in end verdict found + count_by (is_of end verdict) (flat_map openers_in founds)
-    = ap (count_by (is_of end verdict)) (flat_map-cons openers_in found founds) ∙ sum_by-append _ (openers_in found) (flat_map openers_in founds) in
+-- a sum with the number of a thread in front
+more_in_front : (own : CallFindings CallEvent → ℕ) (found : CallFindings CallEvent) (founds : List (CallFindings CallEvent)) (number : ℕ)
+    → IsCountIfSmall number (sum_by own founds) → IsCountIfSmall (own found + number) (sum_by own (found ∷ founds))
+more_in_front own found founds number holds few =
+    let both = sum_by-cons own found founds in
     let rest = holds (omega (arith, both, few)) in
     omega (arith, both, rest)
 
 -- one thread more, in front
 pub thread_in_front : (e : Thread × Calls CallEvent) (entries : List (Thread × Calls CallEvent)) (found : CallFindings CallEvent) (listed : List OpenerRow)
-    (answered replied : ℕ) (strays : List ℕ) (sends : List SendRow) → GivesFindings event_reads e.1 found → AreRowsInTurn entries listed answered replied strays sends
-    → AreRowsInTurn (e ∷ entries) (listed_in found ++ listed) (count_in Caller Answered found + answered) (count_in Server Replied found + replied)
+    (answered replied : ℕ) (strays : List ℕ) (sends : List SendRow) → GivesFindings event_reads false e.1 found → AreRowsInTurn entries listed answered replied strays sends
+    → AreRowsInTurn (e ∷ entries) (listed_in found ++ listed) (found.answered + answered) (found.replied + replied)
     (strays_in found ++ strays) (sends_in found ++ sends)
 thread_in_front e entries found listed answered replied strays sends gives rows = record {
   founds = found ∷ rows.founds;
   are = (gives, rows.are);
   listed_are = ap (λ (t : List OpenerRow). listed_in found ++ t) rows.listed_are ∙ sym (flat_map-cons listed_in found rows.founds);
-  answered_is = more_in_front Caller Answered found rows.founds answered rows.answered_is;
-  replied_is = more_in_front Server Replied found rows.founds replied rows.replied_is;
+  answered_is = more_in_front (λ (f : CallFindings CallEvent). f.answered) found rows.founds answered rows.answered_is;
+  replied_is = more_in_front (λ (f : CallFindings CallEvent). f.replied) found rows.founds replied rows.replied_is;
   strays_are = ap (λ (t : List ℕ). strays_in found ++ t) rows.strays_are ∙ sym (flat_map-cons strays_in found rows.founds);
   sends_are = ap (λ (t : List SendRow). sends_in found ++ t) rows.sends_are ∙ sym (flat_map-cons sends_in found rows.founds);
 }
@@ -65,8 +57,8 @@ added old own new more count is holds few =
 -- rows that a thread's were taken over into, with those to come
 pub taken_over : (entries : List (Thread × Calls CallEvent)) (old new : ThreadRows) (found : CallFindings CallEvent) (listed : List OpenerRow)
     (answered replied : ℕ) (strays : List ℕ) (sends : List SendRow) → TakesOver old found new
-    → AreRowsInTurn entries (old.listed.items ++ (listed_in found ++ listed)) (old.answered + (count_in Caller Answered found + answered))
-    (old.replied + (count_in Server Replied found + replied)) (old.strays.items ++ (strays_in found ++ strays))
+    → AreRowsInTurn entries (old.listed.items ++ (listed_in found ++ listed)) (old.answered + (found.answered + answered))
+    (old.replied + (found.replied + replied)) (old.strays.items ++ (strays_in found ++ strays))
     (old.sends.items ++ (sends_in found ++ sends))
     → AreRowsInTurn entries (new.listed.items ++ listed) (new.answered + answered) (new.replied + replied) (new.strays.items ++ strays)
     (new.sends.items ++ sends)
@@ -74,8 +66,8 @@ taken_over entries old new found listed answered replied strays sends takes rows
   founds = rows.founds;
   are = rows.are;
   listed_are = ap (λ (t : List OpenerRow). t ++ listed) takes.listed ∙ append_assoc old.listed.items (listed_in found) listed ∙ rows.listed_are;
-  answered_is = added old.answered (count_in Caller Answered found) new.answered answered _ takes.answered rows.answered_is;
-  replied_is = added old.replied (count_in Server Replied found) new.replied replied _ takes.replied rows.replied_is;
+  answered_is = added old.answered (found.answered) new.answered answered _ takes.answered rows.answered_is;
+  replied_is = added old.replied (found.replied) new.replied replied _ takes.replied rows.replied_is;
   strays_are = ap (λ (t : List ℕ). t ++ strays) takes.strays ∙ append_assoc old.strays.items (strays_in found) strays ∙ rows.strays_are;
   sends_are = ap (λ (t : List SendRow). t ++ sends) takes.sends ∙ append_assoc old.sends.items (sends_in found) sends ∙ rows.sends_are;
 }

@@ -8,8 +8,9 @@ use Rattle.call_stacks.specs.Calls.{Reads, Bracketed, IsOpener, IsStrayEvent, Is
 use Rattle.call_stacks.specs.declared.opener.Opener.{Opener}
 use Rattle.call_stacks.specs.declared.findings.RefusedSend.{RefusedSend}
 use Rattle.call_stacks.specs.Matching.{ListsInOrder}
+use Rattle.call_stacks.specs.Verdicts.{is_answered, is_failed, is_replied, is_crossed, is_open}
 use Rattle.call_stacks.specs.declared.verdict.Verdict.{Verdict}
-use Rattle.call_stacks.specs.declared.verdict.Verdict.TheVariants.{Answered, Failed, Replied, Crossed, Open}
+use Rattle.call_stacks.specs.declared.verdict.Verdict.TheVariants.{Crossed, Open}
 use Rattle.audit_findings.specs.Threads.{events_of_thread}
 
 -- what is read of an event for the calls of its thread
@@ -32,26 +33,6 @@ is_call_bracket _ = false
 -- whether an opener is a call that its thread makes; else its thread serves it
 abbrev pub is_call : Opener EventRead → Bool
 is_call o = is_call_bracket (bracket_read text_reads None o.event)
-
-abbrev pub is_answered : Verdict → Bool
-is_answered Answered = true
-is_answered _ = false
-
-abbrev pub is_failed : Verdict → Bool
-is_failed Failed = true
-is_failed _ = false
-
-abbrev pub is_replied : Verdict → Bool
-is_replied Replied = true
-is_replied _ = false
-
-abbrev pub is_crossed : Verdict → Bool
-is_crossed Crossed = true
-is_crossed _ = false
-
-abbrev pub is_open : Verdict → Bool
-is_open Open = true
-is_open _ = false
 
 -- crossed and open are the two sorts of unanswered
 abbrev pub is_unanswered : Verdict → Bool

@@ -1,5 +1,5 @@
 -- What the calls of all threads come to while they are made.
-use Rattle.std.specs.Prelude.{Bool, List, filter, is_some, map}
+use Rattle.std.specs.Prelude.{Bool, false, List, filter, is_some, map}
 use Rattle.capture_frame.specs.Process.{same_thread}
 use Rattle.capture_frame.specs.declared.process.Thread.{Thread}
 use Rattle.event_core.specs.Brackets.{is_oneway}
@@ -31,7 +31,7 @@ fed_calls events = map fed_call (filter leaves_mark events)
 -- the entries have, for each thread with an event that leaves a mark and no other, the calls of such events
 pub record SumsThreads (entries : List (Thread × Calls CallEvent)) (events : List EventRead) : Type 0 where
   pub placed : IsPlaced (λ e. e.place) events
-  pub sums : SumsInOrder same_thread (CallsSum event_reads) entries (fed_calls events)
+  pub sums : SumsInOrder same_thread (CallsSum event_reads false) entries (fed_calls events)
 
 -- the ledger has the calls of the threads of these events
 abbrev pub SumsThreadCalls : ThreadLedger → List EventRead → Type 0

@@ -1,8 +1,9 @@
 -- The rows of the calls of all threads, and what is kept of them.
 use Rattle.std.specs.Prelude.{◌≡◌, ℕ, ◌+◌, ◌-◌, ◌<◌, ◌^◌, min, ◌++◌, ◌&&◌, ◌||◌, if◌then◌else◌, not, Bool, true, false, List, map, filter, count_by, None}
-use Rattle.std.specs.List.{AllZip, flat_map}
+use Rattle.std.specs.List.{AllZip, flat_map, sum_by}
 use Rattle.std.specs.List.Sorted.{IsPermutation, IsNonDecreasingBy}
 use Rattle.event_core.specs.Events.{EventRead}
+use Rattle.call_stacks.specs.Verdicts.{is_answered, is_failed, is_replied, is_crossed, is_open}
 use Rattle.call_stacks.specs.Calls.{GivesFindings, bracket_read, event_reads, event_place}
 use Rattle.call_stacks.specs.declared.opener.Opener.{Opener}
 use Rattle.call_stacks.specs.declared.findings.RefusedSend.{RefusedSend}
@@ -18,7 +19,7 @@ use Rattle.capture_frame.specs.declared.process.Thread.{Thread}
 use Rattle.audit_findings.specs.declared.opener_row.OpenerRow.{OpenerRow}
 use Rattle.audit_findings.specs.declared.refused.SendRow.{SendRow}
 use Rattle.audit_findings.specs.declared.thread_rows.ThreadRows.{ThreadRows}
-use Rattle.audit_findings.specs.Calls.{is_call, is_call_bracket, is_answered, is_failed, is_replied, is_crossed, is_open, AreOpeners, AreStrays, AreSends}
+use Rattle.audit_findings.specs.Calls.{is_call, is_call_bracket, AreOpeners, AreStrays, AreSends}
 use Rattle.audit_findings.specs.Kept.{kept_call}
 
 -- the rows of an opener and of a refused send
@@ -68,16 +69,9 @@ is_but end verdict o = is_at end o.end && not (is_verdict verdict o.row.verdict)
 abbrev pub is_listed : OpenerRow → Bool
 is_listed o = is_but Caller Answered o || is_but Server Replied o
 
--- the calls of a thread, as rows
-abbrev pub openers_in : CallFindings CallEvent → List OpenerRow
-openers_in found = map found_opener found.openers.items
-
--- those of them that are listed, and how many have their thread at this end and this verdict
+-- the calls that a thread's ledger kept, as rows
 abbrev pub listed_in : CallFindings CallEvent → List OpenerRow
-listed_in found = filter is_listed (openers_in found)
-
-abbrev pub count_in : End → Verdict → CallFindings CallEvent → ℕ
-count_in end verdict found = count_by (is_of end verdict) (openers_in found)
+listed_in found = map found_opener found.openers.items
 
 -- its strays and its refused sends
 abbrev pub strays_in : CallFindings CallEvent → List ℕ
@@ -89,8 +83,8 @@ sends_in found = map found_send found.refused.items
 -- the rows are the old ones with those of a thread behind them, and what is counted are both together
 pub record TakesOver (old : ThreadRows) (found : CallFindings CallEvent) (new : ThreadRows) : Type 0 where
   pub listed : new.listed.items ≡ old.listed.items ++ listed_in found
-  pub answered : new.answered ≡ min (old.answered + count_in Caller Answered found) (2 ^ 64 - 1)
-  pub replied : new.replied ≡ min (old.replied + count_in Server Replied found) (2 ^ 64 - 1)
+  pub answered : new.answered ≡ min (old.answered + found.answered) (2 ^ 64 - 1)
+  pub replied : new.replied ≡ min (old.replied + found.replied) (2 ^ 64 - 1)
   pub strays : new.strays.items ≡ old.strays.items ++ strays_in found
   pub sends : new.sends.items ≡ old.sends.items ++ sends_in found
 
@@ -98,14 +92,14 @@ pub record TakesOver (old : ThreadRows) (found : CallFindings CallEvent) (new : 
 abbrev pub IsCountIfSmall : ℕ → ℕ → Type 0
 IsCountIfSmall number count = count < 2 ^ 64 → number ≡ count
 
--- the rows of the threads of some entries, one thread behind another, and how many of their calls are not listed
+-- the rows of the threads of some entries, one thread behind another, and how many of their calls have their reply
 pub record AreRowsInTurn (entries : List (Thread × Calls CallEvent)) (listed : List OpenerRow) (answered replied : ℕ)
     (strays : List ℕ) (sends : List SendRow) : Type 0 where
   pub founds : List (CallFindings CallEvent)
-  pub are : AllZip (λ (e : Thread × Calls CallEvent) found. GivesFindings event_reads e.1 found) entries founds
+  pub are : AllZip (λ (e : Thread × Calls CallEvent) found. GivesFindings event_reads false e.1 found) entries founds
   pub listed_are : listed ≡ flat_map listed_in founds
-  pub answered_is : IsCountIfSmall answered (count_by (is_of Caller Answered) (flat_map openers_in founds))
-  pub replied_is : IsCountIfSmall replied (count_by (is_of Server Replied) (flat_map openers_in founds))
+  pub answered_is : IsCountIfSmall answered (sum_by (λ found. found.answered) founds)
+  pub replied_is : IsCountIfSmall replied (sum_by (λ found. found.replied) founds)
   pub strays_are : strays ≡ flat_map strays_in founds
   pub sends_are : sends ≡ flat_map sends_in founds
 

@@ -1,7 +1,7 @@
 //! Calls as rows.
 
 ghost use Rattle.std.specs.Prelude.{◌≡◌, map, filter, count_by, IfOk};
-ghost use Rattle.audit_findings.specs.ThreadRows.{found_opener, is_of, is_but, is_listed};
+ghost use Rattle.audit_findings.specs.ThreadRows.{found_opener, is_of, is_but};
 
 use crate::calls::CallRow;
 use call_stacks::{CallEvent, CallRecord, Opener, Verdict};
@@ -39,7 +39,7 @@ impl OpenerRow {
     }
 
     /// Whether its thread is at this end and its verdict is this one.
-    pub fn is_of(&self, end: End, verdict: Verdict) -> bool
+    fn is_of(&self, end: End, verdict: Verdict) -> bool
         ensures { result ≡ is_of end verdict self.now }
     {
         self.end == end && self.row.verdict == verdict
@@ -50,13 +50,6 @@ impl OpenerRow {
         ensures { result ≡ is_but end verdict self.now }
     {
         self.end == end && self.row.verdict != verdict
-    }
-
-    /// Whether a section lists it: answered and replied calls are only counted.
-    pub fn is_listed(&self) -> bool
-        ensures { result ≡ is_listed self.now }
-    {
-        self.is_but(End::Caller, Verdict::Answered) || self.is_but(End::Server, Verdict::Replied)
     }
 }
 

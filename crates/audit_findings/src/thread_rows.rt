@@ -1,22 +1,22 @@
 //! The rows of the calls of all threads.
 
-ghost use Rattle.std.specs.Prelude.{◌≡◌, ◌++◌, List, map, filter, count_by, IfOk, OnOk};
+ghost use Rattle.std.specs.Prelude.{◌≡◌, ◌++◌, List, map, IfOk, OnOk};
 ghost use Rattle.event_core.specs.Events.{EventRead};
 ghost use Rattle.call_stacks.specs.Calls.{event_place};
 ghost use Rattle.audit_findings.specs.Places.{RiseInPlace};
 ghost use Rattle.audit_findings.specs.ThreadLedger.{SumsThreadCalls};
-ghost use Rattle.audit_findings.specs.ThreadRows.{found_opener, found_send, is_listed, is_of};
+ghost use Rattle.audit_findings.specs.ThreadRows.{found_opener, found_send};
 ghost use Rattle.audit_findings.specs.ThreadRows.{TakesOver, AreGatheredRows, AreSortedRows, KeepRows};
 
-use crate::opener_row::{End, OpenerRow};
+use crate::opener_row::OpenerRow;
 use crate::refused::SendRow;
 use crate::thread_ledger::ThreadLedger;
-use call_stacks::{CallEvent, CallFindings, Opener, RefusedSend, Verdict};
+use call_stacks::{CallEvent, CallFindings, Opener, RefusedSend};
 use std::alloc::{AllocError, Global};
 use summary_law::InOrder;
 
-/// The rows of the calls of all threads, each list in rising place once it is sorted. Calls that no
-/// section lists, which most are, are counted as their thread is taken over.
+/// The rows of the calls of all threads, each list in rising place once it is sorted. Of the calls
+/// that no section lists, which most are, there is only a count.
 #[derive(Drop)]
 pub(crate) struct ThreadRows {
     /// The calls that a section lists, made and served ones.
@@ -67,12 +67,9 @@ impl ThreadRows {
     fn take_over(&mut self, found: &CallFindings<CallEvent>) -> Result<(), AllocError>
         ensures { OnOk result (TakesOver self.old found.now self.new) }
     {
-        let openers = found.openers.as_slice();
-        let answered = count_found(openers, End::Caller, Verdict::Answered);
-        let replied = count_found(openers, End::Server, Verdict::Replied);
-        self.answered = self.answered.saturating_add(answered);
-        self.replied = self.replied.saturating_add(replied);
-        push_listed(&mut self.listed, openers)?;
+        self.answered = self.answered.saturating_add(found.answered);
+        self.replied = self.replied.saturating_add(found.replied);
+        push_listed(&mut self.listed, found.openers.as_slice())?;
         push_places(&mut self.strays, found.strays.as_slice())?;
         push_sends(&mut self.sends, found.refused.as_slice())
     }
@@ -87,25 +84,12 @@ impl ThreadRows {
     }
 }
 
-/// How many calls have their thread at this end and this verdict.
-fn count_found(openers: &[Opener<CallEvent>], end: End, verdict: Verdict) -> u64
-    ensures { result ≡ count_by (is_of end verdict) (map found_opener openers.now) }
-{
-    openers
-        .iter()
-        .filter(|opener| OpenerRow::of(opener).is_of(end, verdict))
-        .count() as u64
-}
-
 fn push_listed(rows: &mut Vec<OpenerRow>, openers: &[Opener<CallEvent>]) -> Result<(), AllocError>
     ensures { OnOk result (rows.new.items ≡
-        rows.old.items ++ filter is_listed (map found_opener openers.now)) }
+        rows.old.items ++ map found_opener openers.now) }
 {
     for opener in openers {
-        let row = OpenerRow::of(opener);
-        if row.is_listed() {
-            rows.push(row)?;
-        }
+        rows.push(OpenerRow::of(opener))?;
     }
     Ok(())
 }

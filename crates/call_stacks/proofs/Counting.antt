@@ -1,6 +1,6 @@
 -- Matches by counting: the closer of an opener is where closers first outnumber the openers behind it.
 use Rattle.std.proofs.Common.{◌≡◌, ℕ, zero, suc, ◌+◌, ◌-◌, ◌<◌, ◌≤◌, cond, Some, refl, sym, ap, subst, ◌∙◌, ⊎_elim, arith}
-use Rattle.std.proofs.Common.{List, [], ◌∷◌, ◌++◌, take, drop, length}
+use Rattle.std.proofs.Common.{List, [], ◌∷◌, ◌++◌, take, drop}
 use Rattle.std.specs.Prelude.{slice_get, slice_range}
 use Rattle.std.proofs.lemmas.Bool.{cases_lt}
 use Rattle.std.proofs.lemmas.List.Recursion.{is_count_by}
@@ -101,11 +101,6 @@ get-drop [] (suc a) q = refl
 get-drop (x ∷ xs) (suc a) q =
     let next : suc a + q ≡ suc (a + q) = omega arith in
     get-drop xs a q ∙ sym (ap (slice_get (x ∷ xs)) next)
-
-pub get_within : {X : Type 0} (xs : List X) (i : ℕ) (x : X) → slice_get xs i ≡ Some x → i < length xs
-get_within [] i x e = absurd cc
-get_within (y ∷ xs) zero x e = omega arith
-get_within (y ∷ xs) (suc i) x e = let rest = get_within xs i x e in omega arith
 
 -- the stretch from an opener on
 range_from : (sides : List Side) (i t : ℕ) → slice_get sides i ≡ Some opener

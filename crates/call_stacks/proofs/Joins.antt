@@ -1,13 +1,13 @@
 -- What a value holds after a join, and what it comes to at the end.
-use Rattle.std.proofs.Common.{◌≡◌, ℕ, suc, ◌+◌, ◌<◌, ◌≤◌, ◌^◌, ◌⊎◌, Bool, true, false, cond, Option, Some, None, refl, sym, ap, subst, ◌∙◌, inl, inr, arith}
-use Rattle.std.proofs.Common.{List, [], ◌∷◌, ◌++◌, map, length, append_assoc, length-append, get_or}
-use Rattle.std.proofs.lemmas.List.{append-nil, map-append, length-map}
+use Rattle.std.proofs.Common.{◌≡◌, ◌<◌, ◌⊎◌, Bool, true, false, cond, Option, Some, None, refl, sym, ap, subst, ◌∙◌, inl, inr, arith}
+use Rattle.std.proofs.Common.{List, [], ◌∷◌, ◌++◌, map, append_assoc, length-append, get_or}
+use Rattle.std.proofs.lemmas.List.{append-nil, map-append}
 use Rattle.std.proofs.lemmas.List.Sums.{fold-append}
 use Rattle.std.proofs.lemmas.List.Elements.{All-contains}
 use Rattle.std.proofs.lemmas.List.Quantifiers.{all_pairs_push}
 use Rattle.std.specs.List.{find}
+use Rattle.std.specs.List.Sorted.{IsPermutation, IsNonDecreasingBy}
 use Rattle.std.specs.Option.{option_or, option_to_list, option_and_then}
-use Rattle.std.specs.Prelude.{All}
 use Rattle.event_core.specs.declared.marks.Bracket.{Bracket}
 use Rattle.event_core.specs.declared.marks.Bracket.TheVariants.{Neither}
 use Rattle.event_core.specs.declared.marks.Mark.{Mark}
@@ -16,32 +16,19 @@ use Rattle.summary_law.proofs.RisingLaws.{rising_apart}
 use Rattle.summary_law.specs.Summary.{Adds}
 use Rattle.call_stacks.specs.declared.findings.CallFindings.{CallFindings}
 use Rattle.call_stacks.specs.declared.findings.RefusedSend.{RefusedSend}
-use Rattle.call_stacks.specs.declared.opener.Opener.{Opener}
 use Rattle.call_stacks.specs.declared.calls.Calls.{Calls}
-use Rattle.call_stacks.specs.Calls.{Reads, bracketed_with, judged_of, bracketed_part, opener_place, bracket_read, bracket_in_part, mark_behind_by, last_mark, is_error, is_refused, if_error_reply, undecided_of, refused_of, IsOpener, IsStrayEvent, CallsSum, AreFindings}
-use Rattle.call_stacks.specs.Content.{Content, content_of, ClosesAll, appended}
-use Rattle.call_stacks.specs.Matching.{Side, opener, closer, neither, ListsInOrder}
-use Rattle.call_stacks.specs.Verdicts.{side_of}
+use Rattle.call_stacks.specs.Calls.{Reads, bracketed_with, judged_of, bracketed_part, opener_place, bracket_read, bracket_in_part, mark_behind_by, last_mark, is_error, is_refused, if_error_reply, undecided_of, refused_of, IsOpener, IsStrayEvent, CallsSum, AreFindings, open_call}
+use Rattle.call_stacks.specs.Content.{Content, content_of, sum_64, ClosesAll, appended}
+use Rattle.call_stacks.specs.Matching.{Side, ListsInOrder}
+use Rattle.call_stacks.specs.Verdicts.{side_of, is_answered, is_replied}
 use Rattle.call_stacks.proofs.MarkLaws.{error_bracket, none_refused}
 use Rattle.call_stacks.proofs.Judging.{pair, side, paired, same_judging, decided, error_openers, decided_pairs, decided_refused}
 use Rattle.call_stacks.proofs.Lists.{found, event_of, openers_found, strays_found, strays_listed, openers_listed}
-use Rattle.call_stacks.proofs.Members.{In, get_or_in, contained, rises_from_pairs}
+use Rattle.call_stacks.proofs.Members.{In, contained, rises_from_pairs}
 use Rattle.call_stacks.proofs.Model.{same_some, some_is_some, strays, openers, put, entry, strays-append, openers-append, strays-strays, AllClosers, strays_closers, strays_of_closers, openers_of_closers}
-use Rattle.call_stacks.proofs.Steps.{unmatched_at, unmatched-append, unmatched_shift, Models, closes_all_models, as_closers}
-use Rattle.call_stacks.proofs.Counting.{get_within}
-use Rattle.call_stacks.proofs.Sums.{Holds, holds, marked, paired-append, refused-append, none_of_one, closes_keeps, fold_mark, no_mark_undecided, undecided_kept, undecided_later, error_alone, unmatched_sound}
-
-entry_short : {A : Type 0} (s : Side) (x : A) (later : List A) (rest : List (A × Option A)) (n : ℕ) → length rest ≤ n → length (entry s x later rest) ≤ suc n
-entry_short opener x later rest n short = omega arith
-entry_short closer x later rest n short = omega arith
-entry_short neither x later rest n short = omega arith
-
-openers_short : {A : Type 0} (side : A → Side) (items : List A) → length (openers side items) ≤ length items
-openers_short side [] = omega arith
-openers_short side (x ∷ items) = entry_short (side x) x (strays side items) (openers side items) (length items) (openers_short side items)
-
-all_in : {X : Type 0} (P : X → Type 0) (xs : List X) → ((x : X) → In x xs → P x) → All P xs
-all_in P xs each k d within = each (get_or xs k d) (get_or_in xs k d within)
+use Rattle.call_stacks.proofs.Kept.{kept_in_place}
+use Rattle.call_stacks.proofs.Steps.{all_found, HoldsCalls, holds_both, holds_same, Models, closes_all_models, as_closers}
+use Rattle.call_stacks.proofs.Sums.{Holds, holds, marked, paired-append, refused-append, none_of_one, closes_keeps, fold_mark, no_mark_undecided, undecided_kept, undecided_later, error_alone, exact_count}
 
 find_in : {X : Type 0} (test : X → Bool) (xs : List X) (x : X) → find test xs ≡ Some x → In x xs
 find_in test [] x e = absurd (some_is_some x (sym e))
@@ -184,81 +171,6 @@ module _ {E : Type 0} (reads : Reads E) where
       ∙ ap (λ t. t ++ openers side part) (sym (openers-append side front closing))
       ∙ ap (λ t. openers side t ++ openers side part) (sym (with_closers_are first second))
 
-  -- ---- bounds
-
-  judged_length : (judge : Option Mark → E → Bracket) (before : Option Mark) (events : List E) → length (bracketed_with reads judge before events) ≡ length events
-  judged_length judge before [] = refl
-  judged_length judge before (e ∷ events) = ap suc (judged_length judge (mark_behind_by reads before e) events)
-
-  -- each index of an opener without a closer is within the openers
-  pub within : (content : Content E) (pairs : List (E × Side)) → Models reads content pairs → All (λ index. index < length content.openers) content.unmatched
-  within content pairs models =
-      subst (λ (l : List ℕ). All (λ index. index < length content.openers) l) (sym models.unmatched_are)
-      (all_in (λ index. index < length content.openers) (unmatched_at 0 (openers side pairs))
-      (λ index there.
-      let at_index = unmatched_sound reads 0 (openers side pairs) index there in
-      let number = at_index.number in
-      let short = get_within (map (found reads) (openers side pairs)) at_index.position at_index.left_open.0 at_index.left_open.1 in
-      let same = ap length models.openers_are in
-      omega arith))
-
-  -- the openers of both parts are few
-  pub together : (closed later : Content E) (first second : List E) → IsPlaced reads.place (first ++ second) → Models reads closed (with_closers first second)
-      → Models reads later (paired reads (bracket_in_part reads) None second) → length closed.openers + length later.openers ≤ 2 ^ 32
-  together closed later first second placed closed_models later_models =
-      let few = placed.0 in
-      let a = ap length closed_models.openers_are ∙ length-map (openers side (with_closers first second)) (found reads) in
-      let b = ap length later_models.openers_are ∙ length-map (openers side (paired reads (bracket_in_part reads) None second)) (found reads) in
-      let c = ap length (joined_openers first second)
-      ∙ length-append (openers side (with_closers first second)) (openers side (paired reads (bracket_in_part reads) None second)) in
-      let short = openers_short side (paired reads (bracket_in_part reads) None (first ++ second)) in
-      let long = length-map (bracketed_part reads (first ++ second)) pair ∙ judged_length (bracket_in_part reads) None (first ++ second) in
-      omega arith
-
-  -- ---- the join
-
-  closes_all_keeps : (old new : Content E) (events : List E) → ClosesAll reads old events new
-      → (new.last ≡ old.last) × (new.undecided ≡ old.undecided) × (new.refused ≡ old.refused)
-  closes_all_keeps old new [] is = (ap (λ (c : Content E). c.last) is, ap (λ (c : Content E). c.undecided) is, ap (λ (c : Content E). c.refused) is)
-  closes_all_keeps old new (e ∷ events) step =
-      let first = closes_keeps reads old step.0 e step.1 in
-      let rest = closes_all_keeps step.0 new events step.2 in
-      (rest.0 ∙ first.0, rest.1 ∙ first.1, rest.2 ∙ first.2)
-
-  pub closed_models : (joined later closed : Content E) (first second : List E) → Holds reads joined (first ++ option_to_list (undecided_of reads second))
-      → Holds reads later second
-      → ClosesAll reads joined later.strays closed → Models reads closed (with_closers first second)
-  closed_models joined later closed first second front back closes =
-      closes_all_models reads joined closed (paired reads (bracket_in_part reads) None (first ++ option_to_list (undecided_of reads second)))
-      (map event_of (strays side (paired reads (bracket_in_part reads) None second))) front.models
-      (subst (λ (l : List E). ClosesAll reads joined l closed) back.models.strays_are closes)
-
-  joined_models : (later closed new : Content E) (first second : List E) → Models reads closed (with_closers first second)
-      → Models reads later (paired reads (bracket_in_part reads) None second)
-      → new.openers ≡ closed.openers ++ later.openers → new.unmatched ≡ closed.unmatched ++ map (λ index. length closed.openers + index) later.unmatched
-      → new.strays ≡ closed.strays → Models reads new (paired reads (bracket_in_part reads) None (first ++ second))
-  joined_models later closed new first second front back openers_are unmatched_are strays_are =
-      let a = openers side (with_closers first second) in
-      let b = openers side (paired reads (bracket_in_part reads) None second) in
-      let many = length closed.openers in
-      let count : many + 0 ≡ 0 + length a
-      = (let n : many + 0 ≡ many = omega arith in n) ∙ ap length front.openers_are ∙ length-map a (found reads) ∙ (let n : length a ≡ 0 + length a = omega arith in n) in
-      record {
-        openers_are = openers_are
-            ∙ ap (λ l. l ++ later.openers) front.openers_are
-            ∙ ap (λ l. map (found reads) a ++ l) back.openers_are
-            ∙ sym (map-append (found reads) a b)
-            ∙ ap (map (found reads)) (sym (joined_openers first second));
-        unmatched_are = unmatched_are
-            ∙ ap (λ l. l ++ map (λ index. many + index) later.unmatched) front.unmatched_are
-            ∙ ap (λ l. unmatched_at 0 a ++ map (λ index. many + index) l) back.unmatched_are
-            ∙ ap (λ l. unmatched_at 0 a ++ l) (sym (unmatched_shift many 0 b))
-            ∙ ap (λ n. unmatched_at 0 a ++ unmatched_at n b) count
-            ∙ sym (unmatched-append 0 a b)
-            ∙ ap (unmatched_at 0) (sym (joined_openers first second));
-        strays_are = strays_are ∙ front.strays_are ∙ ap (map event_of) (sym (joined_strays first second));
-      }
-
   undecided_again : (undecided : Option E) → IsError undecided → undecided_of reads (option_to_list undecided) ≡ undecided
   undecided_again None error = refl
   undecided_again (Some u) error = error_alone reads u (error u refl)
@@ -284,29 +196,6 @@ module _ {E : Type 0} (reads : Reads E) where
       ∙ sym (last_both first second)
   joined_last (Some mark) first second is = ap (λ o. option_or o (last_mark reads first)) (sym is) ∙ sym (last_both first second)
 
-  pub joined : (mine later closed new : Content E) (first second : List E) → IsPlaced reads.place (first ++ second)
-      → Holds reads mine (first ++ option_to_list (undecided_of reads second)) → Holds reads later second → ClosesAll reads mine later.strays closed
-      → new ≡ record (appended later.openers later.unmatched later.refused closed) { last = option_or later.last closed.last }
-      → Holds reads new (first ++ second)
-  joined mine later closed new first second placed front back closes is =
-      let kept = closes_all_keeps mine closed later.strays closes in
-      record {
-        placed = placed;
-        last = ap (λ (c : Content E). c.last) is
-            ∙ ap (λ o. option_or o closed.last) back.last
-            ∙ ap (option_or (last_mark reads second)) (kept.0 ∙ front.last)
-            ∙ joined_last (last_mark reads second) first second refl;
-        undecided = ap (λ (c : Content E). c.undecided) is ∙ kept.1 ∙ front.undecided ∙ joined_undecided (last_mark reads first) first second refl;
-        models = joined_models later closed new first second (closed_models mine later closed first second front back closes) back.models
-            (ap (λ (c : Content E). c.openers) is) (ap (λ (c : Content E). c.unmatched) is) (ap (λ (c : Content E). c.strays) is);
-        refused = ap (λ (c : Content E). c.refused) is
-            ∙ ap (λ l. l ++ later.refused) (kept.2 ∙ front.refused ∙ refused-append reads (bracket_in_part reads) None first (option_to_list (undecided_of reads second)))
-            ∙ ap (λ l. refused_of (bracketed_part reads first) ++ undecided_refused (last_mark reads first) (undecided_of reads second) ++ l) back.refused
-            ∙ append_assoc (refused_of (bracketed_part reads first)) (undecided_refused (last_mark reads first) (undecided_of reads second)) (refused_of (bracketed_part reads second))
-            ∙ ap (λ l. refused_of (bracketed_part reads first) ++ l) (sym (behind (last_mark reads first) second).refused_are)
-            ∙ sym (refused-append reads (bracket_in_part reads) None first second);
-      }
-
   -- ---- the end
 
   whole_strays : (undecided : Option E) (closers : List (E × Side)) → AllClosers side closers → IsError undecided
@@ -319,32 +208,6 @@ module _ {E : Type 0} (reads : Reads E) where
   whole_refused : (undecided : Option E) → IsError undecided → decided_refused reads None undecided ≡ []
   whole_refused None error = refl
   whole_refused (Some u) error = none_of_one (bracket_read reads None u) u None (none_refused (reads.kind u) (reads.oneway u))
-
-  pub finished : (calls : Calls E) (findings : CallFindings E) (events : List E) → Holds reads (content_of calls) events
-      → findings.openers.items ≡ calls.openers.items → findings.strays.items ≡ option_to_list calls.undecided ++ calls.strays.items
-      → findings.refused.items ≡ calls.refused.items → AreFindings reads events findings
-  finished calls findings events held openers_same strays_same refused_same =
-      let rises = rises_from_pairs reads.place events held.placed.1 in
-      let settled = decided reads None events in
-      let part = paired reads (bracket_in_part reads) None events in
-      let openers_are : findings.openers.items ≡ openers_found reads (judged_of reads events)
-      = openers_same ∙ held.models.openers_are ∙ ap (map (found reads)) (sym settled.openers_are) in
-      let strays_are : findings.strays.items ≡ strays_found (judged_of reads events)
-      = strays_same
-      ∙ ap (λ o. option_to_list o ++ calls.strays.items) held.undecided
-      ∙ ap (λ l. option_to_list (undecided_of reads events) ++ l) held.models.strays_are
-      ∙ sym (whole_strays (undecided_of reads events) (strays side part) (strays_closers side part) (is_error_of events))
-      ∙ ap (map event_of) (sym settled.strays_are)
-      in
-      record {
-        openers = subst (λ (l : List (Opener E)). ListsInOrder (opener_place reads) (IsOpener reads (judged_of reads events)) l) (sym openers_are)
-            (openers_listed reads (bracket_read reads) None events rises);
-        strays = subst (λ (l : List E). ListsInOrder reads.place (IsStrayEvent (judged_of reads events)) l) (sym strays_are)
-            (strays_listed reads (bracket_read reads) None events rises);
-        refused = refused_same ∙ held.refused
-            ∙ ap (λ l. l ++ refused_of (bracketed_part reads events)) (sym (whole_refused (undecided_of reads events) (is_error_of events)))
-            ∙ sym settled.refused_are;
-      }
 
   -- ---- the first part with the undecided one
 
@@ -370,22 +233,119 @@ module _ {E : Type 0} (reads : Reads E) where
             (λ k d inside. All-contains (λ y. reads.place (get_or first k d) < reads.place y) second u (apart k d inside) there),
       )
 
+module _ {E : Type 0} (reads : Reads E) (all_kept : Bool) where
+  -- ---- the join
+
+  closes_all_keeps : (old new : Content E) (events : List E) → ClosesAll reads all_kept old events new
+      → (new.last ≡ old.last) × (new.undecided ≡ old.undecided) × (new.refused ≡ old.refused)
+  closes_all_keeps old new [] is = (ap (λ (c : Content E). c.last) is, ap (λ (c : Content E). c.undecided) is, ap (λ (c : Content E). c.refused) is)
+  closes_all_keeps old new (e ∷ events) step =
+      let first = closes_keeps reads all_kept old step.0 e step.1 in
+      let rest = closes_all_keeps step.0 new events step.2 in
+      (rest.0 ∙ first.0, rest.1 ∙ first.1, rest.2 ∙ first.2)
+
+  pub closed_models : (joined later closed : Content E) (first second : List E) → Holds reads all_kept joined (first ++ option_to_list (undecided_of reads second))
+      → Holds reads all_kept later second
+      → ClosesAll reads all_kept joined later.strays closed → Models reads all_kept closed (with_closers reads first second)
+  closed_models joined later closed first second front back closes =
+      closes_all_models reads all_kept joined closed (paired reads (bracket_in_part reads) None (first ++ option_to_list (undecided_of reads second)))
+      (map event_of (strays side (paired reads (bracket_in_part reads) None second))) front.models
+      (subst (λ (l : List E). ClosesAll reads all_kept joined l closed) back.models.strays_are closes)
+
+  joined_models : (later closed new : Content E) (first second : List E) → Models reads all_kept closed (with_closers reads first second)
+      → Models reads all_kept later (paired reads (bracket_in_part reads) None second) → new.unmatched ≡ closed.unmatched ++ later.unmatched
+      → new.closed ≡ closed.closed ++ later.closed → new.answered ≡ sum_64 closed.answered later.answered
+      → new.replied ≡ sum_64 closed.replied later.replied → new.strays ≡ closed.strays
+      → Models reads all_kept new (paired reads (bracket_in_part reads) None (first ++ second))
+  joined_models later closed new first second front back unmatched_are closed_are answered_are replied_are strays_are =
+      let a = openers side (with_closers reads first second) in
+      let b = openers side (paired reads (bracket_in_part reads) None second) in
+      record {
+        calls = holds_same reads all_kept new (a ++ b) (openers side (paired reads (bracket_in_part reads) None (first ++ second)))
+            (sym (joined_openers reads first second))
+            (subst (HoldsCalls reads all_kept new) (sym (map-append (found reads) a b))
+            (holds_both reads all_kept closed later new (map (found reads) a) (map (found reads) b) front.calls back.calls
+            unmatched_are closed_are answered_are replied_are));
+        strays_are = strays_are ∙ front.strays_are ∙ ap (map event_of) (sym (joined_strays reads first second));
+      }
+
+  pub joined : (mine later closed new : Content E) (first second : List E) → IsPlaced reads.place (first ++ second)
+      → Holds reads all_kept mine (first ++ option_to_list (undecided_of reads second)) → Holds reads all_kept later second → ClosesAll reads all_kept mine later.strays closed
+      → new ≡ appended later closed
+      → Holds reads all_kept new (first ++ second)
+  joined mine later closed new first second placed front back closes is =
+      let kept = closes_all_keeps mine closed later.strays closes in
+      record {
+        placed = placed;
+        last = ap (λ (c : Content E). c.last) is
+            ∙ ap (λ o. option_or o closed.last) back.last
+            ∙ ap (option_or (last_mark reads second)) (kept.0 ∙ front.last)
+            ∙ joined_last reads (last_mark reads second) first second refl;
+        undecided = ap (λ (c : Content E). c.undecided) is ∙ kept.1 ∙ front.undecided ∙ joined_undecided reads (last_mark reads first) first second refl;
+        models = joined_models later closed new first second (closed_models mine later closed first second front back closes) back.models
+            (ap (λ (c : Content E). c.unmatched) is) (ap (λ (c : Content E). c.closed) is) (ap (λ (c : Content E). c.answered) is)
+            (ap (λ (c : Content E). c.replied) is) (ap (λ (c : Content E). c.strays) is);
+        refused = ap (λ (c : Content E). c.refused) is
+            ∙ ap (λ l. l ++ later.refused) (kept.2 ∙ front.refused ∙ refused-append reads (bracket_in_part reads) None first (option_to_list (undecided_of reads second)))
+            ∙ ap (λ l. refused_of (bracketed_part reads first) ++ undecided_refused reads (last_mark reads first) (undecided_of reads second) ++ l) back.refused
+            ∙ append_assoc (refused_of (bracketed_part reads first)) (undecided_refused reads (last_mark reads first) (undecided_of reads second)) (refused_of (bracketed_part reads second))
+            ∙ ap (λ l. refused_of (bracketed_part reads first) ++ l) (sym (behind reads (last_mark reads first) second).refused_are)
+            ∙ sym (refused-append reads (bracket_in_part reads) None first second);
+      }
+
+  -- ---- the end
+
+  pub finished : (calls : Calls E) (findings : CallFindings E) (events : List E) → Holds reads all_kept (content_of calls) events
+      → IsPermutation (calls.closed.items ++ map open_call calls.unmatched.items) findings.openers.items
+      → IsNonDecreasingBy (opener_place reads) findings.openers.items
+      → findings.answered ≡ calls.answered → findings.replied ≡ calls.replied
+      → findings.strays.items ≡ option_to_list calls.undecided ++ calls.strays.items
+      → findings.refused.items ≡ calls.refused.items → AreFindings reads all_kept events findings
+  finished calls findings events held moved sorted answered replied strays_same refused_same =
+      let rises = rises_from_pairs reads.place events held.placed.1 in
+      let settled = decided reads None events in
+      let part = paired reads (bracket_in_part reads) None events in
+      let openers_are : all_found reads part ≡ openers_found reads (judged_of reads events) = ap (map (found reads)) (sym settled.openers_are) in
+      let listed = subst (ListsInOrder (opener_place reads) (IsOpener reads (judged_of reads events))) (sym openers_are)
+      (openers_listed reads (bracket_read reads) None events rises) in
+      let strays_are : findings.strays.items ≡ strays_found (judged_of reads events)
+      = strays_same
+      ∙ ap (λ o. option_to_list o ++ calls.strays.items) held.undecided
+      ∙ ap (λ l. option_to_list (undecided_of reads events) ++ l) held.models.strays_are
+      ∙ sym (whole_strays reads (undecided_of reads events) (strays side part) (strays_closers side part) (is_error_of reads events))
+      ∙ ap (map event_of) (sym settled.strays_are)
+      in
+      record {
+        openers = all_found reads part;
+        are_openers = listed;
+        kept = kept_in_place (opener_place reads) all_kept (all_found reads part) calls.closed.items (map open_call calls.unmatched.items) findings.openers.items
+            (rises_from_pairs (opener_place reads) (all_found reads part) listed.rising)
+            held.models.calls.closed_are held.models.calls.unmatched_are moved sorted;
+        answered = answered ∙ held.models.calls.answered_are ∙ exact_count reads events is_answered held.placed;
+        replied = replied ∙ held.models.calls.replied_are ∙ exact_count reads events is_replied held.placed;
+        strays = subst (λ (l : List E). ListsInOrder reads.place (IsStrayEvent (judged_of reads events)) l) (sym strays_are)
+            (strays_listed reads (bracket_read reads) None events rises);
+        refused = refused_same ∙ held.refused
+            ∙ ap (λ l. l ++ refused_of (bracketed_part reads events)) (sym (whole_refused reads (undecided_of reads events) (is_error_of reads events)))
+            ∙ sym settled.refused_are;
+      }
+
   -- the undecided one of the second part is added to the first, if there is one
   abbrev pub AddsUndecided : Calls E → Calls E → Calls E → Type 0
   AddsUndecided mine later joined =
       ((later.undecided ≡ None) × (joined ≡ mine))
-      ⊎ ((u : E) × (later.undecided ≡ Some u) × Adds (CallsSum reads) (IsPlaced reads.place) mine u joined)
+      ⊎ ((u : E) × (later.undecided ≡ Some u) × Adds (CallsSum reads all_kept) (IsPlaced reads.place) mine u joined)
 
-  pub front_holds : (mine later joined : Calls E) (first second : List E) → CallsSum reads mine first → CallsSum reads later second
-      → IsPlaced reads.place (first ++ second) → AddsUndecided mine later joined → Holds reads (content_of joined) (first ++ option_to_list (undecided_of reads second))
+  pub front_holds : (mine later joined : Calls E) (first second : List E) → CallsSum reads all_kept mine first → CallsSum reads all_kept later second
+      → IsPlaced reads.place (first ++ second) → AddsUndecided mine later joined → Holds reads all_kept (content_of joined) (first ++ option_to_list (undecided_of reads second))
   front_holds mine later joined first second front back placed (inl plain) =
       let none : undecided_of reads second ≡ None = sym back.undecided ∙ plain.0 in
-      let as_it_was : Holds reads (content_of joined) first
-      = subst (λ (v : Calls E). Holds reads (content_of v) first) (sym plain.1) (holds reads mine first front) in
-      subst (λ (o : Option E). Holds reads (content_of joined) (first ++ option_to_list o)) (sym none)
-      (subst (λ (l : List E). Holds reads (content_of joined) l) (sym (append-nil first)) as_it_was)
+      let as_it_was : Holds reads all_kept (content_of joined) first
+      = subst (λ (v : Calls E). Holds reads all_kept (content_of v) first) (sym plain.1) (holds reads all_kept mine first front) in
+      subst (λ (o : Option E). Holds reads all_kept (content_of joined) (first ++ option_to_list o)) (sym none)
+      (subst (λ (l : List E). Holds reads all_kept (content_of joined) l) (sym (append-nil first)) as_it_was)
   front_holds mine later joined first second front back placed (inr added) =
       let u = added.0 in
       let one : undecided_of reads second ≡ Some u = sym back.undecided ∙ added.1 in
-      subst (λ (o : Option E). Holds reads (content_of joined) (first ++ option_to_list o)) (sym one)
-      (holds reads joined (first ++ u ∷ []) (added.2 first front (placed_undecided first second u placed one)))
+      subst (λ (o : Option E). Holds reads all_kept (content_of joined) (first ++ option_to_list o)) (sym one)
+      (holds reads all_kept joined (first ++ u ∷ []) (added.2 first front (placed_undecided reads first second u placed one)))

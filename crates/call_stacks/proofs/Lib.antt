@@ -4,6 +4,7 @@ pub mod Counting
 pub mod Numbered
 pub mod MarkLaws
 pub mod Judging
+pub mod Kept
 pub mod Lists
 pub mod Steps
 pub mod Sums

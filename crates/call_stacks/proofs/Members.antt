@@ -1,7 +1,14 @@
 -- What a list has, and lists in rising order.
-use Rattle.std.proofs.Common.{◌≡◌, ℕ, zero, suc, ◌<◌, ◌⊎◌, Some, refl, sym, ap, subst, ◌∙◌, inl, inr, arith}
+use Rattle.std.proofs.Common.{◌≡◌, ◌≢◌, ℕ, zero, suc, ◌<◌, ◌≤◌, ◌⊎◌, Some, eqb, refl, sym, ap, subst, ◌∙◌, ⊎_elim, inl, inr, arith}
 use Rattle.std.proofs.Common.{List, [], ◌∷◌, map, length, get_or}
 use Rattle.std.specs.Prelude.{Contains, AllPairs, slice_get}
+use Rattle.std.proofs.lemmas.Bool.{cases_lt}
+use Rattle.std.proofs.lemmas.Bool.Decides.{Decides-eqb}
+use Rattle.std.proofs.lemmas.Cmp.{nat_eq_equiv}
+use Rattle.std.proofs.lemmas.List.Sorted.{Contains-permutation, IsPermutation-map, IsPermutation-sym}
+use Rattle.std.proofs.lemmas.Map.Keys.{IsDistinct-IsPermutation}
+use Rattle.std.proofs.lemmas.Map.Made.{AllPairs-from_IsDistinct, IsDistinct-from_AllPairs}
+use Rattle.std.specs.List.Sorted.{IsPermutation, IsNonDecreasingBy}
 use Rattle.call_stacks.specs.Matching.{ListsInOrder}
 
 abbrev pub In : {X : Type 0} → X → List X → Type 0
@@ -64,7 +71,7 @@ rises_from_pairs {X} rank (x ∷ xs) pairs = (
   rises_from_pairs rank xs (λ i j d below within. pairs (suc i) (suc j) d (omega arith) (omega arith)),
 )
 
-pub get_or_in : {X : Type 0} (xs : List X) (k : ℕ) (d : X) → k < length xs → In (get_or xs k d) xs
+get_or_in : {X : Type 0} (xs : List X) (k : ℕ) (d : X) → k < length xs → In (get_or xs k d) xs
 get_or_in [] k d within = absurd (omega arith)
 get_or_in (x ∷ xs) zero d within = inl refl
 get_or_in (x ∷ xs) (suc k) d within = inr (get_or_in xs k d (omega arith))
@@ -141,8 +148,35 @@ only_list rank Is xs ys first second =
     (λ x there. in_list ys x ((second.exact x).1 ((first.exact x).0 (contained xs x there))))
     (λ x there. in_list xs x ((first.exact x).1 ((second.exact x).0 (contained ys x there))))
 
--- what is read at an index
-pub get_read : {X : Type 0} (xs : List X) (i : ℕ) (x : X) → i < length xs → x ≡ get_or xs i x → slice_get xs i ≡ Some x
-get_read [] i x within e = absurd (omega arith)
-get_read (y ∷ xs) zero x within e = ap Some (sym e)
-get_read (y ∷ xs) (suc i) x within e = get_read xs i x (omega arith) e
+-- ---- the same things, sorted
+
+-- where all ranks differ, a list that does not fall rises
+pub rises_sorted : {X : Type 0} (rank : X → ℕ) (xs : List X) → AllPairs (λ (a b : ℕ). a ≢ b) (map rank xs) → IsNonDecreasingBy rank xs → Rises rank xs
+rises_sorted rank [] differ sorted = tt
+rises_sorted rank (x ∷ xs) differ sorted = (
+  λ y there.
+      let has = contained xs y there in
+      let own = contained (map rank xs) (rank y) (map-in rank xs y there) in
+      let within = has.1 in
+      let inside = own.1 in
+      let same : rank (get_or xs has.0 y) ≡ rank y = ap rank has.2 in
+      let least = sorted 0 (suc has.0) y (omega arith) (omega arith) in
+      let apart : rank x ≢ rank y = λ equal. differ 0 (suc own.0) (rank y) (omega arith) (omega arith) (equal ∙ sym own.2) in
+      ⊎_elim
+      (λ (less : rank x < rank y). less)
+      (λ (more : rank y ≤ rank x). absurd (apart (omega arith)))
+      (cases_lt (rank x) (rank y)),
+  rises_sorted rank xs (λ i j d below within. differ (suc i) (suc j) d (omega arith) (omega arith))
+      (λ i j d below within. sorted (suc i) (suc j) d (omega arith) (omega arith)),
+)
+
+-- what does not fall, and has what a rising list has, is that list
+pub in_place : {X : Type 0} (rank : X → ℕ) (xs ys : List X) → Rises rank xs → IsPermutation xs ys → IsNonDecreasingBy rank ys → xs ≡ ys
+in_place rank xs ys rises moved sorted =
+    let ranks = pairs_from_rises (λ n. n) (map rank xs) (rises-map rank (λ n. n) xs rises) in
+    let distinct = IsDistinct-IsPermutation eqb (λ x y. nat_eq_equiv.symm x y) (map rank xs) (map rank ys) (IsPermutation-map rank xs ys moved)
+    (IsDistinct-from_AllPairs Decides-eqb (map rank xs)
+    (λ i j d below within same. let less = ranks i j d below within in absurd (omega arith))) in
+    same_lists rank xs ys rises (rises_sorted rank ys (AllPairs-from_IsDistinct Decides-eqb (map rank ys) distinct) sorted)
+    (λ x there. in_list ys x (Contains-permutation xs ys x moved (contained xs x there)))
+    (λ x there. in_list xs x (Contains-permutation ys xs x (IsPermutation-sym xs ys moved) (contained ys x there)))

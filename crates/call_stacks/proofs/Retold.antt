@@ -1,7 +1,8 @@
 -- The calls of events that are told in another form, in which what their calls go by reads the same.
-use Rattle.std.proofs.Common.{◌≡◌, ℕ, ◌<◌, Bool, true, false, cond, Option, Some, None, refl, sym, ap, ap₂, subst, ◌∙◌, inl, inr}
+use Rattle.std.proofs.Common.{◌≡◌, ℕ, ◌+◌, ◌<◌, Bool, true, false, cond, Option, Some, None, refl, sym, ap, ap₂, subst, ◌∙◌, inl, inr}
 use Rattle.std.proofs.Common.{List, [], ◌∷◌, map, filter_map}
 use Rattle.std.proofs.lemmas.Simd.{map-map}
+use Rattle.std.proofs.lemmas.List.Sums.{sum_by-cons}
 use Rattle.std.specs.List.{cons_option}
 use Rattle.std.specs.Option.{option_or}
 use Rattle.std.specs.Prelude.{Contains, slice_get}
@@ -15,9 +16,9 @@ use Rattle.call_stacks.specs.declared.findings.RefusedSend.{RefusedSend}
 use Rattle.call_stacks.specs.declared.opener.Opener.{Opener}
 use Rattle.call_stacks.specs.Calls.{Reads, Bracketed, bracket_read, mark_behind_by, bracketed_with, judged_of, verdict_read}
 use Rattle.call_stacks.specs.Calls.{opener_place, IsOpener, IsStrayEvent, IsRefusedSend, is_refused, is_oneway_mark}
-use Rattle.call_stacks.specs.Calls.{refused_send, refused_of, AreFindings}
+use Rattle.call_stacks.specs.Calls.{refused_send, refused_of, AreFindings, with_verdict, how_many, kept_of}
 use Rattle.call_stacks.specs.Matching.{Side, ListsInOrder}
-use Rattle.call_stacks.specs.Verdicts.{side_of, verdict_of}
+use Rattle.call_stacks.specs.Verdicts.{side_of, verdict_of, is_answered, is_replied, lacks_reply}
 use Rattle.call_stacks.specs.declared.verdict.Verdict.{Verdict}
 use Rattle.call_stacks.proofs.Judging.{pair, side}
 use Rattle.call_stacks.proofs.Lists.{found, event_of, openers_found, strays_found, openers_listed, strays_listed, judged_events}
@@ -186,10 +187,35 @@ refused_told {E} {F} tell (j ∷ items) =
       | false ↦ rest
     ]
 
+-- ---- calls by their verdicts
+
+with_told : {E F : Type 0} (tell : E → F) (test : Verdict → Bool) (calls : List (Opener E))
+    → with_verdict test (map (told_opener tell) calls) ≡ map (told_opener tell) (with_verdict test calls)
+with_told tell test [] = refl
+with_told {E} {F} tell test (call ∷ calls) =
+    let rest = with_told tell test calls in
+    elim (test call.verdict) as (λ b. cond b (told_opener tell call ∷ with_verdict test (map (told_opener tell) calls)) (with_verdict test (map (told_opener tell) calls))
+    ≡ map (told_opener tell) (cond b (call ∷ with_verdict test calls) (with_verdict test calls))) [
+      | true ↦ ap (λ (l : List (Opener F)). told_opener tell call ∷ l) rest
+      | false ↦ rest
+    ]
+
+kept_told : {E F : Type 0} (tell : E → F) (all_kept : Bool) (calls : List (Opener E))
+    → kept_of all_kept (map (told_opener tell) calls) ≡ map (told_opener tell) (kept_of all_kept calls)
+kept_told tell true calls = refl
+kept_told tell false calls = with_told tell lacks_reply calls
+
+counted_told : {E F : Type 0} (tell : E → F) (test : Verdict → Bool) (calls : List (Opener E)) → how_many test (map (told_opener tell) calls) ≡ how_many test calls
+counted_told tell test [] = refl
+counted_told {E} {F} tell test (call ∷ calls) =
+    sum_by-cons (λ (o : Opener F). cond (test o.verdict) 1 0) (told_opener tell call) (map (told_opener tell) calls)
+    ∙ ap (λ (n : ℕ). cond (test call.verdict) 1 0 + n) (counted_told tell test calls)
+    ∙ sym (sum_by-cons (λ (o : Opener E). cond (test o.verdict) 1 0) call calls)
+
 -- ---- the findings of a thread whose events are told in another form, as those of the events themselves
 
 module _ {E F : Type 0} (from : Reads E) (into : Reads F) (tell : E → F) (alike : ReadAlike from into tell) (events : List E)
-    (rise : PlacesRise from.place events) (findings : CallFindings F) (are : AreFindings into (map tell events) findings) where
+    (rise : PlacesRise from.place events) (all_kept : Bool) (findings : CallFindings F) (are : AreFindings into all_kept (map tell events) findings) where
   own_rise : Rises from.place events
   own_rise = rises_from_pairs from.place events rise
 
@@ -202,16 +228,29 @@ module _ {E F : Type 0} (from : Reads E) (into : Reads F) (tell : E → F) (alik
   abbrev told_items : List (Bracketed F)
   told_items = judged_of into (map tell events)
 
-  pub openers_of : (openers : List (Opener E)) × ListsInOrder (opener_place from) (IsOpener from items) openers
-      × (findings.openers.items ≡ map (told_opener tell) openers)
-  openers_of = (
-    openers_found from items,
-    openers_listed from (bracket_read from) None events own_rise,
-    only_list (opener_place into) (IsOpener into told_items) findings.openers.items (openers_found into told_items) are.openers
-        (openers_listed into (bracket_read into) None (map tell events) rise_told)
-        ∙ ap (openers_found into) (judged_told from into tell alike events)
-        ∙ openers_told from into tell alike items,
-  )
+  -- all openers, of which the kept ones are told and those with a reply counted
+  pub record ToldOpeners (told : List (Opener E)) : Type 0 where
+    pub listed : ListsInOrder (opener_place from) (IsOpener from items) told
+    pub kept : findings.openers.items ≡ map (told_opener tell) (kept_of all_kept told)
+    pub answered : findings.answered ≡ how_many is_answered told
+    pub replied : findings.replied ≡ how_many is_replied told
+
+  pub openers_of : (openers : List (Opener E)) × ToldOpeners openers
+  openers_of =
+      let own = openers_found from items in
+      let same : are.openers ≡ map (told_opener tell) own
+      = only_list (opener_place into) (IsOpener into told_items) are.openers (openers_found into told_items) are.are_openers
+      (openers_listed into (bracket_read into) None (map tell events) rise_told)
+      ∙ ap (openers_found into) (judged_told from into tell alike events)
+      ∙ openers_told from into tell alike items in (
+        own,
+        record {
+          listed = openers_listed from (bracket_read from) None events own_rise;
+          kept = are.kept ∙ ap (kept_of all_kept) same ∙ kept_told tell all_kept own;
+          answered = are.answered ∙ ap (how_many is_answered) same ∙ counted_told tell is_answered own;
+          replied = are.replied ∙ ap (how_many is_replied) same ∙ counted_told tell is_replied own;
+        },
+      )
 
   pub strays_of : (strays : List E) × ListsInOrder from.place (IsStrayEvent items) strays × (findings.strays.items ≡ map tell strays)
   strays_of = (

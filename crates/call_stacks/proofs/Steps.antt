@@ -1,141 +1,72 @@
 -- What a value holds, step by step.
-use Rattle.std.proofs.Common.{◌≡◌, ℕ, zero, suc, ◌+◌, ◌<◌, Option, Some, None, refl, sym, ap, subst, ◌∙◌, arith}
-use Rattle.std.proofs.Common.{List, [], ◌∷◌, ◌++◌, map, drop, length, append_assoc}
-use Rattle.std.proofs.lemmas.List.{append-nil, map-append, length-map, length-set, set_at}
-use Rattle.std.proofs.lemmas.List.Elements.{All-pop}
-use Rattle.std.specs.Prelude.{slice_get, slice_set, All}
+use Rattle.std.proofs.Common.{◌≡◌, ℕ, ◌+◌, Bool, true, false, cond, not, Option, Some, None, refl, sym, ap, ap₂, subst, ◌∙◌, arith}
+use Rattle.std.proofs.Common.{List, [], ◌∷◌, ◌++◌, map, drop, append_assoc}
+use Rattle.std.proofs.lemmas.List.{append-nil, map-append}
+use Rattle.std.proofs.lemmas.List.Elements.{filter-append}
+use Rattle.std.proofs.lemmas.List.Sorted.{IsPermutation-append, IsPermutation-append_comm, IsPermutation-append_left, IsPermutation-append_right, IsPermutation-trans}
+use Rattle.std.proofs.lemmas.List.Sums.{sum_by-append, sum_by-cons}
+use Rattle.std.specs.List.Sorted.{IsPermutation}
 use Rattle.event_core.specs.declared.marks.Bracket.{Bracket}
 use Rattle.event_core.specs.declared.marks.Bracket.TheVariants.{Call, Served, Reply, Sent, Error, Refused, Neither}
 use Rattle.call_stacks.specs.declared.opener.Opener.{Opener}
-use Rattle.call_stacks.specs.Calls.{Reads}
-use Rattle.call_stacks.specs.Content.{Content, left_open, closed_with, begun, refused_too, Closes, closes_last, closes_none, ClosesAll, Enters}
+use Rattle.call_stacks.specs.declared.verdict.Verdict.{Verdict}
+use Rattle.call_stacks.specs.Calls.{Reads, bracket_read, with_verdict, how_many, kept_of, open_call}
+use Rattle.call_stacks.specs.Content.{Content, closed_with, sum_64, one_more, taken, begun, refused_too, Closes, closes_last, closes_none, ClosesAll, Enters}
 use Rattle.call_stacks.specs.Matching.{Side, opener, closer, neither}
-use Rattle.call_stacks.specs.Verdicts.{side_of}
+use Rattle.call_stacks.specs.Verdicts.{side_of, verdict_of, is_answered, is_replied, is_open, is_closed}
 use Rattle.call_stacks.proofs.Judging.{side}
+use Rattle.call_stacks.proofs.Kept.{kept-append}
 use Rattle.call_stacks.proofs.Lists.{found, event_of}
 use Rattle.call_stacks.proofs.Model as model
-use Rattle.call_stacks.proofs.Model.{strays, openers, strays-append, openers-append, AllClosed, first_is, nil_is_nil}
+use Rattle.call_stacks.proofs.Model.{strays, openers, strays-append, openers-append, AllClosed, first_is, nil_is_nil, some_is_some}
+
+-- ---- calls by their verdicts
+
+-- what closes a call leaves it open no more
+pub never_open : (call answer : Bracket) → is_open (verdict_of call answer) ≡ false
+never_open Call Reply = refl
+never_open Call Error = refl
+never_open Served Sent = refl
+never_open _ _ = refl
+
+module _ {E : Type 0} where
+  how_many-append : (test : Verdict → Bool) (first second : List (Opener E)) → how_many test (first ++ second) ≡ how_many test first + how_many test second
+  how_many-append test first second = sum_by-append _ first second
+
+  -- how many, with one call more among them
+  how_many_among : (test : Verdict → Bool) (before behind : List (Opener E)) (call : Opener E)
+      → how_many test (before ++ call ∷ behind) ≡ how_many test before + (cond (test call.verdict) 1 0 + how_many test behind)
+  how_many_among test before behind call =
+      how_many-append test before (call ∷ behind)
+      ∙ ap (λ (n : ℕ). how_many test before + n) (sum_by-cons (λ (o : Opener E). cond (test o.verdict) 1 0) call behind)
+
+  -- those of a list with one call more among them
+  with_among : (test : Verdict → Bool) (before behind : List (Opener E)) (call : Opener E) (b : Bool) → test call.verdict ≡ b
+      → with_verdict test (before ++ call ∷ behind) ≡ with_verdict test before ++ cond b (call ∷ with_verdict test behind) (with_verdict test behind)
+  with_among test before behind call b is =
+      filter-append (λ (o : Opener E). test o.verdict) before (call ∷ behind)
+      ∙ ap (λ (c : Bool). with_verdict test before ++ cond c (call ∷ with_verdict test behind) (with_verdict test behind)) is
+
+one_counted : (b : Bool) (old before behind : ℕ) → old ≡ sum_64 (before + (0 + behind)) 0 → one_more b old ≡ sum_64 (before + (cond b 1 0 + behind)) 0
+one_counted true old before behind is = omega (arith, is)
+one_counted false old before behind is = is
+
+sums_counted : (a b first second : ℕ) → a ≡ sum_64 first 0 → b ≡ sum_64 second 0 → sum_64 a b ≡ sum_64 (first + second) 0
+sums_counted a b first second is is_too = omega (arith, is, is_too)
+
+none_counted : (old n : ℕ) → old ≡ sum_64 n 0 → old ≡ sum_64 (n + (0 + 0)) 0
+none_counted old n is = omega (arith, is)
 
 -- ---- the openers without a closer
 
--- the indices of the openers without a closer
-abbrev pub unmatched_at : {A : Type 0} → ℕ → List (A × Option A) → List ℕ
-unmatched_at n [] = []
-unmatched_at n ((x, None) ∷ later) = n ∷ unmatched_at (n + 1) later
-unmatched_at n ((x, Some c) ∷ later) = unmatched_at (n + 1) later
-
-unmatched_same : {A : Type 0} (m n : ℕ) (items : List (A × Option A)) → m ≡ n → unmatched_at m items ≡ unmatched_at n items
-unmatched_same m n items e = ap (λ k. unmatched_at k items) e
-
-pub unmatched-append : {A : Type 0} (n : ℕ) (first second : List (A × Option A))
-    → unmatched_at n (first ++ second) ≡ unmatched_at n first ++ unmatched_at (n + length first) second
-unmatched-append n [] second = unmatched_same n (n + 0) second (omega arith)
-unmatched-append n ((x, None) ∷ first) second =
-    let number : n + 1 + length first ≡ n + suc (length first) = omega arith in
-    ap (λ rest. n ∷ rest) (unmatched-append (n + 1) first second ∙ ap (λ k. unmatched_at (n + 1) first ++ unmatched_at k second) number)
-unmatched-append n ((x, Some c) ∷ first) second =
-    let number : n + 1 + length first ≡ n + suc (length first) = omega arith in
-    unmatched-append (n + 1) first second ∙ ap (λ k. unmatched_at (n + 1) first ++ unmatched_at k second) number
-
-pub unmatched_shift : {A : Type 0} (b n : ℕ) (items : List (A × Option A)) → unmatched_at (b + n) items ≡ map (λ index. b + index) (unmatched_at n items)
-unmatched_shift b n [] = refl
-unmatched_shift b n ((x, None) ∷ later) =
-    let number : b + n + 1 ≡ b + (n + 1) = omega arith in
-    ap (λ rest. (b + n) ∷ rest) (unmatched_same (b + n + 1) (b + (n + 1)) later number ∙ unmatched_shift b (n + 1) later)
-unmatched_shift b n ((x, Some c) ∷ later) =
-    let number : b + n + 1 ≡ b + (n + 1) = omega arith in
-    unmatched_same (b + n + 1) (b + (n + 1)) later number ∙ unmatched_shift b (n + 1) later
-
-pub all_closed : {A : Type 0} (n : ℕ) (items : List (A × Option A)) → unmatched_at n items ≡ [] → AllClosed items
-all_closed n [] e = tt
-all_closed n ((x, None) ∷ later) e = nil_is_nil n (unmatched_at (n + 1) later) (sym e)
-all_closed n ((x, Some c) ∷ later) e = all_closed (n + 1) later e
-
-pub closed_unmatched : {A : Type 0} (n : ℕ) (items : List (A × Option A)) → AllClosed items → unmatched_at n items ≡ []
-closed_unmatched n [] all = refl
-closed_unmatched n ((x, None) ∷ later) all = absurd all
-closed_unmatched n ((x, Some c) ∷ later) all = closed_unmatched (n + 1) later all
-
--- the last opener without a closer
-record LastOpen {A : Type 0} (n : ℕ) (items : List (A × Option A)) (front : List ℕ) (index : ℕ) : Type 0 where
-  before : List (A × Option A)
-  call : A
-  behind : List (A × Option A)
-  split : items ≡ before ++ (call, None) ∷ behind
-  closed_behind : AllClosed behind
-  number : index ≡ n + length before
-  front_is : unmatched_at n before ≡ front
-
-push_is_nil : {X : Type 0} (xs : List X) (x : X) → xs ++ x ∷ [] ≡ [] → ⊥
-push_is_nil [] x e = nil_is_nil x [] (sym e)
-push_is_nil (y ∷ xs) x e = nil_is_nil y (xs ++ x ∷ []) (sym e)
-
-last_open : {A : Type 0} (n : ℕ) (items : List (A × Option A)) (front : List ℕ) (index : ℕ) → unmatched_at n items ≡ front ++ index ∷ []
-    → LastOpen n items front index
-last_open n [] front index e = absurd (push_is_nil front index (sym e))
-last_open n ((x, Some c) ∷ later) front index e =
-    let rest = last_open (n + 1) later front index e in
-    let number = rest.number in
-    record {
-      before = (x, Some c) ∷ rest.before;
-      call = rest.call;
-      behind = rest.behind;
-      split = ap (λ t. (x, Some c) ∷ t) rest.split;
-      closed_behind = rest.closed_behind;
-      number = omega arith;
-      front_is = rest.front_is;
-    }
-last_open n ((x, None) ∷ later) [] index e =
-    let here : n ≡ index = first_is n index (unmatched_at (n + 1) later) [] e in
-    record {
-      before = [];
-      call = x;
-      behind = later;
-      split = refl;
-      closed_behind = all_closed (n + 1) later (ap (drop 1) e);
-      number = omega arith;
-      front_is = refl;
-    }
-last_open n ((x, None) ∷ later) (f ∷ front) index e =
-    let rest = last_open (n + 1) later front index (ap (drop 1) e) in
-    let number = rest.number in
-    record {
-      before = (x, None) ∷ rest.before;
-      call = rest.call;
-      behind = rest.behind;
-      split = ap (λ t. (x, None) ∷ t) rest.split;
-      closed_behind = rest.closed_behind;
-      number = omega arith;
-      front_is = ap (λ t. n ∷ t) rest.front_is ∙ ap (λ t. t ∷ front) (first_is n f (unmatched_at (n + 1) later) (front ++ index ∷ []) e);
-    }
-
-at_split : {X : Type 0} (before behind : List X) (x y : X) (n : ℕ) → length before ≡ n → slice_get (before ++ x ∷ behind) n ≡ Some y → y ≡ x
-at_split [] behind x y zero e there = let same : Some x ≡ Some y = there in let is : y ≡ x = cc in is
-at_split [] behind x y (suc n) e there = absurd (omega arith)
-at_split (b ∷ before) behind x y zero e there = absurd (omega arith)
-at_split (b ∷ before) behind x y (suc n) e there = at_split before behind x y n (omega arith) there
+push_is_nil : {X Y : Type 0} (f : X → Y) (xs : List X) (x : X) → map f (xs ++ x ∷ []) ≡ [] → ⊥
+push_is_nil f [] x e = nil_is_nil (f x) [] (sym e)
+push_is_nil f (y ∷ xs) x e = nil_is_nil (f y) (map f (xs ++ x ∷ [])) (sym e)
 
 module _ {E : Type 0} where
   -- many more closers
   abbrev pub as_closers : List E → List (E × Side)
   as_closers events = map (λ event. (event, closer)) events
-
-module _ {E : Type 0} (reads : Reads E) where
-  -- ---- what a value holds of these sides
-
-  pub record Models (content : Content E) (pairs : List (E × Side)) : Type 0 where
-    pub openers_are : content.openers ≡ map (found reads) (openers side pairs)
-    pub unmatched_are : content.unmatched ≡ unmatched_at 0 (openers side pairs)
-    pub strays_are : content.strays ≡ map event_of (strays side pairs)
-
-  -- the same lists
-  pub models_same : (old new : Content E) (pairs : List (E × Side)) → new.openers ≡ old.openers → new.unmatched ≡ old.unmatched → new.strays ≡ old.strays
-      → Models old pairs → Models new pairs
-  models_same old new pairs a b c models = record {
-    openers_are = a ∙ models.openers_are;
-    unmatched_are = b ∙ models.unmatched_are;
-    strays_are = c ∙ models.strays_are;
-  }
 
   -- one more record that is no bracket
   push_strays : (pairs : List (E × Side)) (p : E × Side) → strays side (p ∷ []) ≡ [] → strays side (pairs ++ p ∷ []) ≡ strays side pairs
@@ -149,78 +80,243 @@ module _ {E : Type 0} (reads : Reads E) where
       ∙ ap (λ t. openers side (pairs ++ t) ++ openers side (p ∷ [])) none
       ∙ ap (λ t. openers side t ++ openers side (p ∷ [])) (append-nil pairs)
 
-  pub passes_models : (content : Content E) (pairs : List (E × Side)) (event : E) → Models content pairs → Models content (pairs ++ (event, neither) ∷ [])
-  passes_models content pairs event models =
-      let same : openers side (pairs ++ (event, neither) ∷ []) ≡ openers side pairs
-      = push_openers pairs (event, neither) refl ∙ append-nil (openers side pairs) in
+module _ {E : Type 0} (reads : Reads E) where
+  -- the openers of these sides
+  abbrev pub all_found : List (E × Side) → List (Opener E)
+  all_found pairs = map (found reads) (openers side pairs)
+
+  abbrev open_found : List ((E × Side) × Option (E × Side)) → List (Opener E)
+  open_found items = with_verdict is_open (map (found reads) items)
+
+  -- one that has its closer is not open
+  closed_found : (x c : E × Side) (later : List ((E × Side) × Option (E × Side))) → open_found ((x, Some c) ∷ later) ≡ open_found later
+  closed_found x c later =
+      ap (λ (b : Bool). cond b (found reads (x, Some c) ∷ open_found later) (open_found later)) (never_open (bracket_read reads None x.0) (bracket_read reads None c.0))
+
+  all_closed : (items : List ((E × Side) × Option (E × Side))) → open_found items ≡ [] → AllClosed items
+  all_closed [] e = tt
+  all_closed ((x, None) ∷ later) e = nil_is_nil (found reads (x, None)) (open_found later) (sym e)
+  all_closed ((x, Some c) ∷ later) e = all_closed later (sym (closed_found x c later) ∙ e)
+
+  none_open : (items : List ((E × Side) × Option (E × Side))) → AllClosed items → open_found items ≡ []
+  none_open [] all = refl
+  none_open ((x, None) ∷ later) all = absurd all
+  none_open ((x, Some c) ∷ later) all = closed_found x c later ∙ none_open later all
+
+  -- the last opener without a closer
+  record LastOpen (items : List ((E × Side) × Option (E × Side))) (front : List E) (event : E) : Type 0 where
+    before : List ((E × Side) × Option (E × Side))
+    call : E × Side
+    behind : List ((E × Side) × Option (E × Side))
+    split : items ≡ before ++ (call, None) ∷ behind
+    closed_behind : AllClosed behind
+    call_is : call.0 ≡ event
+    front_is : map open_call front ≡ open_found before
+
+  last_open : (items : List ((E × Side) × Option (E × Side))) (front : List E) (event : E) → map open_call (front ++ event ∷ []) ≡ open_found items
+      → LastOpen items front event
+  last_open [] front event e = absurd (push_is_nil open_call front event e)
+  last_open ((x, Some c) ∷ later) front event e =
+      let rest = last_open later front event (e ∙ closed_found x c later) in
       record {
-        openers_are = models.openers_are ∙ ap (map (found reads)) (sym same);
-        unmatched_are = models.unmatched_are ∙ ap (unmatched_at 0) (sym same);
-        strays_are = models.strays_are ∙ ap (map event_of) (sym (push_strays pairs (event, neither) refl));
+        before = (x, Some c) ∷ rest.before;
+        call = rest.call;
+        behind = rest.behind;
+        split = ap (λ t. (x, Some c) ∷ t) rest.split;
+        closed_behind = rest.closed_behind;
+        call_is = rest.call_is;
+        front_is = rest.front_is ∙ sym (closed_found x c rest.before);
       }
+  last_open ((x, None) ∷ later) [] event e = record {
+    before = [];
+    call = x;
+    behind = later;
+    split = refl;
+    closed_behind = all_closed later (sym (ap (drop 1) e));
+    call_is = ap (λ (o : Opener E). o.event) (sym (first_is (open_call event) (found reads (x, None)) [] (open_found later) e));
+    front_is = refl;
+  }
+  last_open ((x, None) ∷ later) (f ∷ front) event e =
+      let rest = last_open later front event (ap (drop 1) e) in
+      record {
+        before = (x, None) ∷ rest.before;
+        call = rest.call;
+        behind = rest.behind;
+        split = ap (λ t. (x, None) ∷ t) rest.split;
+        closed_behind = rest.closed_behind;
+        call_is = rest.call_is;
+        front_is = ap (λ t. open_call f ∷ t) rest.front_is
+            ∙ ap (λ (o : Opener E). o ∷ open_found rest.before)
+            (first_is (open_call f) (found reads (x, None)) (map open_call (front ++ event ∷ [])) (open_found later) e);
+      }
+
+module _ {E : Type 0} (reads : Reads E) (all_kept : Bool) where
+  -- ---- what a value holds of calls, and of these sides
+
+  pub record HoldsCalls (content : Content E) (calls : List (Opener E)) : Type 0 where
+    pub unmatched_are : map open_call content.unmatched ≡ with_verdict is_open calls
+    pub closed_are : IsPermutation (kept_of all_kept (with_verdict is_closed calls)) content.closed
+    pub answered_are : content.answered ≡ sum_64 (how_many is_answered calls) 0
+    pub replied_are : content.replied ≡ sum_64 (how_many is_replied calls) 0
+
+  pub record Models (content : Content E) (pairs : List (E × Side)) : Type 0 where
+    pub calls : HoldsCalls content (all_found reads pairs)
+    pub strays_are : content.strays ≡ map event_of (strays side pairs)
+
+  -- the calls of a list, and of one behind it
+  pub holds_both : (first second new : Content E) (front back : List (Opener E)) → HoldsCalls first front → HoldsCalls second back
+      → new.unmatched ≡ first.unmatched ++ second.unmatched → new.closed ≡ first.closed ++ second.closed
+      → new.answered ≡ sum_64 first.answered second.answered → new.replied ≡ sum_64 first.replied second.replied → HoldsCalls new (front ++ back)
+  holds_both first second new front back a b unmatched closed answered replied =
+      let kept = λ (calls : List (Opener E)). kept_of all_kept (with_verdict is_closed calls) in
+      let lists : kept (front ++ back) ≡ kept front ++ kept back
+      = ap (kept_of all_kept) (filter-append (λ (o : Opener E). is_closed o.verdict) front back)
+      ∙ kept-append all_kept (with_verdict is_closed front) (with_verdict is_closed back) in
+      record {
+        unmatched_are = ap (map open_call) unmatched ∙ map-append open_call first.unmatched second.unmatched
+            ∙ ap₂ (λ (xs ys : List (Opener E)). xs ++ ys) a.unmatched_are b.unmatched_are
+            ∙ sym (filter-append (λ (o : Opener E). is_open o.verdict) front back);
+        closed_are = subst (λ (l : List (Opener E)). IsPermutation l new.closed) (sym lists)
+            (subst (IsPermutation (kept front ++ kept back)) (sym closed)
+            (IsPermutation-append (kept front) first.closed (kept back) second.closed a.closed_are b.closed_are));
+        answered_are = answered
+            ∙ sums_counted first.answered second.answered (how_many is_answered front) (how_many is_answered back) a.answered_are b.answered_are
+            ∙ ap (λ (n : ℕ). sum_64 n 0) (sym (how_many-append is_answered front back));
+        replied_are = replied
+            ∙ sums_counted first.replied second.replied (how_many is_replied front) (how_many is_replied back) a.replied_are b.replied_are
+            ∙ ap (λ (n : ℕ). sum_64 n 0) (sym (how_many-append is_replied front back));
+      }
+
+  -- one more open call
+  holds_begun : (old : Content E) (calls : List (Opener E)) (event : E) → HoldsCalls old calls → HoldsCalls (begun event old) (calls ++ open_call event ∷ [])
+  holds_begun old calls event held = record {
+    unmatched_are = map-append open_call old.unmatched (event ∷ [])
+        ∙ ap (λ (l : List (Opener E)). l ++ open_call event ∷ []) held.unmatched_are
+        ∙ sym (filter-append (λ (o : Opener E). is_open o.verdict) calls (open_call event ∷ []));
+    closed_are = subst (λ (l : List (Opener E)). IsPermutation (kept_of all_kept l) old.closed)
+        (sym (append-nil (with_verdict is_closed calls)) ∙ sym (filter-append (λ (o : Opener E). is_closed o.verdict) calls (open_call event ∷ []))) held.closed_are;
+    answered_are = none_counted old.answered (how_many is_answered calls) held.answered_are
+        ∙ ap (λ (n : ℕ). sum_64 n 0) (sym (how_many_among is_answered calls [] (open_call event)));
+    replied_are = none_counted old.replied (how_many is_replied calls) held.replied_are
+        ∙ ap (λ (n : ℕ). sum_64 n 0) (sym (how_many_among is_replied calls [] (open_call event)));
+  }
+
+  -- the last open call is closed
+  holds_taken : (old : Content E) (front : List E) (before behind : List (Opener E)) (event answer : E)
+      → HoldsCalls old (before ++ open_call event ∷ behind) → map open_call front ≡ with_verdict is_open before → with_verdict is_open behind ≡ []
+      → HoldsCalls (taken all_kept (closed_with reads answer (open_call event)) (record old { unmatched = front }))
+      (before ++ closed_with reads answer (open_call event) ∷ behind)
+  holds_taken old front before behind event answer held front_is none =
+      let call : Opener E = closed_with reads answer (open_call event) in
+      let closed : is_open call.verdict ≡ false = never_open (bracket_read reads None event) (bracket_read reads None answer) in
+      let kept = λ (calls : List (Opener E)). kept_of all_kept (with_verdict is_closed calls) in
+      let one = kept_of all_kept (call ∷ []) in
+      let were : kept (before ++ open_call event ∷ behind) ≡ kept before ++ kept behind
+      = ap (kept_of all_kept) (with_among is_closed before behind (open_call event) false refl)
+      ∙ kept-append all_kept (with_verdict is_closed before) (with_verdict is_closed behind) in
+      let are : kept (before ++ call ∷ behind) ≡ kept before ++ (one ++ kept behind)
+      = ap (kept_of all_kept) (with_among is_closed before behind call true (ap not closed))
+      ∙ kept-append all_kept (with_verdict is_closed before) (call ∷ with_verdict is_closed behind)
+      ∙ ap (λ (l : List (Opener E)). kept before ++ l) (kept-append all_kept (call ∷ []) (with_verdict is_closed behind)) in
+      let old_closed : IsPermutation (kept before ++ kept behind) old.closed
+      = subst (λ (l : List (Opener E)). IsPermutation l old.closed) were held.closed_are in
+      let last : IsPermutation (kept before ++ (one ++ kept behind)) ((kept before ++ kept behind) ++ one)
+      = subst (IsPermutation (kept before ++ (one ++ kept behind))) (sym (append_assoc (kept before) (kept behind) one))
+      (IsPermutation-append_right (kept before) (one ++ kept behind) (kept behind ++ one) (IsPermutation-append_comm one (kept behind))) in
+      record {
+        unmatched_are = front_is ∙ sym (append-nil (with_verdict is_open before))
+            ∙ ap (λ (l : List (Opener E)). with_verdict is_open before ++ l) (sym none)
+            ∙ sym (with_among is_open before behind call false closed);
+        closed_are = subst (λ (l : List (Opener E)). IsPermutation l (old.closed ++ one)) (sym are)
+            (IsPermutation-trans (kept before ++ (one ++ kept behind)) ((kept before ++ kept behind) ++ one) (old.closed ++ one) last
+            (IsPermutation-append_left one (kept before ++ kept behind) old.closed old_closed));
+        answered_are =
+            one_counted (is_answered call.verdict) old.answered (how_many is_answered before) (how_many is_answered behind)
+            (held.answered_are ∙ ap (λ (n : ℕ). sum_64 n 0) (how_many_among is_answered before behind (open_call event)))
+            ∙ ap (λ (n : ℕ). sum_64 n 0) (sym (how_many_among is_answered before behind call));
+        replied_are =
+            one_counted (is_replied call.verdict) old.replied (how_many is_replied before) (how_many is_replied behind)
+            (held.replied_are ∙ ap (λ (n : ℕ). sum_64 n 0) (how_many_among is_replied before behind (open_call event)))
+            ∙ ap (λ (n : ℕ). sum_64 n 0) (sym (how_many_among is_replied before behind call));
+      }
+
+  -- the same of other sides with the same openers
+  pub holds_same : (content : Content E) (items others : List ((E × Side) × Option (E × Side))) → items ≡ others
+      → HoldsCalls content (map (found reads) items) → HoldsCalls content (map (found reads) others)
+  holds_same content items others same held =
+      subst (λ (l : List ((E × Side) × Option (E × Side))). HoldsCalls content (map (found reads) l)) same held
+
+  -- the same lists and numbers
+  pub models_same : (old new : Content E) (pairs : List (E × Side)) → new.unmatched ≡ old.unmatched → new.closed ≡ old.closed
+      → new.answered ≡ old.answered → new.replied ≡ old.replied → new.strays ≡ old.strays → Models old pairs → Models new pairs
+  models_same old new pairs a b c d e models = record {
+    calls = record {
+      unmatched_are = ap (map open_call) a ∙ models.calls.unmatched_are;
+      closed_are = subst (IsPermutation (kept_of all_kept (with_verdict is_closed (all_found reads pairs)))) (sym b) models.calls.closed_are;
+      answered_are = c ∙ models.calls.answered_are;
+      replied_are = d ∙ models.calls.replied_are;
+    };
+    strays_are = e ∙ models.strays_are;
+  }
+
+  pub passes_models : (content : Content E) (pairs : List (E × Side)) (event : E) → Models content pairs → Models content (pairs ++ (event, neither) ∷ [])
+  passes_models content pairs event models = record {
+    calls = holds_same content (openers side pairs) (openers side (pairs ++ (event, neither) ∷ []))
+        (sym (push_openers pairs (event, neither) refl ∙ append-nil (openers side pairs))) models.calls;
+    strays_are = models.strays_are ∙ ap (map event_of) (sym (push_strays pairs (event, neither) refl));
+  }
 
   -- one more opener
   pub begun_models : (old : Content E) (pairs : List (E × Side)) (event : E) → Models old pairs → Models (begun event old) (pairs ++ (event, opener) ∷ [])
   begun_models old pairs event models =
       let more : openers side (pairs ++ (event, opener) ∷ []) ≡ openers side pairs ++ ((event, opener), None) ∷ []
       = push_openers pairs (event, opener) refl in
-      let count : length old.openers ≡ 0 + length (openers side pairs)
-      = ap length models.openers_are ∙ length-map (openers side pairs) (found reads)
-      ∙ (let n : length (openers side pairs) ≡ 0 + length (openers side pairs) = omega arith in n) in
       record {
-        openers_are = ap (λ t. t ++ left_open event ∷ []) models.openers_are
-            ∙ sym (map-append (found reads) (openers side pairs) (((event, opener), None) ∷ []))
-            ∙ ap (map (found reads)) (sym more);
-        unmatched_are = ap (λ t. t ++ length old.openers ∷ []) models.unmatched_are
-            ∙ ap (λ n. unmatched_at 0 (openers side pairs) ++ n ∷ []) count
-            ∙ sym (unmatched-append 0 (openers side pairs) (((event, opener), None) ∷ []))
-            ∙ ap (unmatched_at 0) (sym more);
+        calls = holds_same (begun event old) (openers side pairs ++ ((event, opener), None) ∷ []) (openers side (pairs ++ (event, opener) ∷ [])) (sym more)
+            (subst (HoldsCalls (begun event old)) (sym (map-append (found reads) (openers side pairs) (((event, opener), None) ∷ [])))
+            (holds_begun old (all_found reads pairs) event models.calls));
         strays_are = models.strays_are ∙ ap (map event_of) (sym (push_strays pairs (event, opener) refl));
       }
 
   -- one more closer
-  pub closes_models : (old new : Content E) (pairs : List (E × Side)) (event : E) → Models old pairs → Closes reads old event new
+  pub closes_models : (old new : Content E) (pairs : List (E × Side)) (event : E) → Models old pairs → Closes reads all_kept old event new
       → Models new (pairs ++ (event, closer) ∷ [])
   closes_models old new pairs event models (closes_none none is) =
-      let all = all_closed 0 (openers side pairs) (sym models.unmatched_are ∙ none) in
+      let all = all_closed reads (openers side pairs) (sym models.calls.unmatched_are ∙ ap (map open_call) none) in
       let step = model.closes_none side pairs (event, closer) refl all in
-      record {
-        openers_are = ap (λ (c : Content E). c.openers) is ∙ models.openers_are ∙ ap (map (found reads)) (sym step.0);
-        unmatched_are = ap (λ (c : Content E). c.unmatched) is ∙ models.unmatched_are ∙ ap (unmatched_at 0) (sym step.0);
-        strays_are = ap (λ (c : Content E). c.strays) is
-            ∙ ap (λ t. t ++ event ∷ []) models.strays_are
+      subst (λ (c : Content E). Models c (pairs ++ (event, closer) ∷ [])) (sym is) (record {
+        calls = let held = holds_same old (openers side pairs) (openers side (pairs ++ (event, closer) ∷ [])) (sym step.0) models.calls in
+            record {
+              unmatched_are = held.unmatched_are;
+              closed_are = held.closed_are;
+              answered_are = held.answered_are;
+              replied_are = held.replied_are;
+            };
+        strays_are = ap (λ t. t ++ event ∷ []) models.strays_are
             ∙ sym (map-append event_of (strays side pairs) ((event, closer) ∷ []))
             ∙ ap (map event_of) (sym step.1);
-      }
-  closes_models old new pairs event models (closes_last front index call last there is) =
-      let open_last = last_open 0 (openers side pairs) front index (sym models.unmatched_are ∙ last) in
+      })
+  closes_models old new pairs event models (closes_last front call last is) =
+      let open_last = last_open reads (openers side pairs) front call (sym (ap (map open_call) last) ∙ models.calls.unmatched_are) in
       let before = open_last.before in
       let x = open_last.call in
       let behind = open_last.behind in
       let step = model.closes_last side pairs (event, closer) before x behind refl open_last.split open_last.closed_behind in
-      let lists : old.openers ≡ map (found reads) before ++ found reads (x, None) ∷ map (found reads) behind
-      = models.openers_are ∙ ap (map (found reads)) open_last.split ∙ map-append (found reads) before ((x, None) ∷ behind) in
-      let number = open_last.number in
-      let long : length (map (found reads) before) ≡ index = length-map before (found reads) ∙ (let n : length before ≡ index = omega arith in n) in
-      let call_is : call ≡ found reads (x, None)
-      = at_split (map (found reads) before) (map (found reads) behind) (found reads (x, None)) call index long (ap (λ l. slice_get l index) (sym lists) ∙ there) in
-      let closed_openers : slice_set old.openers index (closed_with reads event call) ≡ map (found reads) (before ++ (x, Some (event, closer)) ∷ behind)
-      = ap (λ l. slice_set l index (closed_with reads event call)) lists
-      ∙ ap (λ (c : Opener E). slice_set (map (found reads) before ++ found reads (x, None) ∷ map (found reads) behind) index (closed_with reads event c)) call_is
-      ∙ set_at (map (found reads) before) (found reads (x, None)) (map (found reads) behind) (closed_with reads event (found reads (x, None))) index long
-      ∙ sym (map-append (found reads) before ((x, Some (event, closer)) ∷ behind)) in
-      record {
-        openers_are = ap (λ (c : Content E). c.openers) is ∙ closed_openers ∙ ap (map (found reads)) (sym step.0);
-        unmatched_are = ap (λ (c : Content E). c.unmatched) is
-            ∙ sym open_last.front_is
-            ∙ sym (append-nil (unmatched_at 0 before))
-            ∙ ap (λ t. unmatched_at 0 before ++ t) (sym (closed_unmatched (0 + length before) ((x, Some (event, closer)) ∷ behind) open_last.closed_behind))
-            ∙ sym (unmatched-append 0 before ((x, Some (event, closer)) ∷ behind))
-            ∙ ap (unmatched_at 0) (sym step.0);
-        strays_are = ap (λ (c : Content E). c.strays) is ∙ models.strays_are ∙ ap (map event_of) (sym step.1);
-      }
+      let were : all_found reads pairs ≡ map (found reads) before ++ open_call call ∷ map (found reads) behind
+      = ap (map (found reads)) open_last.split ∙ map-append (found reads) before ((x, None) ∷ behind)
+      ∙ ap (λ (e : E). map (found reads) before ++ open_call e ∷ map (found reads) behind) open_last.call_is in
+      let are : map (found reads) before ++ closed_with reads event (open_call call) ∷ map (found reads) behind ≡ all_found reads (pairs ++ (event, closer) ∷ [])
+      = ap (λ (e : E). map (found reads) before ++ closed_with reads event (open_call e) ∷ map (found reads) behind) (sym open_last.call_is)
+      ∙ sym (map-append (found reads) before ((x, Some (event, closer)) ∷ behind))
+      ∙ ap (map (found reads)) (sym step.0) in
+      subst (λ (c : Content E). Models c (pairs ++ (event, closer) ∷ [])) (sym is) (record {
+        calls = subst (HoldsCalls (taken all_kept (closed_with reads event (open_call call)) (record old { unmatched = front }))) are
+            (holds_taken old front (map (found reads) before) (map (found reads) behind) call event
+            (subst (HoldsCalls old) were models.calls) open_last.front_is (none_open reads behind open_last.closed_behind));
+        strays_are = models.strays_are ∙ ap (map event_of) (sym step.1);
+      })
 
-  pub closes_all_models : (old new : Content E) (pairs : List (E × Side)) (events : List E) → Models old pairs → ClosesAll reads old events new
+  pub closes_all_models : (old new : Content E) (pairs : List (E × Side)) (events : List E) → Models old pairs → ClosesAll reads all_kept old events new
       → Models new (pairs ++ as_closers events)
   closes_all_models old new pairs [] models is =
       subst (λ (l : List (E × Side)). Models new l) (sym (append-nil pairs)) (subst (λ (c : Content E). Models c pairs) (sym is) models)
@@ -229,7 +325,7 @@ module _ {E : Type 0} (reads : Reads E) where
       (closes_all_models step.0 new (pairs ++ (e, closer) ∷ []) events (closes_models old step.0 pairs e models step.1) step.2)
 
   -- an event that is this bracket
-  pub enters_models : (bracket : Bracket) (event : E) (old new : Content E) (pairs : List (E × Side)) → Models old pairs → Enters reads bracket event old new
+  pub enters_models : (bracket : Bracket) (event : E) (old new : Content E) (pairs : List (E × Side)) → Models old pairs → Enters reads all_kept bracket event old new
       → Models new (pairs ++ (event, side_of bracket) ∷ [])
   enters_models Call event old new pairs models is =
       subst (λ (c : Content E). Models c (pairs ++ (event, opener) ∷ [])) (sym is) (begun_models old pairs event models)
@@ -240,24 +336,13 @@ module _ {E : Type 0} (reads : Reads E) where
   enters_models Error event old new pairs models step = closes_models old new pairs event models step
   enters_models Refused event old new pairs models is =
       subst (λ (c : Content E). Models c (pairs ++ (event, neither) ∷ [])) (sym is)
-      (passes_models (refused_too event old) pairs event (models_same old (refused_too event old) pairs refl refl refl models))
+      (passes_models (refused_too event old) pairs event (models_same old (refused_too event old) pairs refl refl refl refl refl models))
   enters_models Neither event old new pairs models is =
       subst (λ (c : Content E). Models c (pairs ++ (event, neither) ∷ [])) (sym is) (passes_models old pairs event models)
 
   -- ---- closers in turn
 
-  pub closes_all_push : (old between new : Content E) (events : List E) (e : E) → ClosesAll reads old events between → Closes reads between e new
-      → ClosesAll reads old (events ++ e ∷ []) new
-  closes_all_push old between new [] e is step = (new, subst (λ (c : Content E). Closes reads c e new) is step, refl)
+  pub closes_all_push : (old between new : Content E) (events : List E) (e : E) → ClosesAll reads all_kept old events between → Closes reads all_kept between e new
+      → ClosesAll reads all_kept old (events ++ e ∷ []) new
+  closes_all_push old between new [] e is step = (new, subst (λ (c : Content E). Closes reads all_kept c e new) is step, refl)
   closes_all_push old between new (x ∷ events) e steps step = (steps.0, steps.1, closes_all_push steps.0 between new events e steps.2 step)
-
-  -- each index is within the openers, still
-  pub closes_within : (old new : Content E) (e : E) → Closes reads old e new → All (λ index. index < length old.openers) old.unmatched
-      → All (λ index. index < length new.openers) new.unmatched
-  closes_within old new e (closes_none none is) all =
-      subst (λ (c : Content E). All (λ index. index < length c.openers) c.unmatched) (sym is) all
-  closes_within old new e (closes_last front index call last there is) all =
-      let few : All (λ i. i < length old.openers) front = (All-pop (λ i. i < length old.openers) old.unmatched front (Some index) last all).0 in
-      let same : length (slice_set old.openers index (closed_with reads e call)) ≡ length old.openers = length-set old.openers index (closed_with reads e call) in
-      subst (λ (c : Content E). All (λ i. i < length c.openers) c.unmatched) (sym is)
-      (subst (λ (n : ℕ). All (λ i. i < n) front) (sym same) few)

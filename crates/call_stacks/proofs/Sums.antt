@@ -1,7 +1,8 @@
 -- What a value holds where it sums a list of events.
-use Rattle.std.proofs.Common.{◌≡◌, ℕ, zero, suc, ◌+◌, ◌≤◌, Bool, true, false, cond, Option, Some, None, refl, sym, ap, subst, ◌∙◌, inl, inr, arith}
-use Rattle.std.proofs.Common.{List, [], ◌∷◌, ◌++◌, map}
-use Rattle.std.proofs.lemmas.List.{append-nil, map-append}
+use Rattle.std.proofs.Common.{◌≡◌, ℕ, suc, ◌≤◌, Bool, true, false, cond, Option, Some, None, refl, sym, ap, subst, ◌∙◌, arith}
+use Rattle.std.proofs.Common.{List, [], ◌∷◌, ◌++◌, map, length}
+use Rattle.std.proofs.lemmas.List.{append-nil, map-append, length-map}
+use Rattle.std.proofs.lemmas.List.Sums.{count_by-le-length}
 use Rattle.std.proofs.lemmas.List.Elements.{filter_map-append}
 use Rattle.std.proofs.lemmas.List.Folds.{find-append}
 use Rattle.std.proofs.lemmas.List.Sums.{fold-append}
@@ -13,30 +14,27 @@ use Rattle.event_core.specs.declared.marks.Mark.{Mark}
 use Rattle.summary_law.specs.Fits.{IsPlaced}
 use Rattle.call_stacks.specs.declared.opener.Opener.{Opener}
 use Rattle.call_stacks.specs.declared.calls.Calls.{Calls}
-use Rattle.call_stacks.specs.Calls.{Reads, Bracketed, bracketed_with, bracketed_part, opener_place, mark_read, bracket_read, bracket_in_part, mark_behind_by, last_mark, is_error, is_refused, if_error_reply, undecided_of, refused_of, refused_send, IsOpener, IsStrayEvent, IsLeftOpen, CallsSum}
-use Rattle.call_stacks.specs.Content.{Content, content_of, Closes, closes_last, closes_none, Enters}
-use Rattle.call_stacks.specs.Matching.{Side, ListsInOrder}
-use Rattle.call_stacks.specs.Verdicts.{side_of}
+use Rattle.call_stacks.specs.declared.verdict.Verdict.{Verdict}
+use Rattle.std.specs.List.Sorted.{IsPermutation}
+use Rattle.call_stacks.specs.Calls.{Reads, Bracketed, bracketed_with, bracketed_part, opener_place, mark_read, bracket_read, bracket_in_part, mark_behind_by, last_mark, is_error, is_refused, if_error_reply, undecided_of, refused_of, refused_send, IsOpener, IsStrayEvent, CallsSum, with_verdict, how_many, kept_of}
+use Rattle.call_stacks.specs.Content.{Content, content_of, sum_64, Closes, closes_last, closes_none, Enters}
+use Rattle.call_stacks.specs.Matching.{Side, opener, closer, neither, ListsInOrder}
+use Rattle.call_stacks.specs.Verdicts.{side_of, is_answered, is_replied, is_open, is_closed}
 use Rattle.call_stacks.proofs.MarkLaws.{error_marks}
 use Rattle.call_stacks.proofs.Judging.{pair, side, paired, judged-append, not_sent}
 use Rattle.call_stacks.proofs.Lists.{found, openers_found, strays_found, strays_listed, openers_listed}
-use Rattle.call_stacks.proofs.Members.{In, Rises, rises_from_pairs, listed, only_list}
-use Rattle.call_stacks.proofs.Model.{same_some, some_is_some, openers}
-use Rattle.call_stacks.proofs.Steps.{unmatched_at, Models, models_same, passes_models, enters_models}
+use Rattle.call_stacks.proofs.Members.{rises_from_pairs, only_list}
+use Rattle.call_stacks.proofs.Model.{some_is_some, openers, strays, entry}
+use Rattle.call_stacks.proofs.Steps.{all_found, Models, models_same, passes_models, enters_models}
 
--- ---- the openers without a closer, as the definition lists them
+entry_short : {A : Type 0} (s : Side) (x : A) (later : List A) (rest : List (A × Option A)) (n : ℕ) → length rest ≤ n → length (entry s x later rest) ≤ suc n
+entry_short opener x later rest n short = omega arith
+entry_short closer x later rest n short = omega arith
+entry_short neither x later rest n short = omega arith
 
-unmatched_above : {A : Type 0} (n : ℕ) (items : List (A × Option A)) (index : ℕ) → In index (unmatched_at n items) → n ≤ index
-unmatched_above n [] index there = absurd there
-unmatched_above n ((x, None) ∷ later) index (inl here) = omega arith
-unmatched_above n ((x, None) ∷ later) index (inr there) = let above = unmatched_above (n + 1) later index there in omega arith
-unmatched_above n ((x, Some c) ∷ later) index there = let above = unmatched_above (n + 1) later index there in omega arith
-
-unmatched_rise : {A : Type 0} (n : ℕ) (items : List (A × Option A)) → Rises (λ index. index) (unmatched_at n items)
-unmatched_rise n [] = tt
-unmatched_rise n ((x, None) ∷ later) =
-    (λ index there. let above = unmatched_above (n + 1) later index there in omega arith, unmatched_rise (n + 1) later)
-unmatched_rise n ((x, Some c) ∷ later) = unmatched_rise (n + 1) later
+openers_short : {A : Type 0} (side : A → Side) (items : List A) → length (openers side items) ≤ length items
+openers_short side [] = omega arith
+openers_short side (x ∷ items) = entry_short (side x) x (strays side items) (openers side items) (length items) (openers_short side items)
 
 module _ {E : Type 0} where
   none_sent : (judged : Bracketed E) → is_refused judged.bracket ≡ false → refused_of (judged ∷ []) ≡ []
@@ -47,101 +45,6 @@ module _ {E : Type 0} where
   none_of_one bracket e before plain = none_sent (record { event = e; before = before; bracket = bracket }) plain
 
 module _ {E : Type 0} (reads : Reads E) where
-  -- what a value holds where it sums these events
-  pub record Holds (content : Content E) (events : List E) : Type 0 where
-    pub placed : IsPlaced reads.place events
-    pub last : content.last ≡ last_mark reads events
-    pub undecided : content.undecided ≡ undecided_of reads events
-    pub models : Models reads content (paired reads (bracket_in_part reads) None events)
-    pub refused : content.refused ≡ refused_of (bracketed_part reads events)
-
-  -- the entry at an index
-  pub record EntryAt (n : ℕ) (items : List ((E × Side) × Option (E × Side))) (index : ℕ) : Type 0 where
-    pub position : ℕ
-    pub number : index ≡ n + position
-    pub left_open : IsLeftOpen (map (found reads) items) position
-
-  pub unmatched_sound : (n : ℕ) (items : List ((E × Side) × Option (E × Side))) (index : ℕ) → In index (unmatched_at n items) → EntryAt n items index
-  unmatched_sound n [] index there = absurd there
-  unmatched_sound n ((x, None) ∷ later) index (inl here) = record { position = 0; number = omega arith; left_open = (found reads (x, None), refl, refl) }
-  unmatched_sound n ((x, None) ∷ later) index (inr there) =
-      let rest = unmatched_sound (n + 1) later index there in
-      let number = rest.number in
-      record { position = suc rest.position; number = omega arith; left_open = rest.left_open }
-  unmatched_sound n ((x, Some c) ∷ later) index there =
-      let rest = unmatched_sound (n + 1) later index there in
-      let number = rest.number in
-      record { position = suc rest.position; number = omega arith; left_open = rest.left_open }
-
-  unmatched_whole : (n : ℕ) (items : List ((E × Side) × Option (E × Side))) (position : ℕ) → IsLeftOpen (map (found reads) items) position
-      → In (n + position) (unmatched_at n items)
-  unmatched_whole n [] position is = absurd (some_is_some is.0 (sym is.1))
-  unmatched_whole n ((x, None) ∷ later) zero is = inl (omega arith)
-  unmatched_whole n ((x, Some c) ∷ later) zero is =
-      absurd (some_is_some (reads.place c.0) (ap (λ (o : Opener E). o.closer) (same_some (found reads (x, Some c)) is.0 is.1) ∙ is.2))
-  unmatched_whole n ((x, None) ∷ later) (suc position) is =
-      let number : n + 1 + position ≡ n + suc position = omega arith in
-      inr (subst (λ (i : ℕ). In i (unmatched_at (n + 1) later)) number (unmatched_whole (n + 1) later position is))
-  unmatched_whole n ((x, Some c) ∷ later) (suc position) is =
-      let number : n + 1 + position ≡ n + suc position = omega arith in
-      subst (λ (i : ℕ). In i (unmatched_at (n + 1) later)) number (unmatched_whole (n + 1) later position is)
-
-  unmatched_listed : (items : List ((E × Side) × Option (E × Side)))
-      → ListsInOrder (λ index. index) (IsLeftOpen (map (found reads) items)) (unmatched_at 0 items)
-  unmatched_listed items =
-      listed (λ index. index) (IsLeftOpen (map (found reads) items)) (unmatched_at 0 items) (unmatched_rise 0 items)
-      (λ index there.
-      let at_index = unmatched_sound 0 items index there in
-      let number = at_index.number in
-      let same : at_index.position ≡ index = omega arith in
-      subst (λ (i : ℕ). IsLeftOpen (map (found reads) items) i) same at_index.left_open)
-      (λ index is.
-      let number : 0 + index ≡ index = omega arith in
-      subst (λ (i : ℕ). In i (unmatched_at 0 items)) number (unmatched_whole 0 items index is))
-
-  -- ---- between the definition and what a value holds
-
-  pub holds : (calls : Calls E) (events : List E) → CallsSum reads calls events → Holds (content_of calls) events
-  holds calls events sums =
-      let rises = rises_from_pairs reads.place events sums.placed.1 in
-      let pairs = paired reads (bracket_in_part reads) None events in
-      let openers_same : calls.openers.items ≡ map (found reads) (openers side pairs)
-      = only_list (opener_place reads) (IsOpener reads (bracketed_part reads events)) calls.openers.items (openers_found reads (bracketed_part reads events)) sums.openers
-      (openers_listed reads (bracket_in_part reads) None events rises) in
-      record {
-        placed = sums.placed;
-        last = sums.last;
-        undecided = sums.undecided;
-        models = record {
-          openers_are = openers_same;
-          unmatched_are = only_list (λ index. index) (IsLeftOpen (map (found reads) (openers side pairs))) calls.unmatched.items (unmatched_at 0 (openers side pairs))
-              (subst (λ (l : List (Opener E)). ListsInOrder (λ index. index) (IsLeftOpen l) calls.unmatched.items) openers_same sums.unmatched)
-              (unmatched_listed (openers side pairs));
-          strays_are = only_list reads.place (IsStrayEvent (bracketed_part reads events)) calls.strays.items (strays_found (bracketed_part reads events)) sums.strays
-              (strays_listed reads (bracket_in_part reads) None events rises);
-        };
-        refused = sums.refused;
-      }
-
-  pub sums : (calls : Calls E) (events : List E) → Holds (content_of calls) events → CallsSum reads calls events
-  sums calls events holds =
-      let rises = rises_from_pairs reads.place events holds.placed.1 in
-      let pairs = paired reads (bracket_in_part reads) None events in
-      let models = holds.models in
-      record {
-        placed = holds.placed;
-        last = holds.last;
-        undecided = holds.undecided;
-        openers = subst (λ (l : List (Opener E)). ListsInOrder (opener_place reads) (IsOpener reads (bracketed_part reads events)) l) (sym models.openers_are)
-            (openers_listed reads (bracket_in_part reads) None events rises);
-        unmatched = subst (λ (l : List (Opener E)). ListsInOrder (λ index. index) (IsLeftOpen l) calls.unmatched.items) (sym models.openers_are)
-            (subst (λ (l : List ℕ). ListsInOrder (λ index. index) (IsLeftOpen (map (found reads) (openers side pairs))) l) (sym models.unmatched_are)
-            (unmatched_listed (openers side pairs)));
-        strays = subst (λ (l : List E). ListsInOrder reads.place (IsStrayEvent (bracketed_part reads events)) l) (sym models.strays_are)
-            (strays_listed reads (bracket_in_part reads) None events rises);
-        refused = holds.refused;
-      }
-
   -- ---- the marks of a list
 
   abbrev pub marked : E → Bool
@@ -217,25 +120,7 @@ module _ {E : Type 0} (reads : Reads E) where
       ap refused_of (judged-append reads judge before first second)
       ∙ filter_map-append refused_send (bracketed_with reads judge before first) (bracketed_with reads judge (fold (mark_behind_by reads) before first) second)
 
-  -- ---- one more event
-
-  abbrev judged_one : Option Mark → E → List (Bracketed E)
-  judged_one before e = record { event = e; before = before; bracket = bracket_in_part reads before e } ∷ []
-
-  holds_push : (new : Content E) (events : List E) (e : E) (before : Option Mark) → IsPlaced reads.place (events ++ e ∷ []) → before ≡ last_mark reads events
-      → new.last ≡ mark_behind_by reads before e → new.undecided ≡ undecided_of reads (events ++ e ∷ [])
-      → Models reads new (paired reads (bracket_in_part reads) None events ++ (e, side_of (bracket_in_part reads before e)) ∷ [])
-      → new.refused ≡ refused_of (bracketed_part reads events) ++ refused_of (judged_one before e)
-      → Holds new (events ++ e ∷ [])
-  holds_push new events e before placed is last undecided models refused = record {
-    placed = placed;
-    last = last ∙ ap (λ o. mark_behind_by reads o e) is ∙ sym (fold-append (mark_behind_by reads) None events (e ∷ []));
-    undecided = undecided;
-    models = subst (λ (l : List (E × Side)). Models reads new l) (sym (paired-append (bracket_in_part reads) None events (e ∷ [])))
-        (subst (λ (o : Option Mark). Models reads new (paired reads (bracket_in_part reads) None events ++ (e, side_of (bracket_in_part reads o e)) ∷ [])) is models);
-    refused = refused ∙ ap (λ o. refused_of (bracketed_part reads events) ++ refused_of (judged_one o e)) is ∙ sym (refused-append (bracket_in_part reads) None events (e ∷ []));
-  }
-
+  -- one event alone
   pub error_alone : (e : E) → is_error (bracket_read reads None e) ≡ true → undecided_of reads (e ∷ []) ≡ Some e
   error_alone e error =
       ap (λ b. option_and_then (if_error_reply reads) (cond b (Some e) None)) (error_marks (reads.kind e) (reads.oneway e) error) ∙ ap (λ b. cond b (Some e) None) error
@@ -247,19 +132,113 @@ module _ {E : Type 0} (reads : Reads E) where
         | Some mark ↦ ap (λ b. cond b (Some e) None) sure
       ]
 
+  judged_length : (judge : Option Mark → E → Bracket) (before : Option Mark) (events : List E) → length (bracketed_with reads judge before events) ≡ length events
+  judged_length judge before [] = refl
+  judged_length judge before (e ∷ events) = ap suc (judged_length judge (mark_behind_by reads before e) events)
+
+  -- there are few openers, so a sum of them that stops at the greatest number of 64 bits is exact
+  pub exact_count : (events : List E) (test : Verdict → Bool) → IsPlaced reads.place events
+      → sum_64 (how_many test (all_found reads (paired reads (bracket_in_part reads) None events))) 0
+      ≡ how_many test (all_found reads (paired reads (bracket_in_part reads) None events))
+  exact_count events test placed =
+      let pairs = paired reads (bracket_in_part reads) None events in
+      let few = placed.0 in
+      let passed = count_by-le-length (λ (o : Opener E). test o.verdict) (all_found reads pairs) in
+      let mapped = length-map (openers side pairs) (found reads) in
+      let fewer = openers_short side pairs in
+      let long = length-map (bracketed_part reads events) pair ∙ judged_length (bracket_in_part reads) None events in
+      omega arith
+
+module _ {E : Type 0} (reads : Reads E) (all_kept : Bool) where
+  -- what a value holds where it sums these events
+  pub record Holds (content : Content E) (events : List E) : Type 0 where
+    pub placed : IsPlaced reads.place events
+    pub last : content.last ≡ last_mark reads events
+    pub undecided : content.undecided ≡ undecided_of reads events
+    pub models : Models reads all_kept content (paired reads (bracket_in_part reads) None events)
+    pub refused : content.refused ≡ refused_of (bracketed_part reads events)
+
+  -- ---- between the definition and what a value holds
+
+  pub holds : (calls : Calls E) (events : List E) → CallsSum reads all_kept calls events → Holds (content_of calls) events
+  holds calls events sums =
+      let rises = rises_from_pairs reads.place events sums.placed.1 in
+      let pairs = paired reads (bracket_in_part reads) None events in
+      let same : sums.openers ≡ all_found reads pairs
+      = only_list (opener_place reads) (IsOpener reads (bracketed_part reads events)) sums.openers (openers_found reads (bracketed_part reads events)) sums.are_openers
+      (openers_listed reads (bracket_in_part reads) None events rises) in
+      let number : (test : Verdict → Bool) (n : ℕ) → n ≡ how_many test sums.openers → n ≡ sum_64 (how_many test (all_found reads pairs)) 0
+      = λ test n is. is ∙ ap (how_many test) same ∙ sym (exact_count reads events test sums.placed) in
+      record {
+        placed = sums.placed;
+        last = sums.last;
+        undecided = sums.undecided;
+        models = record {
+          calls = record {
+            unmatched_are = sums.unmatched ∙ ap (with_verdict is_open) same;
+            closed_are = subst (λ (l : List (Opener E)). IsPermutation (kept_of all_kept (with_verdict is_closed l)) calls.closed.items) same sums.closed;
+            answered_are = number is_answered calls.answered sums.answered;
+            replied_are = number is_replied calls.replied sums.replied;
+          };
+          strays_are = only_list reads.place (IsStrayEvent (bracketed_part reads events)) calls.strays.items (strays_found (bracketed_part reads events)) sums.strays
+              (strays_listed reads (bracket_in_part reads) None events rises);
+        };
+        refused = sums.refused;
+      }
+
+  pub sums : (calls : Calls E) (events : List E) → Holds (content_of calls) events → CallsSum reads all_kept calls events
+  sums calls events holds =
+      let rises = rises_from_pairs reads.place events holds.placed.1 in
+      let pairs = paired reads (bracket_in_part reads) None events in
+      let held = holds.models.calls in
+      record {
+        placed = holds.placed;
+        last = holds.last;
+        undecided = holds.undecided;
+        openers = all_found reads pairs;
+        are_openers = openers_listed reads (bracket_in_part reads) None events rises;
+        unmatched = held.unmatched_are;
+        closed = held.closed_are;
+        answered = held.answered_are ∙ exact_count reads events is_answered holds.placed;
+        replied = held.replied_are ∙ exact_count reads events is_replied holds.placed;
+        strays = subst (λ (l : List E). ListsInOrder reads.place (IsStrayEvent (bracketed_part reads events)) l) (sym holds.models.strays_are)
+            (strays_listed reads (bracket_in_part reads) None events rises);
+        refused = holds.refused;
+      }
+
+  -- ---- one more event
+
+  abbrev judged_one : Option Mark → E → List (Bracketed E)
+  judged_one before e = record { event = e; before = before; bracket = bracket_in_part reads before e } ∷ []
+
+  holds_push : (new : Content E) (events : List E) (e : E) (before : Option Mark) → IsPlaced reads.place (events ++ e ∷ []) → before ≡ last_mark reads events
+      → new.last ≡ mark_behind_by reads before e → new.undecided ≡ undecided_of reads (events ++ e ∷ [])
+      → Models reads all_kept new (paired reads (bracket_in_part reads) None events ++ (e, side_of (bracket_in_part reads before e)) ∷ [])
+      → new.refused ≡ refused_of (bracketed_part reads events) ++ refused_of (judged_one before e)
+      → Holds new (events ++ e ∷ [])
+  holds_push new events e before placed is last undecided models refused = record {
+    placed = placed;
+    last = last ∙ ap (λ o. mark_behind_by reads o e) is ∙ sym (fold-append (mark_behind_by reads) None events (e ∷ []));
+    undecided = undecided;
+    models = subst (λ (l : List (E × Side)). Models reads all_kept new l) (sym (paired-append reads (bracket_in_part reads) None events (e ∷ [])))
+        (subst (λ (o : Option Mark). Models reads all_kept new (paired reads (bracket_in_part reads) None events ++ (e, side_of (bracket_in_part reads o e)) ∷ [])) is models);
+    refused = refused ∙ ap (λ o. refused_of (bracketed_part reads events) ++ refused_of (judged_one o e)) is ∙ sym (refused-append reads (bracket_in_part reads) None events (e ∷ []));
+  }
+
   -- an error reply that is the first mark
   pub add_undecided : (old new : Content E) (events : List E) (e : E) → Holds old events → IsPlaced reads.place (events ++ e ∷ []) → old.last ≡ None
       → is_error (bracket_read reads None e) ≡ true → new ≡ record old { last = mark_behind_by reads old.last e; undecided = Some e } → Holds new (events ++ e ∷ [])
   add_undecided old new events e holds placed none error is =
       let first : last_mark reads events ≡ None = sym holds.last ∙ none in
       let part : bracket_in_part reads old.last e ≡ Neither = ap (λ o. bracket_in_part reads o e) none ∙ ap (λ b. cond b Neither (bracket_read reads None e)) error in
-      let models = models_same reads old new (paired reads (bracket_in_part reads) None events)
-      (ap (λ (c : Content E). c.openers) is) (ap (λ (c : Content E). c.unmatched) is) (ap (λ (c : Content E). c.strays) is) holds.models in
+      let models = models_same reads all_kept old new (paired reads (bracket_in_part reads) None events)
+      (ap (λ (c : Content E). c.unmatched) is) (ap (λ (c : Content E). c.closed) is) (ap (λ (c : Content E). c.answered) is) (ap (λ (c : Content E). c.replied) is)
+      (ap (λ (c : Content E). c.strays) is) holds.models in
       holds_push new events e old.last placed holds.last
       (ap (λ (c : Content E). c.last) is)
-      (ap (λ (c : Content E). c.undecided) is ∙ sym (error_alone e error) ∙ sym (undecided_later events (e ∷ []) first))
-      (subst (λ (b : Bracket). Models reads new (paired reads (bracket_in_part reads) None events ++ (e, side_of b) ∷ [])) (sym part)
-      (passes_models reads new (paired reads (bracket_in_part reads) None events) e models))
+      (ap (λ (c : Content E). c.undecided) is ∙ sym (error_alone reads e error) ∙ sym (undecided_later reads events (e ∷ []) first))
+      (subst (λ (b : Bracket). Models reads all_kept new (paired reads (bracket_in_part reads) None events ++ (e, side_of b) ∷ [])) (sym part)
+      (passes_models reads all_kept new (paired reads (bracket_in_part reads) None events) e models))
       (ap (λ (c : Content E). c.refused) is ∙ holds.refused ∙ sym (append-nil (refused_of (bracketed_part reads events)))
       ∙ ap (λ (b : Bracket). refused_of (bracketed_part reads events) ++ refused_of (record { event = e; before = old.last; bracket = b } ∷ [])) (sym part))
 
@@ -269,8 +248,8 @@ module _ {E : Type 0} (reads : Reads E) where
     undecided : new.undecided ≡ old.undecided
     refused : new.refused ≡ old.refused ++ refused_of (record { event = e; before = old.last; bracket = bracket } ∷ [])
 
-  pub closes_keeps : (old new : Content E) (e : E) → Closes reads old e new → (new.last ≡ old.last) × (new.undecided ≡ old.undecided) × (new.refused ≡ old.refused)
-  closes_keeps old new e (closes_last front index call last there is) =
+  pub closes_keeps : (old new : Content E) (e : E) → Closes reads all_kept old e new → (new.last ≡ old.last) × (new.undecided ≡ old.undecided) × (new.refused ≡ old.refused)
+  closes_keeps old new e (closes_last front call last is) =
       (ap (λ (c : Content E). c.last) is, ap (λ (c : Content E). c.undecided) is, ap (λ (c : Content E). c.refused) is)
   closes_keeps old new e (closes_none none is) =
       (ap (λ (c : Content E). c.last) is, ap (λ (c : Content E). c.undecided) is, ap (λ (c : Content E). c.refused) is)
@@ -283,7 +262,7 @@ module _ {E : Type 0} (reads : Reads E) where
     refused = refused ∙ sym (append-nil old.refused) ∙ ap (λ t. old.refused ++ t) (sym (none_of_one bracket e old.last plain));
   }
 
-  enters_keeps : (bracket : Bracket) (e : E) (old new : Content E) → Enters reads bracket e old new → Keeps bracket e old new
+  enters_keeps : (bracket : Bracket) (e : E) (old new : Content E) → Enters reads all_kept bracket e old new → Keeps bracket e old new
   enters_keeps Call e old new is =
       keeps_same Call e old new refl (ap (λ (c : Content E). c.last) is) (ap (λ (c : Content E). c.undecided) is) (ap (λ (c : Content E). c.refused) is)
   enters_keeps Served e old new is =
@@ -300,7 +279,7 @@ module _ {E : Type 0} (reads : Reads E) where
       keeps_same Neither e old new refl (ap (λ (c : Content E). c.last) is) (ap (λ (c : Content E). c.undecided) is) (ap (λ (c : Content E). c.refused) is)
 
   -- an event does not set the latest mark by itself
-  pub enters_last : (bracket : Bracket) (e : E) (old new : Content E) → Enters reads bracket e old new → new.last ≡ old.last
+  pub enters_last : (bracket : Bracket) (e : E) (old new : Content E) → Enters reads all_kept bracket e old new → new.last ≡ old.last
   enters_last bracket e old new step = (enters_keeps bracket e old new step).last
 
   -- what an event is that is decided
@@ -311,22 +290,23 @@ module _ {E : Type 0} (reads : Reads E) where
   decided_kept : (before : Option Mark) (events : List E) (e : E) → before ≡ last_mark reads events → (before ≡ None → is_error (bracket_read reads None e) ≡ false)
       → undecided_of reads events ≡ undecided_of reads (events ++ e ∷ [])
   decided_kept None events e is sure =
-      no_mark_undecided events (sym is) ∙ sym (sure_alone e (sure refl)) ∙ sym (undecided_later events (e ∷ []) (sym is))
-  decided_kept (Some mark) events e is sure = sym (undecided_kept mark events (e ∷ []) (sym is))
+      no_mark_undecided reads events (sym is) ∙ sym (sure_alone reads e (sure refl)) ∙ sym (undecided_later reads events (e ∷ []) (sym is))
+  decided_kept (Some mark) events e is sure = sym (undecided_kept reads mark events (e ∷ []) (sym is))
 
   pub add_entered : (old between new : Content E) (events : List E) (e : E) (bracket : Bracket) → Holds old events → IsPlaced reads.place (events ++ e ∷ [])
-      → bracket ≡ bracket_read reads old.last e → (old.last ≡ None → is_error (bracket_read reads None e) ≡ false) → Enters reads bracket e old between
+      → bracket ≡ bracket_read reads old.last e → (old.last ≡ None → is_error (bracket_read reads None e) ≡ false) → Enters reads all_kept bracket e old between
       → new ≡ record between { last = mark_behind_by reads old.last e } → Holds new (events ++ e ∷ [])
   add_entered old between new events e bracket holds placed which sure step is =
       let kept = enters_keeps bracket e old between step in
       let part : bracket_in_part reads old.last e ≡ bracket = decided_bracket old.last e sure ∙ sym which in
-      let models = models_same reads between new (paired reads (bracket_in_part reads) None events ++ (e, side_of bracket) ∷ [])
-      (ap (λ (c : Content E). c.openers) is) (ap (λ (c : Content E). c.unmatched) is) (ap (λ (c : Content E). c.strays) is)
-      (enters_models reads bracket e old between (paired reads (bracket_in_part reads) None events) holds.models step) in
+      let models = models_same reads all_kept between new (paired reads (bracket_in_part reads) None events ++ (e, side_of bracket) ∷ [])
+      (ap (λ (c : Content E). c.unmatched) is) (ap (λ (c : Content E). c.closed) is) (ap (λ (c : Content E). c.answered) is) (ap (λ (c : Content E). c.replied) is)
+      (ap (λ (c : Content E). c.strays) is)
+      (enters_models reads all_kept bracket e old between (paired reads (bracket_in_part reads) None events) holds.models step) in
       holds_push new events e old.last placed holds.last
       (ap (λ (c : Content E). c.last) is)
       (ap (λ (c : Content E). c.undecided) is ∙ kept.undecided ∙ holds.undecided ∙ decided_kept old.last events e holds.last sure)
-      (subst (λ (b : Bracket). Models reads new (paired reads (bracket_in_part reads) None events ++ (e, side_of b) ∷ [])) (sym part) models)
+      (subst (λ (b : Bracket). Models reads all_kept new (paired reads (bracket_in_part reads) None events ++ (e, side_of b) ∷ [])) (sym part) models)
       (ap (λ (c : Content E). c.refused) is ∙ kept.refused
       ∙ ap (λ l. l ++ refused_of (record { event = e; before = old.last; bracket = bracket } ∷ [])) holds.refused
       ∙ ap (λ (b : Bracket). refused_of (bracketed_part reads events) ++ refused_of (record { event = e; before = old.last; bracket = b } ∷ [])) (sym part))

@@ -1,5 +1,5 @@
 -- Events that leave no mark are no part of the calls of their thread.
-use Rattle.std.proofs.Common.{◌≡◌, ℕ, true, false, cond, Option, Some, None, refl, sym, ap, ap₂, ◌∙◌, inl, inr, List, [], ◌∷◌, map}
+use Rattle.std.proofs.Common.{◌≡◌, ℕ, Bool, true, false, cond, Option, Some, None, refl, sym, ap, ap₂, ◌∙◌, inl, inr, List, [], ◌∷◌, map}
 use Rattle.std.proofs.lemmas.Bool.{true≢false}
 use Rattle.std.specs.List.{filter, find, fold, cons_option}
 use Rattle.std.proofs.lemmas.Option.{slice_get-map}
@@ -14,13 +14,14 @@ use Rattle.call_stacks.specs.declared.findings.RefusedSend.{RefusedSend}
 use Rattle.call_stacks.specs.declared.opener.Opener.{Opener}
 use Rattle.call_stacks.specs.Calls.{Reads, Bracketed, IsOpener, IsStrayEvent, IsRefusedSend, bracket_read, judged_of, bracketed_with, mark_read, mark_behind_by}
 use Rattle.call_stacks.specs.Calls.{CallsSum, bracket_in_part, if_error_reply, is_error, is_refused, refused_of, refused_send}
+use Rattle.call_stacks.specs.Content.{content_of}
 use Rattle.call_stacks.specs.Matching.{opener, closer, neither}
 use Rattle.call_stacks.specs.Verdicts.{side_of}
 use Rattle.call_stacks.proofs.Judging.{side, paired}
-use Rattle.call_stacks.proofs.Lists.{found, event_of}
+use Rattle.call_stacks.proofs.Lists.{event_of}
 use Rattle.call_stacks.proofs.MarkLaws.{no_mark}
 use Rattle.call_stacks.proofs.Model.{strays, openers, put, entry}
-use Rattle.call_stacks.proofs.Steps.{unmatched_at}
+use Rattle.call_stacks.proofs.Steps.{holds_same}
 use Rattle.call_stacks.proofs.Members.{In, get_in}
 use Rattle.call_stacks.proofs.Sums.{holds, sums, marked}
 
@@ -95,18 +96,18 @@ module _ {E : Type 0} (reads : Reads E) where
       ] refl
 
   -- a value that sums the events of a thread that leave a mark sums all of them
-  pub with_unmarked : (calls : Calls E) (events : List E) → IsPlaced reads.place events → CallsSum reads calls (filter (marked reads) events)
-      → CallsSum reads calls events
-  with_unmarked calls events placed summed =
-      let held = holds reads calls (filter (marked reads) events) summed in
+  pub with_unmarked : (all_kept : Bool) (calls : Calls E) (events : List E) → IsPlaced reads.place events
+      → CallsSum reads all_kept calls (filter (marked reads) events) → CallsSum reads all_kept calls events
+  with_unmarked all_kept calls events placed summed =
+      let held = holds reads all_kept calls (filter (marked reads) events) summed in
       let same = same_without None events in
-      sums reads calls events (record {
+      sums reads all_kept calls events (record {
         placed = placed;
         last = held.last ∙ same.last_is;
         undecided = held.undecided ∙ ap (option_and_then (if_error_reply reads)) (first_marked events);
         models = record {
-          openers_are = held.models.openers_are ∙ ap (map (found reads)) same.openers_are;
-          unmatched_are = held.models.unmatched_are ∙ ap (unmatched_at 0) same.openers_are;
+          calls = holds_same reads all_kept (content_of calls) (openers side (paired reads (bracket_in_part reads) None (filter (marked reads) events)))
+              (openers side (paired reads (bracket_in_part reads) None events)) same.openers_are held.models.calls;
           strays_are = held.models.strays_are ∙ ap (map event_of) same.strays_are;
         };
         refused = held.refused ∙ same.refused_are;

@@ -1,6 +1,7 @@
 -- The calls of a thread, and the calls of a part of a thread's events (docs/REPORT.md).
 use Rattle.std.specs.Prelude.{◌≡◌, ℕ, if◌then◌else◌, Bool, true, false, Option, Some, None, option_and_then, is_some}
-use Rattle.std.specs.Prelude.{List, [], ◌∷◌, map, fold, find, filter_map, slice_get}
+use Rattle.std.specs.Prelude.{List, [], ◌∷◌, map, filter, count_by, fold, find, filter_map, slice_get}
+use Rattle.std.specs.List.Sorted.{IsPermutation}
 use Rattle.std.specs.Option.{option_or}
 use Rattle.event_core.specs.Brackets.{is_oneway, mark_of, bracket_of}
 use Rattle.binder_code.specs.declared.record_kind.Kind.{Kind}
@@ -18,7 +19,7 @@ use Rattle.call_stacks.specs.declared.opener.Opener.{Opener}
 use Rattle.call_stacks.specs.declared.verdict.Verdict.{Verdict}
 use Rattle.call_stacks.specs.declared.verdict.Verdict.TheVariants.{Open}
 use Rattle.call_stacks.specs.Matching.{Side, opener, Match, IsStray, ListsInOrder}
-use Rattle.call_stacks.specs.Verdicts.{side_of, verdict_of}
+use Rattle.call_stacks.specs.Verdicts.{side_of, verdict_of, is_answered, is_replied, is_open, is_closed, lacks_reply}
 
 -- what is read of an event for the calls of its thread: its place, what its code stands for, and whether it is a
 -- oneway transaction
@@ -123,9 +124,25 @@ refused_of judged = filter_map refused_send judged
 abbrev pub opener_place : {E : Type 0} → Reads E → Opener E → ℕ
 opener_place reads found = reads.place found.event
 
--- the calls of a whole thread
-pub record AreFindings {E : Type 0} (reads : Reads E) (events : List E) (findings : CallFindings E) : Type 0 where
-  pub openers : ListsInOrder (opener_place reads) (IsOpener reads (judged_of reads events)) findings.openers.items
+-- those of some calls whose verdict passes a test, and how many
+abbrev pub with_verdict : {E : Type 0} → (Verdict → Bool) → List (Opener E) → List (Opener E)
+with_verdict test calls = filter (λ call. test call.verdict) calls
+
+abbrev pub how_many : {E : Type 0} → (Verdict → Bool) → List (Opener E) → ℕ
+how_many test calls = count_by (λ call. test call.verdict) calls
+
+-- what is kept of some calls: all of them, or else those that lack their reply
+abbrev pub kept_of : {E : Type 0} → Bool → List (Opener E) → List (Opener E)
+kept_of true calls = calls
+kept_of false calls = with_verdict lacks_reply calls
+
+-- the calls of a whole thread: of its openers those that are kept, and how many have their reply
+pub record AreFindings {E : Type 0} (reads : Reads E) (all_kept : Bool) (events : List E) (findings : CallFindings E) : Type 0 where
+  pub openers : List (Opener E)
+  pub are_openers : ListsInOrder (opener_place reads) (IsOpener reads (judged_of reads events)) openers
+  pub kept : findings.openers.items ≡ kept_of all_kept openers
+  pub answered : findings.answered ≡ how_many is_answered openers
+  pub replied : findings.replied ≡ how_many is_replied openers
   pub strays : ListsInOrder reads.place (IsStrayEvent (judged_of reads events)) findings.strays.items
   pub refused : findings.refused.items ≡ refused_of (judged_of reads events)
 
@@ -175,21 +192,26 @@ if_error_reply reads event = if is_error (bracket_read reads None event) then So
 abbrev pub undecided_of : {E : Type 0} → Reads E → List E → Option E
 undecided_of reads events = option_and_then (if_error_reply reads) (find (λ event. is_some (mark_read reads event)) events)
 
--- an index among the openers of one without a closer
-abbrev pub IsLeftOpen : {E : Type 0} → List (Opener E) → ℕ → Type 0
-IsLeftOpen {E} openers index = (found : Opener E) × (slice_get openers index ≡ Some found) × (found.closer ≡ None)
+-- the call that an event opens, where nothing closes it
+abbrev pub open_call : {E : Type 0} → E → Opener E
+open_call event = record { event = event; verdict = Open; closer = None }
 
--- the value sums the events of a part of a thread
-pub record CallsSum {E : Type 0} (reads : Reads E) (calls : Calls E) (events : List E) : Type 0 where
+-- The value sums the events of a part of a thread. Of its openers it has those that nothing closes, in their order, and
+-- of the closed ones those that are kept, in any order.
+pub record CallsSum {E : Type 0} (reads : Reads E) (all_kept : Bool) (calls : Calls E) (events : List E) : Type 0 where
   pub placed : IsPlaced reads.place events
   pub last : calls.last ≡ last_mark reads events
   pub undecided : calls.undecided ≡ undecided_of reads events
-  pub openers : ListsInOrder (opener_place reads) (IsOpener reads (bracketed_part reads events)) calls.openers.items
-  pub unmatched : ListsInOrder (λ index. index) (IsLeftOpen calls.openers.items) calls.unmatched.items
+  pub openers : List (Opener E)
+  pub are_openers : ListsInOrder (opener_place reads) (IsOpener reads (bracketed_part reads events)) openers
+  pub unmatched : map open_call calls.unmatched.items ≡ with_verdict is_open openers
+  pub closed : IsPermutation (kept_of all_kept (with_verdict is_closed openers)) calls.closed.items
+  pub answered : calls.answered ≡ how_many is_answered openers
+  pub replied : calls.replied ≡ how_many is_replied openers
   pub strays : ListsInOrder reads.place (IsStrayEvent (bracketed_part reads events)) calls.strays.items
   pub refused : calls.refused.items ≡ refused_of (bracketed_part reads events)
 
 -- the calls of whatever events the value sums
-abbrev pub GivesFindings : {E : Type 0} → Reads E → Calls E → CallFindings E → Type 0
-GivesFindings {E} reads calls findings =
-    (events : List E) → CallsSum reads calls events → AreFindings reads events findings
+abbrev pub GivesFindings : {E : Type 0} → Reads E → Bool → Calls E → CallFindings E → Type 0
+GivesFindings {E} reads all_kept calls findings =
+    (events : List E) → CallsSum reads all_kept calls events → AreFindings reads all_kept events findings

@@ -1,21 +1,25 @@
 -- What the parts of the code do to what a value holds.
-use Rattle.std.specs.Prelude.{◌≡◌, ℕ, ◌+◌, Option, Some, None}
-use Rattle.std.specs.Prelude.{List, [], ◌∷◌, ◌++◌, length, map, slice_get, slice_set}
+use Rattle.std.specs.Prelude.{◌≡◌, ℕ, ◌+◌, ◌-◌, ◌^◌, min, if◌then◌else◌, Bool, Option, Some}
+use Rattle.std.specs.Prelude.{List, [], ◌∷◌, ◌++◌}
 use Rattle.event_core.specs.declared.marks.Bracket.{Bracket}
 use Rattle.event_core.specs.declared.marks.Bracket.TheVariants.{Call, Served, Reply, Sent, Error, Refused, Neither}
 use Rattle.event_core.specs.declared.marks.Mark.{Mark}
+use Rattle.std.specs.Option.{option_or}
 use Rattle.call_stacks.specs.declared.calls.Calls.{Calls}
 use Rattle.call_stacks.specs.declared.findings.RefusedSend.{RefusedSend}
 use Rattle.call_stacks.specs.declared.opener.Opener.{Opener}
-use Rattle.call_stacks.specs.declared.verdict.Verdict.TheVariants.{Open}
-use Rattle.call_stacks.specs.Calls.{Reads, verdict_read, is_oneway_mark}
+use Rattle.call_stacks.specs.declared.verdict.Verdict.{Verdict}
+use Rattle.call_stacks.specs.Calls.{Reads, verdict_read, is_oneway_mark, kept_of, open_call}
+use Rattle.call_stacks.specs.Verdicts.{is_answered, is_replied}
 
 -- what a value holds
 pub record Content (E : Type 0) : Type 0 where
   pub last : Option Mark
   pub undecided : Option E
-  pub openers : List (Opener E)
-  pub unmatched : List ℕ
+  pub unmatched : List E
+  pub closed : List (Opener E)
+  pub answered : ℕ
+  pub replied : ℕ
   pub strays : List E
   pub refused : List (RefusedSend E)
 
@@ -23,27 +27,41 @@ abbrev pub content_of : {E : Type 0} → Calls E → Content E
 content_of calls = record {
   last = calls.last;
   undecided = calls.undecided;
-  openers = calls.openers.items;
   unmatched = calls.unmatched.items;
+  closed = calls.closed.items;
+  answered = calls.answered;
+  replied = calls.replied;
   strays = calls.strays.items;
   refused = calls.refused.items;
 }
-
--- an opener that nothing closes
-abbrev pub left_open : {E : Type 0} → E → Opener E
-left_open event = record { event = event; verdict = Open; closer = None }
 
 -- the opener with what closes it
 abbrev pub closed_with : {E : Type 0} → Reads E → E → Opener E → Opener E
 closed_with reads closer opener =
     record { event = opener.event; verdict = verdict_read reads opener.event closer; closer = Some (reads.place closer) }
 
+-- the sum of two numbers, or the greatest of 64 bits where the sum is above that
+abbrev pub sum_64 : ℕ → ℕ → ℕ
+sum_64 a b = min (a + b) (2 ^ 64 - 1)
+
+-- one more, where the test says so
+abbrev pub one_more : Bool → ℕ → ℕ
+one_more test number = if test then sum_64 number 1 else number
+
+-- one more call with this verdict
+abbrev pub counted : {E : Type 0} → Verdict → Content E → Content E
+counted verdict old = record old {
+  answered = one_more (is_answered verdict) old.answered;
+  replied = one_more (is_replied verdict) old.replied;
+}
+
+-- one more closed call
+abbrev pub taken : {E : Type 0} → Bool → Opener E → Content E → Content E
+taken all_kept call old = record (counted call.verdict old) { closed = old.closed ++ kept_of all_kept (call ∷ []) }
+
 -- one more opener
 abbrev pub begun : {E : Type 0} → E → Content E → Content E
-begun event old = record old {
-  openers = old.openers ++ left_open event ∷ [];
-  unmatched = old.unmatched ++ length old.openers ∷ [];
-}
+begun event old = record old { unmatched = old.unmatched ++ event ∷ [] }
 
 -- one more refused send
 abbrev pub refused_too : {E : Type 0} → E → Content E → Content E
@@ -51,33 +69,36 @@ refused_too event old =
     record old { refused = old.refused ++ record { event = event; oneway = is_oneway_mark old.last } ∷ [] }
 
 -- the last opener without a closer gets this one; where there is none, the closer is a stray
-pub data Closes {E : Type 0} (reads : Reads E) (old : Content E) (closer : E) (new : Content E) : Type 0 where
-  closes_last : (front : List ℕ) (index : ℕ) (opener : Opener E) → old.unmatched ≡ front ++ index ∷ []
-      → slice_get old.openers index ≡ Some opener
-      → new ≡ record old { openers = slice_set old.openers index (closed_with reads closer opener); unmatched = front }
-      → Closes reads old closer new
-  closes_none : old.unmatched ≡ [] → new ≡ record old { strays = old.strays ++ closer ∷ [] } → Closes reads old closer new
+pub data Closes {E : Type 0} (reads : Reads E) (all_kept : Bool) (old : Content E) (closer : E) (new : Content E) : Type 0 where
+  closes_last : (front : List E) (event : E) → old.unmatched ≡ front ++ event ∷ []
+      → new ≡ taken all_kept (closed_with reads closer (open_call event)) (record old { unmatched = front })
+      → Closes reads all_kept old closer new
+  closes_none : old.unmatched ≡ [] → new ≡ record old { strays = old.strays ++ closer ∷ [] }
+      → Closes reads all_kept old closer new
 
 -- each of the closers in turn closes the last opener that is open, or is a stray
-abbrev pub ClosesAll : {E : Type 0} → Reads E → Content E → List E → Content E → Type 0
-ClosesAll {E} reads old [] new = new ≡ old
-ClosesAll {E} reads old (closer ∷ closers) new = (next : Content E) × Closes reads old closer next × ClosesAll reads next closers new
+abbrev pub ClosesAll : {E : Type 0} → Reads E → Bool → Content E → List E → Content E → Type 0
+ClosesAll {E} reads all_kept old [] new = new ≡ old
+ClosesAll {E} reads all_kept old (closer ∷ closers) new =
+    (next : Content E) × Closes reads all_kept old closer next × ClosesAll reads all_kept next closers new
 
 -- an event that is this bracket
-abbrev pub Enters : {E : Type 0} → Reads E → Bracket → E → Content E → Content E → Type 0
-Enters reads Call event old new = new ≡ begun event old
-Enters reads Served event old new = new ≡ begun event old
-Enters reads Reply event old new = Closes reads old event new
-Enters reads Sent event old new = Closes reads old event new
-Enters reads Error event old new = Closes reads old event new
-Enters reads Refused event old new = new ≡ refused_too event old
-Enters reads Neither event old new = new ≡ old
+abbrev pub Enters : {E : Type 0} → Reads E → Bool → Bracket → E → Content E → Content E → Type 0
+Enters reads all_kept Call event old new = new ≡ begun event old
+Enters reads all_kept Served event old new = new ≡ begun event old
+Enters reads all_kept Reply event old new = Closes reads all_kept old event new
+Enters reads all_kept Sent event old new = Closes reads all_kept old event new
+Enters reads all_kept Error event old new = Closes reads all_kept old event new
+Enters reads all_kept Refused event old new = new ≡ refused_too event old
+Enters reads all_kept Neither event old new = new ≡ old
 
--- the calls and the refused sends of a later part
-abbrev pub appended : {E : Type 0} → List (Opener E) → List ℕ → List (RefusedSend E) → Content E
-    → Content E
-appended openers unmatched refused old = record old {
-  openers = old.openers ++ openers;
-  unmatched = old.unmatched ++ map (λ index. length old.openers + index) unmatched;
-  refused = old.refused ++ refused;
+-- with all that a later part has, but for its strays and what is undecided there
+abbrev pub appended : {E : Type 0} → Content E → Content E → Content E
+appended later old = record old {
+  last = option_or later.last old.last;
+  unmatched = old.unmatched ++ later.unmatched;
+  closed = old.closed ++ later.closed;
+  answered = sum_64 old.answered later.answered;
+  replied = sum_64 old.replied later.replied;
+  refused = old.refused ++ later.refused;
 }

@@ -1,6 +1,6 @@
 //! What the calls of a thread go by of an event.
 
-ghost use Rattle.std.specs.Prelude.{◌≡◌};
+ghost use Rattle.std.specs.Prelude.{◌≡◌, Bool, true, false};
 ghost use Rattle.call_stacks.specs.Calls.{Reads, mark_read, bracket_read, event_reads, view_reads, call_event};
 
 use binder_code::Kind;
@@ -10,6 +10,9 @@ use event_core::{Bracket, Event, Mark, bracket_of, is_oneway, mark_of};
 pub trait CallRecord: Copy {
     /// What is read of it.
     ghost reads: { Reads Self };
+
+    /// Whether all calls are kept, or those alone that lack their reply.
+    ghost all_kept: { Bool };
 
     /// Where its record begins in the capture, in bytes.
     fn place(&self) -> u64
@@ -22,6 +25,10 @@ pub trait CallRecord: Copy {
     /// Whether it is a transaction, sent or received, with TF_ONE_WAY.
     fn oneway(&self) -> bool
         ensures { result ≡ reads.oneway self.now };
+
+    /// Whether calls that have their reply are kept too; if not, they are only counted.
+    fn keeps_all() -> bool
+        ensures { result ≡ all_kept };
 
     /// The mark that it leaves in its thread.
     final fn mark(&self) -> Option<Mark>
@@ -41,6 +48,8 @@ pub trait CallRecord: Copy {
 impl<'c> CallRecord for Event<'c> {
     ghost reads = { view_reads };
 
+    ghost all_kept = { true };
+
     fn place(&self) -> u64 {
         self.place
     }
@@ -51,6 +60,12 @@ impl<'c> CallRecord for Event<'c> {
 
     fn oneway(&self) -> bool {
         is_oneway(*self)
+    }
+
+    fn keeps_all() -> bool
+        ensures { result ≡ true }
+    {
+        true
     }
 }
 
@@ -81,6 +96,8 @@ impl CallEvent {
 impl CallRecord for CallEvent {
     ghost reads = { event_reads };
 
+    ghost all_kept = { false };
+
     fn place(&self) -> u64 {
         self.place
     }
@@ -91,5 +108,9 @@ impl CallRecord for CallEvent {
 
     fn oneway(&self) -> bool {
         self.oneway
+    }
+
+    fn keeps_all() -> bool {
+        false
     }
 }

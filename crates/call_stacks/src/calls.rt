@@ -1,14 +1,16 @@
 //! The calls of one thread, as a summary of its events.
 
-ghost use Rattle.std.specs.Prelude.{◌≡◌, ◌+◌, ◌<◌, ◌^◌, length, All, IfOk, OnOk};
+ghost use Rattle.std.specs.Prelude.{◌≡◌, ◌++◌, map, IfOk, OnOk};
+ghost use Rattle.std.specs.List.Sorted.{IsPermutation, IsNonDecreasingBy};
 ghost use Rattle.summary_law.specs.Fits.{IsPlaced, placed_parts};
-ghost use Rattle.call_stacks.specs.Calls.{CallsSum, GivesFindings};
-ghost use Rattle.call_stacks.specs.Content.{content_of, begun, refused_too, appended};
+ghost use Rattle.call_stacks.specs.Calls.{CallsSum, GivesFindings, open_call, opener_place};
+ghost use Rattle.call_stacks.specs.Content.{content_of, begun, counted, taken, refused_too, appended};
 ghost use Rattle.call_stacks.specs.Content.{Enters, Closes, ClosesAll};
 
 use crate::call_record::CallRecord;
 use crate::findings::{CallFindings, RefusedSend};
 use crate::opener::Opener;
+use crate::verdict::Verdict;
 use event_core::{Bracket, Event, Mark};
 use std::alloc::{AllocError, Global};
 use summary_law::Summary;
@@ -22,10 +24,14 @@ pub struct Calls<E> {
     last: Option<Mark>,
     /// The first event that left a mark, where that is an error reply.
     undecided: Option<E>,
-    /// The calls so far, in rising place.
-    openers: Vec<Opener<E>>,
-    /// The indices in `openers` of those without a closer, in rising order.
-    unmatched: Vec<usize>,
+    /// The calls that nothing closes so far, in rising place.
+    unmatched: Vec<E>,
+    /// The closed calls, as they were closed: all of them, or those that lack their reply.
+    closed: Vec<Opener<E>>,
+    /// How many calls are answered.
+    answered: u64,
+    /// How many calls are replied to.
+    replied: u64,
     /// The closers that match no opener, in rising place.
     strays: Vec<E>,
     /// The refused sends, in rising place.
@@ -35,13 +41,15 @@ pub struct Calls<E> {
 impl<E: CallRecord> Calls<E> {
     /// The calls of the whole thread. An error reply that is still undecided closes nothing.
     pub fn finish(self) -> Result<CallFindings<E>, AllocError>
-        ensures { IfOk result (GivesFindings E.reads self) }
+        ensures { IfOk result (GivesFindings E.reads E.all_kept self) }
     {
         let Calls {
             last: _,
             undecided,
-            openers,
-            unmatched: _,
+            unmatched,
+            closed,
+            answered,
+            replied,
             strays,
             refused,
         } = self;
@@ -49,8 +57,11 @@ impl<E: CallRecord> Calls<E> {
         if let Some(event) = undecided {
             strays.insert(0, event)?;
         }
+        let openers = in_order(closed, &unmatched)?;
         Ok(CallFindings {
             openers,
+            answered,
+            replied,
             strays,
             refused,
         })
@@ -58,9 +69,8 @@ impl<E: CallRecord> Calls<E> {
 
     /// Takes in an event that is this bracket.
     fn enter(&mut self, event: E, bracket: Bracket) -> Result<(), AllocError>
-        requires { All (λ index. index < length self.old.openers.items) self.old.unmatched.items }
         ensures { OnOk result
-            (Enters E.reads bracket event (content_of self.old) (content_of self.new)) }
+            (Enters E.reads E.all_kept bracket event (content_of self.old) (content_of self.new)) }
     {
         match bracket {
             Bracket::Call | Bracket::Served => self.begin(event),
@@ -74,8 +84,7 @@ impl<E: CallRecord> Calls<E> {
     fn begin(&mut self, event: E) -> Result<(), AllocError>
         ensures { OnOk result (content_of self.new ≡ begun event (content_of self.old)) }
     {
-        self.unmatched.push(self.openers.len())?;
-        self.openers.push(Opener::new(event))?;
+        self.unmatched.push(event)?;
         Ok(())
     }
 
@@ -91,25 +100,44 @@ impl<E: CallRecord> Calls<E> {
 
     /// Closes the innermost call that is open, if there is one.
     fn close(&mut self, closer: E) -> Result<(), AllocError>
-        requires { All (λ index. index < length self.old.openers.items) self.old.unmatched.items }
         ensures { OnOk result
-            (Closes E.reads (content_of self.old) closer (content_of self.new)) }
+            (Closes E.reads E.all_kept (content_of self.old) closer (content_of self.new)) }
     {
         match self.unmatched.pop() {
-            Some(index) => {
-                let opener = self.openers[index];
-                self.openers[index] = opener.closed_with(closer);
-            }
+            Some(event) => self.take(Opener::new(event).closed_with(closer))?,
             None => self.strays.push(closer)?,
         }
         Ok(())
     }
 
+    /// Takes in a closed call. One that has its reply is only counted, if not all are kept.
+    fn take(&mut self, call: Opener<E>) -> Result<(), AllocError>
+        ensures { OnOk result
+            (content_of self.new ≡ taken E.all_kept call (content_of self.old)) }
+    {
+        self.count(call.verdict);
+        if E::keeps_all() || !call.verdict.has_reply() {
+            self.closed.push(call)?;
+        }
+        Ok(())
+    }
+
+    /// Counts a call of this verdict. The numbers never get to 2^64, as there are not so many
+    /// events; that is known to the caller alone, so they are sums that stop there.
+    fn count(&mut self, verdict: Verdict)
+        ensures { content_of self.new ≡ counted verdict (content_of self.old) }
+    {
+        match verdict {
+            Verdict::Answered => self.answered = self.answered.saturating_add(1),
+            Verdict::Replied => self.replied = self.replied.saturating_add(1),
+            _ => {}
+        }
+    }
+
     /// Each of the closers closes the innermost call that is then open.
     fn close_all(&mut self, closers: &[E]) -> Result<(), AllocError>
-        requires { All (λ index. index < length self.old.openers.items) self.old.unmatched.items }
         ensures { OnOk result
-            (ClosesAll E.reads (content_of self.old) closers.now (content_of self.new)) }
+            (ClosesAll E.reads E.all_kept (content_of self.old) closers.now (content_of self.new)) }
     {
         for closer in closers {
             self.close(*closer)?;
@@ -117,30 +145,49 @@ impl<E: CallRecord> Calls<E> {
         Ok(())
     }
 
-    /// Takes over the calls of a later part, and its refused sends.
-    fn append(
-        &mut self,
-        openers: Vec<Opener<E>>,
-        unmatched: &[usize],
-        refused: Vec<RefusedSend<E>>,
-    ) -> Result<(), AllocError>
-        requires { All (λ index. length self.old.openers.items + index < 2 ^ 64) unmatched.now }
-        ensures { OnOk result (content_of self.new ≡
-            appended openers.items unmatched.now refused.items (content_of self.old)) }
+    /// Takes over what a later part has, but for its strays and what is undecided there.
+    fn append(&mut self, later: Calls<E>) -> Result<(), AllocError>
+        ensures { OnOk result
+            (content_of self.new ≡ appended (content_of later) (content_of self.old)) }
     {
-        let before = self.openers.len();
-        for index in unmatched {
-            self.unmatched.push(before + *index)?;
-        }
-        let mut openers = openers;
-        self.openers.append(&mut openers)?;
-        let mut refused = refused;
+        let Calls {
+            last,
+            mut unmatched,
+            mut closed,
+            answered,
+            replied,
+            mut refused,
+            ..
+        } = later;
+        self.last = last.or(self.last);
+        self.unmatched.append(&mut unmatched)?;
+        self.closed.append(&mut closed)?;
+        self.answered = self.answered.saturating_add(answered);
+        self.replied = self.replied.saturating_add(replied);
         self.refused.append(&mut refused)?;
         Ok(())
     }
 }
 
-/// The calls of one thread, where the events themselves are kept.
+/// The closed calls and the open ones, in rising place.
+fn in_order<E: CallRecord>(
+    closed: Vec<Opener<E>>,
+    unmatched: &[E],
+) -> Result<Vec<Opener<E>>, AllocError>
+    ensures moved { IfOk result (λ openers.
+        IsPermutation (closed.items ++ map open_call unmatched.now) openers.items) }
+    ensures sorted { IfOk result (λ openers.
+        IsNonDecreasingBy (opener_place E.reads) openers.items) }
+{
+    let mut openers = closed;
+    for event in unmatched {
+        openers.push(Opener::new(*event))?;
+    }
+    openers.sort_unstable_by_key(|opener| opener.event.place());
+    Ok(openers)
+}
+
+/// The calls of one thread, where the events themselves are kept, and all calls.
 pub type ThreadCalls<'c> = Calls<Event<'c>>;
 
 /// An `add` takes constant time, amortized. A `join` takes a step for each entry of the later
@@ -151,14 +198,16 @@ impl<E: CallRecord> Summary for Calls<E> {
 
     ghost fits = { IsPlaced E.reads.place };
 
-    ghost sums = { CallsSum E.reads };
+    ghost sums = { CallsSum E.reads E.all_kept };
 
     fn empty(alloc: Global) -> Calls<E> {
         Calls {
             last: None,
             undecided: None,
-            openers: Vec::new(alloc),
             unmatched: Vec::new(alloc),
+            closed: Vec::new(alloc),
+            answered: 0,
+            replied: 0,
             strays: Vec::new(alloc),
             refused: Vec::new(alloc),
         }
@@ -177,20 +226,11 @@ impl<E: CallRecord> Summary for Calls<E> {
 
     fn join(self, later: Calls<E>) -> Result<Calls<E>, AllocError> {
         let mut joined = self;
-        let Calls {
-            last,
-            undecided,
-            openers,
-            unmatched,
-            strays,
-            refused,
-        } = later;
-        if let Some(event) = undecided {
+        if let Some(event) = later.undecided {
             joined.add(event)?;
         }
-        joined.close_all(&strays)?;
-        joined.append(openers, &unmatched, refused)?;
-        joined.last = last.or(joined.last);
+        joined.close_all(&later.strays)?;
+        joined.append(later)?;
         Ok(joined)
     }
 

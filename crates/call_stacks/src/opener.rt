@@ -1,7 +1,8 @@
 //! A call with what became of it.
 
 ghost use Rattle.std.specs.Prelude.{◌≡◌};
-ghost use Rattle.call_stacks.specs.Content.{left_open, closed_with};
+ghost use Rattle.call_stacks.specs.Calls.{open_call};
+ghost use Rattle.call_stacks.specs.Content.{closed_with};
 
 use crate::call_record::CallRecord;
 use crate::verdict::{Verdict, verdict_between};
@@ -20,7 +21,7 @@ pub struct Opener<E> {
 impl<E: CallRecord> Opener<E> {
     /// A call that nothing closes so far.
     pub(crate) fn new(event: E) -> Self
-        ensures { result ≡ left_open event }
+        ensures { result ≡ open_call event }
     {
         Opener {
             event,

@@ -1,7 +1,7 @@
 //! What becomes of a call.
 
 ghost use Rattle.std.specs.Prelude.{◌≡◌};
-ghost use Rattle.call_stacks.specs.Verdicts.{verdict_of};
+ghost use Rattle.call_stacks.specs.Verdicts.{verdict_of, has_reply};
 
 use event_core::Bracket;
 
@@ -19,6 +19,15 @@ pub enum Verdict {
     Crossed,
     /// Nothing closes it.
     Open,
+}
+
+impl Verdict {
+    /// Whether its reply closes the call.
+    pub(crate) fn has_reply(self) -> bool
+        ensures { result ≡ has_reply self }
+    {
+        matches!(self, Verdict::Answered | Verdict::Replied)
+    }
 }
 
 /// The verdict of an opener by the closer that matches it.

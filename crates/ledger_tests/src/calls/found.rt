@@ -34,6 +34,11 @@ fn expect_openers(
     }
 }
 
+/// How many of the wanted calls have this verdict.
+fn count_of(wanted: &[(usize, Verdict, Option<usize>)], verdict: Verdict) -> u64 {
+    wanted.iter().filter(|row| row.1 == verdict).count() as u64
+}
+
 /// The strays, in their order.
 fn expect_strays(rt: &impl Abort, events: &[Event<'_>], wanted: &[usize], strays: &[Event<'_>]) {
     assert_eq!(rt; strays.len(), wanted.len());
@@ -65,6 +70,14 @@ pub(crate) fn expect_found(
     findings: &CallFindings<Event<'_>>,
 ) {
     expect_openers(rt, events, wanted.openers, &findings.openers);
+    assert_eq!(rt;
+        findings.answered,
+        count_of(wanted.openers, Verdict::Answered)
+    );
+    assert_eq!(rt;
+        findings.replied,
+        count_of(wanted.openers, Verdict::Replied)
+    );
     expect_strays(rt, events, wanted.strays, &findings.strays);
     expect_refused(rt, events, wanted.refused, &findings.refused);
 }

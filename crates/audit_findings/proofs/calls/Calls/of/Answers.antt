@@ -6,7 +6,8 @@ use Rattle.call_stacks.specs.declared.verdict.Verdict.{Verdict}
 use Rattle.call_stacks.specs.declared.verdict.Verdict.TheVariants.{Answered, Failed, Crossed, Open}
 use Rattle.audit_findings.specs.declared.opener_row.End.TheVariants.{Caller}
 use Rattle.audit_findings.specs.declared.opener_row.OpenerRow.{OpenerRow}
-use Rattle.audit_findings.specs.Calls.{CallsSaid, is_call, is_answered, is_failed, is_unanswered}
+use Rattle.audit_findings.specs.Calls.{CallsSaid, is_call, is_unanswered}
+use Rattle.call_stacks.specs.Verdicts.{is_answered, is_failed}
 use Rattle.audit_findings.specs.ThreadRows.{opener_row, is_of, is_but, is_listed}
 use Rattle.audit_findings.proofs.CallCounts.{count_kept, filter_kept, lists, of_listed, made_listed, made_count, made_rows, unanswered_count}
 use Rattle.audit_findings.proofs.calls.Calls.of.Goals as goal

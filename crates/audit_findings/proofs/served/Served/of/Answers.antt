@@ -6,7 +6,8 @@ use Rattle.call_stacks.specs.declared.verdict.Verdict.{Verdict}
 use Rattle.call_stacks.specs.declared.verdict.Verdict.TheVariants.{Replied, Crossed, Open}
 use Rattle.audit_findings.specs.declared.opener_row.End.TheVariants.{Server}
 use Rattle.audit_findings.specs.declared.opener_row.OpenerRow.{OpenerRow}
-use Rattle.audit_findings.specs.Calls.{ServedSaid, is_call, is_replied, is_crossed, is_open}
+use Rattle.audit_findings.specs.Calls.{ServedSaid, is_call}
+use Rattle.call_stacks.specs.Verdicts.{is_replied, is_crossed, is_open}
 use Rattle.audit_findings.specs.ThreadRows.{opener_row, is_of, is_but, is_listed}
 use Rattle.audit_findings.proofs.CallCounts.{count_kept, filter_kept, lists, of_listed, served_listed, served_count, served_rows}
 use Rattle.audit_findings.proofs.served.Served.of.Goals as goal

@@ -1,7 +1,5 @@
 use Rattle.std.proofs.Common.{◌≡◌, ◌+◌, List, [], ◌∷◌, ◌++◌, sym, subst, rules}
-use Rattle.call_stacks.specs.declared.verdict.Verdict.TheVariants.{Answered, Replied}
-use Rattle.audit_findings.specs.declared.opener_row.End.TheVariants.{Caller, Server}
-use Rattle.audit_findings.specs.ThreadRows.{listed_in, count_in, strays_in, sends_in, AreRowsInTurn}
+use Rattle.audit_findings.specs.ThreadRows.{listed_in, strays_in, sends_in, AreRowsInTurn}
 use Rattle.audit_findings.proofs.ThreadTurns.{no_threads, thread_in_front, taken_over, all_turned}
 use Rattle.audit_findings.proofs.thread_rows.ThreadRows.in_turn.Goals as goal
 
@@ -12,10 +10,10 @@ loop-thread-preserved c = λ listed answered replied strays sends are.
     let rest : c.loop-thread._thread-iterator ≡ (c.in-Some._thread, c.in-Some.calls) ∷ c.next.new.self = search rules in
     let behind = thread_in_front (c.in-Some._thread, c.in-Some.calls) c.next.new.self found listed answered replied strays sends c.in_ok-found.ensures are in
     taken_over all c.loop-thread.rows c.take_over.new.self found listed answered replied strays sends c.in_ok-take_over.ensures
-    (c.loop-thread.invariant (listed_in found ++ listed) (count_in Caller Answered found + answered) (count_in Server Replied found + replied)
+    (c.loop-thread.invariant (listed_in found ++ listed) (found.answered + answered) (found.replied + replied)
     (strays_in found ++ strays) (sends_in found ++ sends)
-    (subst (λ (es : List _). AreRowsInTurn es (listed_in found ++ listed) (count_in Caller Answered found + answered)
-    (count_in Server Replied found + replied) (strays_in found ++ strays) (sends_in found ++ sends)) (sym rest) behind))
+    (subst (λ (es : List _). AreRowsInTurn es (listed_in found ++ listed) (found.answered + answered)
+    (found.replied + replied) (strays_in found ++ strays) (sends_in found ++ sends)) (sym rest) behind))
 
 pub returns : goal.returns
 returns c =

@@ -1,17 +1,13 @@
-use Rattle.std.proofs.Common.{◌<◌, ap, length, Some}
-use Rattle.std.proofs.lemmas.List.Elements.{All-pop}
-use Rattle.std.specs.Prelude.{slice_set}
-use Rattle.call_stacks.specs.Content.{content_of, closes_last}
-use Rattle.call_stacks.proofs.Members.{get_read}
+use Rattle.std.proofs.Common.{ap, ◌∙◌}
+use Rattle.call_stacks.specs.Content.{content_of, taken, closed_with, closes_last}
 use Rattle.call_stacks.proofs.calls.Calls.close.Goals as goal
 
-pub returns-in-Some : goal.returns-in-Some
-returns-in-Some g c =
-    let old = content_of c.args.self.now in
+pub returns-in_ok-take-in-Some : goal.returns-in_ok-take-in-Some
+returns-in_ok-take-in-Some g c =
+    let reads = g.E.CallRecord.reads in
+    let all_kept = g.E.CallRecord.all_kept in
     let front = c.pop.new.self.items in
-    let index = c.in-Some.index in
-    let call = c.index-opener.result.now in
-    let within : index < length old.openers
-    = (All-pop (λ i. i < length old.openers) old.unmatched front (Some index) c.in-Some.ensures.items c.requires).1 in
-    closes_last front index call c.in-Some.ensures.items (get_read old.openers index call within c.index-opener.ensures)
-    (ap (λ o. record old { openers = slice_set old.openers index o; unmatched = front }) c.closed_with.ensures)
+    closes_last front c.in-Some.event c.in-Some.ensures.items
+    (c.in_ok-take-in-Some.ensures
+    ∙ ap (λ call. taken all_kept call (record (content_of c.args.self.now) { unmatched = front }))
+    (c.closed_with.ensures ∙ ap (closed_with reads c.args.closer) c.new.ensures))

@@ -5,21 +5,12 @@ use Rattle.event_core.specs.declared.marks.Bracket.{Bracket}
 use Rattle.event_core.specs.declared.marks.Bracket.TheVariants.{Call, Served, Reply, Sent, Error, Refused, Neither}
 use Rattle.event_core.specs.declared.marks.Mark.{Mark}
 use Rattle.call_stacks.specs.declared.calls.Calls.{Calls}
-use Rattle.call_stacks.specs.Calls.{bracket_in_part, bracket_read, is_error, mark_read}
+use Rattle.call_stacks.specs.Calls.{bracket_read, is_error, mark_read}
 use Rattle.call_stacks.specs.Content.{Content, content_of}
-use Rattle.call_stacks.proofs.Joins.{within}
-use Rattle.call_stacks.proofs.Judging.{paired}
 use Rattle.call_stacks.proofs.Sums.{holds, sums, add_undecided, add_entered, enters_last}
 use Rattle.call_stacks.proofs.calls.CallsSummary.add.Goals as goal
 use Rattle.call_stacks.proofs.calls.CallsSummary.add.Goals.{then-is_none+then-eq, else-is_none+in_ok-enter, else-is_none-via-then-is_none+else-eq, else-is_none-via-else-is_none}
 use denote.Enum.Bare.{sameb}
-
-pub enter-requires : goal.enter-requires
-enter-requires g c =
-    let reads = g.E.CallRecord.reads in
-    let old = c.args.self.now in
-    let events = c.requires.0 in
-    within reads (content_of old) (paired reads (bracket_in_part reads) None events) (holds reads old events c.requires.1).models
 
 same_error : (bracket : Bracket) → sameb the_type bracket Error ≡ is_error bracket
 same_error Call = refl
@@ -45,13 +36,14 @@ with_last mark calls = record (content_of calls) { last = mark }
 pub returns : goal.returns
 returns g c = λ events summed placed.
     let reads = g.E.CallRecord.reads in
+    let all_kept = g.E.CallRecord.all_kept in
     let old = content_of c.args.self.now in
     let event = c.args.item in
-    let held = holds reads c.args.self.now events summed in
+    let held = holds reads all_kept c.args.self.now events summed in
     let last = λ (o : Option Mark). option_or (mark_read reads event) o in
     let mark_is : c.or-self.result ≡ last c.if-is_none.self.last
     = c.or-self.ensures ∙ ap (λ o. option_or o c.if-is_none.self.last) c.mark.ensures in
-    sums reads _ (events ++ event ∷ [])
+    sums reads all_kept _ (events ++ event ∷ [])
     (elim c.if-is_none.branch [
       | then-is_none+then-eq w ↦
           let none : old.last ≡ None = none_is old.last w.if-is_none.ensures in
@@ -59,10 +51,10 @@ returns g c = λ events summed placed.
           let error : is_error (bracket_read reads None event) ≡ true
           = ap (λ o. is_error (bracket_read reads o event)) (sym none) ∙ ap is_error (sym c.bracket-bracket.ensures) ∙ same in
           let mark_then : c.or-self.result ≡ last old.last = mark_is ∙ ap (λ (v : Calls _). last v.last) w.self-is in
-          add_undecided reads old _ events event held placed none error
+          add_undecided reads all_kept old _ events event held placed none error
           (ap (with_last c.or-self.result) w.self-is ∙ ap (λ o. record old { last = o; undecided = Some event }) mark_then)
       | else-is_none+in_ok-enter w ↦
-          add_entered reads old (content_of w.enter.new.self) _ events event c.bracket-bracket.result held placed c.bracket-bracket.ensures
+          add_entered reads all_kept old (content_of w.enter.new.self) _ events event c.bracket-bracket.result held placed c.bracket-bracket.ensures
           (λ none. elim w.else-is_none.branch [
             | else-is_none-via-then-is_none+else-eq v ↦
                 ap (λ o. is_error (bracket_read reads o event)) (sym none) ∙ ap is_error (sym c.bracket-bracket.ensures)
@@ -73,5 +65,5 @@ returns g c = λ events summed placed.
           (ap (with_last c.or-self.result) w.self-is
           ∙ ap (λ o. record (content_of w.enter.new.self) { last = o })
           (mark_is ∙ ap (λ (v : Calls _). last v.last) w.self-is
-          ∙ ap last (enters_last reads c.bracket-bracket.result event old (content_of w.enter.new.self) w.in_ok-enter.ensures)))
+          ∙ ap last (enters_last reads all_kept c.bracket-bracket.result event old (content_of w.enter.new.self) w.in_ok-enter.ensures)))
     ])
