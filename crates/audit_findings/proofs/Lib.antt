@@ -22,6 +22,7 @@ pub mod OneFindings
 pub mod StandLaws
 pub mod PlaceLaws
 mod GivenLaws
+mod OrderLaws
 pub mod ThreadFits
 mod SortedRows
 mod ThreadRowLaws
