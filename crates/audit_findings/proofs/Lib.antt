@@ -25,6 +25,7 @@ pub mod OneFindings
 pub mod StandLaws
 pub mod PlaceLaws
 mod GivenLaws
+mod OrderLaws
 pub mod ThreadFits
 mod ThreadRowLaws
 mod ThreadTurns

@@ -113,7 +113,7 @@ each_known known (whole ∷ wholes) all =
     (All-append IsKnown (events_of_whole whole) (events_of_wholes wholes) mine
     (each_known known wholes (All-tail (Contains known) (process_of_whole whole) (map process_of_whole wholes) all)))
 
-each_among : (wholes : List (Placed WholeFrame)) → All (λ (e : EventRead). Contains (processes_of wholes) (process_of e)) (events_of_wholes wholes)
+pub each_among : (wholes : List (Placed WholeFrame)) → All (λ (e : EventRead). Contains (processes_of wholes) (process_of e)) (events_of_wholes wholes)
 each_among wholes =
     let processes = processes_of wholes in
     each_known processes wholes

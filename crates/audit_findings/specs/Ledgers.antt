@@ -31,6 +31,8 @@ use Rattle.event_core.specs.Reading.{event_text}
 use Rattle.event_core.specs.declared.event.Event.{Event}
 use Rattle.process_ledgers.specs.Concerns.{concerned}
 use Rattle.process_ledgers.specs.EachProcess.{SumsEach, SumsOrder}
+use Rattle.process_ledgers.specs.Processes.{process_of_whole}
+use Rattle.capture_frame.specs.declared.process.Process.{Process}
 use Rattle.process_ledgers.specs.ProcessLedgers.{SumsProcess}
 use Rattle.process_ledgers.specs.declared.process_ledgers.ProcessLedgers.{ProcessLedgers}
 use Rattle.process_ledgers.specs.declared.processes.Processes.{Processes}
@@ -99,6 +101,17 @@ pub record SumsLedgers (ledgers : FrameLedgers) (wholes : List (Placed WholeFram
   pub given : List Event
   pub are_all : map event_text given ≡ events_of_wholes wholes
   pub sums : SumsGiven ledgers.of_events given
+
+-- the ledgers are those of some frames
+abbrev pub SumsSome : FrameLedgers → Type 0
+SumsSome ledgers = (wholes : List (Placed WholeFrame)) × SumsLedgers ledgers wholes
+
+-- the new ledgers are the old ones, but in the order the process of the next frame has its place
+pub record Names (old : FrameLedgers) (process : Process) (new : FrameLedgers) : Type 0 where
+  pub sequences : new.sequences ≡ old.sequences
+  pub order : (wholes : List (Placed WholeFrame)) (next : Placed WholeFrame) → SumsLedgers old wholes
+      → process ≡ process_of_whole next → SumsOrder new.order.entries.entries (wholes ++ next ∷ [])
+  pub sums : (events : List Event) → SumsGiven old.of_events events → SumsGiven new.of_events events
 
 -- few frames, with few events
 abbrev pub AreFewFrames : List (Placed WholeFrame) → Type 0

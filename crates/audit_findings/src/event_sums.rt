@@ -6,9 +6,9 @@ use crate::event_ledgers::EventLedgers;
 use crate::thread_ledger::ThreadLedger;
 use capture_frame::Process;
 use event_core::Event;
-use process_ledgers::{Concerned, ProcessLedgers};
+use process_ledgers::{ProcessLedgers, concerns};
 use std::alloc::{AllocError, Global};
-use summary_law::{InOrder, Picks, Summary};
+use summary_law::{InOrder, Summary};
 
 /// What events come to: all together, in each thread, and in each process.
 #[derive(Drop)]
@@ -37,10 +37,10 @@ impl<'c> Summary for EventSums<'c> {
     fn add(&mut self, item: Event<'c>) -> Result<(), AllocError> {
         self.all.add(item)?;
         self.threads.add(item)?;
-        match Concerned::pick(item) {
-            Some(found) => self.processes.add(found),
-            None => Ok(()),
+        if concerns(item.kind) {
+            self.processes.add((item.of_process(), item))?;
         }
+        Ok(())
     }
 
     fn join(self, later: EventSums<'c>) -> Result<EventSums<'c>, AllocError> {

@@ -2,7 +2,7 @@
 
 ghost use Rattle.std.specs.Prelude.{◌≡◌, [], ◌∷◌, map, IfOk, OnOk};
 ghost use Rattle.summary_law.specs.Summary.{CanJoin, Joins};
-ghost use Rattle.audit_findings.specs.Ledgers.{SumsLedgers, AreFewFrames, CanTake, Takes, AreOfFew, GiveSections, GivesProcesses};
+ghost use Rattle.audit_findings.specs.Ledgers.{SumsLedgers, SumsSome, Names, AreFewFrames, CanTake, Takes, AreOfFew, GiveSections, GivesProcesses};
 
 use crate::call_sections::CallSections;
 use crate::event_sections::EventSections;
@@ -43,13 +43,25 @@ impl<'c> FrameLedgers<'c> {
         requires { CanTake self.old (frame ∷ []) }
         ensures { OnOk result (Takes self.old (frame.entry ∷ []) self.new) }
     {
+        self.name_process(frame.of_process())?;
         self.sequences = self.sequences.with(frame.sequence);
-        self.order.add((frame.of_process(), ()))?;
         let mut events = Events::of(frame);
         while let Some(event) = events.next_event() {
             self.of_events.add(event)?;
         }
         Ok(())
+    }
+
+    // Gives the process of the next frame its place in the order. One with ledgers has had a frame,
+    // so it has its place. That it has them is asked first: their next `add` takes no look-up then.
+    fn name_process(&mut self, process: Process) -> Result<(), AllocError>
+        requires { SumsSome self.old }
+        ensures { OnOk result (Names self.old process self.new) }
+    {
+        if self.of_events.processes.has(process) {
+            return Ok(());
+        }
+        self.order.add((process, ()))
     }
 
     /// Those of these frames and of the later ones.

@@ -1,16 +1,16 @@
 //! What each process of a capture comes to: what its ledgers pick from its events, and the ledgers.
 #![tactic(auto)]
 
-mod concerns;
+mod concerned;
 mod oneway_ledger;
 mod process_ledgers;
 mod processes;
 mod readers;
 
+pub use concerned::concerns;
 pub use oneway_ledger::OnewayLedger;
 pub use process_ledgers::ProcessLedgers;
 pub use processes::Processes;
 pub use readers::{
-    BufferItems, ClearItems, Concerned, DeathItems, HandleItems, NodeItems, OnewayItems,
-    RequestItems,
+    BufferItems, ClearItems, DeathItems, HandleItems, NodeItems, OnewayItems, RequestItems,
 };

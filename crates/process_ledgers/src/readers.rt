@@ -1,38 +1,14 @@
-//! What each ledger of a process picks from its events, and which events concern one of them.
+//! What each ledger of a process picks from its events.
 
 ghost use Rattle.event_core.specs.Reading.{event_text};
-ghost use Rattle.process_ledgers.specs.Concerns.{concerned};
 ghost use Rattle.process_ledgers.specs.Items.{handle_item_of, node_item_of, buffer_item_of, request_item_of, death_item_of, clear_item_of, oneway_item_of};
 
-use crate::concerns::concerns;
-use capture_frame::Process;
 use event_core::{
     BufferItem, Event, HandleItem, NodeItem, OnewayItem, PendingItem, RequestItem, buffer_step,
     clear_step, death_step, handle_step, node_step, oneway_step, request_step,
 };
 use std::marker::PhantomData;
 use summary_law::Picks;
-
-/// The events that concern some ledger, each under its process.
-pub struct Concerned<'c> {
-    of: PhantomData<Event<'c>>,
-}
-
-impl<'c> Picks for Concerned<'c> {
-    type Thing = Event<'c>;
-
-    type Item = (Process, Event<'c>);
-
-    ghost picks = { concerned };
-
-    fn pick(event: Event<'c>) -> Option<(Process, Event<'c>)> {
-        if concerns(event.kind) {
-            Some((event.of_process(), event))
-        } else {
-            None
-        }
-    }
-}
 
 /// The changes of handles' counts.
 pub struct HandleItems<'c> {

@@ -8,7 +8,7 @@ use Rattle.std.specs.List.{IsDistinct, AllByRecursion}
 use Rattle.std.specs.Map.{lookup, keys_of}
 use Rattle.summary_law.specs.ByKey.{items_of, items_of-append, IsOwn, EachFits}
 
-not_nil : {I : Type 0} (front : List I) (i : I) → front ++ i ∷ [] ≢ []
+pub not_nil : {I : Type 0} (front : List I) (i : I) → front ++ i ∷ [] ≢ []
 not_nil [] i e = cc
 not_nil (x ∷ xs) i e = cc
 

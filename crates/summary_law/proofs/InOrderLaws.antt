@@ -1,15 +1,19 @@
 -- What a map of summaries in the order of first items tells, and what the keys of a list in that order are.
-use Rattle.std.proofs.Common.{◌≡◌, ◌≢◌, Bool, true, false, not, List, [], ◌∷◌, map, filter, Option, Some, None, is_some, All, slice_index_or, refl, sym, ap, subst, ◌∙◌, ⊎_elim}
+use Rattle.std.proofs.Common.{◌≡◌, ◌≢◌, Bool, true, false, not, List, [], ◌∷◌, ◌++◌, map, filter, Option, Some, None, is_some, All, slice_index_or, refl, sym, ap, subst, ◌∙◌, ⊎_elim}
 use Rattle.std.proofs.lemmas.Bool.{cases_Bool, true≢false}
+use Rattle.std.proofs.lemmas.List.{append-nil}
 use Rattle.std.proofs.lemmas.List.Elements.{All-cons, All-head, All-tail, All-filter, All-weaker, Contains-get_or}
 use Rattle.std.proofs.lemmas.Map.Made.{is_some-lookup, All-is_member}
+use Rattle.std.proofs.lemmas.Map.Steps.{list_any_congr}
 use Rattle.std.proofs.lemmas.Map.Views.{lookup-from_Contains}
 use Rattle.std.specs.Cmp.{IsEquivalence}
 use Rattle.std.specs.List.{list_any, AllByRecursion, IsDistinct}
 use Rattle.std.specs.Map.{lookup, keys_of}
-use Rattle.summary_law.specs.ByKey.{items_of, IsOwn}
+use Rattle.std.specs.Prelude.{⊤}
+use Rattle.summary_law.specs.ByKey.{items_of, items_of-append, IsOwn}
 use Rattle.summary_law.specs.InOrder.{firsts, SumsInOrder}
-use Rattle.summary_law.proofs.FirstLaws.{list_any-firsts}
+use Rattle.summary_law.proofs.ByKeyLaws.{not_nil}
+use Rattle.summary_law.proofs.FirstLaws.{list_any-firsts, firsts_stay}
 
 -- the keys that stay are still apart
 still_apart : {K : Type 0} (eq : K → K → Bool) (p : K → Bool) (key : K) (keys : List K) → AllByRecursion (λ other. eq key other ≡ false) keys
@@ -93,3 +97,24 @@ module _ {K : Type 0} {eq : K → K → Bool} (laws : IsEquivalence eq) where
     -- a key that no entry has has no items
     pub none_else : (key : K) → list_any (eq key) (keys_of entries) ≡ false → items_of eq key items ≡ []
     none_else key missing = no_part (lookup (eq key) entries) (items_of eq key items) (sums.parts key) (is_some-lookup (eq key) entries ∙ missing)
+
+  -- a map that keeps the keys alone stays that of items with one more behind them whose key is there
+  pub same_keys : {S I : Type 0} (entries : List (K × S)) (items : List (K × I)) (key : K) (item : I)
+      → SumsInOrder eq (λ (s : S) (own : List I). ⊤) entries items → list_any (eq key) (keys_of entries) ≡ true
+      → SumsInOrder eq (λ (s : S) (own : List I). ⊤) entries (items ++ (key, item) ∷ [])
+  same_keys {S} {I} entries items key item sums there = record {
+    order = firsts_stay eq laws (keys_of entries) items key item sums.order there;
+    parts = λ q.
+        rw (items_of-append eq q items ((key, item) ∷ []))
+        (⊎_elim
+        (λ (e : eq q key ≡ true).
+        rw e
+        (one_more_own (lookup (eq q) entries) (items_of eq q items) item
+        (is_some-lookup (eq q) entries ∙ list_any_congr laws q key (keys_of entries) e ∙ there)))
+        (λ (e : eq q key ≡ false). rw (e, append-nil (items_of eq q items)) (sums.parts q))
+        (cases_Bool (eq q key)));
+  }
+    where
+      one_more_own : (part : Option S) (own : List I) (i : I) → is_some part ≡ true → IsOwn (λ (s : S) (own : List I). ⊤) part (own ++ i ∷ [])
+      one_more_own None own i is = absurd (true≢false (sym is))
+      one_more_own (Some part) own i is = (not_nil own i, tt)

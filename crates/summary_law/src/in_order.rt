@@ -2,7 +2,7 @@
 
 ghost use Rattle.std.specs.Prelude.{◌≡◌};
 ghost use Rattle.std.specs.Map.{lookup};
-ghost use Rattle.std.specs.Option.{unwrap_or};
+ghost use Rattle.std.specs.Option.{is_some, unwrap_or};
 ghost use Rattle.indexmap.specs.IndexMap.{index_of, IsUnique};
 ghost use Rattle.summary_law.specs.ByKey.{EachFits, each_fits_parts};
 ghost use Rattle.summary_law.specs.InOrder.{SumsInOrder};
@@ -33,6 +33,20 @@ impl<K: Eq + Hash + Copy, S: Summary> InOrder<K, S> {
         match self.entries.as_slice().get_index(guess) {
             Some((there, _part)) if *there == key => Some(guess),
             _ => self.entries.get_index_of(&key),
+        }
+    }
+
+    /// Whether items stand under the key. If so, an `add` under it that comes next takes no look-up.
+    pub fn has(&mut self, key: K) -> bool
+        ensures has { result ≡ is_some (lookup (K.eq key) self.old.entries.entries) }
+        ensures same { self.new.entries ≡ self.old.entries }
+    {
+        match self.index_of(key, self.latest) {
+            Some(index) => {
+                self.latest = index;
+                true
+            }
+            None => false,
         }
     }
 

@@ -5,8 +5,9 @@ ghost use Rattle.process_ledgers.specs.Concerns.{concerns};
 
 use binder_code::Kind;
 
-/// Whether records of the kind can be items of some ledger of their process.
-pub(crate) fn concerns(kind: Kind) -> bool
+/// Whether records of the kind can be items of some ledger of their process. A record of
+/// another kind is passed by one look, and not by one of each ledger.
+pub fn concerns(kind: Kind) -> bool
     ensures { result ≡ concerns kind }
 {
     matches!(
