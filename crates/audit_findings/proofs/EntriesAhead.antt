@@ -9,8 +9,7 @@ use Rattle.std.proofs.lemmas.List.{append-nil, map-append}
 use Rattle.std.proofs.lemmas.List.Concat.{flat_map-cons}
 use Rattle.std.proofs.lemmas.List.Elements.{All-cons, All-filter, All-head, All-map, All-nil, All-tail, filter-append, filter_map-append}
 use Rattle.std.proofs.lemmas.List.Sums.{sum_by-append, sum_by-cons}
-use Rattle.capture_frame.specs.declared.frame.Frame.{Frame}
-use Rattle.capture_frame.specs.Envelope.{FrameText, frame_text, placed_frame}
+use Rattle.capture_frame.specs.Envelope.{FrameText, frame_text, placed_frame, PlacedFrame}
 use Rattle.capture_frame.specs.Lookup.{Holds, IsSplitAt, AreApart, span_of}
 use Rattle.capture_frame.specs.Units.{Placed}
 use Rattle.event_core.specs.Events.{EventRead, events_of_whole, events_of_wholes, placed_text}
@@ -31,18 +30,18 @@ use Rattle.summary_law.specs.Fits.{PlacesRise, all_parts, pairs_parts, rising_pa
 -- ---- views of whole frames that stand one behind others
 
 -- how many attachment bytes a frame has
-abbrev pub attachment_bytes : Frame → ℕ
-attachment_bytes frame = length frame.attachments.now
+abbrev pub attachment_bytes : PlacedFrame → ℕ
+attachment_bytes frame = length frame.unit.attachments
 
 -- views of whole frames that are split are split as well
-record ShownApart (frames : List Frame) (first second : List (Placed WholeFrame)) : Type 0 where
-  earlier : List Frame
-  later : List Frame
+record ShownApart (frames : List PlacedFrame) (first second : List (Placed WholeFrame)) : Type 0 where
+  earlier : List PlacedFrame
+  later : List PlacedFrame
   are : frames ≡ earlier ++ later
   show_first : AreViews earlier first
   show_second : AreViews later second
 
-shown_split : (frames : List Frame) (first second : List (Placed WholeFrame)) → AreViews frames (first ++ second) → ShownApart frames first second
+shown_split : (frames : List PlacedFrame) (first second : List (Placed WholeFrame)) → AreViews frames (first ++ second) → ShownApart frames first second
 shown_split frames [] second show = record { earlier = []; later = frames; are = refl; show_first = none_shown; show_second = show }
 shown_split [] (w ∷ first) second show = let wrong = ap length show.stand in absurd (omega (arith, wrong))
 shown_split (f ∷ frames) (w ∷ first) second show =
@@ -52,7 +51,7 @@ shown_split (f ∷ frames) (w ∷ first) second show =
     record {
       earlier = f ∷ rest.earlier;
       later = rest.later;
-      are = ap (λ (fs : List Frame). f ∷ fs) rest.are;
+      are = ap (λ (fs : List PlacedFrame). f ∷ fs) rest.are;
       show_first = record {
         stand = ap₂ (λ (x : Placed FrameText) (t : List (Placed FrameText)). x ∷ t) (one.3 ∙ ap placed_text (sym same.0)) rest.show_first.stand;
         are_whole = All-cons IsWhole w first (subst IsWhole (sym same.0) one.4) rest.show_first.are_whole;
@@ -61,22 +60,22 @@ shown_split (f ∷ frames) (w ∷ first) second show =
     }
 
 -- the view of a whole frame that stands among others
-record ViewOf (frames : List Frame) (w : Placed WholeFrame) (behind : List (Placed WholeFrame)) : Type 0 where
-  earlier : List Frame
-  frame : Frame
-  later : List Frame
+record ViewOf (frames : List PlacedFrame) (w : Placed WholeFrame) (behind : List (Placed WholeFrame)) : Type 0 where
+  earlier : List PlacedFrame
+  frame : PlacedFrame
+  later : List PlacedFrame
   are : frames ≡ earlier ++ frame ∷ later
-  same : placed_frame frame ≡ placed_text w
+  same : frame ≡ placed_text w
   whole : IsWhole w
   show_behind : AreViews later behind
 
-view_of : (frames : List Frame) (before : List (Placed WholeFrame)) (w : Placed WholeFrame) (behind : List (Placed WholeFrame))
+view_of : (frames : List PlacedFrame) (before : List (Placed WholeFrame)) (w : Placed WholeFrame) (behind : List (Placed WholeFrame))
     → AreViews frames (before ++ w ∷ behind) → ViewOf frames w behind
 view_of frames before w behind show =
     let apart = shown_split frames before (w ∷ behind) show in
     first_view apart.later apart.earlier apart.are apart.show_second
   where
-    first_view : (later earlier : List Frame) → frames ≡ earlier ++ later → AreViews later (w ∷ behind) → ViewOf frames w behind
+    first_view : (later earlier : List PlacedFrame) → frames ≡ earlier ++ later → AreViews later (w ∷ behind) → ViewOf frames w behind
     first_view [] earlier are show = let wrong = ap length show.stand in absurd (omega (arith, wrong))
     first_view (f ∷ later) earlier are show =
         let one = shown_first f later (w ∷ behind) show in
@@ -94,7 +93,7 @@ view_of frames before w behind show =
 -- ---- the last of the frames that have begun
 
 -- the one that holds the place is the last that has begun
-last_begun : (earlier : List Frame) (frame : Frame) (later : List Frame) (place count : ℕ) → AllPairs AreApart (earlier ++ frame ∷ later)
+last_begun : (earlier : List PlacedFrame) (frame : PlacedFrame) (later : List PlacedFrame) (place count : ℕ) → AllPairs AreApart (earlier ++ frame ∷ later)
     → Holds place frame → IsSplitAt (earlier ++ frame ∷ later) place count → count ≡ length earlier + 1
 last_begun earlier frame later place count apart holds begun =
     let frames = earlier ++ frame ∷ later in
@@ -106,14 +105,14 @@ last_begun earlier frame later place count apart holds begun =
     elim (cases_lt count (length earlier + 1)) [
       | inl few ↦
           let late = begun.behind (length earlier) frame (omega (arith, few)) (omega (arith, long)) in
-          let there = ap (λ (f : Frame). f.place) here in
+          let there = ap (λ (f : PlacedFrame). f.place) here in
           absurd (omega (arith, from, late, there))
       | inr enough ↦ elim (cases_lt (length earlier + 1) count) [
         | inl many ↦
             let next = length earlier + 1 in
             let begins = begun.before next frame many in
             let far = apart (length earlier) next frame (omega arith) (omega (arith, many, bound)) in
-            let far_here = subst (λ (f : Frame). AreApart f (get_or frames next frame)) here far in
+            let far_here = subst (λ (f : PlacedFrame). AreApart f (get_or frames next frame)) here far in
             absurd (omega (arith, to, begins, far_here))
         | inr few ↦ omega (arith, enough, few)
       ]
@@ -174,12 +173,12 @@ first_chosen choice (w ∷ ahead) place rest left = by_own (first_chosen choice 
         }
 
 -- its view, which is the last that has begun
-record NextFrame (frames : List Frame) (choice : EventRead → Bool) (ahead : List (Placed WholeFrame)) (place : ℕ) : Type 0 where
+record NextFrame (frames : List PlacedFrame) (choice : EventRead → Bool) (ahead : List (Placed WholeFrame)) (place : ℕ) : Type 0 where
   chosen : FirstChosen choice ahead place
   view : ViewOf frames chosen.whole chosen.behind
   holds : Holds place view.frame
 
-next_frame : (frames : List Frame) (ahead : List (Placed WholeFrame)) → AreViews frames ahead → (choice : EventRead → Bool) (place : ℕ)
+next_frame : (frames : List PlacedFrame) (ahead : List (Placed WholeFrame)) → AreViews frames ahead → (choice : EventRead → Bool) (place : ℕ)
     (rest : List ℕ) → place ∷ rest ≡ places_of (filter choice (events_of_wholes ahead)) → NextFrame frames choice ahead place
 next_frame frames ahead show choice place rest left =
     let chosen = first_chosen choice ahead place rest left in
@@ -200,15 +199,15 @@ next_frame frames ahead show choice place rest left =
 -- ---- frames that are passed
 
 -- the lists of offsets of the entries are no longer than the attachment bytes of the frames that are passed
-pub record HasPassed (frames ahead : List Frame) (entries : List Entry) : Type 0 where
-  pub passed : List Frame
+pub record HasPassed (frames ahead : List PlacedFrame) (entries : List Entry) : Type 0 where
+  pub passed : List PlacedFrame
   pub are : frames ≡ passed ++ ahead
   pub few : list_bytes entries ≤ sum_by attachment_bytes passed
 
-pub passed_at_start : (frames : List Frame) (entries : List Entry) → entries ≡ [] → HasPassed frames frames entries
+pub passed_at_start : (frames : List PlacedFrame) (entries : List Entry) → entries ≡ [] → HasPassed frames frames entries
 passed_at_start frames entries none = record { passed = []; are = refl; few = let no_bytes = ap list_bytes none in omega (arith, no_bytes) }
 
-attached_within : (frames : List Frame) → sum_by attachment_bytes frames + 32 * length frames ≤ sum_by span_of frames
+attached_within : (frames : List PlacedFrame) → sum_by attachment_bytes frames + 32 * length frames ≤ sum_by span_of frames
 attached_within [] = omega arith
 attached_within (f ∷ frames) =
     let rest = attached_within frames in
@@ -217,26 +216,18 @@ attached_within (f ∷ frames) =
     let long : length (f ∷ frames) ≡ length frames + 1 = omega arith in
     omega (arith, rest, attached, spans, long)
 
-module _ (frames ahead : List Frame) (good : AreGoodFrames frames) (entries : List Entry) (passed : HasPassed frames ahead entries) where
+module _ (frames ahead : List PlacedFrame) (good : AreGoodFrames frames) (entries : List Entry) (passed : HasPassed frames ahead entries) where
   pub apart_ahead : AllPairs AreApart ahead
   apart_ahead = (pairs_parts AreApart passed.passed ahead (subst (AllPairs AreApart) passed.are good.apart)).1
 
-  -- numbers of frames times their size are small
-  pub few_ahead : (n : ℕ) → n ≤ length ahead → n * 64 < 2 ^ 64
-  few_ahead n upto =
-      let within = attached_within frames in
-      let few = good.few in
-      let long = ap length passed.are ∙ length-append passed.passed ahead in
-      omega (arith, within, few, long, upto)
-
-  module _ (count : ℕ) (some : 0 < count) (within : count ≤ length ahead) (d : Frame) where
-    abbrev frame_there : Frame
+  module _ (count : ℕ) (some : 0 < count) (within : count ≤ length ahead) (d : PlacedFrame) where
+    abbrev frame_there : PlacedFrame
     frame_there = get_or ahead (count - 1) d
 
-    pub good_there : HasGoodContent (frame_text frame_there)
+    pub good_there : HasGoodContent frame_there.unit
     good_there =
-        (all_parts (λ f. HasGoodContent (frame_text f)) passed.passed ahead
-        (subst (All (λ f. HasGoodContent (frame_text f))) passed.are good.good)).1 (count - 1) d (omega (arith, some, within))
+        (all_parts (λ f. HasGoodContent f.unit) passed.passed ahead
+        (subst (All (λ f. HasGoodContent f.unit)) passed.are good.good)).1 (count - 1) d (omega (arith, some, within))
 
     split_there : ahead ≡ take (count - 1) ahead ++ frame_there ∷ drop count ahead
     split_there =
@@ -250,7 +241,7 @@ module _ (frames ahead : List Frame) (good : AreGoodFrames frames) (entries : Li
         passed.are ∙ ap (λ fs. passed.passed ++ fs) (split_there ∙ sym (append_assoc (take (count - 1) ahead) (frame_there ∷ []) (drop count ahead)))
         ∙ sym (append_assoc passed.passed (take (count - 1) ahead ++ frame_there ∷ []) (drop count ahead))
 
-    attached_there : sum_by attachment_bytes passed.passed + length frame_there.attachments.now
+    attached_there : sum_by attachment_bytes passed.passed + length frame_there.unit.attachments
         ≤ sum_by attachment_bytes (passed.passed ++ (take (count - 1) ahead ++ frame_there ∷ []))
     attached_there =
         let parts = sum_by-append attachment_bytes passed.passed (take (count - 1) ahead ++ frame_there ∷ []) in
@@ -258,7 +249,7 @@ module _ (frames ahead : List Frame) (good : AreGoodFrames frames) (entries : Li
         let one = sum_by-cons attachment_bytes frame_there [] in
         omega (arith, parts, more, one)
 
-    pub passed_further : (new : List Entry) → list_bytes new ≤ list_bytes entries + length frame_there.attachments.now → HasPassed frames (drop count ahead) new
+    pub passed_further : (new : List Entry) → list_bytes new ≤ list_bytes entries + length frame_there.unit.attachments → HasPassed frames (drop count ahead) new
     passed_further new grows =
         let attached = attached_there in
         let few = passed.few in
@@ -290,7 +281,7 @@ begins_with_none (n ∷ numbers) is = let wrong : None ≡ Some n = is in absurd
 
 -- the entries show the attachments of the chosen events of the frames that are done, and the places of those of the
 -- frames ahead are left
-pub record Stands (wholes : List (Placed WholeFrame)) (choice : EventRead → Bool) (frames : List Frame) (left : List ℕ) (entries : List Entry) :
+pub record Stands (wholes : List (Placed WholeFrame)) (choice : EventRead → Bool) (frames : List PlacedFrame) (left : List ℕ) (entries : List Entry) :
     Type 0 where
   pub done : List (Placed WholeFrame)
   pub ahead : List (Placed WholeFrame)
@@ -300,12 +291,12 @@ pub record Stands (wholes : List (Placed WholeFrame)) (choice : EventRead → Bo
   pub shown : ShowAttachments entries (carried_by (filter choice (events_of_wholes done)))
 
 -- however events of these frames are chosen that are at the places
-abbrev pub StandsFor : List Frame → List ℕ → List Frame → List ℕ → List Entry → Type 0
+abbrev pub StandsFor : List PlacedFrame → List ℕ → List PlacedFrame → List ℕ → List Entry → Type 0
 StandsFor frames places ahead left entries =
     (wholes : List (Placed WholeFrame)) (choice : EventRead → Bool) → AreViews frames wholes → AreChosen choice (events_of_wholes wholes) [] places
     → Stands wholes choice ahead left entries
 
-pub stands_at_start : (frames : List Frame) (places : List ℕ) (entries : List Entry) → entries ≡ [] → StandsFor frames places frames places entries
+pub stands_at_start : (frames : List PlacedFrame) (places : List ℕ) (entries : List Entry) → entries ≡ [] → StandsFor frames places frames places entries
 stands_at_start frames places entries none wholes choice show chosen = record {
   done = [];
   ahead = wholes;
@@ -315,7 +306,7 @@ stands_at_start frames places entries none wholes choice show chosen = record {
   shown = ap (map entry_attachment) none;
 }
 
-pub all_at_end : (frames : List Frame) (places : List ℕ) (ahead : List Frame) (entries : List Entry) → StandsFor frames places ahead [] entries
+pub all_at_end : (frames : List PlacedFrame) (places : List ℕ) (ahead : List PlacedFrame) (entries : List Entry) → StandsFor frames places ahead [] entries
     → AreEntriesAt frames places entries
 all_at_end frames places ahead entries stands wholes choice show chosen =
     let s = stands wholes choice show chosen in
@@ -356,8 +347,8 @@ rise_part choice (e ∷ events) later rise =
         (All-head (λ p. e.place < p) u.place (places_of (us ++ later)) above)
         (all_part us (All-tail (λ p. e.place < p) u.place (places_of (us ++ later)) above))
 
-module _ (frames : List Frame) (good : AreGoodFrames frames) (wholes : List (Placed WholeFrame)) (choice : EventRead → Bool) (show : AreViews frames wholes)
-    (ahead : List Frame) (apart : AllPairs AreApart ahead) (place : ℕ) (rest : List ℕ) (entries : List Entry)
+module _ (frames : List PlacedFrame) (good : AreGoodFrames frames) (wholes : List (Placed WholeFrame)) (choice : EventRead → Bool) (show : AreViews frames wholes)
+    (ahead : List PlacedFrame) (apart : AllPairs AreApart ahead) (place : ℕ) (rest : List ℕ) (entries : List Entry)
     (s : Stands wholes choice ahead (place ∷ rest) entries) (count : ℕ) (begun : IsSplitAt ahead place count) where
   next : NextFrame ahead choice s.ahead place
   next = next_frame ahead s.ahead s.show_ahead choice place rest s.left_is
@@ -371,7 +362,7 @@ module _ (frames : List Frame) (good : AreGoodFrames frames) (wholes : List (Pla
   pub some_begun : count ≡ 0 → ⊥
   some_begun none = let is = counted in absurd (omega (arith, none, is))
 
-  the_frame : (d : Frame) → get_or ahead (count - 1) d ≡ next.view.frame
+  the_frame : (d : PlacedFrame) → get_or ahead (count - 1) d ≡ next.view.frame
   the_frame d =
       let is = counted in
       let number : count - 1 ≡ length next.view.earlier = omega (arith, is) in
@@ -413,9 +404,9 @@ module _ (frames : List Frame) (good : AreGoodFrames frames) (wholes : List (Pla
       rise_part choice (events_of_whole w) (events_of_wholes behind)
       (pairs_map (λ a b. a < b) (λ (e : EventRead). e.place) (events_of_whole w ++ events_of_wholes behind) later.1)
 
-  module _ (frame : Frame) (d : Frame) (is : frame ≡ get_or ahead (count - 1) d) where
-    same : placed_frame frame ≡ placed_text next.chosen.whole
-    same = ap placed_frame (is ∙ the_frame d) ∙ next.view.same
+  module _ (frame : PlacedFrame) (d : PlacedFrame) (is : frame ≡ get_or ahead (count - 1) d) where
+    same : frame ≡ placed_text next.chosen.whole
+    same = is ∙ the_frame d ∙ next.view.same
 
     events_of_it : AreEventsOfFrame frame (events_of_whole next.chosen.whole)
     events_of_it =

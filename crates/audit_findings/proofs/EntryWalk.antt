@@ -6,8 +6,7 @@ use Rattle.std.proofs.lemmas.Bool.{cases_Bool}
 use Rattle.std.proofs.lemmas.List.{append-nil, map-append}
 use Rattle.std.proofs.lemmas.List.Elements.{All-head, All-tail, filter-append, filter_map-append}
 use Rattle.std.proofs.lemmas.List.Sums.{sum_by-append}
-use Rattle.capture_frame.specs.declared.frame.Frame.{Frame}
-use Rattle.capture_frame.specs.Envelope.{frame_text, placed_frame}
+use Rattle.capture_frame.specs.Envelope.{frame_text, placed_frame, PlacedFrame}
 use Rattle.event_core.specs.Events.{AttachmentText, EventRead}
 use Rattle.event_core.specs.Reading.{Reading, Steps, entry_attachment, event_text}
 use Rattle.event_core.specs.declared.event.Event.{Event}
@@ -80,14 +79,14 @@ GrowsGiven old given new = list_bytes new ≤ list_bytes old + sum_by offset_byt
 
 -- the entries of the chosen ones among those that it has given are added, and the places of those that it has not given
 -- are left
-abbrev pub AddsGiven : List Entry → Frame → List ℕ → List Event → List Entry → List ℕ → Type 0
+abbrev pub AddsGiven : List Entry → PlacedFrame → List ℕ → List Event → List Entry → List ℕ → Type 0
 AddsGiven old frame places given new left =
     (events : List EventRead) (choice : EventRead → Bool) (others : List ℕ) → AreEventsOfFrame frame events → Rise (places_of events ++ others)
     → AreChosen choice events others places → (later : List EventRead) → events ≡ map event_text given ++ later
     → (left ≡ places_of (filter choice later) ++ others)
     × ShowAttachments new (map entry_attachment old ++ carried_by (filter choice (map event_text given)))
 
-pub adds_at_start : (entries : List Entry) (frame : Frame) (places : List ℕ) → AddsGiven entries frame places [] entries places
+pub adds_at_start : (entries : List Entry) (frame : PlacedFrame) (places : List ℕ) → AddsGiven entries frame places [] entries places
 adds_at_start entries frame places events choice others of rise chosen later is =
     (chosen ∙ ap (λ es. places_of (filter choice es) ++ others) is, sym (append-nil (map entry_attachment entries)))
 
@@ -112,13 +111,13 @@ grows_after_chosen old middle new given found grows is =
 pub grows_after_other : (old new : List Entry) (given : List Event) (found : Event) → GrowsGiven old given new → GrowsGiven old (given ++ found ∷ []) new
 grows_after_other old new given found grows = let more = lists_more given found in omega (arith, grows, more)
 
-pub grows_frame : (old new : List Entry) (frame : Frame) (reading : Reading) (given : List Event) → HasGoodContent (frame_text frame)
-    → Given (placed_frame frame) reading given → GrowsGiven old given new → list_bytes new ≤ list_bytes old + length frame.attachments.now
+pub grows_frame : (old new : List Entry) (frame : PlacedFrame) (reading : Reading) (given : List Event) → HasGoodContent frame.unit
+    → Given frame reading given → GrowsGiven old given new → list_bytes new ≤ list_bytes old + length frame.unit.attachments
 grows_frame old new frame reading given good so_far grows =
     let fit = given_fit frame reading given good so_far in
     omega (arith, grows, fit)
 
-module _ (old middle : List Entry) (frame : Frame) (places left : List ℕ) (given : List Event) (found : Event) (so_far : AddsGiven old frame places given middle left) where
+module _ (old middle : List Entry) (frame : PlacedFrame) (places left : List ℕ) (given : List Event) (found : Event) (so_far : AddsGiven old frame places given middle left) where
   abbrev E : EventRead
   E = event_text found
 
@@ -175,9 +174,9 @@ module _ (old middle : List Entry) (frame : Frame) (places left : List ℕ) (giv
       (cases_Bool (choice E))
 
 -- at the end all events of the frame are given
-pub adds_frame : (old new : List Entry) (frame : Frame) (places left : List ℕ) (reading ended : Reading) (given : List Event)
-    → Given (placed_frame frame) reading given → Steps reading None ended → AddsGiven old frame places given new left → AddsEntries old frame places new left
+pub adds_frame : (old new : List Entry) (frame : PlacedFrame) (places left : List ℕ) (reading ended : Reading) (given : List Event)
+    → Given frame reading given → Steps reading None ended → AddsGiven old frame places given new left → AddsEntries old frame places new left
 adds_frame old new frame places left reading ended given so_far steps adds events choice others of rise chosen =
-    let all = of.4 ∙ given_all (placed_frame frame) reading ended given of.0 of.1 of.2 of.3 so_far steps in
+    let all = of.4 ∙ given_all frame reading ended given of.0 of.1 of.2 of.3 so_far steps in
     let i = adds events choice others of rise chosen [] (all ∙ sym (append-nil (map event_text given))) in
     (i.0, i.1 ∙ ap (λ es. map entry_attachment old ++ carried_by (filter choice es)) (sym all))

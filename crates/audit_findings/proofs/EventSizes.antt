@@ -9,8 +9,7 @@ use Rattle.std.proofs.lemmas.List.Concat.{flat_map-cons}
 use Rattle.std.proofs.lemmas.List.Sums.{sum_by-append}
 use Rattle.std.proofs.lemmas.List.Elements.{All-append, All-cons, All-nil}
 use Rattle.capture_frame.specs.declared.fault.FaultKind.{FaultKind}
-use Rattle.capture_frame.specs.declared.frame.Frame.{Frame}
-use Rattle.capture_frame.specs.Envelope.{FrameText, placed_frame, commands_place, attachments_place}
+use Rattle.capture_frame.specs.Envelope.{FrameText, placed_frame, commands_place, attachments_place, PlacedFrame}
 use Rattle.capture_frame.specs.Units.{Placed, placed, Format, AllStand, spelling_of}
 use Rattle.record_view.specs.Records.{RecordText, record_bytes, record_format, HasRecords, protocol_of}
 use Rattle.record_view.proofs.RecordLaws.{length-record_bytes}
@@ -69,7 +68,7 @@ events_small frame entries (r ∷ records) has =
 
 -- ---- those of views of good frames are few, and rise
 
-whole_short : (frame : Frame) (w : Placed WholeFrame) → placed_frame frame ≡ placed_text w → IsWhole w
+whole_short : (frame : PlacedFrame) (w : Placed WholeFrame) → frame ≡ placed_text w → IsWhole w
     → length (events_of_whole w) + 32 ≤ span_of frame
 whole_short frame w same whole =
     let bytes = ap (λ (p : Placed FrameText). length p.unit.commands) same in
@@ -78,10 +77,10 @@ whole_short frame w same whole =
     let long = placed_long (commands_place w.place) w.unit.records in
     omega (arith, bytes, short, events, long)
 
-abbrev AreShort : List Frame → List (Placed WholeFrame) → Type 0
+abbrev AreShort : List PlacedFrame → List (Placed WholeFrame) → Type 0
 AreShort frames wholes = (length (events_of_wholes wholes) + 32 * length wholes ≤ sum_by span_of frames) × All HasSmall (events_of_wholes wholes)
 
-all_short : (frames : List Frame) (wholes : List (Placed WholeFrame)) → AreViews frames wholes → AreShort frames wholes
+all_short : (frames : List PlacedFrame) (wholes : List (Placed WholeFrame)) → AreViews frames wholes → AreShort frames wholes
 all_short [] wholes show = subst (λ (t : List (Placed WholeFrame)). AreShort [] t) (sym (shown_none wholes show)) (omega arith, All-nil HasSmall)
 all_short (f ∷ frames) wholes show =
     let one = shown_first f frames wholes show in
@@ -98,7 +97,7 @@ all_short (f ∷ frames) wholes show =
     subst (λ (t : List (Placed WholeFrame)). AreShort (f ∷ frames) t) (sym one.2)
     (omega (arith, others, first, long, spans, longer), subst (All HasSmall) (sym split) small)
 
-pub few_frames : (frames : List Frame) (wholes : List (Placed WholeFrame)) → AreGoodFrames frames → AreViews frames wholes → AreFewFrames wholes
+pub few_frames : (frames : List PlacedFrame) (wholes : List (Placed WholeFrame)) → AreGoodFrames frames → AreViews frames wholes → AreFewFrames wholes
 few_frames frames wholes good show =
     let all = all_short frames wholes show in
     let short = all.0 in

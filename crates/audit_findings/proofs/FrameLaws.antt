@@ -1,10 +1,9 @@
--- Views of frames, and the whole frames that they show.
+-- Frames, and the whole frames that they are.
 use Rattle.std.proofs.Common.{◌≡◌, List, [], ◌∷◌, ◌++◌, length, map, All, Some, None, refl, sym, ap, ap₂, subst, ◌∙◌, append_assoc, arith}
 use Rattle.std.proofs.lemmas.Grind.{flat_map-append}
 use Rattle.std.proofs.lemmas.List.{append-nil}
 use Rattle.std.proofs.lemmas.List.Elements.{All-cons, All-head, All-nil, All-tail}
-use Rattle.capture_frame.specs.declared.frame.Frame.{Frame}
-use Rattle.capture_frame.specs.Envelope.{FrameText, frame_text, placed_frame}
+use Rattle.capture_frame.specs.Envelope.{FrameText, frame_text, placed_frame, PlacedFrame}
 use Rattle.capture_frame.specs.Units.{Placed, placed_at}
 use Rattle.transaction_view.specs.FirstFault.{HasGoodContent}
 use Rattle.transaction_view.specs.Grammar.{WholeFrame}
@@ -38,12 +37,12 @@ pub first_same : {A : Type 0} (x y : A) (xs ys : List A) → x ∷ xs ≡ y ∷ 
 first_same x y xs ys same = (cc, cc)
 
 -- what the first view shows, and what the others do
-pub shown_first : (frame : Frame) (frames : List Frame) (wholes : List (Placed WholeFrame)) → AreViews (frame ∷ frames) wholes
-    → (w : Placed WholeFrame) × (others : List (Placed WholeFrame)) × (wholes ≡ w ∷ others) × (placed_frame frame ≡ placed_text w) × IsWhole w
+pub shown_first : (frame : PlacedFrame) (frames : List PlacedFrame) (wholes : List (Placed WholeFrame)) → AreViews (frame ∷ frames) wholes
+    → (w : Placed WholeFrame) × (others : List (Placed WholeFrame)) × (wholes ≡ w ∷ others) × (frame ≡ placed_text w) × IsWhole w
     × AreViews frames others
 shown_first frame frames [] show = let wrong = ap length show.stand in absurd (omega (arith, wrong))
 shown_first frame frames (w ∷ wholes) show =
-    let same = first_same (placed_frame frame) (placed_text w) (map placed_frame frames) (map placed_text wholes) show.stand in (
+    let same = first_same frame (placed_text w) frames (map placed_text wholes) show.stand in (
       w,
       wholes,
       refl,
@@ -52,7 +51,7 @@ shown_first frame frames (w ∷ wholes) show =
       record { stand = same.1; are_whole = All-tail IsWhole w wholes show.are_whole },
     )
 
-pub shown_parts : (frames more : List Frame) (wholes : List (Placed WholeFrame)) → AreViews (frames ++ more) wholes
+pub shown_parts : (frames more : List PlacedFrame) (wholes : List (Placed WholeFrame)) → AreViews (frames ++ more) wholes
     → (first second : List (Placed WholeFrame)) × (wholes ≡ first ++ second) × AreViews frames first × AreViews more second
 shown_parts [] more wholes show = ([], wholes, refl, none_shown, show)
 shown_parts (f ∷ frames) more wholes show =
@@ -69,15 +68,15 @@ shown_parts (f ∷ frames) more wholes show =
     )
 
 -- good frames show whole frames
-shown_one : (frame : Frame) → HasGoodContent (frame_text frame) → (w : Placed WholeFrame) × (placed_frame frame ≡ placed_text w) × IsWhole w
+shown_one : (frame : PlacedFrame) → HasGoodContent frame.unit → (w : Placed WholeFrame) × (frame ≡ placed_text w) × IsWhole w
 shown_one frame good =
-    let w : Placed WholeFrame = placed_at frame.place record { frame = frame_text frame; records = good.0.0; entries = good.1.0 } in
+    let w : Placed WholeFrame = placed_at frame.place record { frame = frame.unit; records = good.0.0; entries = good.1.0 } in
     (w, refl, (good.0.1, good.1.1))
 
-pub good_shown : (frames : List Frame) → All (λ (frame : Frame). HasGoodContent (frame_text frame)) frames → (wholes : List (Placed WholeFrame)) × AreViews frames wholes
+pub good_shown : (frames : List PlacedFrame) → All (λ (frame : PlacedFrame). HasGoodContent frame.unit) frames → (wholes : List (Placed WholeFrame)) × AreViews frames wholes
 good_shown [] good = ([], none_shown)
 good_shown (f ∷ frames) good =
-    let IsGood : Frame → Type 0 = λ frame. HasGoodContent (frame_text frame) in
+    let IsGood : PlacedFrame → Type 0 = λ frame. HasGoodContent frame.unit in
     let one = shown_one f (All-head IsGood f frames good) in
     let rest = good_shown frames (All-tail IsGood f frames good) in (
       one.0 ∷ rest.0,
@@ -90,17 +89,17 @@ good_shown (f ∷ frames) good =
 -- ---- the events of one frame
 
 -- the frame's events are few behind those before, however its bytes are read
-abbrev pub AreFewWith : List EventRead → Frame → Type 0
+abbrev pub AreFewWith : List EventRead → PlacedFrame → Type 0
 AreFewWith before frame =
-    (records : List RecordText) × (entries : List EntryText) × HasRecords (frame_text frame) records × HasEntries (frame_text frame) entries
-    × AreFewEvents (before ++ events_of (placed_frame frame) records entries)
+    (records : List RecordText) × (entries : List EntryText) × HasRecords frame.unit records × HasEntries frame.unit entries
+    × AreFewEvents (before ++ events_of frame records entries)
 
 -- the whole frame that a view shows has its records and its entries
-pub whole_events : (frame : Frame) (w : Placed WholeFrame) → placed_frame frame ≡ placed_text w → IsWhole w
-    → (records : List RecordText) × (entries : List EntryText) × HasRecords (frame_text frame) records × HasEntries (frame_text frame) entries
-    × (events_of_wholes (w ∷ []) ≡ events_of (placed_frame frame) records entries)
+pub whole_events : (frame : PlacedFrame) (w : Placed WholeFrame) → frame ≡ placed_text w → IsWhole w
+    → (records : List RecordText) × (entries : List EntryText) × HasRecords frame.unit records × HasEntries frame.unit entries
+    × (events_of_wholes (w ∷ []) ≡ events_of frame records entries)
 whole_events frame w same whole =
-    let text : frame_text frame ≡ w.unit.frame = ap (λ (p : Placed FrameText). p.unit) same in (
+    let text : frame.unit ≡ w.unit.frame = ap (λ (p : Placed FrameText). p.unit) same in (
       w.unit.records,
       w.unit.entries,
       subst (λ (t : FrameText). HasRecords t w.unit.records) (sym text) whole.0,
@@ -108,44 +107,44 @@ whole_events frame w same whole =
       append-nil (events_of_whole w) ∙ ap (λ (p : Placed FrameText). events_of p w.unit.records w.unit.entries) (sym same),
     )
 
-pub few_with : (before : List EventRead) (frame : Frame) (wholes others : List (Placed WholeFrame)) → events_of_wholes wholes ≡ before
+pub few_with : (before : List EventRead) (frame : PlacedFrame) (wholes others : List (Placed WholeFrame)) → events_of_wholes wholes ≡ before
     → AreViews (frame ∷ []) others → AreFewFrames (wholes ++ others) → AreFewWith before frame
 few_with before frame wholes others is show few =
     let one = shown_first frame [] others show in
     let events = whole_events frame one.0 one.3 one.4 in
     let alone : others ≡ one.0 ∷ [] = one.2 ∙ ap (λ (t : List (Placed WholeFrame)). one.0 ∷ t) (shown_none one.1 one.5) in
-    let all : events_of_wholes (wholes ++ others) ≡ before ++ events_of (placed_frame frame) events.0 events.1 =
+    let all : events_of_wholes (wholes ++ others) ≡ before ++ events_of frame events.0 events.1 =
     events-append wholes others
     ∙ ap₂ (λ (a b : List EventRead). a ++ b) is (ap events_of_wholes alone ∙ events.4) in
     (events.0, events.1, events.2, events.3, subst AreFewEvents all few.1)
 
 -- an event more is few with them
-pub few_next : (before : List EventRead) (frame : Frame) → AreFewWith before frame → (reading : Reading) (given : List Event)
-    → Given (placed_frame frame) reading given → AreFewEvents (before ++ map event_text given)
+pub few_next : (before : List EventRead) (frame : PlacedFrame) → AreFewWith before frame → (reading : Reading) (given : List Event)
+    → Given frame reading given → AreFewEvents (before ++ map event_text given)
 few_next before frame few reading given so_far =
-    let first = given_first (placed_frame frame) reading given few.0 few.1 few.2 few.3 so_far in
-    let all : before ++ events_of (placed_frame frame) few.0 few.1 ≡ (before ++ map event_text given) ++ first.0 =
+    let first = given_first frame reading given few.0 few.1 few.2 few.3 so_far in
+    let all : before ++ events_of frame few.0 few.1 ≡ (before ++ map event_text given) ++ first.0 =
     ap (λ (t : List EventRead). before ++ t) first.1 ∙ sym (append_assoc before (map event_text given) first.0) in
     (few_parts (before ++ map event_text given) first.0 (subst AreFewEvents all few.4)).0
 
 -- at the end they are the events of the whole frame
-pub all_given : (before : List EventRead) (frame : Frame) (wholes others : List (Placed WholeFrame)) → events_of_wholes wholes ≡ before
-    → AreViews (frame ∷ []) others → (reading new : Reading) (given : List Event) → Given (placed_frame frame) reading given → Steps reading None new
+pub all_given : (before : List EventRead) (frame : PlacedFrame) (wholes others : List (Placed WholeFrame)) → events_of_wholes wholes ≡ before
+    → AreViews (frame ∷ []) others → (reading new : Reading) (given : List Event) → Given frame reading given → Steps reading None new
     → before ++ map event_text given ≡ events_of_wholes (wholes ++ others)
 all_given before frame wholes others is show reading new given so_far steps =
     let one = shown_first frame [] others show in
     let events = whole_events frame one.0 one.3 one.4 in
     let alone : others ≡ one.0 ∷ [] = one.2 ∙ ap (λ (t : List (Placed WholeFrame)). one.0 ∷ t) (shown_none one.1 one.5) in
-    let all = given_all (placed_frame frame) reading new given events.0 events.1 events.2 events.3 so_far steps in
+    let all = given_all frame reading new given events.0 events.1 events.2 events.3 so_far steps in
     sym (events-append wholes others ∙ ap₂ (λ (a b : List EventRead). a ++ b) is (ap events_of_wholes alone ∙ events.4 ∙ all))
 
-pub given_next : (frame : Frame) (before reading : Reading) (earlier : List Event) (found : Event) → Given (placed_frame frame) before earlier
-    → Steps before (Some found) reading → Given (placed_frame frame) reading (earlier ++ found ∷ [])
+pub given_next : (frame : PlacedFrame) (before reading : Reading) (earlier : List Event) (found : Event) → Given frame before earlier
+    → Steps before (Some found) reading → Given frame reading (earlier ++ found ∷ [])
 given_next frame before reading earlier found so_far steps = one_further before reading earlier (earlier ++ found ∷ []) found so_far steps refl
 
 -- the one whole frame that a view shows
-pub shown_alone : (frame : Frame) (others : List (Placed WholeFrame)) → AreViews (frame ∷ []) others
-    → (w : Placed WholeFrame) × (others ≡ w ∷ []) × (w.unit.frame.sequence ≡ frame.sequence) × (process_of_whole w ≡ process_of_frame (frame_text frame))
+pub shown_alone : (frame : PlacedFrame) (others : List (Placed WholeFrame)) → AreViews (frame ∷ []) others
+    → (w : Placed WholeFrame) × (others ≡ w ∷ []) × (w.unit.frame.sequence ≡ frame.unit.sequence) × (process_of_whole w ≡ process_of_frame frame.unit)
 shown_alone frame others show =
     let one = shown_first frame [] others show in (
       one.0,
@@ -155,7 +154,7 @@ shown_alone frame others show =
     )
 
 -- and its content has no fault
-pub shown_good : (frame : Frame) (others : List (Placed WholeFrame)) → AreViews (frame ∷ []) others → HasGoodContent (frame_text frame)
+pub shown_good : (frame : PlacedFrame) (others : List (Placed WholeFrame)) → AreViews (frame ∷ []) others → HasGoodContent frame.unit
 shown_good frame others show =
     let one = shown_first frame [] others show in
     let events = whole_events frame one.0 one.3 one.4 in

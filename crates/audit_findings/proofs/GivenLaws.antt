@@ -2,10 +2,9 @@
 use Rattle.std.proofs.Common.{◌≡◌, ◌<◌, Bool, true, false, cond, List, [], ◌∷◌, ◌++◌, map, Some, None, sym, ap, subst, ◌∙◌, append_assoc, arith, filter_map}
 use Rattle.std.specs.Option.{unwrap_or}
 use Rattle.std.proofs.lemmas.List.{length-map, map-append}
-use Rattle.capture_frame.specs.Envelope.{placed_frame}
+use Rattle.capture_frame.specs.Envelope.{placed_frame, PlacedFrame}
 use Rattle.capture_frame.specs.Process.{same_process}
 use Rattle.capture_frame.specs.Units.{Placed}
-use Rattle.capture_frame.specs.declared.frame.Frame.{Frame}
 use Rattle.capture_frame.specs.declared.process.Process.{Process}
 use Rattle.transaction_view.specs.Grammar.{WholeFrame}
 use Rattle.event_core.proofs.EventsGiven.{Given}
@@ -55,14 +54,14 @@ each_placed events few q =
     (omega (arith, fewer, some, long, short), items_rise same_process q event_place fed (rising_read concerned (λ e. e.1.place) event_place concerned_there events rise))
 
 -- the events that are given so far are few
-pub few_given : (before : List Event) (frame : Frame) → AreFewWith (map event_text before) frame → (reading : Reading) (given : List Event)
-    → Given (placed_frame frame) reading given → AreFewGiven (before ++ given)
+pub few_given : (before : List Event) (frame : PlacedFrame) → AreFewWith (map event_text before) frame → (reading : Reading) (given : List Event)
+    → Given frame reading given → AreFewGiven (before ++ given)
 few_given before frame few reading given so_far =
     subst AreFewEvents (sym (map-append event_text before given)) (few_next (map event_text before) frame few reading given so_far)
 
 -- and so they are with the one that is given next
-pub few_one_more : (before : List Event) (frame : Frame) → AreFewWith (map event_text before) frame → (reading : Reading) (given : List Event) (found : Event)
-    → Given (placed_frame frame) reading (given ++ found ∷ []) → AreFewGiven ((before ++ given) ++ found ∷ [])
+pub few_one_more : (before : List Event) (frame : PlacedFrame) → AreFewWith (map event_text before) frame → (reading : Reading) (given : List Event) (found : Event)
+    → Given frame reading (given ++ found ∷ []) → AreFewGiven ((before ++ given) ++ found ∷ [])
 few_one_more before frame few reading given found so_far =
     subst AreFewGiven (sym (append_assoc before given (found ∷ []))) (few_given before frame few reading (given ++ found ∷ []) so_far)
 

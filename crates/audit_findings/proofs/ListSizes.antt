@@ -7,8 +7,7 @@ use Rattle.std.proofs.lemmas.Bool.{cases_eq}
 use Rattle.std.proofs.lemmas.List.Concat.{flat_map-cons}
 use Rattle.std.proofs.lemmas.List.Elements.{All-head, All-tail, All-weaker}
 use Rattle.std.proofs.lemmas.List.Sums.{sum_by-append, sum_by-cons}
-use Rattle.capture_frame.specs.declared.frame.Frame.{Frame}
-use Rattle.capture_frame.specs.Envelope.{FrameText, attachments_place, commands_place, frame_text, placed_frame}
+use Rattle.capture_frame.specs.Envelope.{FrameText, attachments_place, commands_place, frame_text, placed_frame, PlacedFrame}
 use Rattle.capture_frame.specs.Units.{Placed, placed, placed_at, spelling_of}
 use Rattle.record_view.specs.Records.{RecordText}
 use Rattle.transaction_view.specs.Attachments.{EntryText, entry_bytes, entry_format}
@@ -114,15 +113,15 @@ entries_long frame (e ∷ entries) =
     omega (arith, split, one, more, all)
 
 -- the events of a frame rise
-pub frame_rises : (frame : Frame) (events : List EventRead) → AreEventsOfFrame frame events → Rise (places_of events)
+pub frame_rises : (frame : PlacedFrame) (events : List EventRead) → AreEventsOfFrame frame events → Rise (places_of events)
 frame_rises frame events of =
-    let w : Placed WholeFrame = placed_at frame.place record { frame = frame_text frame; records = of.0; entries = of.1 } in
+    let w : Placed WholeFrame = placed_at frame.place record { frame = frame.unit; records = of.0; entries = of.1 } in
     subst (λ (es : List EventRead). Rise (places_of es)) (sym of.4) (pairs_map (λ a b. a < b) (λ (e : EventRead). e.place) _ (whole_rises w))
 
 -- their lists of offsets are no longer than the attachment bytes
-pub lists_fit : (frame : Frame) (events : List EventRead) → AreEventsOfFrame frame events → sum_by offset_bytes_of events ≤ length frame.attachments.now
+pub lists_fit : (frame : PlacedFrame) (events : List EventRead) → AreEventsOfFrame frame events → sum_by offset_bytes_of events ≤ length frame.unit.attachments
 lists_fit frame events of =
-    let there = placed_frame frame in
+    let there = frame in
     let records = placed_records there of.0 in
     let made = map (event_of there of.1) records in
     let rise : Rise (places_of made) = subst (λ (es : List EventRead). Rise (places_of es)) of.4 (frame_rises frame events of) in
@@ -133,10 +132,10 @@ lists_fit frame events of =
     omega (arith, sums, found, long, whole)
 
 -- nor are those that a reader has given
-pub given_fit : (frame : Frame) (reading : Reading) (given : List Event) → HasGoodContent (frame_text frame) → Given (placed_frame frame) reading given
-    → sum_by offset_bytes_of (map event_text given) ≤ length frame.attachments.now
+pub given_fit : (frame : PlacedFrame) (reading : Reading) (given : List Event) → HasGoodContent frame.unit → Given frame reading given
+    → sum_by offset_bytes_of (map event_text given) ≤ length frame.unit.attachments
 given_fit frame reading given good so_far =
-    let first = given_first (placed_frame frame) reading given good.0.0 good.1.0 good.0.1 good.1.1 so_far in
+    let first = given_first frame reading given good.0.0 good.1.0 good.0.1 good.1.1 so_far in
     let whole = lists_fit frame _ (good.0.0, good.1.0, good.0.1, good.1.1, refl) in
     let parts = ap (sum_by offset_bytes_of) first.1 ∙ sum_by-append offset_bytes_of (map event_text given) first.0 in
     omega (arith, whole, parts)

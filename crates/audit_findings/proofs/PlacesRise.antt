@@ -8,9 +8,8 @@ use Rattle.std.proofs.lemmas.List.{append-nil}
 use Rattle.std.proofs.lemmas.List.Concat.{flat_map-cons}
 use Rattle.std.proofs.lemmas.List.Elements.{All-cons, All-map, All-nil, All-weaker}
 use Rattle.std.proofs.lemmas.List.Kept.{AllPairs-cons}
-use Rattle.capture_frame.specs.declared.frame.Frame.{Frame}
 use Rattle.capture_frame.specs.Units.{AllStand, placed, Placed}
-use Rattle.capture_frame.specs.Envelope.{FrameText, Before, in_version, placed_frame, frame_bytes, frame_header_length}
+use Rattle.capture_frame.specs.Envelope.{FrameText, Before, in_version, placed_frame, frame_bytes, frame_header_length, PlacedFrame}
 use Rattle.capture_frame.proofs.FrameLaws.{length-frame_bytes}
 use Rattle.object_view.specs.declared.bad_object.BadObject.{BadObject}
 use Rattle.record_view.specs.Records.{record_bytes}
@@ -23,7 +22,7 @@ use Rattle.audit_findings.specs.Flags.{has_unknown_flags, flagged}
 use Rattle.audit_findings.specs.Frames.{AreViews, IsWhole}
 use Rattle.event_core.specs.Events.{placed_text}
 use Rattle.event_core.specs.Events.{wholes_of, events_of_wholes}
-use Rattle.capture_frame.specs.Lookup.{AreApart}
+use Rattle.capture_frame.specs.Lookup.{AreApart, span_of}
 use Rattle.audit_findings.specs.Objects.{Attached, attached_to, Outcome, BadOwned, bad_of, bad_objects}
 use Rattle.audit_findings.proofs.Rising.{pairs_nil, pairs_map, pairs_unmap, pairs_flat, rising_made, rising_kept, increasing_places}
 
@@ -63,25 +62,18 @@ module _ {U : Type 0} (spelling : U → List ℕ) where
 
 -- ---- whole frames that stand apart
 
--- how many bytes of the capture the frame takes
-abbrev text_span : FrameText → ℕ
-text_span text = frame_header_length + length text.commands + length text.attachments
-
-abbrev TextsApart : Placed FrameText → Placed FrameText → Type 0
-TextsApart earlier later = earlier.place + text_span earlier.unit ≤ later.place
-
 -- each of these whole frames ends before every later one begins
 abbrev pub WholesApart : List (Placed WholeFrame) → Type 0
-WholesApart wholes = AllPairs (λ a b. TextsApart (placed_text a) (placed_text b)) wholes
+WholesApart wholes = AllPairs (λ a b. AreApart (placed_text a) (placed_text b)) wholes
 
--- those that views show do where the views do
-pub shown_apart : (frames : List Frame) (wholes : List (Placed WholeFrame)) → AreViews frames wholes → AllPairs AreApart frames → WholesApart wholes
+-- they do where the frames do
+pub shown_apart : (frames : List PlacedFrame) (wholes : List (Placed WholeFrame)) → AreViews frames wholes → AllPairs AreApart frames → WholesApart wholes
 shown_apart frames wholes show apart =
-    pairs_unmap TextsApart placed_text wholes (subst (AllPairs TextsApart) show.stand (pairs_map TextsApart placed_frame frames apart))
+    pairs_unmap AreApart placed_text wholes (subst (AllPairs AreApart) show.stand apart)
 
-pub views_apart : (frames : List Frame) (wholes : List (Placed WholeFrame)) → AreViews frames wholes → WholesApart wholes → AllPairs AreApart frames
+pub views_apart : (frames : List PlacedFrame) (wholes : List (Placed WholeFrame)) → AreViews frames wholes → WholesApart wholes → AllPairs AreApart frames
 views_apart frames wholes show apart =
-    pairs_unmap TextsApart placed_frame frames (subst (AllPairs TextsApart) (sym show.stand) (pairs_map TextsApart placed_text wholes apart))
+    subst (AllPairs AreApart) (sym show.stand) (pairs_map AreApart placed_text wholes apart)
 
 -- those of a capture do
 pub wholes_apart : (wholes : List WholeFrame) → WholesApart (wholes_of wholes)
@@ -103,7 +95,7 @@ whole_rises w =
 
 -- and stand within it
 pub IsInSpan : Placed WholeFrame → EventRead → Type 0
-IsInSpan w e = (w.place ≤ e.place) × (e.place < w.place + text_span w.unit.frame)
+IsInSpan w e = (w.place ≤ e.place) × (e.place < w.place + span_of (placed_text w))
 
 pub within_span : (w : Placed WholeFrame) (e : EventRead) → IsInSpan w e
     → (w.place ≤ e.place) × (e.place < w.place + (frame_header_length + length w.unit.frame.commands + length w.unit.frame.attachments))
@@ -189,5 +181,5 @@ objects_rise capture wholes said is are =
     (rising_made (λ (o : Outcome). o.of.owner.place) place bad_of (λ o b made. bad_there o o.bad b made) outcomes owners))
 
 -- the frames of a capture stand apart
-pub stand_apart : (frames : List Frame) (done : List WholeFrame) → AreViews frames (wholes_of done) → AllPairs AreApart frames
+pub stand_apart : (frames : List PlacedFrame) (done : List WholeFrame) → AreViews frames (wholes_of done) → AllPairs AreApart frames
 stand_apart frames done show = views_apart frames (wholes_of done) show (wholes_apart done)

@@ -6,8 +6,7 @@ use Rattle.std.proofs.lemmas.Grind.{flat_map-append}
 use Rattle.std.proofs.lemmas.List.{append-nil}
 use Rattle.std.proofs.lemmas.List.Concat.{flat_map-cons}
 use Rattle.std.proofs.lemmas.List.Elements.{All-nil, All-cons, All-append, All-map, All-weaker, All-contains}
-use Rattle.capture_frame.specs.declared.frame.Frame.{Frame}
-use Rattle.capture_frame.specs.Envelope.{FrameText, frame_text, placed_frame, commands_place}
+use Rattle.capture_frame.specs.Envelope.{FrameText, frame_text, placed_frame, commands_place, PlacedFrame}
 use Rattle.capture_frame.specs.Units.{Placed, placed_at, placed, spelling_of}
 use Rattle.record_view.specs.Records.{RecordText, HasRecords, record_bytes, record_format, protocol_of, span_of}
 use Rattle.transaction_view.specs.Grammar.{WholeFrame}
@@ -52,15 +51,15 @@ of_whole there whole =
     (behind_stand frame [] there.unit.records whole.0 (commands_place frame.place) start))
 
 -- the event is that of a record of one of these frames
-pub record IsEventIn (frames : List Frame) (e : EventRead) : Type 0 where
-  pub frame : Frame
+pub record IsEventIn (frames : List PlacedFrame) (e : EventRead) : Type 0 where
+  pub frame : PlacedFrame
   pub there : Contains frames frame
-  pub event : IsEventOf (placed_frame frame) e
+  pub event : IsEventOf frame e
 
-in_more : (first : Frame) (frames : List Frame) (e : EventRead) → IsEventIn frames e → IsEventIn (first ∷ frames) e
+in_more : (first : PlacedFrame) (frames : List PlacedFrame) (e : EventRead) → IsEventIn frames e → IsEventIn (first ∷ frames) e
 in_more first frames e is = record { frame = is.frame; there = (let within = is.there.1 in (suc is.there.0, omega (arith, within), is.there.2)); event = is.event }
 
-pub events_in : (frames : List Frame) (wholes : List (Placed WholeFrame)) → AreViews frames wholes → All (IsEventIn frames) (events_of_wholes wholes)
+pub events_in : (frames : List PlacedFrame) (wholes : List (Placed WholeFrame)) → AreViews frames wholes → All (IsEventIn frames) (events_of_wholes wholes)
 events_in [] wholes show = subst (λ (t : List (Placed WholeFrame)). All (IsEventIn []) (events_of_wholes t)) (sym (shown_none wholes show)) (All-nil (IsEventIn []))
 events_in (f ∷ frames) wholes show =
     let one = shown_first f frames wholes show in
@@ -75,18 +74,18 @@ events_in (f ∷ frames) wholes show =
     (subst (All (IsEventIn (f ∷ frames))) (sym (flat_map-cons events_of_whole one.0 one.1)) all)
 
 -- so a record begins at its place
-pub has_record_in : (frames : List Frame) (wholes : List (Placed WholeFrame)) (e : EventRead) → AreViews frames wholes → Contains (events_of_wholes wholes) e
+pub has_record_in : (frames : List PlacedFrame) (wholes : List (Placed WholeFrame)) (e : EventRead) → AreViews frames wholes → Contains (events_of_wholes wholes) e
     → HasRecordIn frames e.place
 has_record_in frames wholes e show there =
     let is = All-contains (IsEventIn frames) (events_of_wholes wholes) e (events_in frames wholes show) there in
     (is.frame, is.there, (is.event.found, is.event.stands))
 
 -- the frame of a record holds its place
-pub record_held : (frame : Frame) (place : ℕ) → HasRecordAt (placed_frame frame) place → Holds place frame
+pub record_held : (frame : PlacedFrame) (place : ℕ) → HasRecordAt frame place → Holds place frame
 record_held frame place has =
     let stands = has.1.1 in
     let records = stands.before ++ has.0 ∷ stands.behind in
-    let within = stands_within (frame_text frame) records has.1.0 has.0 stands.has_records stands in
-    let whole = ap length stands.has_records.joined ∙ length-append (spelling_of (record_format (protocol_of frame.direction)) records) [] in
+    let within = stands_within frame.unit records has.1.0 has.0 stands.has_records stands in
+    let whole = ap length stands.has_records.joined ∙ length-append (spelling_of (record_format (protocol_of frame.unit.direction)) records) [] in
     let at = has.1.2 in
     (omega (arith, at), omega (arith, at, within, whole))

@@ -1,9 +1,8 @@
 -- The attachments of events that are known by their places.
 use Rattle.std.specs.Prelude.{◌≡◌, ℕ, ◌<◌, Bool, List, [], ◌∷◌, ◌++◌, length, map, filter, AllPairs, Option, Some, None}
 use Rattle.std.specs.List.{filter_map, sum_by}
-use Rattle.capture_frame.specs.Envelope.{frame_text, placed_frame}
+use Rattle.capture_frame.specs.Envelope.{frame_text, placed_frame, PlacedFrame}
 use Rattle.capture_frame.specs.Units.{Placed}
-use Rattle.capture_frame.specs.declared.frame.Frame.{Frame}
 use Rattle.event_core.specs.Events.{AttachmentText, EventRead, events_of, events_of_wholes}
 use Rattle.event_core.specs.Reading.{entry_attachment}
 use Rattle.event_core.specs.declared.event.Event.{Event}
@@ -35,10 +34,10 @@ abbrev pub ShowAttachments : List Entry → List AttachmentText → Type 0
 ShowAttachments entries attachments = map entry_attachment entries ≡ attachments
 
 -- the events are those of the frame
-abbrev pub AreEventsOfFrame : Frame → List EventRead → Type 0
+abbrev pub AreEventsOfFrame : PlacedFrame → List EventRead → Type 0
 AreEventsOfFrame frame events =
-    (records : List RecordText) × (entries : List EntryText) × HasRecords (frame_text frame) records
-    × HasEntries (frame_text frame) entries × (events ≡ events_of (placed_frame frame) records entries)
+    (records : List RecordText) × (entries : List EntryText) × HasRecords frame.unit records
+    × HasEntries frame.unit entries × (events ≡ events_of frame records entries)
 
 -- each number is below all later ones
 abbrev pub Rise : List ℕ → Type 0
@@ -51,14 +50,14 @@ AreChosen choice events others places = places ≡ places_of (filter choice even
 -- However events of the frame are chosen: where the places are those of the chosen ones and then others, which come
 -- after all events of the frame and rise, the others are left, and the new entries are the old ones and then those of
 -- the chosen events.
-abbrev pub AddsEntries : List Entry → Frame → List ℕ → List Entry → List ℕ → Type 0
+abbrev pub AddsEntries : List Entry → PlacedFrame → List ℕ → List Entry → List ℕ → Type 0
 AddsEntries old frame places new left =
     (events : List EventRead) (choice : EventRead → Bool) (others : List ℕ) → AreEventsOfFrame frame events
     → Rise (places_of events ++ others) → AreChosen choice events others places
     → (left ≡ others) × ShowAttachments new (map entry_attachment old ++ carried_by (filter choice events))
 
 -- whatever events of these frames are at the places, the entries show their attachments
-abbrev pub AreEntriesAt : List Frame → List ℕ → List Entry → Type 0
+abbrev pub AreEntriesAt : List PlacedFrame → List ℕ → List Entry → Type 0
 AreEntriesAt frames places entries =
     (wholes : List (Placed WholeFrame)) (choice : EventRead → Bool) → AreViews frames wholes
     → AreChosen choice (events_of_wholes wholes) [] places

@@ -1,8 +1,8 @@
 -- The section `handles`: the references that each process holds by handle, those that it took itself and those that its
 -- deliveries hold (docs/REPORT.md).
+use Rattle.capture_frame.specs.Envelope.{PlacedFrame}
 use Rattle.std.specs.Prelude.{◌||◌, ℕ, Bool, List}
 use Rattle.std.specs.List.{AllZip}
-use Rattle.capture_frame.specs.declared.frame.Frame.{Frame}
 use Rattle.capture_frame.specs.declared.process.Process.{Process}
 use Rattle.capture_frame.specs.Units.{Placed}
 use Rattle.transaction_view.specs.Grammar.{WholeFrame}
@@ -41,9 +41,9 @@ AreHandleFindings wholes said =
 abbrev pub AreListedHandles : List (Placed WholeFrame) → List (List (ProcessRow HeldRow)) → Type 0
 AreListedHandles wholes lists = AllZip (AreRowsOf (AreHandlesOf (events_of_wholes wholes))) (processes_of wholes) lists
 
--- the ledgers may be those of any process of the frames that these views show, and the places those of the deliveries
+-- the ledgers may be those of any process of these frames, and the places those of the deliveries
 -- that it never frees: the rows are that process's
-abbrev pub GivesHandles : ProcessLedgers → List Frame → List ℕ → List HeldRow → Type 0
+abbrev pub GivesHandles : ProcessLedgers → List PlacedFrame → List ℕ → List HeldRow → Type 0
 GivesHandles ledgers frames unfreed rows =
     (wholes : List (Placed WholeFrame)) (process : Process) → AreViews frames wholes
     → AreLedgersOf ledgers (events_of_wholes wholes) process

@@ -1,6 +1,6 @@
 -- What the findings keep of what the report says: of a listed event its place, and what its record does not hold.
+use Rattle.capture_frame.specs.Envelope.{PlacedFrame}
 use Rattle.std.specs.Prelude.{◌≡◌, ℕ, List, map}
-use Rattle.capture_frame.specs.declared.frame.Frame.{Frame}
 use Rattle.transaction_view.specs.Grammar.{WholeFrame}
 use Rattle.event_core.specs.Events.{EventRead, wholes_of}
 use Rattle.call_stacks.specs.declared.opener.Opener.{Opener}
@@ -87,21 +87,21 @@ pub record Keep (sections : Sections) (said : FindingsSaid) : Type 0 where
   pub calls : KeepCallSections sections.calls said.calls
   pub processes : KeepProcessSections sections.processes said.processes
 
--- the views show these frames of a capture, whose findings say this, and the sections keep it
-pub record AreSectionsOf (wholes : List WholeFrame) (said : FindingsSaid) (frames : List Frame) (sections : Sections) :
+-- the frames are these of a capture, whose findings say this, and the sections keep it
+pub record AreSectionsOf (wholes : List WholeFrame) (said : FindingsSaid) (frames : List PlacedFrame) (sections : Sections) :
     Type 0 where
   pub show : AreViews frames (wholes_of wholes)
   pub are : AreFindings (wholes_of wholes) said
   pub keep : Keep sections said
 
--- findings as they are kept: the views of the frames, and the sections
+-- findings as they are kept: the frames, and the sections
 pub record KeptFindings : Type 0 where
-  pub frames : List Frame
+  pub frames : List PlacedFrame
   pub sections : Sections
 
-abbrev pub kept_findings : List Frame → Sections → KeptFindings
+abbrev pub kept_findings : List PlacedFrame → Sections → KeptFindings
 kept_findings frames sections = record { frames = frames; sections = sections }
 
--- the sections keep the findings of some frames of a capture, which the views show
-abbrev pub AreOfFrames : List Frame → Sections → Type 0
+-- the sections keep the findings of the frames, which are some of a capture
+abbrev pub AreOfFrames : List PlacedFrame → Sections → Type 0
 AreOfFrames frames sections = (wholes : List WholeFrame) × (said : FindingsSaid) × AreSectionsOf wholes said frames sections

@@ -1,9 +1,9 @@
 -- What the ledgers of some events, and of some frames, come to while they are made.
+use Rattle.capture_frame.specs.Envelope.{PlacedFrame}
 use Rattle.std.specs.Prelude.{◌≡◌, ℕ, ◌+◌, ◌<◌, ◌^◌, List, [], ◌∷◌, ◌++◌, length, map, count_by, All}
 use Rattle.std.proofs.Common.{subst}
 use Rattle.std.proofs.lemmas.List.{map-append}
 use Rattle.std.specs.Option.{option_map_or}
-use Rattle.capture_frame.specs.declared.frame.Frame.{Frame}
 use Rattle.capture_frame.specs.Units.{Placed}
 use Rattle.transaction_view.specs.Grammar.{WholeFrame}
 use Rattle.event_core.specs.Events.{AttachmentText, EventRead}
@@ -117,14 +117,14 @@ pub record Names (old : FrameLedgers) (process : Process) (new : FrameLedgers) :
 abbrev pub AreFewFrames : List (Placed WholeFrame) → Type 0
 AreFewFrames wholes = IsShort wholes × AreFewEvents (events_of_wholes wholes)
 
--- the ledgers are those of some frames that are few with those of these views behind them
-abbrev pub CanTake : FrameLedgers → List Frame → Type 0
+-- the ledgers are those of some frames that are few with these frames behind them
+abbrev pub CanTake : FrameLedgers → List PlacedFrame → Type 0
 CanTake ledgers frames =
     (wholes others : List (Placed WholeFrame)) × SumsLedgers ledgers wholes × AreViews frames others
     × AreFewFrames (wholes ++ others)
 
 -- whatever frames the old ledgers are those of, the new ones are those of them and of these behind them
-abbrev pub Takes : FrameLedgers → List Frame → FrameLedgers → Type 0
+abbrev pub Takes : FrameLedgers → List PlacedFrame → FrameLedgers → Type 0
 Takes old frames new =
     (wholes others : List (Placed WholeFrame)) → SumsLedgers old wholes → AreViews frames others
     → AreFewFrames (wholes ++ others) → SumsLedgers new (wholes ++ others)

@@ -1,7 +1,6 @@
 -- The record at a place of the capture.
 use Rattle.std.specs.Prelude.{◌≡◌, ℕ, List, Contains, None}
-use Rattle.capture_frame.specs.declared.frame.Frame.{Frame}
-use Rattle.capture_frame.specs.Envelope.{placed_frame}
+use Rattle.capture_frame.specs.Envelope.{placed_frame, PlacedFrame}
 use Rattle.capture_frame.specs.Units.{Placed}
 use Rattle.transaction_view.specs.Grammar.{WholeFrame}
 use Rattle.event_core.specs.declared.event.Event.{Event}
@@ -10,11 +9,11 @@ use Rattle.event_core.specs.Reading.{event_text}
 use Rattle.audit_findings.specs.Frames.{AreViews}
 
 -- a record of one of these frames begins at this place
-abbrev pub HasRecordIn : List Frame → ℕ → Type 0
-HasRecordIn frames place = (frame : Frame) × Contains frames frame × HasRecordAt (placed_frame frame) place
+abbrev pub HasRecordIn : List PlacedFrame → ℕ → Type 0
+HasRecordIn frames place = (frame : PlacedFrame) × Contains frames frame × HasRecordAt frame place
 
 -- it says what the event at this place does, with the attachment left out
-abbrev pub SaysEventAt : List Frame → ℕ → Event → Type 0
+abbrev pub SaysEventAt : List PlacedFrame → ℕ → Event → Type 0
 SaysEventAt frames place found =
     (wholes : List (Placed WholeFrame)) → AreViews frames wholes → (e : EventRead) → Contains (events_of_wholes wholes) e
     → e.place ≡ place → event_text found ≡ record e { entry = None }

@@ -1,6 +1,6 @@
 -- What the summary of some frames stands for.
+use Rattle.capture_frame.specs.Envelope.{PlacedFrame}
 use Rattle.std.specs.Prelude.{ℕ, List, length, slice_index_or}
-use Rattle.capture_frame.specs.declared.frame.Frame.{Frame}
 use Rattle.capture_frame.specs.Units.{Placed}
 use Rattle.capture_frame.specs.declared.process.Process.{Process}
 use Rattle.event_core.specs.Events.{events_of_wholes}
@@ -18,8 +18,8 @@ use Rattle.audit_findings.specs.declared.in_turn.ProcessRow.{ProcessRow}
 use Rattle.audit_findings.specs.Kept.{Keep}
 use Rattle.audit_findings.specs.Ledgers.{SumsLedgers}
 
--- its ledgers are those of the whole frames that these frames show
-abbrev pub SumsPiece : PieceSummary → List Frame → Type 0
+-- its ledgers are those of the whole frames that these frames are
+abbrev pub SumsPiece : PieceSummary → List PlacedFrame → Type 0
 SumsPiece summary frames = (wholes : List (Placed WholeFrame)) → AreViews frames wholes → SumsLedgers summary.ledgers wholes
 
 -- how many processes they have
@@ -29,12 +29,12 @@ process_count summary = length summary.ledgers.order.entries.entries
 -- whatever frames the summary sums, the lists are the places of the deliveries that each of their processes never frees
 abbrev pub GivesUnfreed : PieceSummary → List (List ℕ) → Type 0
 GivesUnfreed summary lists =
-    (frames : List Frame) (wholes : List (Placed WholeFrame)) → SumsPiece summary frames → AreViews frames wholes
+    (frames : List PlacedFrame) (wholes : List (Placed WholeFrame)) → SumsPiece summary frames → AreViews frames wholes
     → AreUnfreed wholes lists
 
--- if the summary is that of these views, and the places are those of the deliveries that the process with this number
+-- if the summary is that of these frames, and the places are those of the deliveries that the process with this number
 -- never frees, the rows are those of the process's handles
-abbrev pub GivesHandlesAt : PieceSummary → List Frame → ℕ → List ℕ → List (ProcessRow HeldRow) → Type 0
+abbrev pub GivesHandlesAt : PieceSummary → List PlacedFrame → ℕ → List ℕ → List (ProcessRow HeldRow) → Type 0
 GivesHandlesAt summary frames number unfreed rows =
     SumsPiece summary frames → (wholes : List (Placed WholeFrame)) (d : Process) → AreViews frames wholes
     → AreUnfreedIn (events_of_wholes wholes) (slice_index_or (processes_of wholes) number d) unfreed
@@ -44,6 +44,6 @@ GivesHandlesAt summary frames number unfreed rows =
 -- findings
 abbrev pub GiveSectionsOf : PieceSummary → List (List ℕ) → List (List (ProcessRow HeldRow)) → Sections → Type 0
 GiveSectionsOf summary unfreed handles sections =
-    (frames : List Frame) (wholes : List (Placed WholeFrame)) → SumsPiece summary frames → AreGoodFrames frames
+    (frames : List PlacedFrame) (wholes : List (Placed WholeFrame)) → SumsPiece summary frames → AreGoodFrames frames
     → AreViews frames wholes → AreUnfreed wholes unfreed → AreListedHandles wholes handles
     → (said : FindingsSaid) × AreFindings wholes said × Keep sections said

@@ -1,12 +1,12 @@
 //! The attachments of events that are known by their places.
 
 ghost use Rattle.std.specs.Prelude.{◌≡◌, ◌≢◌, ◌≤◌, ◌+◌, ◌^◌, ◌∷◌, ◌++◌, ℕ, List, drop, length, IfOk, IfSome, IfNone, OnOk};
-ghost use Rattle.capture_frame.specs.Envelope.{frame_text};
+ghost use Rattle.capture_frame.specs.Envelope.{frame_text, placed_frame};
 ghost use Rattle.transaction_view.specs.FirstFault.{HasGoodContent};
 ghost use Rattle.audit_findings.specs.Entries.{AddsEntries, AreEntriesAt, entries_in, list_bytes};
 ghost use Rattle.audit_findings.specs.Frames.{AreGoodFrames};
 
-use capture_frame::{Frame, count_begun};
+use capture_frame::{Frame, FrameSlice};
 use event_core::{Event, Events};
 use std::alloc::{AllocError, Global};
 use transaction_view::Entry;
@@ -15,7 +15,7 @@ use transaction_view::Entry;
 /// once for all places in it.
 pub(crate) fn entries_at<'c>(
     alloc: Global,
-    frames: &[Frame<'c>],
+    frames: &FrameSlice<'_, 'c>,
     places: &[u64],
 ) -> Result<Vec<Entry<'c>>, AllocError>
     requires { AreGoodFrames frames.now }
@@ -24,27 +24,18 @@ pub(crate) fn entries_at<'c>(
         (λ entries. AreEntriesAt frames.now places.now entries.items) }
 {
     let mut entries = Vec::new(alloc);
-    let mut ahead = frames;
+    let mut ahead = frames.without_first(0);
     let mut rest = places;
     while let Some(first) = rest.first() {
         // Where a record begins, the last frame that has begun holds it.
-        let count = count_begun(ahead, *first);
+        let count = ahead.count_begun(*first);
         if count == 0 {
             break;
         }
-        rest = add_frame(&mut entries, ahead[count - 1], rest)?;
-        ahead = without_first(ahead, count);
+        rest = add_frame(&mut entries, ahead.get(count - 1), rest)?;
+        ahead = ahead.without_first(count);
     }
     Ok(entries)
-}
-
-/// These frames without the first ones.
-fn without_first<'f, 'c>(frames: &'f [Frame<'c>], count: usize) -> &'f [Frame<'c>]
-    requires { count ≤ length frames.now }
-    ensures { result.now ≡ drop count frames.entry.now }
-{
-    let (_, others) = frames.split_at(count);
-    others
 }
 
 /// Adds the entries of those events of a frame that are at the first of these places. The places
@@ -57,7 +48,7 @@ fn add_frame<'c, 'p>(
     requires { HasGoodContent (frame_text frame) }
     ensures few { OnOk result (list_bytes entries.new.items
         ≤ list_bytes entries.old.items + length frame.entry.attachments.now) }
-    ensures entries { IfOk result (λ rest. AddsEntries entries.old.items frame.entry
+    ensures entries { IfOk result (λ rest. AddsEntries entries.old.items (placed_frame frame.entry)
         places.entry.now entries.new.items rest.now) }
 {
     let mut rest = places;

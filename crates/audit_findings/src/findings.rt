@@ -5,7 +5,7 @@ ghost use Rattle.std.specs.Prelude.{◌≡◌};
 use crate::call_sections::CallSections;
 use crate::event_sections::EventSections;
 use crate::process_sections::ProcessSections;
-use capture_frame::{Frame, frame_at};
+use capture_frame::{Frame, FrameList, FrameSlice};
 use event_core::{Event, event_without_attachment_at};
 use std::marker::Model;
 
@@ -27,7 +27,7 @@ pub struct Sections {
 /// place; the rest of its row is read from the frames again.
 #[derive(Drop)]
 pub struct Findings<'c> {
-    frames: Vec<Frame<'c>>,
+    frames: FrameList<'c>,
     sections: Sections,
 }
 
@@ -36,10 +36,10 @@ impl<'c> Model for Findings<'c> {
 
     ghost Value = { KeptFindings };
 
-    ghost view = { λ f. kept_findings f.frames.items f.sections };
+    ghost view = { λ f. kept_findings f.frames f.sections };
 
     // They are those of some frames of a capture, which the views show.
-    ghost invariant = { λ f. AreOfFrames f.frames.items f.sections };
+    ghost invariant = { λ f. AreOfFrames f.frames f.sections };
 }
 
 impl<'c> Findings<'c> {
@@ -48,16 +48,16 @@ impl<'c> Findings<'c> {
     ghost use Rattle.audit_findings.specs.Lookup.{HasRecordIn, SaysEventAt};
 
     /// The findings of frames and what is kept of them.
-    pub fn new(frames: Vec<Frame<'c>>, sections: Sections) -> Findings<'c>
-        requires { AreOfFrames frames.items sections }
-        ensures { result ≡ kept_findings frames.entry.items sections }
+    pub fn new(frames: FrameList<'c>, sections: Sections) -> Findings<'c>
+        requires { AreOfFrames frames sections }
+        ensures { result ≡ kept_findings frames.entry sections }
     {
         Findings { frames, sections }
     }
 
     /// The frames of the capture, in order.
-    pub fn frames(&self) -> &[Frame<'c>]
-        ensures { result.now ≡ self.now.frames }
+    pub fn frames(&self) -> FrameSlice<'_, 'c>
+        ensures { result ≡ self.now.frames }
     {
         self.frames.as_slice()
     }
@@ -74,7 +74,7 @@ impl<'c> Findings<'c> {
     pub fn frame_at(&self, place: u64) -> Option<Frame<'c>>
         ensures { IsFrameAt self.now.frames place result }
     {
-        frame_at(self.frames.as_slice(), place)
+        self.frames.as_slice().frame_at(place)
     }
 
     /// The event of the record that begins at a place of the capture, with the attachment left out.

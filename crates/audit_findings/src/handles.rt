@@ -10,7 +10,7 @@ use crate::entries::entries_at;
 use crate::held::held_by;
 use crate::in_turn::ProcessRow;
 use crate::references::{Balance, References, references_of};
-use capture_frame::Frame;
+use capture_frame::FrameSlice;
 use handle_ledger::HeldRow;
 use process_ledgers::ProcessLedgers;
 use std::alloc::{AllocError, Global};
@@ -19,7 +19,7 @@ use std::alloc::{AllocError, Global};
 /// at these places, is read again from the frames.
 pub(crate) fn handles_of_process(
     alloc: Global,
-    frames: &[Frame<'_>],
+    frames: &FrameSlice<'_, '_>,
     ledgers: &ProcessLedgers<'_>,
     unfreed: &[u64],
 ) -> Result<Vec<HeldRow>, AllocError>

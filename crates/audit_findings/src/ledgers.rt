@@ -1,6 +1,7 @@
 //! What frames come to.
 
 ghost use Rattle.std.specs.Prelude.{◌≡◌, [], ◌∷◌, map, IfOk, OnOk};
+ghost use Rattle.capture_frame.specs.Envelope.{placed_frame};
 ghost use Rattle.summary_law.specs.Summary.{CanJoin, Joins};
 ghost use Rattle.audit_findings.specs.Ledgers.{SumsLedgers, SumsSome, Names, AreFewFrames, CanTake, Takes, AreOfFew, GiveSections, GivesProcesses};
 
@@ -40,8 +41,8 @@ impl<'c> FrameLedgers<'c> {
 
     /// Adds a frame without a fault. After an error they are only to be dropped.
     pub fn add(&mut self, frame: Frame<'c>) -> Result<(), AllocError>
-        requires { CanTake self.old (frame ∷ []) }
-        ensures { OnOk result (Takes self.old (frame.entry ∷ []) self.new) }
+        requires { CanTake self.old (placed_frame frame ∷ []) }
+        ensures { OnOk result (Takes self.old (placed_frame frame.entry ∷ []) self.new) }
     {
         self.name_process(frame.of_process())?;
         self.sequences = self.sequences.with(frame.sequence);

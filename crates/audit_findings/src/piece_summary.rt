@@ -1,8 +1,9 @@
 //! The summary of some frames of a capture.
 
 ghost use Rattle.std.specs.Prelude.{◌≡◌, ◌<◌, List, length, map, IfOk};
-ghost use Rattle.capture_frame.specs.declared.frame.Frame.{Frame};
-ghost use Rattle.audit_findings.specs.Frames.{AreGoodFrames, good_frames_parts};
+ghost use Rattle.capture_frame.specs.Cut.{shown_by};
+ghost use Rattle.capture_frame.specs.Envelope.{PlacedFrame};
+ghost use Rattle.audit_findings.specs.Frames.{AreGoodFrames, good_views_parts};
 ghost use Rattle.audit_findings.specs.Summary.{SumsPiece, GivesHandlesAt, GivesUnfreed, GiveSectionsOf, process_count};
 
 use crate::buffers::BufferPairs;
@@ -12,7 +13,7 @@ use crate::in_turn::{ProcessRow, push_rows_of};
 use crate::ledgers::FrameLedgers;
 use crate::paired::Unclosed;
 use crate::places::lists_of;
-use capture_frame::Frame;
+use capture_frame::{Frame, FrameSlice};
 use handle_ledger::HeldRow;
 use process_ledgers::ProcessLedgers;
 use std::alloc::{AllocError, Global};
@@ -50,7 +51,7 @@ impl<'c> PieceSummary<'c> {
     /// are the frames that are summarised, and these the places of its unfreed deliveries.
     pub fn handles(
         &self,
-        frames: &[Frame<'_>],
+        frames: &FrameSlice<'_, '_>,
         number: usize,
         unfreed: &[u64],
     ) -> Result<Vec<ProcessRow<HeldRow>>, AllocError>
@@ -76,7 +77,7 @@ impl<'c> PieceSummary<'c> {
         unfreed: &[Vec<u64>],
         handles: &[Vec<ProcessRow<HeldRow>>],
     ) -> Result<Sections, AllocError>
-        requires { (frames : List Frame) × SumsPiece self frames × AreGoodFrames frames }
+        requires { (frames : List PlacedFrame) × SumsPiece self frames × AreGoodFrames frames }
         ensures { IfOk result
             (GiveSectionsOf self.entry (map (λ list. list.items) unfreed.now)
             (map (λ list. list.items) handles.now)) }
@@ -88,9 +89,9 @@ impl<'c> PieceSummary<'c> {
 impl<'c> Summary for PieceSummary<'c> {
     type Item = Frame<'c>;
 
-    ghost fits = { AreGoodFrames };
+    ghost fits = { λ views. AreGoodFrames (shown_by views) };
 
-    ghost sums = { SumsPiece };
+    ghost sums = { λ summary views. SumsPiece summary (shown_by views) };
 
     fn empty(alloc: Global) -> PieceSummary<'c> {
         PieceSummary {
@@ -113,5 +114,5 @@ impl<'c> Summary for PieceSummary<'c> {
         })
     }
 
-    ghost fits_parts = { good_frames_parts };
+    ghost fits_parts = { good_views_parts };
 }

@@ -10,11 +10,10 @@ use Rattle.std.proofs.lemmas.List.Sums.{sum_by-append, sum_by-cons}
 use Rattle.capture_frame.specs.declared.fault.Fault.{Fault}
 use Rattle.capture_frame.specs.declared.fault.FaultKind.{FaultKind}
 use Rattle.capture_frame.specs.declared.fault.PartFault.{PartFault}
-use Rattle.capture_frame.specs.declared.frame.Frame.{Frame}
 use Rattle.capture_frame.specs.declared.version.Version.{Version}
 use Rattle.capture_frame.specs.declared.version.Version.TheVariants.{Two}
-use Rattle.capture_frame.specs.Cut.{AreFrames, ArePartFrames, AreFramesBeforePart, frames_before}
-use Rattle.capture_frame.specs.Envelope.{FrameText, Before, in_version, file_header, frame_text, placed_frame, frame_bytes}
+use Rattle.capture_frame.specs.Cut.{ArePartFrames, AreFramesBeforePart, frames_before}
+use Rattle.capture_frame.specs.Envelope.{FrameText, Before, in_version, file_header, frame_text, placed_frame, frame_bytes, PlacedFrame}
 use Rattle.capture_frame.specs.FirstFault.{IsFirstFaultIn, frame_format, in_header, in_frames}
 use Rattle.capture_frame.specs.Parts.{AreParts, IsFirstPartFault, last_after, joined}
 use Rattle.capture_frame.specs.Units.{Placed, placed, placed_at, spelling_of, Splits, FirstFailure, IsBytes, state_after}
@@ -22,7 +21,7 @@ use Rattle.capture_frame.proofs.CutLaws.{frames_wide}
 use Rattle.capture_frame.proofs.FrameLaws.{length-frame_bytes}
 use Rattle.capture_frame.proofs.HeaderLaws.{length-file_header}
 use Rattle.capture_frame.proofs.NumberLaws.{IsBytes-drop}
-use Rattle.capture_frame.proofs.PartLaws.{first_here, first_later, last_after-append, one_part, parts_joined}
+use Rattle.capture_frame.proofs.PartLaws.{first_here, first_later, last_after-append, parts_joined}
 use Rattle.capture_frame.proofs.UnitLaws.{Splits-cons, Splits-tail, FirstFailure-cons}
 use Rattle.transaction_view.specs.FirstFault.{HasGoodContent, HasContentFault, in_content}
 use Rattle.transaction_view.specs.FirstFault as first_fault
@@ -39,80 +38,100 @@ use Rattle.audit_join.specs.Jobs.{AreSound, IsFirstIn, IsOfBytes, AreCut}
 use Rattle.audit_join.specs.Parts.{IsFirstOfParts}
 use Rattle.audit_join.proofs.FaultLaws.{fault_held}
 
-abbrev IsGood : Frame → Type 0
-IsGood frame = HasGoodContent (frame_text frame)
+abbrev IsGood : PlacedFrame → Type 0
+IsGood frame = HasGoodContent frame.unit
 
-abbrev texts_of : List Frame → List FrameText
-texts_of frames = map frame_text frames
+abbrev texts_of : List PlacedFrame → List FrameText
+texts_of frames = map (λ f. f.unit) frames
 
 -- the bytes of frames
-abbrev spelled : List Frame → List ℕ
+abbrev spelled : List PlacedFrame → List ℕ
 spelled frames = flat_map frame_bytes (texts_of frames)
 
 -- the views stand one behind the other, from this place on
-abbrev StandFrom : ℕ → List Frame → Type 0
-StandFrom base frames = map placed_frame frames ≡ placed frame_bytes base (texts_of frames)
+abbrev StandFrom : ℕ → List PlacedFrame → Type 0
+StandFrom base frames = frames ≡ placed frame_bytes base (texts_of frames)
 
 -- a part begins with these frames, and then has the rest
-record BeginsWithCut (last : Option ℕ) (part : List ℕ) (frames : List Frame) (rest : List ℕ) : Type 0 where
+record BeginsWithCut (last : Option ℕ) (part : List ℕ) (frames : List PlacedFrame) (rest : List ℕ) : Type 0 where
   pub version : Version
   pub bytes : List ℕ
   pub joined : part ≡ file_header version ++ bytes
   pub splits : Splits frame_format (in_version version last) bytes (texts_of frames) rest
 
 -- parts begin with these frames: each is whole, up to one that begins with some, or in which none is read
-abbrev BeginWithCut : Option ℕ → List (List ℕ) → List Frame → Type 0
+abbrev BeginWithCut : Option ℕ → List (List ℕ) → List PlacedFrame → Type 0
 BeginWithCut last [] frames = frames ≡ []
 BeginWithCut last (part ∷ parts) frames =
     (frames ≡ [])
     ⊎ ((rest : List ℕ) × BeginsWithCut last part frames rest)
-    ⊎ ((front : List Frame) × (back : List Frame) × (frames ≡ front ++ back) × BeginsWithCut last part front []
+    ⊎ ((front : List PlacedFrame) × (back : List PlacedFrame) × (frames ≡ front ++ back) × BeginsWithCut last part front []
     × BeginWithCut (last_after frame_format last (texts_of front)) parts back)
+
+said_placed : (base : ℕ) (texts : List FrameText) → texts_of (placed frame_bytes base texts) ≡ texts
+said_placed base [] = refl
+said_placed base (t ∷ texts) = ap (λ (l : List FrameText). t ∷ l) (said_placed (base + length (frame_bytes t)) texts)
+
+-- what frames say that stand there
+said_by : (base : ℕ) (texts : List FrameText) (frames : List PlacedFrame) → frames ≡ placed frame_bytes base texts → texts_of frames ≡ texts
+said_by base texts frames stand = ap texts_of stand ∙ said_placed base texts
 
 -- ---- one frame, and the others
 
-stands_first : (base : ℕ) (f : Frame) (frames : List Frame) → StandFrom base (f ∷ frames)
-    → (f.place ≡ base) × StandFrom (base + length (frame_bytes (frame_text f))) frames
+stands_first : (base : ℕ) (f : PlacedFrame) (frames : List PlacedFrame) → StandFrom base (f ∷ frames)
+    → (f.place ≡ base) × StandFrom (base + length (frame_bytes f.unit)) frames
 stands_first base f frames stand =
-    let behind = base + length (frame_bytes (frame_text f)) in
-    let one = first_same (placed_frame f) (placed_at base (frame_text f)) (map placed_frame frames)
+    let behind = base + length (frame_bytes f.unit) in
+    let one = first_same f (placed_at base f.unit) frames
     (placed frame_bytes behind (texts_of frames)) stand in
     (ap (λ (p : Placed FrameText). p.place) one.0, one.1)
 
-begin_from : (base : ℕ) (frames : List Frame) → StandFrom base frames → All (λ (f : Frame). base ≤ f.place) frames
-begin_from base [] stand = All-nil (λ (f : Frame). base ≤ f.place)
+begin_from : (base : ℕ) (frames : List PlacedFrame) → StandFrom base frames → All (λ (f : PlacedFrame). base ≤ f.place) frames
+begin_from base [] stand = All-nil (λ (f : PlacedFrame). base ≤ f.place)
 begin_from base (f ∷ frames) stand =
     let one = stands_first base f frames stand in
     let here = one.0 in
-    let behind = base + length (frame_bytes (frame_text f)) in
-    All-cons (λ (g : Frame). base ≤ g.place) f frames (omega (arith, here))
-    (All-weaker (λ (g : Frame). behind ≤ g.place) (λ (g : Frame). base ≤ g.place) (λ g above. omega (arith, above)) frames
+    let behind = base + length (frame_bytes f.unit) in
+    All-cons (λ (g : PlacedFrame). base ≤ g.place) f frames (omega (arith, here))
+    (All-weaker (λ (g : PlacedFrame). behind ≤ g.place) (λ (g : PlacedFrame). base ≤ g.place) (λ g above. omega (arith, above)) frames
     (begin_from behind frames one.1))
 
-stand_apart : (base : ℕ) (frames : List Frame) → StandFrom base frames → AllPairs AreApart frames
+stand_apart : (base : ℕ) (frames : List PlacedFrame) → StandFrom base frames → AllPairs AreApart frames
 stand_apart base [] stand = λ i j d less within. absurd (omega (arith, within))
 stand_apart base (f ∷ frames) stand =
     let one = stands_first base f frames stand in
     let here = one.0 in
-    let behind = base + length (frame_bytes (frame_text f)) in
+    let behind = base + length (frame_bytes f.unit) in
     AllPairs-cons AreApart f frames
-    (All-weaker (λ (g : Frame). behind ≤ g.place) (AreApart f)
-    (λ g above. omega (arith, above, here, length-frame_bytes (frame_text f))) frames (begin_from behind frames one.1))
+    (All-weaker (λ (g : PlacedFrame). behind ≤ g.place) (AreApart f)
+    (λ g above. omega (arith, above, here, length-frame_bytes f.unit)) frames (begin_from behind frames one.1))
     (stand_apart behind frames one.1)
 
-spans_are : (frames : List Frame) → sum_by span_of frames ≡ length (flat_map frame_bytes (texts_of frames))
+spans_are : (frames : List PlacedFrame) → sum_by span_of frames ≡ length (flat_map frame_bytes (texts_of frames))
 spans_are [] = refl
 spans_are (f ∷ frames) =
     let others = spans_are frames in
-    let whole = ap length (flat_map-cons frame_bytes (frame_text f) (texts_of frames))
-    ∙ length-append (frame_bytes (frame_text f)) (flat_map frame_bytes (texts_of frames)) in
+    let whole = ap length (flat_map-cons frame_bytes f.unit (texts_of frames))
+    ∙ length-append (frame_bytes f.unit) (flat_map frame_bytes (texts_of frames)) in
     let spans = sum_by-append span_of (f ∷ []) frames in
-    omega (arith, others, whole, spans, length-frame_bytes (frame_text f))
+    omega (arith, others, whole, spans, length-frame_bytes f.unit)
 
-of_bytes : (frames : List Frame) (rest : List ℕ) → IsBytes (flat_map frame_bytes (texts_of frames) ++ rest) → All IsOfBytes frames
+-- none ends behind the last one
+end_within : (base most : ℕ) (frames : List PlacedFrame) → StandFrom base frames → base + length (spelled frames) ≤ most
+    → All (λ (f : PlacedFrame). f.place + span_of f ≤ most) frames
+end_within base most [] stand within = All-nil (λ (f : PlacedFrame). f.place + span_of f ≤ most)
+end_within base most (f ∷ frames) stand within =
+    let one = stands_first base f frames stand in
+    let here = one.0 in
+    let whole = ap length (flat_map-cons frame_bytes f.unit (texts_of frames)) ∙ length-append (frame_bytes f.unit) (spelled frames) in
+    let long = length-frame_bytes f.unit in
+    All-cons (λ (g : PlacedFrame). g.place + span_of g ≤ most) f frames (omega (arith, here, within, whole, long))
+    (end_within (base + length (frame_bytes f.unit)) most frames one.1 (omega (arith, within, whole)))
+
+of_bytes : (frames : List PlacedFrame) (rest : List ℕ) → IsBytes (flat_map frame_bytes (texts_of frames) ++ rest) → All IsOfBytes frames
 of_bytes [] rest bytes = All-nil IsOfBytes
 of_bytes (f ∷ frames) rest bytes =
-    let text = frame_text f in
+    let text = f.unit in
     let others = flat_map frame_bytes (texts_of frames) in
     let whole : flat_map frame_bytes (texts_of (f ∷ frames)) ++ rest ≡ frame_bytes text ++ (others ++ rest) =
     ap (λ (t : List ℕ). t ++ rest) (flat_map-cons frame_bytes text (texts_of frames)) ∙ append_assoc (frame_bytes text) others rest in
@@ -125,31 +144,31 @@ of_bytes (f ∷ frames) rest bytes =
 -- ---- frames of one part, and of the others
 
 -- frames that are views of some texts and then of others
-record AreParted (frames : List Frame) (first others : List FrameText) : Type 0 where
-  pub front : List Frame
-  pub back : List Frame
+record AreParted (frames : List PlacedFrame) (first others : List FrameText) : Type 0 where
+  pub front : List PlacedFrame
+  pub back : List PlacedFrame
   pub are : frames ≡ front ++ back
   pub said : texts_of front ≡ first
   pub said_behind : texts_of back ≡ others
 
-parted : (frames : List Frame) (first others : List FrameText) → texts_of frames ≡ first ++ others → AreParted frames first others
+parted : (frames : List PlacedFrame) (first others : List FrameText) → texts_of frames ≡ first ++ others → AreParted frames first others
 parted frames [] others said = record { front = []; back = frames; are = refl; said = refl; said_behind = said }
 parted [] (t ∷ first) others said = let wrong = ap length said in absurd (omega (arith, wrong))
 parted (f ∷ frames) (t ∷ first) others said =
-    let one = first_same (frame_text f) t (texts_of frames) (first ++ others) said in
+    let one = first_same f.unit t (texts_of frames) (first ++ others) said in
     let later = parted frames first others one.1 in
     record {
       front = f ∷ later.front;
       back = later.back;
-      are = ap (λ (l : List Frame). f ∷ l) later.are;
+      are = ap (λ (l : List PlacedFrame). f ∷ l) later.are;
       said = ap₂ (λ (x : FrameText) (l : List FrameText). x ∷ l) one.0 later.said;
       said_behind = later.said_behind;
     }
 
-spelled-cons : (f : Frame) (frames : List Frame) → length (spelled (f ∷ frames)) ≡ length (frame_bytes (frame_text f)) + length (spelled frames)
-spelled-cons f frames = ap length (flat_map-cons frame_bytes (frame_text f) (texts_of frames)) ∙ length-append (frame_bytes (frame_text f)) (spelled frames)
+spelled-cons : (f : PlacedFrame) (frames : List PlacedFrame) → length (spelled (f ∷ frames)) ≡ length (frame_bytes f.unit) + length (spelled frames)
+spelled-cons f frames = ap length (flat_map-cons frame_bytes f.unit (texts_of frames)) ∙ length-append (frame_bytes f.unit) (spelled frames)
 
-spelled-append : (front back : List Frame) → length (spelled (front ++ back)) ≡ length (spelled front) + length (spelled back)
+spelled-append : (front back : List PlacedFrame) → length (spelled (front ++ back)) ≡ length (spelled front) + length (spelled back)
 spelled-append [] back = let none : length (spelled []) ≡ 0 = refl in omega (arith, none)
 spelled-append (f ∷ front) back =
     let later = spelled-append front back in
@@ -157,24 +176,24 @@ spelled-append (f ∷ front) back =
     let some = spelled-cons f front in
     omega (arith, later, whole, some)
 
-stand_parted : (base : ℕ) (front back : List Frame) → StandFrom base (front ++ back) → StandFrom base front × StandFrom (base + length (spelled front)) back
+stand_parted : (base : ℕ) (front back : List PlacedFrame) → StandFrom base (front ++ back) → StandFrom base front × StandFrom (base + length (spelled front)) back
 stand_parted base [] back stand = (refl, subst (λ (n : ℕ). StandFrom n back) (omega arith) stand)
 stand_parted base (f ∷ front) back stand =
     let one = stands_first base f (front ++ back) stand in
-    let later = stand_parted (base + length (frame_bytes (frame_text f))) front back one.1 in
+    let later = stand_parted (base + length (frame_bytes f.unit)) front back one.1 in
     let some = spelled-cons f front in (
-      ap₂ (λ (n : ℕ) (l : List (Placed FrameText)). placed_at n (frame_text f) ∷ l) one.0 later.0,
+      ap₂ (λ (n : ℕ) (l : List (Placed FrameText)). placed_at n f.unit ∷ l) one.0 later.0,
       subst (λ (n : ℕ). StandFrom n back) (omega (arith, some)) later.1,
     )
 
-none_said : (frames : List Frame) → texts_of frames ≡ [] → frames ≡ []
+none_said : (frames : List PlacedFrame) → texts_of frames ≡ [] → frames ≡ []
 none_said [] said = refl
 none_said (f ∷ frames) said = let wrong = ap length said in absurd (omega (arith, wrong))
 
 -- ---- what `cut_parts` gives
 
 -- all frames of the parts
-parts_begin : (last : Option ℕ) (parts : List (List ℕ)) (frames : List Frame) (texts : List FrameText) → AreParts frame_format last parts texts
+parts_begin : (last : Option ℕ) (parts : List (List ℕ)) (frames : List PlacedFrame) (texts : List FrameText) → AreParts frame_format last parts texts
     → texts_of frames ≡ texts → BeginWithCut last parts frames
 parts_begin last [] frames texts are said = none_said frames (said ∙ are)
 parts_begin last (part ∷ parts) frames texts (first, others, all, is, are) said =
@@ -195,7 +214,7 @@ parts_begin last (part ∷ parts) frames texts (first, others, all, is, are) sai
 
 -- or those before a fault
 stopped_begin : (last behind_it : Option ℕ) (part : List ℕ) (behind : List (List ℕ)) (fault : Fault) → behind_it ≡ last
-    → (first : IsFirstFaultIn frame_format behind_it part fault) → (frames : List Frame) → texts_of frames ≡ frames_before part fault first
+    → (first : IsFirstFaultIn frame_format behind_it part fault) → (frames : List PlacedFrame) → texts_of frames ≡ frames_before part fault first
     → BeginWithCut last (part ∷ behind) frames
 stopped_begin last behind_it part behind fault is (in_header fails) frames said = inl (none_said frames said)
 stopped_begin last behind_it part behind fault is (in_frames version bytes distance joined fails place) frames said =
@@ -212,7 +231,7 @@ stopped_begin last behind_it part behind fault is (in_frames version bytes dista
 
 before_begin : (last behind_it : Option ℕ) (front : List (List ℕ)) (part : List ℕ) (behind : List (List ℕ)) (units : List FrameText) (fault : Fault)
     → AreParts frame_format last front units → behind_it ≡ last_after frame_format last units
-    → (first : IsFirstFaultIn frame_format behind_it part fault) → (frames : List Frame) → texts_of frames ≡ units ++ frames_before part fault first
+    → (first : IsFirstFaultIn frame_format behind_it part fault) → (frames : List PlacedFrame) → texts_of frames ≡ units ++ frames_before part fault first
     → BeginWithCut last (front ++ part ∷ behind) frames
 before_begin last behind_it [] part behind units fault whole is first frames said =
     stopped_begin last behind_it part behind fault (is ∙ ap (last_after frame_format last) whole) first frames
@@ -235,19 +254,19 @@ before_begin last behind_it (p ∷ front) part behind units fault (here, others,
           (before_begin (last_after frame_format last here) behind_it front part behind others fault are state first two.back two.said_behind),
     ))
 
-all_begin : (parts : List (List ℕ)) (frames : List Frame) → ArePartFrames parts frames → BeginWithCut None parts frames
-all_begin parts frames are = parts_begin None parts frames are.texts are.whole are.views.said
+all_begin : (parts : List (List ℕ)) (frames : List PlacedFrame) → ArePartFrames parts frames → BeginWithCut None parts frames
+all_begin parts frames are = parts_begin None parts frames are.texts are.whole (said_by 16 are.texts frames are.stand)
 
-some_begin : (parts : List (List ℕ)) (found : PartFault) (frames : List Frame) → AreFramesBeforePart parts found frames → BeginWithCut None parts frames
+some_begin : (parts : List (List ℕ)) (found : PartFault) (frames : List PlacedFrame) → AreFramesBeforePart parts found frames → BeginWithCut None parts frames
 some_begin parts found frames before =
     let first = before.first in
     subst (λ (ps : List (List ℕ)). BeginWithCut None ps frames) (sym first.are)
     (before_begin None (last_after frame_format None first.units) first.front first.part first.behind first.units found.fault first.whole refl
-    first.first frames before.views.said)
+    first.first frames (said_by 16 (before.first.units ++ frames_before before.first.part found.fault before.first.first) frames before.stand))
 
 -- ---- they are cut as workers need them
 
-read_length : (last : Option ℕ) (part : List ℕ) (frames : List Frame) (rest : List ℕ) → BeginsWithCut last part frames rest
+read_length : (last : Option ℕ) (part : List ℕ) (frames : List PlacedFrame) (rest : List ℕ) → BeginsWithCut last part frames rest
     → length part ≡ 16 + length (spelled frames) + length rest
 read_length last part frames rest begins =
     let header = length-file_header begins.version in
@@ -255,16 +274,16 @@ read_length last part frames rest begins =
     let parts = ap length begins.splits.joined ∙ length-append (spelled frames) rest in
     omega (arith, header, whole, parts)
 
-read_bytes : (last : Option ℕ) (part : List ℕ) (frames : List Frame) (rest : List ℕ) → BeginsWithCut last part frames rest → IsBytes part → All IsOfBytes frames
+read_bytes : (last : Option ℕ) (part : List ℕ) (frames : List PlacedFrame) (rest : List ℕ) → BeginsWithCut last part frames rest → IsBytes part → All IsOfBytes frames
 read_bytes last part frames rest begins bytes =
     let there = subst IsBytes (drop_at (file_header begins.version) begins.bytes 16 (length-file_header begins.version))
     (IsBytes-drop 16 (file_header begins.version ++ begins.bytes) (subst IsBytes begins.joined bytes)) in
     of_bytes frames rest (subst IsBytes begins.splits.joined there)
 
-few_bytes : (last : Option ℕ) (parts : List (List ℕ)) (frames : List Frame) → BeginWithCut last parts frames → length (spelled frames) ≤ sum_by length parts
-few_bytes last [] frames begin = subst (λ (l : List Frame). length (spelled l) ≤ 0) (sym begin) (omega arith)
+few_bytes : (last : Option ℕ) (parts : List (List ℕ)) (frames : List PlacedFrame) → BeginWithCut last parts frames → length (spelled frames) ≤ sum_by length parts
+few_bytes last [] frames begin = subst (λ (l : List PlacedFrame). length (spelled l) ≤ 0) (sym begin) (omega arith)
 few_bytes last (part ∷ parts) frames (inl none) =
-    subst (λ (l : List Frame). length (spelled l) ≤ sum_by length (part ∷ parts)) (sym none) (omega arith)
+    subst (λ (l : List PlacedFrame). length (spelled l) ≤ sum_by length (part ∷ parts)) (sym none) (omega arith)
 few_bytes last (part ∷ parts) frames (inr (inl (rest, begins))) =
     let here = read_length last part frames rest begins in
     let sum = sum_by-cons (length {A = ℕ}) part parts in
@@ -273,10 +292,10 @@ few_bytes last (part ∷ parts) frames (inr (inr (front, back, are, begins, othe
     let here = read_length last part front [] begins in
     let later = few_bytes (last_after frame_format last (texts_of front)) parts back others in
     let sum = sum_by-cons (length {A = ℕ}) part parts in
-    let whole = ap (λ (l : List Frame). length (spelled l)) are ∙ spelled-append front back in
+    let whole = ap (λ (l : List PlacedFrame). length (spelled l)) are ∙ spelled-append front back in
     omega (arith, here, later, sum, whole)
 
-all_bytes : (last : Option ℕ) (parts : List (List ℕ)) (frames : List Frame) → BeginWithCut last parts frames → All IsBytes parts → All IsOfBytes frames
+all_bytes : (last : Option ℕ) (parts : List (List ℕ)) (frames : List PlacedFrame) → BeginWithCut last parts frames → All IsBytes parts → All IsOfBytes frames
 all_bytes last [] frames begin bytes = subst (All IsOfBytes) (sym begin) (All-nil IsOfBytes)
 all_bytes last (part ∷ parts) frames (inl none) bytes = subst (All IsOfBytes) (sym none) (All-nil IsOfBytes)
 all_bytes last (part ∷ parts) frames (inr (inl (rest, begins))) bytes = read_bytes last part frames rest begins (All-head IsBytes part parts bytes)
@@ -285,75 +304,75 @@ all_bytes last (part ∷ parts) frames (inr (inr (front, back, are, begins, othe
     (All-append IsOfBytes front back (read_bytes last part front [] begins (All-head IsBytes part parts bytes))
     (all_bytes (last_after frame_format last (texts_of front)) parts back others (All-tail IsBytes part parts bytes)))
 
-are_cut : (parts : List (List ℕ)) (frames : List Frame) → BeginWithCut None parts frames → StandFrom 16 frames → sum_by length parts ≤ 2 ^ 30
+are_cut : (parts : List (List ℕ)) (frames : List PlacedFrame) → BeginWithCut None parts frames → StandFrom 16 frames → sum_by length parts ≤ 2 ^ 30
     → All IsBytes parts → AreCut frames
 are_cut parts frames begin stand short bytes =
     let spans = spans_are frames in
     let few = few_bytes None parts frames begin in
-    record { few = omega (arith, spans, few, short); apart = stand_apart 16 frames stand; bytes = all_bytes None parts frames begin bytes }
+    record { few = omega (arith, spans, few, short); apart = stand_apart 16 frames stand; bytes = all_bytes None parts frames begin bytes; near = end_within 16 (2 ^ 32) frames stand (omega (arith, few, short)) }
 
-views_stand : (texts : List FrameText) (frames : List Frame) → texts_of frames ≡ texts → map placed_frame frames ≡ placed frame_bytes 16 texts → StandFrom 16 frames
-views_stand texts frames said stand = stand ∙ ap (placed frame_bytes 16) (sym said)
+texts_stand : (texts : List FrameText) (frames : List PlacedFrame) → frames ≡ placed frame_bytes 16 texts → StandFrom 16 frames
+texts_stand texts frames stand = stand ∙ ap (placed frame_bytes 16) (sym (said_by 16 texts frames stand))
 
-pub all_cut : (parts : List (List ℕ)) (frames : List Frame) → ArePartFrames parts frames → sum_by length parts ≤ 2 ^ 30 → All IsBytes parts → AreCut frames
+pub all_cut : (parts : List (List ℕ)) (frames : List PlacedFrame) → ArePartFrames parts frames → sum_by length parts ≤ 2 ^ 30 → All IsBytes parts → AreCut frames
 all_cut parts frames are short bytes =
-    are_cut parts frames (all_begin parts frames are) (views_stand are.texts frames are.views.said are.views.stand) short bytes
+    are_cut parts frames (all_begin parts frames are) (texts_stand are.texts frames are.stand) short bytes
 
-stand_before : (parts : List (List ℕ)) (found : PartFault) (frames : List Frame) → AreFramesBeforePart parts found frames → StandFrom 16 frames
+stand_before : (parts : List (List ℕ)) (found : PartFault) (frames : List PlacedFrame) → AreFramesBeforePart parts found frames → StandFrom 16 frames
 stand_before parts found frames before =
-    views_stand (before.first.units ++ frames_before before.first.part found.fault before.first.first) frames before.views.said before.views.stand
+    texts_stand (before.first.units ++ frames_before before.first.part found.fault before.first.first) frames before.stand
 
-pub before_cut : (parts : List (List ℕ)) (found : PartFault) (frames : List Frame) → AreFramesBeforePart parts found frames → sum_by length parts ≤ 2 ^ 30
+pub before_cut : (parts : List (List ℕ)) (found : PartFault) (frames : List PlacedFrame) → AreFramesBeforePart parts found frames → sum_by length parts ≤ 2 ^ 30
     → All IsBytes parts → AreCut frames
 before_cut parts found frames before short bytes =
     are_cut parts frames (some_begin parts found frames before) (stand_before parts found frames before) short bytes
 
 -- ---- without a fault they are whole frames
 
-wholes_by : (frames : List Frame) → AreSound frames → List WholeFrame
+wholes_by : (frames : List PlacedFrame) → AreSound frames → List WholeFrame
 wholes_by [] sound = []
 wholes_by (f ∷ frames) sound =
     let good = All-head IsGood f frames sound in
-    whole_of f good.0.0 good.1.0 ∷ wholes_by frames (All-tail IsGood f frames sound)
+    whole_of f.unit good.0.0 good.1.0 ∷ wholes_by frames (All-tail IsGood f frames sound)
 
-may_stand_whole : (before : Before) (f : Frame) (good : IsGood f) → frame_format.MayCome before (frame_text f)
-    → MayStandWhole before (whole_of f good.0.0 good.1.0)
+may_stand_whole : (before : Before) (f : PlacedFrame) (good : IsGood f) → frame_format.MayCome before f.unit
+    → MayStandWhole before (whole_of f.unit good.0.0 good.1.0)
 may_stand_whole before f good stands = record { header = stands; has_records = good.0.1; has_entries = good.1.1 }
 
-whole_splits : (before : Before) (bytes : List ℕ) (frames : List Frame) (sound : AreSound frames) (rest : List ℕ)
+whole_splits : (before : Before) (bytes : List ℕ) (frames : List PlacedFrame) (sound : AreSound frames) (rest : List ℕ)
     → Splits frame_format before bytes (texts_of frames) rest → Splits whole_format before bytes (wholes_by frames sound) rest
 unfolding wholes_by
 whole_splits before bytes [] sound rest splits = record { joined = splits.joined; stand = tt }
 whole_splits before bytes (f ∷ frames) sound rest splits =
     let good = All-head IsGood f frames sound in
     let others = All-tail IsGood f frames sound in
-    let tail = Splits-tail frame_format before bytes (frame_text f) (texts_of frames) rest splits in
+    let tail = Splits-tail frame_format before bytes f.unit (texts_of frames) rest splits in
     let middle = spelling_of frame_format (texts_of frames) ++ rest in
-    Splits-cons whole_format before bytes middle (whole_of f good.0.0 good.1.0) (wholes_by frames others) rest
-    (may_stand_whole before f good tail.1) tail.0 (whole_splits (in_version before.version (Some f.sequence)) middle frames others rest tail.2)
+    Splits-cons whole_format before bytes middle (whole_of f.unit good.0.0 good.1.0) (wholes_by frames others) rest
+    (may_stand_whole before f good tail.1) tail.0 (whole_splits (in_version before.version (Some f.unit.sequence)) middle frames others rest tail.2)
 
 abbrev placed_from : ℕ → List WholeFrame → List (Placed WholeFrame)
 placed_from base wholes = placed (λ whole. frame_bytes whole.frame) base wholes
 
-whole_stand : (base : ℕ) (frames : List Frame) (sound : AreSound frames)
+whole_stand : (base : ℕ) (frames : List PlacedFrame) (sound : AreSound frames)
     → map placed_text (placed_from base (wholes_by frames sound)) ≡ placed frame_bytes base (texts_of frames)
 unfolding wholes_by
 whole_stand base [] sound = refl
 whole_stand base (f ∷ frames) sound =
-    ap (λ (t : List (Placed FrameText)). placed_at base (frame_text f) ∷ t)
-    (whole_stand (base + length (frame_bytes (frame_text f))) frames (All-tail IsGood f frames sound))
+    ap (λ (t : List (Placed FrameText)). placed_at base f.unit ∷ t)
+    (whole_stand (base + length (frame_bytes f.unit)) frames (All-tail IsGood f frames sound))
 
-are_whole : (base : ℕ) (frames : List Frame) (sound : AreSound frames) → All IsWhole (placed_from base (wholes_by frames sound))
+are_whole : (base : ℕ) (frames : List PlacedFrame) (sound : AreSound frames) → All IsWhole (placed_from base (wholes_by frames sound))
 unfolding wholes_by
 are_whole base [] sound = All-nil IsWhole
 are_whole base (f ∷ frames) sound =
     let good = All-head IsGood f frames sound in
     let others = All-tail IsGood f frames sound in
-    let behind = base + length (frame_bytes (frame_text f)) in
-    All-cons IsWhole (placed_at base (whole_of f good.0.0 good.1.0)) (placed_from behind (wholes_by frames others)) (good.0.1, good.1.1)
+    let behind = base + length (frame_bytes f.unit) in
+    All-cons IsWhole (placed_at base (whole_of f.unit good.0.0 good.1.0)) (placed_from behind (wholes_by frames others)) (good.0.1, good.1.1)
     (are_whole behind frames others)
 
-shown_by_cut : (frames : List Frame) → StandFrom 16 frames → (sound : AreSound frames) → AreViews frames (wholes_of (wholes_by frames sound))
+shown_by_cut : (frames : List PlacedFrame) → StandFrom 16 frames → (sound : AreSound frames) → AreViews frames (wholes_of (wholes_by frames sound))
 shown_by_cut frames stand sound = record {
   stand = stand ∙ sym (whole_stand 16 frames sound);
   are_whole = are_whole 16 frames sound;
@@ -361,48 +380,48 @@ shown_by_cut frames stand sound = record {
 
 -- ---- a fault of the frames is the first of the parts
 
-content_fails : (before : Before) (bytes : List ℕ) (base : ℕ) (front : List Frame) (frame : Frame) (behind : List Frame) (rest : List ℕ)
+content_fails : (before : Before) (bytes : List ℕ) (base : ℕ) (front : List PlacedFrame) (frame : PlacedFrame) (behind : List PlacedFrame) (rest : List ℕ)
     (fault : Fault) → AreSound front → Splits frame_format before bytes (texts_of (front ++ frame ∷ behind)) rest
     → StandFrom base (front ++ frame ∷ behind) → HasContentFault frame fault
     → (distance : ℕ) × FirstFailure whole_format before bytes fault.kind distance × (fault.place ≡ base + distance) × (distance < length bytes)
 content_fails before bytes base [] frame behind rest fault sound splits stand (within, fails, at) =
-    let tail = Splits-tail frame_format before bytes (frame_text frame) (texts_of behind) rest splits in
+    let tail = Splits-tail frame_format before bytes frame.unit (texts_of behind) rest splits in
     let here = (stands_first base frame behind stand).0 in
     let held = fault_held frame fault (within, fails, at) in
     let inside = held.1 in
-    let long = ap length tail.0 ∙ length-append (frame_bytes (frame_text frame)) (spelling_of frame_format (texts_of behind) ++ rest) in (
+    let long = ap length tail.0 ∙ length-append (frame_bytes frame.unit) (spelling_of frame_format (texts_of behind) ++ rest) in (
       within,
       record {
         before = [];
         rest = bytes;
         within = within;
         splits = record { joined = refl; stand = tt };
-        fails = in_content (frame_text frame) (spelling_of frame_format (texts_of behind) ++ rest) tail.1 tail.0 fails;
+        fails = in_content frame.unit (spelling_of frame_format (texts_of behind) ++ rest) tail.1 tail.0 fails;
         stands = omega arith;
       },
       omega (arith, at, here),
-      omega (arith, at, inside, long, length-frame_bytes (frame_text frame)),
+      omega (arith, at, inside, long, length-frame_bytes frame.unit),
     )
 content_fails before bytes base (f ∷ front) frame behind rest fault sound splits stand fails =
     let good = All-head IsGood f front sound in
     let others = front ++ frame ∷ behind in
-    let text = frame_text f in
+    let text = f.unit in
     let tail = Splits-tail frame_format before bytes text (texts_of others) rest splits in
     let middle = spelling_of frame_format (texts_of others) ++ rest in
-    let later = content_fails (in_version before.version (Some f.sequence)) middle (base + length (frame_bytes text)) front frame behind rest fault
+    let later = content_fails (in_version before.version (Some f.unit.sequence)) middle (base + length (frame_bytes text)) front frame behind rest fault
     (All-tail IsGood f front sound) tail.2 (stands_first base f others stand).1 fails in
     let place = later.2 in
     let inside = later.3 in
     let long = ap length tail.0 ∙ length-append (frame_bytes text) middle in (
       length (frame_bytes text) + later.0,
-      FirstFailure-cons whole_format before bytes middle (whole_of f good.0.0 good.1.0) fault.kind later.0
+      FirstFailure-cons whole_format before bytes middle (whole_of f.unit good.0.0 good.1.0) fault.kind later.0
           (may_stand_whole before f good tail.1) tail.0 later.1,
       omega (arith, place),
       omega (arith, inside, long),
     )
 
 -- where the first fault of some frames and then others stands
-fails_where : (front back : List Frame) (fault : Fault) (before : List Frame) (frame : Frame) (behind : List Frame) → front ++ back ≡ before ++ frame ∷ behind
+fails_where : (front back : List PlacedFrame) (fault : Fault) (before : List PlacedFrame) (frame : PlacedFrame) (behind : List PlacedFrame) → front ++ back ≡ before ++ frame ∷ behind
     → AreSound before → HasContentFault frame fault → IsFirstIn front fault ⊎ (AreSound front × IsFirstIn back fault)
 fails_where [] back fault before frame behind are sound fails =
     inr (All-nil IsGood, record { before = before; frame = frame; behind = behind; are = are; sound = sound; fails = fails })
@@ -414,7 +433,7 @@ fails_where (f ∷ front) back fault [] frame behind are sound fails =
       behind = front;
       are = refl;
       sound = sound;
-      fails = subst (λ (g : Frame). HasContentFault g fault) (sym one.0) fails;
+      fails = subst (λ (g : PlacedFrame). HasContentFault g fault) (sym one.0) fails;
     })
 fails_where (f ∷ front) back fault (g ∷ before) frame behind are sound fails =
     let one = first_same f g (front ++ back) (before ++ frame ∷ behind) are in
@@ -424,7 +443,7 @@ fails_where (f ∷ front) back fault (g ∷ before) frame behind are sound fails
         before = f ∷ here.before;
         frame = here.frame;
         behind = here.behind;
-        are = ap (λ (l : List Frame). f ∷ l) here.are;
+        are = ap (λ (l : List PlacedFrame). f ∷ l) here.are;
         sound = All-cons IsGood f here.before good here.sound;
         fails = here.fails;
       })
@@ -432,13 +451,13 @@ fails_where (f ∷ front) back fault (g ∷ before) frame behind are sound fails
     ]
 
 -- the same sequence is the last, whether frames are judged by their headers or whole
-state_wholes : (state : Before) (frames : List Frame) (sound : AreSound frames)
+state_wholes : (state : Before) (frames : List PlacedFrame) (sound : AreSound frames)
     → state_after whole_format state (wholes_by frames sound) ≡ state_after frame_format state (texts_of frames)
 unfolding wholes_by
 state_wholes state [] sound = refl
-state_wholes state (f ∷ frames) sound = state_wholes (in_version state.version (Some f.sequence)) frames (All-tail IsGood f frames sound)
+state_wholes state (f ∷ frames) sound = state_wholes (in_version state.version (Some f.unit.sequence)) frames (All-tail IsGood f frames sound)
 
-last_wholes : (last : Option ℕ) (frames : List Frame) (sound : AreSound frames)
+last_wholes : (last : Option ℕ) (frames : List PlacedFrame) (sound : AreSound frames)
     → last_after whole_format last (wholes_by frames sound) ≡ last_after frame_format last (texts_of frames)
 last_wholes last frames sound = ap (λ (s : Before). s.last) (state_wholes (in_version Two last) frames sound)
 
@@ -463,11 +482,11 @@ joined-cons part parts =
     let cons = ap length (flat_map-cons (λ (p : List ℕ). drop 16 p) part parts) ∙ length-append (drop 16 part) (flat_map (λ (p : List ℕ). drop 16 p) parts) in
     omega (arith, one, other, cons)
 
-found_here : (last : Option ℕ) (base : ℕ) (part : List ℕ) (parts : List (List ℕ)) (frames : List Frame) (rest : List ℕ) (fault : Fault)
+found_here : (last : Option ℕ) (base : ℕ) (part : List ℕ) (parts : List (List ℕ)) (frames : List PlacedFrame) (rest : List ℕ) (fault : Fault)
     → BeginsWithCut last part frames rest → StandFrom (base + 16) frames → IsFirstIn frames fault → IsFoundIn last base (part ∷ parts) fault
 found_here last base part parts frames rest fault begins stand first =
     let state = in_version begins.version last in
-    let splits = subst (λ (t : List Frame). Splits frame_format state begins.bytes (texts_of t) rest) first.are begins.splits in
+    let splits = subst (λ (t : List PlacedFrame). Splits frame_format state begins.bytes (texts_of t) rest) first.are begins.splits in
     let stands = subst (StandFrom (base + 16)) first.are stand in
     let failure = content_fails state begins.bytes (base + 16) first.before first.frame first.behind rest fault first.sound splits stands first.fails in
     let here : Fault = record { kind = fault.kind; place = 16 + failure.0 } in
@@ -489,13 +508,13 @@ found_here last base part parts frames rest fault begins stand first =
       place = omega (arith, place, none);
     }
 
-no_first : (frames : List Frame) (fault : Fault) → frames ≡ [] → IsFirstIn frames fault → ⊥
+no_first : (frames : List PlacedFrame) (fault : Fault) → frames ≡ [] → IsFirstIn frames fault → ⊥
 no_first frames fault none first =
     let empty = ap length none in
     let some = ap length first.are ∙ length-append first.before (first.frame ∷ first.behind) in
     omega (arith, empty, some)
 
-found_in : (last : Option ℕ) (base : ℕ) (parts : List (List ℕ)) (frames : List Frame) (fault : Fault) → BeginWithCut last parts frames
+found_in : (last : Option ℕ) (base : ℕ) (parts : List (List ℕ)) (frames : List PlacedFrame) (fault : Fault) → BeginWithCut last parts frames
     → StandFrom (base + 16) frames → IsFirstIn frames fault → IsFoundIn last base parts fault
 found_in last base [] frames fault begin stand first = absurd (no_first frames fault begin first)
 found_in last base (part ∷ parts) frames fault (inl none) stand first = absurd (no_first frames fault none first)
@@ -532,7 +551,7 @@ found_in last base (part ∷ parts) frames fault (inr (inr (front, back, are, be
           }
     ]
 
-first_of_parts : (parts : List (List ℕ)) (frames : List Frame) → BeginWithCut None parts frames → StandFrom 16 frames → (fault : Fault)
+first_of_parts : (parts : List (List ℕ)) (frames : List PlacedFrame) → BeginWithCut None parts frames → StandFrom 16 frames → (fault : Fault)
     → IsFirstIn frames fault → IsFirstOfParts parts fault
 first_of_parts parts frames begin stand fault first =
     let is = found_in None 0 parts frames fault begin stand first in
@@ -552,12 +571,12 @@ first_of_parts parts frames begin stand fault first =
       },
     )
 
-pub first_of_all : (parts : List (List ℕ)) (frames : List Frame) → ArePartFrames parts frames → (fault : Fault) → IsFirstIn frames fault
+pub first_of_all : (parts : List (List ℕ)) (frames : List PlacedFrame) → ArePartFrames parts frames → (fault : Fault) → IsFirstIn frames fault
     → IsFirstOfParts parts fault
 first_of_all parts frames are fault first =
-    first_of_parts parts frames (all_begin parts frames are) (views_stand are.texts frames are.views.said are.views.stand) fault first
+    first_of_parts parts frames (all_begin parts frames are) (texts_stand are.texts frames are.stand) fault first
 
-pub first_before : (parts : List (List ℕ)) (found : PartFault) (frames : List Frame) → AreFramesBeforePart parts found frames → (fault : Fault)
+pub first_before : (parts : List (List ℕ)) (found : PartFault) (frames : List PlacedFrame) → AreFramesBeforePart parts found frames → (fault : Fault)
     → IsFirstIn frames fault → IsFirstOfParts parts fault
 first_before parts found frames before fault first =
     first_of_parts parts frames (some_begin parts found frames before) (stand_before parts found frames before) fault first
@@ -565,12 +584,12 @@ first_before parts found frames before fault first =
 -- ---- without a fault the parts are whole
 
 -- whole parts, and the last sequence in them
-record AreWhole (last : Option ℕ) (parts : List (List ℕ)) (frames : List Frame) : Type 0 where
+record AreWhole (last : Option ℕ) (parts : List (List ℕ)) (frames : List PlacedFrame) : Type 0 where
   pub units : List WholeFrame
   pub are : AreParts whole_format last parts units
   pub last_is : last_after whole_format last units ≡ last_after frame_format last (texts_of frames)
 
-whole_parts : (last : Option ℕ) (parts : List (List ℕ)) (frames : List Frame) (texts : List FrameText) → AreParts frame_format last parts texts
+whole_parts : (last : Option ℕ) (parts : List (List ℕ)) (frames : List PlacedFrame) (texts : List FrameText) → AreParts frame_format last parts texts
     → texts_of frames ≡ texts → AreSound frames → AreWhole last parts frames
 whole_parts last [] frames texts are said sound =
     record { units = []; are = refl; last_is = ap (last_after frame_format last) (sym (said ∙ are)) }
@@ -596,13 +615,13 @@ whole_parts last (part ∷ parts) frames texts (first, others, all, is, are) sai
     }
 
 -- and the whole frames are those of the joined capture
-pub whole_of_parts : (parts : List (List ℕ)) (frames : List Frame) → ArePartFrames parts frames → AreSound frames
+pub whole_of_parts : (parts : List (List ℕ)) (frames : List PlacedFrame) → ArePartFrames parts frames → AreSound frames
     → AreReadable parts × ((wholes : List WholeFrame) × IsInGrammar (joined parts) wholes × AreViews frames (wholes_of wholes))
 whole_of_parts parts frames are sound =
-    let whole = whole_parts None parts frames are.texts are.whole are.views.said sound in
-    let stand = views_stand are.texts frames are.views.said are.views.stand in
+    let whole = whole_parts None parts frames are.texts are.whole (said_by 16 are.texts frames are.stand) sound in
+    let stand = texts_stand are.texts frames are.stand in
     let is = parts_joined frame_format frames_wide parts are.texts are.whole in
-    let splits = subst (λ (t : List FrameText). Splits frame_format (in_version is.0 None) is.1 t []) (sym are.views.said) is.3 in (
+    let splits = subst (λ (t : List FrameText). Splits frame_format (in_version is.0 None) is.1 t []) (sym (said_by 16 are.texts frames are.stand)) is.3 in (
       (whole.units, whole.are),
       (
         wholes_by frames sound,
@@ -613,7 +632,7 @@ whole_of_parts parts frames are sound =
 
 -- ---- and without one, so is that at which they are cut off
 
-header_fails : (before : Before) (bytes : List ℕ) (frames : List Frame) (rest : List ℕ) (kind : FaultKind) (within : ℕ) → AreSound frames
+header_fails : (before : Before) (bytes : List ℕ) (frames : List PlacedFrame) (rest : List ℕ) (kind : FaultKind) (within : ℕ) → AreSound frames
     → Splits frame_format before bytes (texts_of frames) rest → frame_format.Fails (state_after frame_format before (texts_of frames)) rest kind within
     → FirstFailure whole_format before bytes kind (length (spelling_of frame_format (texts_of frames)) + within)
 header_fails before bytes [] rest kind within sound splits fails = record {
@@ -626,20 +645,20 @@ header_fails before bytes [] rest kind within sound splits fails = record {
 }
 header_fails before bytes (f ∷ frames) rest kind within sound splits fails =
     let good = All-head IsGood f frames sound in
-    let text = frame_text f in
+    let text = f.unit in
     let tail = Splits-tail frame_format before bytes text (texts_of frames) rest splits in
     let spelled = spelling_of frame_format (texts_of frames) in
     let middle = spelled ++ rest in
-    let later = header_fails (in_version before.version (Some f.sequence)) middle frames rest kind within (All-tail IsGood f frames sound) tail.2 fails in
+    let later = header_fails (in_version before.version (Some f.unit.sequence)) middle frames rest kind within (All-tail IsGood f frames sound) tail.2 fails in
     let whole = ap length (flat_map-cons frame_bytes text (texts_of frames)) ∙ length-append (frame_bytes text) spelled in
     let far : length (frame_bytes text) + (length spelled + within) ≡ length (spelling_of frame_format (texts_of (f ∷ frames))) + within =
     omega (arith, whole) in
     subst (FirstFailure whole_format before bytes kind) far
-    (FirstFailure-cons whole_format before bytes middle (whole_of f good.0.0 good.1.0) kind (length spelled + within)
+    (FirstFailure-cons whole_format before bytes middle (whole_of f.unit good.0.0 good.1.0) kind (length spelled + within)
     (may_stand_whole before f good tail.1) tail.0 later)
 
 -- the fault at which frames of a part are cut off is the first of the part
-none_earlier : (last : Option ℕ) (part : List ℕ) (fault : Fault) (frames : List Frame) (first : IsFirstFaultIn frame_format last part fault)
+none_earlier : (last : Option ℕ) (part : List ℕ) (fault : Fault) (frames : List PlacedFrame) (first : IsFirstFaultIn frame_format last part fault)
     → texts_of frames ≡ frames_before part fault first → AreSound frames → IsFirstFaultIn whole_format last part fault
 none_earlier last part fault frames (in_header fails) said sound = in_header fails
 none_earlier last part fault frames (in_frames version bytes distance joined fails place) said sound =
@@ -652,11 +671,11 @@ none_earlier last part fault frames (in_frames version bytes distance joined fai
     in_frames version bytes (length (spelling_of frame_format (texts_of frames)) + fails.within) joined whole (omega (arith, place, same, stands))
 
 -- and of the parts
-pub cut_off_first : (parts : List (List ℕ)) (found : PartFault) (frames : List Frame) → AreFramesBeforePart parts found frames → AreSound frames
+pub cut_off_first : (parts : List (List ℕ)) (found : PartFault) (frames : List PlacedFrame) → AreFramesBeforePart parts found frames → AreSound frames
     → HasFirstPartFault parts found
 cut_off_first parts found frames before sound =
     let first = before.first in
-    let two = parted frames first.units (frames_before first.part found.fault first.first) before.views.said in
+    let two = parted frames first.units (frames_before first.part found.fault first.first) (said_by 16 (before.first.units ++ frames_before before.first.part found.fault before.first.first) frames before.stand) in
     let both = all_parts IsGood two.front two.back (subst AreSound two.are sound) in
     let whole = whole_parts None first.front two.front first.units first.whole two.said both.0 in
     let here = none_earlier (last_after frame_format None first.units) first.part found.fault two.back first.first two.said_behind both.1 in
@@ -674,13 +693,12 @@ cut_off_first parts found frames before sound =
 
 -- ---- good frames
 
-pub good_cut : (frames : List Frame) → AreCut frames → AreSound frames → AreGoodFrames frames
+pub good_cut : (frames : List PlacedFrame) → AreCut frames → AreSound frames → AreGoodFrames frames
 good_cut frames cut sound = record { few = cut.few; good = sound; apart = cut.apart }
 
 -- the frames of a capture, which is a single part
-pub good_frames : (capture : List ℕ) (frames : List Frame) → AreFrames capture frames → length capture ≤ 2 ^ 30 → IsBytes capture → AreSound frames
-    → AreGoodFrames frames
+pub good_frames : (capture : List ℕ) (frames : List PlacedFrame) → ArePartFrames (capture ∷ []) frames → length capture ≤ 2 ^ 30 → IsBytes capture
+    → AreSound frames → AreGoodFrames frames
 good_frames capture frames are short bytes sound =
-    let parts : ArePartFrames (capture ∷ []) frames = record { texts = are.texts; whole = one_part frame_format capture are.texts are.whole; views = are.views } in
     let sum = sum_by-cons (length {A = ℕ}) capture [] in
-    good_cut frames (all_cut (capture ∷ []) frames parts (omega (arith, sum, short)) (All-cons IsBytes capture [] bytes (All-nil IsBytes))) sound
+    good_cut frames (all_cut (capture ∷ []) frames are (omega (arith, sum, short)) (All-cons IsBytes capture [] bytes (All-nil IsBytes))) sound

@@ -1,11 +1,12 @@
 -- The first fault of frames is one.
 use Rattle.std.proofs.Common.{◌≡◌, ℕ, ◌+◌, ◌<◌, List, [], ◌∷◌, ◌++◌, length, take, drop, get_or, Option, Some, None, refl, sym, ap, ◌∙◌, subst, length-append, append_assoc, arith}
-use Rattle.std.specs.Prelude.{Contains, IsSome}
-use Rattle.std.proofs.lemmas.List.{take-append-drop}
-use Rattle.std.proofs.lemmas.List.Elements.{All-head, All-tail}
+use Rattle.std.specs.Prelude.{Contains, IsSome, slice_get}
+use Rattle.std.proofs.lemmas.List.{take-append-drop, take_more}
+use Rattle.std.proofs.lemmas.Option.{get_or_from_slice_get, slice_get_within}
+use Rattle.std.proofs.lemmas.List.Elements.{All-append, All-cons, All-head, All-nil, All-tail}
 use Rattle.capture_frame.specs.declared.fault.Fault.{Fault}
 use Rattle.capture_frame.specs.declared.frame.Frame.{Frame}
-use Rattle.capture_frame.specs.Envelope.{FrameText, frame_text}
+use Rattle.capture_frame.specs.Envelope.{FrameText, frame_text, PlacedFrame, placed_frame}
 use Rattle.capture_frame.specs.Units.{Format, FirstFailure, state_after, spelling_of}
 use Rattle.capture_frame.specs.declared.fault.FaultKind.{FaultKind}
 use Rattle.capture_frame.proofs.UnitLaws.{IsDecided}
@@ -20,19 +21,19 @@ use Rattle.audit_findings.proofs.FrameLaws.{first_same}
 use Rattle.capture_frame.proofs.LookupLaws.{one_held, some_held}
 use Rattle.audit_join.specs.Jobs.{AreSound, IsFirstIn, HasFirstAt, IsFaultOf}
 
-abbrev IsGood : Frame → Type 0
-IsGood frame = HasGoodContent (frame_text frame)
+abbrev IsGood : PlacedFrame → Type 0
+IsGood frame = HasGoodContent frame.unit
 
 -- no good frame has a fault
-pub good_or_bad : (frame found : Frame) (fault : Fault) → frame ≡ found → IsGood frame → HasContentFault found fault → ⊥
+pub good_or_bad : (frame found : PlacedFrame) (fault : Fault) → frame ≡ found → IsGood frame → HasContentFault found fault → ⊥
 good_or_bad frame found fault same good fails = (content_one_of found).never_both fault (subst IsGood same good) fails
 
 -- two first faults of one list of frames are one
-one_first : (front back : List Frame) (f g : Frame) (rest others : List Frame) (a b : Fault) → front ++ f ∷ rest ≡ back ++ g ∷ others → AreSound front
+one_first : (front back : List PlacedFrame) (f g : PlacedFrame) (rest others : List PlacedFrame) (a b : Fault) → front ++ f ∷ rest ≡ back ++ g ∷ others → AreSound front
     → AreSound back → HasContentFault f a → HasContentFault g b → a ≡ b
 one_first [] [] f g rest others a b same sound sound_too fails fails_too =
     let one = first_same f g rest others same in
-    (content_one_of g).one_fault a b (subst (λ (x : Frame). HasContentFault x a) one.0 fails) fails_too
+    (content_one_of g).one_fault a b (subst (λ (x : PlacedFrame). HasContentFault x a) one.0 fails) fails_too
 one_first [] (y ∷ back) f g rest others a b same sound sound_too fails fails_too =
     let one = first_same f y rest (back ++ g ∷ others) same in
     absurd (good_or_bad y f a (sym one.0) (All-head IsGood y back sound_too) fails)
@@ -44,16 +45,16 @@ one_first (x ∷ front) (y ∷ back) f g rest others a b same sound sound_too fa
     one_first front back f g rest others a b one.1 (All-tail IsGood x front sound) (All-tail IsGood y back sound_too) fails fails_too
 
 -- sound frames have none
-sound_at : (before : List Frame) (frame : Frame) (behind : List Frame) → AreSound (before ++ frame ∷ behind) → IsGood frame
+sound_at : (before : List PlacedFrame) (frame : PlacedFrame) (behind : List PlacedFrame) → AreSound (before ++ frame ∷ behind) → IsGood frame
 sound_at [] frame behind sound = All-head IsGood frame behind sound
 sound_at (f ∷ before) frame behind sound = sound_at before frame behind (All-tail IsGood f (before ++ frame ∷ behind) sound)
 
-none_first : (frames : List Frame) (fault : Fault) → AreSound frames → IsFirstIn frames fault → ⊥
+none_first : (frames : List PlacedFrame) (fault : Fault) → AreSound frames → IsFirstIn frames fault → ⊥
 none_first frames fault sound first =
     good_or_bad first.frame first.frame fault refl (sound_at first.before first.frame first.behind (subst AreSound first.are sound)) first.fails
 
 -- so the place of a first fault that is found is the one that there is
-pub place_found : (frames : List Frame) (place : Option ℕ) (fault : Fault) → IsFaultOf frames place → IsFirstIn frames fault → place ≡ Some fault.place
+pub place_found : (frames : List PlacedFrame) (place : Option ℕ) (fault : Fault) → IsFaultOf frames place → IsFirstIn frames fault → place ≡ Some fault.place
 place_found frames None fault sound first = absurd (none_first frames fault sound first)
 place_found frames (Some place) fault (other, is, at) first =
     let same = one_first is.before first.before is.frame first.frame is.behind first.behind other fault (sym is.are ∙ first.are) is.sound first.sound
@@ -61,7 +62,7 @@ place_found frames (Some place) fault (other, is, at) first =
     ap Some (at ∙ ap (λ (f : Fault). f.place) same)
 
 -- and where none is found there is none
-pub none_found : (frames : List Frame) (place : Option ℕ) → IsFaultOf frames place → AreSound frames → place ≡ None
+pub none_found : (frames : List PlacedFrame) (place : Option ℕ) → IsFaultOf frames place → AreSound frames → place ≡ None
 none_found frames None is sound = refl
 none_found frames (Some place) (fault, first, at) sound = absurd (none_first frames fault sound first)
 
@@ -92,41 +93,53 @@ content_within frame kind within (in_entries distance readable fails is) =
     omega (arith, inside, is)
 
 -- the frame holds its fault's place
-pub fault_held : (frame : Frame) (fault : Fault) → HasContentFault frame fault → Holds fault.place frame
+pub fault_held : (frame : PlacedFrame) (fault : Fault) → HasContentFault frame fault → Holds fault.place frame
 fault_held frame fault (within, fails, is) =
-    let inside = content_within (frame_text frame) fault.kind within fails in
+    let inside = content_within frame.unit fault.kind within fails in
     (omega (arith, is), omega (arith, is, inside))
 
-in_middle : (before : List Frame) (frame : Frame) (behind : List Frame) → get_or (before ++ frame ∷ behind) (length before) frame ≡ frame
+in_middle : (before : List PlacedFrame) (frame : PlacedFrame) (behind : List PlacedFrame) → get_or (before ++ frame ∷ behind) (length before) frame ≡ frame
 in_middle [] frame behind = refl
 in_middle (f ∷ before) frame behind = in_middle before frame behind
 
 -- and is one of the frames
-pub faulty_there : (frames : List Frame) (fault : Fault) (first : IsFirstIn frames fault) → Contains frames first.frame
+pub faulty_there : (frames : List PlacedFrame) (fault : Fault) (first : IsFirstIn frames fault) → Contains frames first.frame
 faulty_there frames fault first =
     let long = ap length first.are ∙ length-append first.before (first.frame ∷ first.behind) in (
       length first.before,
       omega (arith, long),
-      ap (λ (t : List Frame). get_or t (length first.before) first.frame) first.are ∙ in_middle first.before first.frame first.behind,
+      ap (λ (t : List PlacedFrame). get_or t (length first.before) first.frame) first.are ∙ in_middle first.before first.frame first.behind,
     )
 
 -- where the first fault stands, there is a frame, which is the one that has it
-pub some_holds : (frames : List Frame) (place : ℕ) (result : Option Frame) → IsFrameAt frames place result → HasFirstAt frames place → IsSome result
+pub some_holds : (frames : List PlacedFrame) (place : ℕ) (result : Option Frame) → IsFrameAt frames place result → HasFirstAt frames place → IsSome result
 some_holds frames place result is (fault, first, at) =
     some_held frames place result first.frame is (faulty_there frames fault first)
     (subst (λ (n : ℕ). Holds n first.frame) (sym at) (fault_held first.frame fault first.fails))
 
-pub fails_there : (frames : List Frame) (place : ℕ) (found : Frame) → IsFrameAt frames place (Some found) → (there : HasFirstAt frames place)
-    → HasContentFault found there.0
+pub fails_there : (frames : List PlacedFrame) (place : ℕ) (found : Frame) → IsFrameAt frames place (Some found) → (there : HasFirstAt frames place)
+    → HasContentFault (placed_frame found) there.0
 fails_there frames place found is (fault, first, at) =
-    subst (λ (f : Frame). HasContentFault f fault)
+    subst (λ (f : PlacedFrame). HasContentFault f fault)
     (one_held frames place found first.frame is (faulty_there frames fault first)
     (subst (λ (n : ℕ). Holds n first.frame) (sym at) (fault_held first.frame fault first.fails)))
     first.fails
 
 -- ---- a list around one of its elements
 
-pub one_behind : (frames : List Frame) (i : ℕ) (f : Frame) → take (i + 1) frames ≡ take i frames ++ f ∷ []
+pub one_behind : (frames : List PlacedFrame) (i : ℕ) (f : PlacedFrame) → take (i + 1) frames ≡ take i frames ++ f ∷ []
     → frames ≡ take i frames ++ f ∷ drop (i + 1) frames
-one_behind frames i f more = sym (take-append-drop (i + 1) frames) ∙ ap (λ (t : List Frame). t ++ drop (i + 1) frames) more
+one_behind frames i f more = sym (take-append-drop (i + 1) frames) ∙ ap (λ (t : List PlacedFrame). t ++ drop (i + 1) frames) more
     ∙ append_assoc (take i frames) (f ∷ []) (drop (i + 1) frames)
+
+-- the first frames and one more
+pub first_more : (frames : List PlacedFrame) (i : ℕ) (found : PlacedFrame) → slice_get frames i ≡ Some found → take (i + 1) frames ≡ take i frames ++ found ∷ []
+first_more frames i found is =
+    take_more frames i found (slice_get_within frames i found is)
+    ∙ ap (λ (x : PlacedFrame). take i frames ++ x ∷ []) (get_or_from_slice_get frames i found found is)
+
+pub sound_more : (frames : List PlacedFrame) (i : ℕ) (found : PlacedFrame) → slice_get frames i ≡ Some found → AreSound (take i frames) → IsGood found
+    → AreSound (take (i + 1) frames)
+sound_more frames i found is sound good =
+    subst AreSound (sym (first_more frames i found is))
+    (All-append IsGood (take i frames) (found ∷ []) sound (All-cons IsGood found [] good (All-nil IsGood)))

@@ -11,7 +11,6 @@ use Rattle.std.proofs.lemmas.List.FromFn.{get_or-map-range_with_len, length-map-
 use Rattle.std.proofs.lemmas.List.Sums.{count_by-le-length, length-filter}
 use Rattle.capture_frame.specs.Process.{same_process}
 use Rattle.capture_frame.specs.Units.{Placed}
-use Rattle.capture_frame.specs.declared.frame.Frame.{Frame}
 use Rattle.capture_frame.specs.declared.process.Process.{Process}
 use Rattle.claim_board.specs.Board.{AreJobs}
 use Rattle.claim_board.specs.Orders.{IsLeastFault}
@@ -35,7 +34,7 @@ use Rattle.audit_findings.specs.Handles.{AreHandlesOf, AreListedHandles}
 use Rattle.audit_findings.specs.InTurn.{AreRowsOf}
 use Rattle.audit_findings.specs.Summary.{GivesHandlesAt, SumsPiece, process_count}
 use Rattle.audit_findings.specs.declared.piece_summary.PieceSummary.{PieceSummary}
-use Rattle.capture_frame.specs.Envelope.{frame_text}
+use Rattle.capture_frame.specs.Envelope.{frame_text, PlacedFrame}
 use Rattle.transaction_view.specs.FirstFault.{HasGoodContent}
 use Rattle.audit_join.proofs.FaultLaws.{good_or_bad}
 use Rattle.audit_join.proofs.JobLists.{Judged, good, bad, judged}
@@ -54,14 +53,14 @@ few_firsts {K} eq (k ∷ keys) =
     omega (arith, rest, long, few)
 
 -- as many as are told apart
-process_number : (summary : PieceSummary) (frames : List Frame) (wholes : List (Placed WholeFrame)) → SumsPiece summary frames → AreViews frames wholes
+process_number : (summary : PieceSummary) (frames : List PlacedFrame) (wholes : List (Placed WholeFrame)) → SumsPiece summary frames → AreViews frames wholes
     → process_count summary ≡ length (processes_of wholes)
 process_number summary frames wholes sums show =
     let entries = summary.ledgers.order.entries.entries in
     let order = (sums wholes show).order.order ∙ ap (firsts same_process) (map-map (λ (e : Process × ⊤). e.0) (λ w. (process_of_whole w, tt)) wholes) in
     sym (length-map entries (λ (e : Process × Nothing). e.0)) ∙ ap length order
 
-pub few_processes : (summary : PieceSummary) (frames : List Frame) → SumsPiece summary frames → AreGoodFrames frames → process_count summary ≤ 2 ^ 32
+pub few_processes : (summary : PieceSummary) (frames : List PlacedFrame) → SumsPiece summary frames → AreGoodFrames frames → process_count summary ≤ 2 ^ 32
 few_processes summary frames sums fits =
     let shown = good_shown frames fits.good in
     let few = (few_frames frames shown.0 fits shown.1).0 in
@@ -73,13 +72,13 @@ few_processes summary frames sums fits =
 -- ---- frames of which it is merely told that they are sound
 
 -- such a frame has no fault, and what it has instead can be found again
-sound_here : (frame : Frame) → Judged frame → ∥ HasGoodContent (frame_text frame) ∥₁ → HasGoodContent (frame_text frame)
+sound_here : (frame : PlacedFrame) → Judged frame → ∥ HasGoodContent frame.unit ∥₁ → HasGoodContent frame.unit
 sound_here frame (good whole) told = whole
 sound_here frame (bad fault fails) told =
     let never : 1 ≤ 0 = ∥∥₁_elim told le_prop (λ whole. absurd (good_or_bad frame frame fault refl whole fails)) in
     absurd (omega (arith, never))
 
-pub sound_again : (frames : List Frame) → AreCut frames → ∥ AreSound frames ∥₁ → AreGoodFrames frames
+pub sound_again : (frames : List PlacedFrame) → AreCut frames → ∥ AreSound frames ∥₁ → AreGoodFrames frames
 sound_again frames cut told = record {
   few = cut.few;
   good = λ i d within. sound_here (get_or frames i d) (judged (get_or frames i d) (cut.bytes i d within)) (∥∥₁_map told (λ sound. sound i d within));
@@ -156,7 +155,7 @@ listed AreOf AreUnfreedOf (p ∷ processes) (own ∷ unfreed) (l ∷ lists) long
 )
 
 -- the lists of all processes
-pub all_listed : (summary : PieceSummary) (frames : List Frame) (unfreed : List (Vec ℕ Global)) (lists : List ListOfRows) → SumsPiece summary frames
+pub all_listed : (summary : PieceSummary) (frames : List PlacedFrame) (unfreed : List (Vec ℕ Global)) (lists : List ListOfRows) → SumsPiece summary frames
     → AreInOrder (λ i (list : ListOfRows). (own : Vec ℕ Global) → slice_get unfreed i ≡ Some own → GivesHandlesAt summary frames i own.items list.items)
     (length (process_jobs (process_count summary))) lists
     → (wholes : List (Placed WholeFrame)) → AreViews frames wholes → AreUnfreed wholes (lists_of unfreed) → AreListedHandles wholes (lists_of lists)

@@ -5,8 +5,7 @@ use Rattle.std.specs.List.{AllZip}
 use Rattle.std.proofs.lemmas.List.Elements.{All-nil, All-cons, All-head, All-tail}
 use Rattle.capture_frame.specs.declared.fault.Fault.{Fault}
 use Rattle.capture_frame.specs.declared.fault.FaultKind.{FaultKind}
-use Rattle.capture_frame.specs.declared.frame.Frame.{Frame}
-use Rattle.capture_frame.specs.Envelope.{frame_text}
+use Rattle.capture_frame.specs.Envelope.{frame_text, PlacedFrame}
 use Rattle.capture_frame.specs.Units.{IsBytes}
 use Rattle.capture_frame.proofs.UnitLaws.{Outcome, read, failed, outcome}
 use Rattle.record_view.specs.Records.{HasReadableRecords, format_of, protocol_of}
@@ -18,42 +17,42 @@ use Rattle.claim_board.specs.declared.job.Job.{Job}
 use Rattle.audit_join.specs.Jobs.{AreCut, IsFaultOf, IsJobOf, IsOfBytes, AreJobRuns}
 
 -- the content of a frame is good, or has a first fault
-pub data Judged (frame : Frame) : Type 0 where
-  good : HasGoodContent (frame_text frame) → Judged frame
+pub data Judged (frame : PlacedFrame) : Type 0 where
+  good : HasGoodContent frame.unit → Judged frame
   bad : (fault : Fault) → HasContentFault frame fault → Judged frame
 
-at_fault : (frame : Frame) (kind : FaultKind) (within : ℕ) → ContentFails (frame_text frame) kind within → Judged frame
+at_fault : (frame : PlacedFrame) (kind : FaultKind) (within : ℕ) → ContentFails frame.unit kind within → Judged frame
 at_fault frame kind within fails = bad (record { kind = kind; place = frame.place + within }) (within, fails, refl)
 
-by_entries : (frame : Frame) (readable : HasReadableRecords (frame_text frame))
-    → Outcome (entry_format (frame_text frame)) None frame.attachments.now → Judged frame
+by_entries : (frame : PlacedFrame) (readable : HasReadableRecords frame.unit)
+    → Outcome (entry_format frame.unit) None frame.unit.attachments → Judged frame
 by_entries frame readable (read entries reads) = good (readable, (entries, reads))
 by_entries frame readable (failed kind distance failure) =
-    at_fault frame kind (32 + (length frame.commands.now + distance)) (in_entries distance readable failure refl)
+    at_fault frame kind (32 + (length frame.unit.commands + distance)) (in_entries distance readable failure refl)
 
-by_records : (frame : Frame) → IsBytes frame.attachments.now
-    → Outcome (format_of (frame_text frame)) tt frame.commands.now → Judged frame
+by_records : (frame : PlacedFrame) → IsBytes frame.unit.attachments
+    → Outcome (format_of frame.unit) tt frame.unit.commands → Judged frame
 by_records frame bytes (read records reads) =
     by_entries frame (records, reads)
-    (outcome (entry_format (frame_text frame)) (entries_decided (frame_text frame) records reads) None
-    frame.attachments.now bytes)
+    (outcome (entry_format frame.unit) (entries_decided frame.unit records reads) None
+    frame.unit.attachments bytes)
 by_records frame bytes (failed kind distance failure) =
     at_fault frame kind (32 + distance) (in_records distance failure refl)
 
-pub judged : (frame : Frame) → IsOfBytes frame → Judged frame
+pub judged : (frame : PlacedFrame) → IsOfBytes frame → Judged frame
 judged frame bytes =
     by_records frame bytes.1
-    (outcome (format_of (frame_text frame)) (records_decided (protocol_of frame.direction)) tt frame.commands.now
+    (outcome (format_of frame.unit) (records_decided (protocol_of frame.unit.direction)) tt frame.unit.commands
     bytes.0)
 
 -- the place of the first fault of frames, if they have any
-abbrev HasFault : List Frame → Type 0
+abbrev HasFault : List PlacedFrame → Type 0
 HasFault frames = (fault : Option ℕ) × IsFaultOf frames fault
 
-behind_good : (frame : Frame) (frames : List Frame) → HasGoodContent (frame_text frame) → (fault : Option ℕ)
+behind_good : (frame : PlacedFrame) (frames : List PlacedFrame) → HasGoodContent frame.unit → (fault : Option ℕ)
     → IsFaultOf frames fault → HasFault (frame ∷ frames)
 behind_good frame frames whole None sound =
-    (None, All-cons (λ (f : Frame). HasGoodContent (frame_text f)) frame frames whole sound)
+    (None, All-cons (λ (f : PlacedFrame). HasGoodContent f.unit) frame frames whole sound)
 behind_good frame frames whole (Some place) (fault, first, is) = (
   Some place,
   (
@@ -62,15 +61,15 @@ behind_good frame frames whole (Some place) (fault, first, is) = (
       before = frame ∷ first.before;
       frame = first.frame;
       behind = first.behind;
-      are = ap (λ (t : List Frame). frame ∷ t) first.are;
-      sound = All-cons (λ (f : Frame). HasGoodContent (frame_text f)) frame first.before whole first.sound;
+      are = ap (λ (t : List PlacedFrame). frame ∷ t) first.are;
+      sound = All-cons (λ (f : PlacedFrame). HasGoodContent f.unit) frame first.before whole first.sound;
       fails = first.fails;
     },
     is,
   ),
 )
 
-by_first : (frame : Frame) (frames : List Frame) → Judged frame → HasFault frames → HasFault (frame ∷ frames)
+by_first : (frame : PlacedFrame) (frames : List PlacedFrame) → Judged frame → HasFault frames → HasFault (frame ∷ frames)
 by_first frame frames (good whole) others = behind_good frame frames whole others.0 others.1
 by_first frame frames (bad fault fails) others = (
   Some fault.place,
@@ -81,20 +80,20 @@ by_first frame frames (bad fault fails) others = (
       frame = frame;
       behind = frames;
       are = refl;
-      sound = All-nil (λ (f : Frame). HasGoodContent (frame_text f));
+      sound = All-nil (λ (f : PlacedFrame). HasGoodContent f.unit);
       fails = fails;
     },
     refl,
   ),
 )
 
-fault_of : (frames : List Frame) → All IsOfBytes frames → HasFault frames
-fault_of [] bytes = (None, All-nil (λ (f : Frame). HasGoodContent (frame_text f)))
+fault_of : (frames : List PlacedFrame) → All IsOfBytes frames → HasFault frames
+fault_of [] bytes = (None, All-nil (λ (f : PlacedFrame). HasGoodContent f.unit))
 fault_of (f ∷ frames) bytes =
     by_first f frames (judged f (All-head IsOfBytes f frames bytes))
     (fault_of frames (All-tail IsOfBytes f frames bytes))
 
-job_of : (frames : List Frame) → 1 ≤ length frames → HasFault frames → (job : Job) × IsJobOf frames job
+job_of : (frames : List PlacedFrame) → 1 ≤ length frames → HasFault frames → (job : Job) × IsJobOf frames job
 job_of [] some fault = absurd (omega (arith, some))
 job_of (f ∷ frames) some fault = (
   record { start = f.place; fault = fault.0 },
@@ -102,20 +101,20 @@ job_of (f ∷ frames) some fault = (
 )
 
 -- the jobs that runs are
-pub record HaveJobs (runs : List (List Frame)) : Type 0 where
+pub record HaveJobs (runs : List (List PlacedFrame)) : Type 0 where
   pub jobs : List Job
   pub each : AllZip IsJobOf runs jobs
 
 -- each run is a job
-pub jobs_of : (runs : List (List Frame)) → AreJobRuns runs → HaveJobs runs
+pub jobs_of : (runs : List (List PlacedFrame)) → AreJobRuns runs → HaveJobs runs
 jobs_of [] can = record { jobs = []; each = tt }
 jobs_of (run ∷ runs) can =
-    let job = job_of run (All-head (λ (list : List Frame). 1 ≤ length list) run runs can.some)
+    let job = job_of run (All-head (λ (list : List PlacedFrame). 1 ≤ length list) run runs can.some)
     (fault_of run (All-head AreCut run runs can.cut).bytes) in
     let few = can.few in
     let others = jobs_of runs (record {
       few = omega (arith, few);
-      some = All-tail (λ (list : List Frame). 1 ≤ length list) run runs can.some;
+      some = All-tail (λ (list : List PlacedFrame). 1 ≤ length list) run runs can.some;
       cut = All-tail AreCut run runs can.cut;
     }) in
     record { jobs = job.0 ∷ others.jobs; each = (job.1, others.each) }

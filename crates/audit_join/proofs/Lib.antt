@@ -8,3 +8,4 @@ pub mod CaptureLaws
 pub mod FaultLaws
 pub mod ShareLaws
 pub mod HandleJobs
+pub mod SumLaws

@@ -1,20 +1,20 @@
 -- The first of good frames, and the others.
+use Rattle.capture_frame.specs.Envelope.{PlacedFrame}
 use Rattle.std.proofs.Common.{◌≡◌, ℕ, List, ◌++◌, take, drop, sym, ap, subst, ◌∙◌}
 use Rattle.std.proofs.lemmas.List.{take-append-drop}
-use Rattle.capture_frame.specs.declared.frame.Frame.{Frame}
 use Rattle.audit_findings.specs.Frames.{AreGoodFrames, good_frames_parts}
 
 -- both are good
-pub parts_good : (frames : List Frame) (n : ℕ) → AreGoodFrames frames → AreGoodFrames (take n frames) × AreGoodFrames (drop n frames)
+pub parts_good : (frames : List PlacedFrame) (n : ℕ) → AreGoodFrames frames → AreGoodFrames (take n frames) × AreGoodFrames (drop n frames)
 parts_good frames n good =
     good_frames_parts (take n frames) (drop n frames) (subst AreGoodFrames (sym (take-append-drop n frames)) good)
 
 -- the same of two lists that are these, which joined are all
-pub halves_good : (frames front back : List Frame) (n : ℕ) → front ≡ take n frames → back ≡ drop n frames → AreGoodFrames frames
+pub halves_good : (frames front back : List PlacedFrame) (n : ℕ) → front ≡ take n frames → back ≡ drop n frames → AreGoodFrames frames
     → AreGoodFrames front × AreGoodFrames back × (front ++ back ≡ frames)
 halves_good frames front back n first others good =
     let parts = parts_good frames n good in (
       subst AreGoodFrames (sym first) parts.0,
       subst AreGoodFrames (sym others) parts.1,
-      ap (λ (t : List Frame). t ++ back) first ∙ ap (λ (t : List Frame). take n frames ++ t) others ∙ take-append-drop n frames,
+      ap (λ (t : List PlacedFrame). t ++ back) first ∙ ap (λ (t : List PlacedFrame). take n frames ++ t) others ∙ take-append-drop n frames,
     )

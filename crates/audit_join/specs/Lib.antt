@@ -4,3 +4,4 @@ pub mod Jobs
 pub mod Judged
 pub mod Processes
 pub mod Parts
+pub mod Shares

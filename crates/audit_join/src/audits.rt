@@ -26,7 +26,7 @@ use crate::part_places::part_of;
 use crate::piece::Piece;
 use crate::shares::sum_shares;
 use audit_findings::{Findings, PieceSummary, ProcessRow};
-use capture_frame::{Frame, PartCut, cut_parts};
+use capture_frame::{FrameList, FrameSlice, PartCut, cut_parts};
 use claim_board::{Gate, NoGate, Stop, Workers, run_all};
 use handle_ledger::HeldRow;
 use std::alloc::{AllocError, Global};
@@ -50,13 +50,13 @@ pub fn audit_parts<'c, T: Threads + Sync, G: Gate + Sync>(
     take_bytes(parts);
     match cut_parts(alloc, parts) {
         Ok(frames) => {
-            judge_parts(rt, alloc, parts, frames.as_slice(), workers, piece, gate)?;
+            judge_parts(rt, alloc, parts, &frames.as_slice(), workers, piece, gate)?;
             Ok(findings_of(rt, alloc, frames, workers)?)
         }
         Err(PartCut::Memory) => Err(PartsError::Memory),
         Err(PartCut::Bad { found, before }) => {
             // A fault of the frames before it comes first.
-            judge_parts(rt, alloc, parts, before.as_slice(), workers, piece, gate)?;
+            judge_parts(rt, alloc, parts, &before.as_slice(), workers, piece, gate)?;
             Err(PartsError::Malformed(found))
         }
     }
@@ -67,7 +67,7 @@ fn judge_parts<T: Threads + Sync, G: Gate + Sync>(
     rt: &T,
     alloc: Global,
     parts: &[&[u8]],
-    frames: &[Frame<'_>],
+    frames: &FrameSlice<'_, '_>,
     workers: Workers,
     piece: Piece,
     gate: &G,
@@ -122,22 +122,22 @@ pub fn audit_one<'c, T: Threads + Sync>(
 fn findings_of<'c, T: Threads + Sync>(
     rt: &T,
     alloc: Global,
-    frames: Vec<Frame<'c>>,
+    frames: FrameList<'c>,
     workers: Workers,
 ) -> Result<Findings<'c>, AllocError>
-    requires cut { AreCut frames.items }
-    requires sound { AreSound frames.items }
-    requires shown { (wholes : List WholeFrame) × AreViews frames.items (wholes_of wholes) }
+    requires cut { AreCut frames }
+    requires sound { AreSound frames }
+    requires shown { (wholes : List WholeFrame) × AreViews frames (wholes_of wholes) }
     ensures { IfOk result (λ found. (wholes : List WholeFrame) →
-        AreViews frames.entry.items (wholes_of wholes) →
+        AreViews frames.entry (wholes_of wholes) →
         (said : FindingsSaid) × AreSectionsOf wholes said found.frames found.sections) }
 {
-    let whole: PieceSummary<'c> = sum_shares(rt, alloc, frames.as_slice(), workers.get())?;
+    let whole: PieceSummary<'c> = sum_shares(rt, alloc, &frames.as_slice(), workers.get())?;
     let unfreed = whole.unfreed()?;
     let handles = look_again(
         rt,
         alloc,
-        frames.as_slice(),
+        &frames.as_slice(),
         &whole,
         unfreed.as_slice(),
         workers,
@@ -152,7 +152,7 @@ fn findings_of<'c, T: Threads + Sync>(
 fn look_again<'c, T: Threads + Sync>(
     rt: &T,
     alloc: Global,
-    frames: &[Frame<'c>],
+    frames: &FrameSlice<'_, 'c>,
     whole: &PieceSummary<'c>,
     unfreed: &[Vec<u64>],
     workers: Workers,

@@ -5,7 +5,7 @@ ghost use Rattle.audit_findings.specs.Summary.{process_count};
 ghost use Rattle.audit_join.specs.Jobs.{AreCut, AreSound};
 
 use audit_findings::{PieceSummary, ProcessRow};
-use capture_frame::Frame;
+use capture_frame::FrameSlice;
 use claim_board::{JobStop, Work};
 use handle_ledger::HeldRow;
 use std::alloc::Global;
@@ -14,7 +14,7 @@ use std::alloc::Global;
 #[derive(Drop)]
 pub(crate) struct HandleWork<'f, 'c> {
     pub whole: &'f PieceSummary<'c>,
-    pub frames: &'f [Frame<'c>],
+    pub frames: &'f FrameSlice<'f, 'c>,
     /// The places of each process's unfreed deliveries.
     pub unfreed: &'f [Vec<u64>],
     ghost cut: { AreCut frames.now },

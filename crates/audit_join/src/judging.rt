@@ -1,6 +1,6 @@
 //! The first fault of frames, by workers in threads.
 
-ghost use Rattle.std.specs.Prelude.{map, IfOk, IfErr};
+ghost use Rattle.std.specs.Prelude.{IfOk, IfErr};
 ghost use Rattle.std.specs.List.{AllZip};
 ghost use Rattle.audit_join.specs.Runs.{all_frames};
 ghost use Rattle.audit_join.specs.Jobs.{AreCut, AreJobRuns, AreSound, IsJobOf};
@@ -11,7 +11,7 @@ use crate::piece::Piece;
 use crate::piece_work::{PieceWork, RunJobs};
 use crate::plan::Plan;
 use crate::run_checks::fault_at;
-use capture_frame::Frame;
+use capture_frame::FrameSlice;
 use claim_board::{Gate, Stop, Workers, run_all};
 use std::alloc::Global;
 use std::marker::{Brand, PhantomData};
@@ -22,7 +22,7 @@ use std::thread::Threads;
 pub(crate) fn judge<T: Threads + Sync, G: Gate + Sync>(
     rt: &T,
     alloc: Global,
-    frames: &[Frame<'_>],
+    frames: &FrameSlice<'_, '_>,
     workers: Workers,
     piece: Piece,
     gate: &G,
@@ -48,17 +48,17 @@ pub(crate) fn judge<T: Threads + Sync, G: Gate + Sync>(
 fn judge_runs<J: RunJobs + Sync, T: Threads + Sync, G: Gate + Sync>(
     rt: &T,
     alloc: Global,
-    runs: &[&[Frame<'_>]],
+    runs: &[FrameSlice<'_, '_>],
     workers: Workers,
     gate: &G,
 ) -> Result<(), Stop>
-    requires cut { AreCut (all_frames (map (λ run. run.now) runs.now)) }
-    requires some { AreJobRuns (map (λ run. run.now) runs.now) }
-    requires jobs { (can : AreJobRuns (map (λ run. run.now) runs.now)) →
-        AllZip IsJobOf (map (λ run. run.now) runs.now)
-        (J.jobs (map (λ run. run.now) runs.now) can) }
-    ensures sound { IfOk result (λ _. AreSound (all_frames (map (λ run. run.now) runs.now))) }
-    ensures fault { IfErr result (IsLeastOf (all_frames (map (λ run. run.now) runs.now))) }
+    requires cut { AreCut (all_frames runs.now) }
+    requires some { AreJobRuns runs.now }
+    requires jobs { (can : AreJobRuns runs.now) →
+        AllZip IsJobOf runs.now
+        (J.jobs runs.now can) }
+    ensures sound { IfOk result (λ _. AreSound (all_frames runs.now)) }
+    ensures fault { IfErr result (IsLeastOf (all_frames runs.now)) }
 {
     let work = PieceWork {
         runs,

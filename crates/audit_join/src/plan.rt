@@ -1,16 +1,16 @@
 //! The frames of a capture, cut into runs that workers take.
 
-ghost use Rattle.std.specs.Prelude.{◌≡◌, map, IfOk};
+ghost use Rattle.std.specs.Prelude.{◌≡◌, IfOk};
 ghost use Rattle.audit_join.specs.Runs.{AreRuns};
 
 use crate::piece::Piece;
-use capture_frame::Frame;
+use capture_frame::FrameSlice;
 use std::alloc::{AllocError, Global};
 
 /// Frames in runs, one behind another.
 #[derive(Drop)]
 pub struct Plan<'f, 'c> {
-    runs: Vec<&'f [Frame<'c>]>,
+    runs: Vec<FrameSlice<'f, 'c>>,
 }
 
 impl<'f, 'c> Plan<'f, 'c> {
@@ -18,28 +18,25 @@ impl<'f, 'c> Plan<'f, 'c> {
     /// run.
     pub fn new(
         alloc: Global,
-        frames: &'f [Frame<'c>],
+        frames: &FrameSlice<'f, 'c>,
         piece: Piece,
     ) -> Result<Plan<'f, 'c>, AllocError>
         ensures { IfOk result
-            (λ plan. AreRuns piece.frames frames.now (map (λ run. run.now) plan.runs.items)) }
+            (λ plan. AreRuns piece.frames frames.now plan.runs.items) }
     {
         let most = piece.get() as usize;
         let mut runs = Vec::new(alloc);
-        let mut start = 0;
-        while start < frames.len() {
-            let end = frames.len().min(start + most);
-            // (with `?` here no proof is generated)
-            if runs.push(&frames[start..end]).is_err() {
-                return Err(AllocError);
-            }
-            start = end;
+        let mut left = frames.without_first(0);
+        while !left.is_empty() {
+            let (run, others) = left.split_at(most.min(left.len()));
+            runs.push(run)?;
+            left = others;
         }
         Ok(Plan { runs })
     }
 
     /// The runs, in order.
-    pub fn runs(&self) -> &[&'f [Frame<'c>]]
+    pub fn runs(&self) -> &[FrameSlice<'f, 'c>]
         ensures { result.now ≡ self.now.runs.items }
     {
         self.runs.as_slice()

@@ -1,28 +1,28 @@
 //! Of some frames: where they begin, and their first fault.
 
 ghost use Rattle.std.specs.Prelude.{◌≡◌, ◌≤◌, List, ◌∷◌, length, AllPairs, MatchOption};
-ghost use Rattle.capture_frame.specs.declared.frame.Frame.{Frame};
+ghost use Rattle.capture_frame.specs.Envelope.{PlacedFrame};
 ghost use Rattle.capture_frame.specs.Lookup.{AreApart};
 ghost use Rattle.audit_join.specs.Jobs.{AreSound, IsFirstIn, HasFirstAt};
 
-use capture_frame::{Fault, Frame, frame_at};
+use capture_frame::{Fault, FrameSlice};
 use transaction_view::check_frame;
 
 /// Where the first of these frames begins.
-pub(crate) fn start_of(frames: &[Frame<'_>]) -> u64
+pub(crate) fn start_of(frames: &FrameSlice<'_, '_>) -> u64
     requires { 1 ≤ length frames.now }
-    ensures { (first : Frame) (others : List Frame) → frames.now ≡ first ∷ others →
+    ensures { (first : PlacedFrame) (others : List PlacedFrame) → frames.now ≡ first ∷ others →
         result ≡ first.place }
 {
-    frames[0].place
+    frames.place(0)
 }
 
 /// The first fault of the records and entries of these frames.
-pub(crate) fn first_in(frames: &[Frame<'_>]) -> Option<Fault>
+pub(crate) fn first_in(frames: &FrameSlice<'_, '_>) -> Option<Fault>
     ensures { MatchOption result (AreSound frames.now) (IsFirstIn frames.now) }
 {
-    for frame in frames {
-        if let Some(fault) = check_frame(*frame) {
+    for number in 0..frames.len() {
+        if let Some(fault) = check_frame(frames.get(number)) {
             return Some(fault);
         }
     }
@@ -30,12 +30,12 @@ pub(crate) fn first_in(frames: &[Frame<'_>]) -> Option<Fault>
 }
 
 /// The first fault of these frames, which stands at this place.
-pub(crate) fn fault_at(frames: &[Frame<'_>], place: u64) -> Fault
+pub(crate) fn fault_at(frames: &FrameSlice<'_, '_>, place: u64) -> Fault
     requires apart { AllPairs AreApart frames.now }
     requires there { HasFirstAt frames.now place }
     ensures { IsFirstIn frames.now result }
 {
     // One frame holds the place, and its first fault is the one there.
-    let frame = frame_at(frames, place).unwrap();
+    let frame = frames.frame_at(place).unwrap();
     check_frame(frame).unwrap()
 }

@@ -1,66 +1,137 @@
 //! The summary of frames, by workers in threads.
 
-ghost use Rattle.std.specs.Prelude.{◌≤◌, ◌<◌, length, IfOk};
-ghost use Rattle.std.specs.Thread.{IsSync};
+ghost use Rattle.std.specs.Prelude.{◌≤◌, ◌<◌, length, IfOk, IfSome};
+ghost use Rattle.std.specs.Thread.{IsSend, IsSync};
+ghost use Rattle.audit_findings.specs.Frames.{AreGoodFrames};
+ghost use Rattle.audit_join.specs.Shares.{AreHalves, SumsShare};
 
 use audit_findings::PieceSummary;
-use capture_frame::Frame;
+use capture_frame::FrameSlice;
 use std::alloc::{AllocError, Global};
 use std::thread;
 use std::thread::Threads;
-use summary_law::{Summary, summary_of};
+use summary_law::Summary;
 
-/// A summary of a list that workers can share.
-pub(crate) trait Shared: Summary {
-    /// How many of these items are about half the work: one at least, and not all.
-    fn middle(items: &[Self::Item]) -> usize
-        requires { 2 ≤ length items.now }
-        ensures least { 1 ≤ result }
-        ensures most { result < length items.now };
+/// What workers share: it is halved, each half is summed, and the two sums are joined. It is a trait
+/// so that the closures of `sum_shares` give a type without a lifetime: what they ensure would be
+/// lost otherwise.
+pub(crate) trait Share: Sized {
+    type Sum;
+
+    // What can be summed.
+    ghost fits: { Self → Type 0 };
+
+    // The sum of all of it.
+    ghost sums: { Self → Self.Sum → Type 0 };
+
+    // The whole is these two, one after the other.
+    ghost halved: { Self → Self → Self → Type 0 };
+
+    /// About half the work and the rest of it, where it can be halved.
+    fn halves(&self) -> Option<(Self, Self)>
+        requires { fits self.now }
+        ensures { IfSome result
+            (λ both. fits both.0 × fits both.1 × halved self.now both.0 both.1) };
+
+    /// The sum, by one worker.
+    fn sum(&self, alloc: Global) -> Result<Self::Sum, AllocError>
+        requires { fits self.now }
+        ensures { IfOk result (sums self.now) };
+
+    /// The sum, where these are the sums of its halves.
+    fn join(&self, first: Self::Sum, second: Self::Sum) -> Result<Self::Sum, AllocError>
+        requires { fits self.now
+            × ((front back : Self) × halved self.now front back × sums front first × sums back second) }
+        ensures { IfOk result (sums self.now) };
+}
+
+/// The sum of this share. It and the workers are halved, as long as there are two of each; each
+/// worker sums a share, and the sums are joined in order.
+pub(crate) fn sum_shares<R: Threads + Sync, S: Share + Sync + Drop>(
+    rt: &R,
+    alloc: Global,
+    share: &S,
+    workers: u64,
+) -> Result<S::Sum, AllocError>
+where
+    S::Sum: Send + Drop,
+    requires { S.fits share.now }
+    ensures { IfOk result (S.sums share.now) }
+{
+    if workers < 2 {
+        return share.sum(alloc);
+    }
+    let Some((front, back)) = share.halves() else {
+        return share.sum(alloc);
+    };
+    let some = workers / 2;
+    let others = workers - some;
+    let (first, second) = thread::join(
+        rt,
+        || -> Result<S::Sum, AllocError>
+            requires { IsSync R.row × IsSync S.row × IsSend S.Sum.row × S.fits front }
+            ensures { IfOk result (S.sums front) }
+        { sum_shares(rt, alloc, &front, some) },
+        || -> Result<S::Sum, AllocError>
+            requires { IsSync R.row × IsSync S.row × IsSend S.Sum.row × S.fits back }
+            ensures { IfOk result (S.sums back) }
+        { sum_shares(rt, alloc, &back, others) },
+    );
+    let first = first?;
+    let second = second?;
+    share.join(first, second)
+}
+
+impl<'f, 'c> Share for FrameSlice<'f, 'c> {
+    type Sum = PieceSummary<'c>;
+
+    ghost fits = { AreGoodFrames };
+
+    ghost sums = { λ frames summary. SumsShare summary frames };
+
+    ghost halved = { AreHalves };
+
+    fn halves(&self) -> Option<(Self, Self)> {
+        if self.len() < 2 {
+            return None;
+        }
+        Some(self.split_at(middle(self)))
+    }
+
+    fn sum(&self, alloc: Global) -> Result<PieceSummary<'c>, AllocError> {
+        sum_share(alloc, self)
+    }
+
+    fn join(
+        &self,
+        first: PieceSummary<'c>,
+        second: PieceSummary<'c>,
+    ) -> Result<PieceSummary<'c>, AllocError> {
+        first.join(second)
+    }
 }
 
 /// As many frames as begin before the middle between the places of the first and the last one; at
 /// least one, and not all.
-impl<'c> Shared for PieceSummary<'c> {
-    fn middle(items: &[Frame<'c>]) -> usize {
-        let last = items.len() - 1;
-        let half = items[0].place / 2 + items[last].place / 2;
-        let count = items.partition_point(|frame| frame.place < half);
-        count.clamp(1, last)
-    }
+fn middle(frames: &FrameSlice<'_, '_>) -> usize
+    requires good { AreGoodFrames frames.now }
+    requires some { 2 ≤ length frames.now }
+    ensures least { 1 ≤ result }
+    ensures most { result < length frames.now }
+{
+    let last = frames.len() - 1;
+    let half = frames.place(0) / 2 + frames.place(last) / 2;
+    frames.count_begun(half).clamp(1, last)
 }
 
-/// The summary of these items. Items and workers are halved, as long as there are two of each; each
-/// worker sums a share, and the summaries are joined in order.
-pub(crate) fn sum_shares<R: Threads + Sync, S: Shared + Send>(
-    rt: &R,
-    alloc: Global,
-    items: &[S::Item],
-    workers: u64,
-) -> Result<S, AllocError>
-where
-    S::Item: Copy + Sync,
-    requires { S.fits items.now }
-    ensures { IfOk result (λ summary. S.sums summary items.now) }
+/// The summary of these frames by one worker.
+fn sum_share<'c>(alloc: Global, frames: &FrameSlice<'_, 'c>) -> Result<PieceSummary<'c>, AllocError>
+    requires { AreGoodFrames frames.now }
+    ensures { IfOk result (λ summary. SumsShare summary frames.now) }
 {
-    if workers < 2 || items.len() < 2 {
-        return summary_of(alloc, items);
+    let mut summary = PieceSummary::empty(alloc);
+    for number in 0..frames.len() {
+        summary.add(frames.get(number))?;
     }
-    let some = workers / 2;
-    let others = workers - some;
-    let (front, back) = items.split_at(S::middle(items));
-    let (first, second) = thread::join(
-        rt,
-        || -> Result<S, AllocError>
-            requires { IsSync R.row × IsSync S.Item.row × S.fits front.now }
-            ensures { IfOk result (λ summary. S.sums summary front.entry.now) }
-        { sum_shares(rt, alloc, front, some) },
-        || -> Result<S, AllocError>
-            requires { IsSync R.row × IsSync S.Item.row × S.fits back.now }
-            ensures { IfOk result (λ summary. S.sums summary back.entry.now) }
-        { sum_shares(rt, alloc, back, others) },
-    );
-    let first = first?;
-    let second = second?;
-    first.join(second)
+    Ok(summary)
 }

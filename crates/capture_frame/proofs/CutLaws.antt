@@ -1,18 +1,23 @@
 -- The frames that a reader has given so far, as views of the capture.
-use Rattle.std.proofs.Common.{◌≡◌, ℕ, ◌+◌, ◌-◌, ◌<◌, ◌≤◌, List, [], ◌∷◌, ◌++◌, length, take, drop, map, Option, Some, None, Ok, Err, refl, sym, ap, subst, ◌∙◌, append_assoc, append-nil, length-append, arith}
+use Rattle.std.proofs.Common.{◌≡◌, ℕ, ◌+◌, ◌-◌, ◌^◌, ◌<◌, ◌≤◌, List, [], ◌∷◌, ◌++◌, length, take, drop, All, ap₂, length-take, Option, Some, None, Ok, Err, refl, sym, ap, subst, ◌∙◌, append_assoc, append-nil, length-append, arith}
 use Rattle.std.specs.List.{flat_map}
-use Rattle.std.proofs.lemmas.List.{map-append, take-append-drop}
+use Rattle.std.proofs.lemmas.List.{map-append, take-append-drop, length-drop, get_or-append-add}
+use Rattle.std.proofs.lemmas.List.Elements.{All-append, All-weaker}
 use Rattle.std.proofs.lemmas.List.Concat.{flat_map-cons}
 use Rattle.capture_frame.specs.declared.fault.Fault.{Fault}
 use Rattle.capture_frame.specs.declared.frame.Frame.{Frame}
 use Rattle.capture_frame.specs.declared.version.Version.{Version}
 use Rattle.capture_frame.specs.declared.version.Version.TheVariants.{Two}
-use Rattle.capture_frame.specs.Units.{Placed, placed_at, placed}
-use Rattle.capture_frame.specs.Envelope.{FrameText, MayCome, Before, in_version, file_header, frame_text, placed_frame, frame_bytes}
+use Rattle.capture_frame.specs.Units.{placed_at, placed}
+use Rattle.capture_frame.specs.Envelope.{PlacedFrame, FrameText, MayCome, Before, in_version, file_header, frame_text, frame_bytes}
 use Rattle.capture_frame.specs.Parts.{last_after}
 use Rattle.capture_frame.specs.FirstFault.{HeaderFails, frame_format, in_header, in_frames}
 use Rattle.capture_frame.specs.Reading.{Reading, behind_header, frame_source, frames_after, Steps}
-use Rattle.capture_frame.specs.Cut.{AreFrames, AreFramesBefore, AreViewsOf, frames_before, IsPushed, IsPushedBefore}
+use Rattle.capture_frame.specs.Cut.{AreAdded, IsPushed, IsPushedBefore, kept}
+use Rattle.capture_frame.specs.FrameList.{AreKept, HasFrameAt, StandInRow, bodies, frame_here, frames_at}
+use Rattle.capture_frame.specs.declared.frame_list.PartBytes.{PartBytes}
+use Rattle.capture_frame.proofs.HeaderLaws.{length-file_header}
+use Rattle.capture_frame.proofs.FrameListLaws.{all_there, bodies-push, frames_stay, has_still, read_back, row-push, starts_of}
 use Rattle.capture_frame.proofs.UnitLaws.{state_after-snoc}
 use Rattle.capture_frame.proofs.FrameLaws.{frames_decided}
 use Rattle.capture_frame.proofs.PartLaws.{IsWide}
@@ -36,136 +41,164 @@ two_stands version last frame stands = record { fits = stands.fits; above = stan
 pub frames_wide : IsWide frame_format
 frames_wide = record { after_in = λ version last frame. refl; stands_in_two = two_stands }
 
--- the reader of a part with a good file header stands behind the frames that these are views of
-pub record HasCut (part : List ℕ) (base : ℕ) (before : Option ℕ) (reader : Reading) (frames : List Frame) : Type 0 where
+-- the reader of a part with a good file header stands behind these frames
+pub record HasCut (part : List ℕ) (base : ℕ) (before : Option ℕ) (reader : Reading) (texts : List FrameText) : Type 0 where
   pub version : Version
   pub header : take 16 part ≡ file_header version
-  pub stands : HasGiven frame_source frame_format (behind_header part base) (in_version version before) reader (map frame_text frames)
-  pub views : map placed_frame frames ≡ placed frame_bytes (base + 16) (map frame_text frames)
+  pub stands : HasGiven frame_source frame_format (behind_header part base) (in_version version before) reader texts
 
-cut_start : (version : Version) (part : List ℕ) (base : ℕ) (before : Option ℕ) (reader : Reading) → take 16 part ≡ file_header version
-    → reader ≡ frames_after version part base before → HasCut part base before reader []
-cut_start version part base before reader header is = record {
-  version = version;
-  header = header;
-  stands = stands_at_start frame_source frame_format (behind_header part base) (in_version version before) reader is;
-  views = refl;
+-- where the frames of a part begin
+abbrev pub starts_in : ℕ → List FrameText → List ℕ
+starts_in base texts = starts_of (placed frame_bytes (base + 16) texts)
+
+-- the places of the frames so far come behind the old ones; and the last sequence among them
+pub record HasPushed (part : List ℕ) (base : ℕ) (before last : Option ℕ) (reader : Reading) (old new : List ℕ) : Type 0 where
+  pub texts : List FrameText
+  pub added : new ≡ old ++ starts_in base texts
+  pub cut : HasCut part base before reader texts
+  pub last_is : last ≡ last_after frame_format before texts
+
+pub pushed_start : (part : List ℕ) (base : ℕ) (before : Option ℕ) (reader : Reading) (old : List ℕ)
+    → (version : Version) × (take 16 part ≡ file_header version) × (reader ≡ frames_after version part base before)
+    → HasPushed part base before before reader old old
+pushed_start part base before reader old (version, header, is) = record {
+  texts = [];
+  added = sym (append-nil old);
+  cut = record {
+    version = version;
+    header = header;
+    stands = stands_at_start frame_source frame_format (behind_header part base) (in_version version before) reader is;
+  };
+  last_is = refl;
 }
 
 -- behind one frame more
-cut_next : (part : List ℕ) (base : ℕ) (before : Option ℕ) (reader : Reading) (frames : List Frame) (found : Frame) (new : Reading)
-    → HasCut part base before reader frames → Steps reader (Ok (Some found)) new → HasCut part base before new (frames ++ found ∷ [])
-cut_next part base before reader frames found new has steps =
+pub pushed_next : (part : List ℕ) (base : ℕ) (before last : Option ℕ) (reader : Reading) (old places : List ℕ) (found : Frame) (new : Reading)
+    → HasPushed part base before last reader old places → Steps reader (Ok (Some found)) new
+    → HasPushed part base before (Some found.sequence) new old (places ++ found.place ∷ [])
+pushed_next part base before last reader old places found new has steps =
     let text = behind_header part base in
-    let state = in_version has.version before in
-    let done = map frame_text frames in
-    let s = steps_from frame_source frame_format text state reader done has.stands (Ok (Some found)) new steps in
-    let place : found.place ≡ base + 16 + length (flat_map frame_bytes done) = s.0.view.place_is ∙ ap (λ (n : ℕ). base + 16 + n) has.stands.walks.length_is in
-    let texts : map frame_text (frames ++ found ∷ []) ≡ done ++ frame_text found ∷ [] = map-append frame_text frames (found ∷ []) in
+    let state = in_version has.cut.version before in
+    let done = has.texts in
+    let stands = has.cut.stands in
+    let s = steps_from frame_source frame_format text state reader done stands (Ok (Some found)) new steps in
+    let place : found.place ≡ base + 16 + length (flat_map frame_bytes done) = s.0.view.place_is ∙ ap (λ (n : ℕ). base + 16 + n) stands.walks.length_is in
+    let starts : starts_in base (done ++ frame_text found ∷ []) ≡ starts_in base done ++ found.place ∷ []
+    = ap starts_of (placed-snoc frame_bytes (base + 16) done (frame_text found))
+    ∙ map-append (λ (f : PlacedFrame). f.place) (placed frame_bytes (base + 16) done)
+    (placed_at (base + 16 + length (flat_map frame_bytes done)) (frame_text found) ∷ [])
+    ∙ ap (λ (n : ℕ). starts_in base done ++ n ∷ []) (sym place)
+    in
     record {
-      version = has.version;
-      header = has.header;
-      stands = subst (HasGiven frame_source frame_format text state new) (sym texts)
-          (stands_behind_next frame_source frame_format text state reader done has.stands found new (frame_text found) steps s.0.may_stand refl refl);
-      views =
-          map-append placed_frame frames (found ∷ []) ∙ ap (λ (l : List (Placed FrameText)). l ++ placed_frame found ∷ []) has.views
-          ∙ ap (λ (n : ℕ). placed frame_bytes (base + 16) done ++ placed_at n (frame_text found) ∷ []) place
-          ∙ sym (placed-snoc frame_bytes (base + 16) done (frame_text found)) ∙ ap (placed frame_bytes (base + 16)) (sym texts);
+      texts = done ++ frame_text found ∷ [];
+      added = ap (λ (l : List ℕ). l ++ found.place ∷ []) has.added ∙ append_assoc old (starts_in base done) (found.place ∷ [])
+          ∙ ap (λ (l : List ℕ). old ++ l) (sym starts);
+      cut = record {
+        version = has.cut.version;
+        header = has.cut.header;
+        stands = stands_behind_next frame_source frame_format text state reader done stands found new (frame_text found) steps s.0.may_stand refl refl;
+      };
+      last_is = sym (ap (λ (s : Before). s.last) (state_after-snoc frame_format (in_version Two before) done (frame_text found)));
     }
 
 whole_part : (version : Version) (part : List ℕ) → take 16 part ≡ file_header version → part ≡ file_header version ++ drop 16 part
 whole_part version part header = sym (take-append-drop 16 part) ∙ ap (λ (t : List ℕ). t ++ drop 16 part) header
 
--- what was added so far, and the last sequence in it
-pub record HasPushed (part : List ℕ) (base : ℕ) (before last : Option ℕ) (reader : Reading) (old new : List Frame) : Type 0 where
-  pub more : List Frame
-  pub added : new ≡ old ++ more
-  pub cut : HasCut part base before reader more
-  pub last_is : last ≡ last_after frame_format before (map frame_text more)
+-- a part with a file header is as long as that at least
+pub header_long : (version : Version) (part : List ℕ) → take 16 part ≡ file_header version → 16 ≤ length part
+header_long version part header =
+    let taken = ap length header ∙ length-file_header version in
+    omega (arith, taken, length-take 16 part)
 
-pub pushed_start : (part : List ℕ) (base : ℕ) (before : Option ℕ) (reader : Reading) (old : List Frame)
-    → (version : Version) × (take 16 part ≡ file_header version) × (reader ≡ frames_after version part base before)
-    → HasPushed part base before before reader old old
-pushed_start part base before reader old (version, header, is) =
-    record { more = []; added = sym (append-nil old); cut = cut_start version part base before reader header is; last_is = refl }
+-- the frames so far, behind those of the parts before
+module _ (part : List ℕ) (base : ℕ) (before last : Option ℕ) (reader : Reading) (row new_row : List PartBytes) (body : PartBytes)
+    (old places : List ℕ) (has : HasPushed part base before last reader old places) (are : AreKept row old)
+    (row_is : new_row ≡ row ++ body ∷ []) (start : body.start ≡ base + 16) (body_is : body.bytes.now ≡ drop 16 part)
+    (base_is : base ≡ length (bodies row)) (fits : base + length part < 2 ^ 64) where
+  walked : body.bytes.now ≡ flat_map frame_bytes has.texts ++ drop has.cut.stands.offset (drop 16 part)
+  walked = body_is ∙ has.cut.stands.walks.splits.joined
 
-pub pushed_next : (part : List ℕ) (base : ℕ) (before last : Option ℕ) (reader : Reading) (old frames : List Frame) (found : Frame) (new : Reading)
-    → HasPushed part base before last reader old frames → Steps reader (Ok (Some found)) new
-    → HasPushed part base before (Some found.sequence) new old (frames ++ found ∷ [])
-pushed_next part base before last reader old frames found new has steps = record {
-  more = has.more ++ found ∷ [];
-  added = ap (λ (l : List Frame). l ++ found ∷ []) has.added ∙ append_assoc old has.more (found ∷ []);
-  cut = cut_next part base before reader has.more found new has.cut steps;
-  last_is = sym (ap (last_after frame_format before) (map-append frame_text has.more (found ∷ []))
-      ∙ ap (λ (s : Before). s.last) (state_after-snoc frame_format (in_version Two before) (map frame_text has.more) (frame_text found)));
-}
+  pub longer : length (bodies new_row) ≡ length (bodies row) + (length part - 16)
+  longer =
+      ap (λ (l : List PartBytes). length (bodies l)) row_is
+      ∙ ap length (bodies-push row body) ∙ length-append (bodies row) body.bytes.now
+      ∙ ap (λ (n : ℕ). length (bodies row) + n) (ap length body_is ∙ length-drop 16 part)
 
--- at the end the part is these frames
-pub pushed_end : (part : List ℕ) (base : ℕ) (before last : Option ℕ) (reader : Reading) (old frames : List Frame) (new : Reading)
-    → HasPushed part base before last reader old frames → Steps reader (Ok None) new → IsPushed part base before last old frames
-pushed_end part base before last reader old frames new has steps =
-    let done = map frame_text has.more in
-    record {
-      more = has.more;
-      added = has.added;
-      texts = done;
-      whole = (
-        has.cut.version,
-        drop 16 part,
-        whole_part has.cut.version part has.cut.header,
-        units_end frame_source frame_format (behind_header part base) (in_version has.cut.version before) reader done has.cut.stands new steps,
-      );
-      views = record { said = refl; stand = has.cut.views };
-      last_is = has.last_is;
-    }
+  there : All (HasFrameAt (row ++ body ∷ [])) places
+  there =
+      subst (λ (l : List ℕ). All (HasFrameAt (row ++ body ∷ [])) l) (sym has.added)
+      (All-append (HasFrameAt (row ++ body ∷ [])) old (starts_in base has.texts)
+      (All-weaker (HasFrameAt row) (HasFrameAt (row ++ body ∷ [])) (λ at h. has_still row body at h) old are.frames)
+      (all_there (row ++ body ∷ []) body (length row + 0, omega (arith, length-append row (body ∷ [])), get_or-append-add row (body ∷ []) 0 body) [] has.texts
+      (drop has.cut.stands.offset (drop 16 part)) walked has.cut.version before has.cut.stands.walks.splits.stand (base + 16) (omega (arith, start))))
 
--- at a fault they are those before it
-pub pushed_fails : (part : List ℕ) (base : ℕ) (before last : Option ℕ) (reader : Reading) (old frames : List Frame) (fault : Fault) (new : Reading)
-    → HasPushed part base before last reader old frames → Steps reader (Err fault) new → (base ≤ fault.place)
-    × IsPushedBefore part base before old frames (record { kind = fault.kind; place = fault.place - base })
-pushed_fails part base before last reader old frames fault new has steps =
-    let text = behind_header part base in
-    let done = map frame_text has.more in
-    let stands = has.cut.stands in
-    let s = steps_from frame_source frame_format text (in_version has.cut.version before) reader done stands (Err fault) new steps in
-    let place = s.1 in (
-      omega (arith, place),
+  pub are_added : AreAdded (kept row old) (kept new_row places) has.texts
+  are_added =
+      let long = header_long has.cut.version part has.cut.header in
+      let place : base + 16 ≡ 16 + length (bodies row) = omega (arith, base_is) in
+      let more : frames_at (bodies (row ++ body ∷ [])) (starts_in base has.texts) ≡ placed frame_bytes (base + 16) has.texts
+      = ap (λ (l : List ℕ). frames_at l (starts_in base has.texts)) (bodies-push row body ∙ ap (λ (l : List ℕ). bodies row ++ l) walked)
+      ∙ read_back (bodies row) has.texts (drop has.cut.stands.offset (drop 16 part)) has.cut.version before has.cut.stands.walks.splits.stand (base + 16) place in
       record {
-        more = has.more;
-        added = has.added;
-        first = in_frames has.cut.version text.unit (stands.offset + 0) (whole_part has.cut.version part has.cut.header)
-            (record {
-              before = done;
-              rest = drop stands.offset text.unit;
-              within = 0;
-              splits = stands.walks.splits;
-              fails = s.0;
-              stands = ap (λ (n : ℕ). n + 0) stands.walks.length_is;
-            })
-            (omega (arith, place));
-        views = record { said = refl; stand = has.cut.views };
-      },
-    )
+        are_kept = record {
+          in_row = subst (StandInRow 16) (sym row_is) (row-push 16 row body are.in_row (omega (arith, start, base_is)));
+          fits = omega (arith, longer, long, fits, base_is);
+          frames = subst (λ (l : List PartBytes). All (HasFrameAt l) places) (sym row_is) there;
+        };
+        added =
+            ap (λ (l : List PartBytes). frames_at (bodies l) places) row_is
+            ∙ ap (frames_at (bodies (row ++ body ∷ []))) has.added
+            ∙ map-append (λ (at : ℕ). placed_at at (frame_here (drop (at - 16) (bodies (row ++ body ∷ []))))) old (starts_in base has.texts)
+            ∙ ap₂ (λ (x y : List PlacedFrame). x ++ y) (frames_stay row old body are)
+            (more ∙ ap (λ (n : ℕ). placed frame_bytes n has.texts) place);
+      }
+
+  -- at the end the part is these frames
+  pub pushed_end : (next : Reading) → Steps reader (Ok None) next → IsPushed part before last (kept row old) (kept new_row places)
+  pushed_end next steps = record {
+    texts = has.texts;
+    whole = (
+      has.cut.version,
+      drop 16 part,
+      whole_part has.cut.version part has.cut.header,
+      units_end frame_source frame_format (behind_header part base) (in_version has.cut.version before) reader has.texts has.cut.stands next steps,
+    );
+    are_added = are_added;
+    longer = longer;
+    last_is = has.last_is;
+  }
+
+  -- at a fault they are those before it
+  pub pushed_fails : (fault : Fault) (next : Reading) → Steps reader (Err fault) next → (base ≤ fault.place)
+      × IsPushedBefore part before (kept row old) (kept new_row places) (record { kind = fault.kind; place = fault.place - base })
+  pushed_fails fault next steps =
+      let text = behind_header part base in
+      let stands = has.cut.stands in
+      let s = steps_from frame_source frame_format text (in_version has.cut.version before) reader has.texts stands (Err fault) next steps in
+      let place = s.1 in (
+        omega (arith, place),
+        record {
+          first = in_frames has.cut.version text.unit (stands.offset + 0) (whole_part has.cut.version part has.cut.header)
+              (record {
+                before = has.texts;
+                rest = drop stands.offset text.unit;
+                within = 0;
+                splits = stands.walks.splits;
+                fails = s.0;
+                stands = ap (λ (n : ℕ). n + 0) stands.walks.length_is;
+              })
+              (omega (arith, place));
+          are_added = are_added;
+        },
+      )
 
 -- nothing before a fault of the file header
-pub header_stops : (part : List ℕ) (base : ℕ) (before : Option ℕ) (old : List Frame) (fault : Fault) → HeaderFails part fault.kind fault.place
-    → IsPushedBefore part base before old old fault
-header_stops part base before old fault fails =
-    record { more = []; added = sym (append-nil old); first = in_header fails; views = record { said = refl; stand = refl } }
-
--- ---- the frames of one part alone
-
-pub one_cut : (capture : List ℕ) (last : Option ℕ) (frames : List Frame) → IsPushed capture 0 None last [] frames → AreFrames capture frames
-one_cut capture last frames pushed = record {
-  texts = pushed.texts;
-  whole = pushed.whole;
-  views = subst (AreViewsOf pushed.texts) (sym pushed.added) pushed.views;
+pub header_stops : (part : List ℕ) (before : Option ℕ) (row : List PartBytes) (places : List ℕ) (fault : Fault) → AreKept row places
+    → HeaderFails part fault.kind fault.place → IsPushedBefore part before (kept row places) (kept row places) fault
+header_stops part before row places fault are fails = record {
+  first = in_header fails;
+  are_added = record { are_kept = are; added = sym (append-nil (frames_at (bodies row) places)) };
 }
-
-pub one_cut_off : (capture : List ℕ) (fault : Fault) (frames : List Frame) → IsPushedBefore capture 0 None [] frames fault
-    → AreFramesBefore capture fault frames
-one_cut_off capture fault frames pushed =
-    record { first = pushed.first; views = subst (AreViewsOf (frames_before capture fault pushed.first)) (sym pushed.added) pushed.views }
 
 -- how many bytes of the capture a reader has left
 abbrev pub left_of : Reading → ℕ

@@ -11,5 +11,6 @@ pub mod Vectors
 pub mod CutLaws
 pub mod ProcessLaws
 pub mod LookupLaws
+pub mod FrameListLaws
 pub mod PartLaws
 pub mod PartCuts

@@ -1,19 +1,19 @@
 -- Which of some frames that stand apart holds a place.
-use Rattle.std.proofs.Common.{◌≡◌, ℕ, ◌+◌, ◌-◌, ◌<◌, ◌≤◌, inl, inr, true, false, leb, List, length, Option, Some, None, refl, sym, ap, ◌∙◌, arith}
-use Rattle.std.specs.Prelude.{AllPairs, Contains, IsSome, slice_index_or}
-use Rattle.std.specs.List.Sorted.{IsNonDecreasingBy, IsPartitionedBy, IsPartitionPoint}
-use Rattle.std.proofs.lemmas.Bool.{cases_eq, cases_lt, leb-false, leb-true}
-use Rattle.std.proofs.lemmas.List.{get_or_default}
-use Rattle.std.proofs.lemmas.List.Sorted.{IsPartitionedBy-leb}
+use Rattle.std.proofs.Common.{◌≡◌, ℕ, ◌+◌, ◌-◌, ◌<◌, ◌≤◌, inl, inr, List, Option, Some, None, refl, sym, ap, ◌∙◌, arith}
+use Rattle.std.specs.Prelude.{AllPairs, Contains, IsSome, slice_get, slice_index_or}
+use Rattle.std.specs.List.Sorted.{IsNonDecreasingBy}
+use Rattle.std.proofs.lemmas.Bool.{cases_eq, cases_lt}
+use Rattle.std.proofs.lemmas.Option.{get_or_from_slice_get}
 use Rattle.std.proofs.lemmas.List.Elements.{All-contains}
 use Rattle.capture_frame.specs.declared.frame.Frame.{Frame}
+use Rattle.capture_frame.specs.Envelope.{PlacedFrame, placed_frame}
 use Rattle.capture_frame.specs.Lookup.{span_of, AreApart, Holds, IsFrameAt, IsSplitAt}
 
 -- ---- the frames that have begun
 
 -- each of frames that stand apart begins behind those before it
-begin_in_order : (frames : List Frame) → AllPairs AreApart frames → IsNonDecreasingBy (λ (f : Frame). f.place) frames
-begin_in_order frames apart i j d upto within = elim (cases_lt i j) [
+pub frames_in_order : (frames : List PlacedFrame) → AllPairs AreApart frames → IsNonDecreasingBy (λ (f : PlacedFrame). f.place) frames
+frames_in_order frames apart i j d upto within = elim (cases_lt i j) [
   | inl below ↦ let far = apart i j d below within in omega (arith, far)
   | inr above ↦
       let same : i ≡ j = omega (arith, upto, above) in
@@ -21,40 +21,28 @@ begin_in_order frames apart i j d upto within = elim (cases_lt i j) [
       omega (arith, equal)
 ]
 
--- so those that begin at a place or before it are the first ones
-pub begun_first : (frames : List Frame) (place : ℕ) → AllPairs AreApart frames → IsPartitionedBy (λ (f : Frame). leb f.place place) frames
-begun_first frames place apart = IsPartitionedBy-leb (λ (f : Frame). f.place) frames place (begin_in_order frames apart)
-
-pub split_at_point : (frames : List Frame) (place n : ℕ) → n ≤ length frames
-    → IsPartitionPoint (λ (f : Frame). leb f.place place ≡ true) (λ (f : Frame). leb f.place place ≡ false) frames n → IsSplitAt frames place n
-split_at_point frames place n within point = record {
-  within = within;
-  before = λ i d less. leb-true (slice_index_or frames i d).place place (point.0 i d (omega arith) less);
-  behind = λ i d from there. leb-false (slice_index_or frames i d).place place (point.1 i d from there);
-}
-
 -- ---- the frame that holds a place
 
-pub none_before : (frames : List Frame) (place : ℕ) → IsSplitAt frames place 0 → IsFrameAt frames place None
+pub none_before : (frames : List PlacedFrame) (place : ℕ) → IsSplitAt frames place 0 → IsFrameAt frames place None
 none_before frames place split i d within holds =
     let behind = split.behind i d (omega arith) within in
     let from = holds.0 in
     absurd (omega (arith, behind, from))
 
 -- the last frame before the place ends before it, and so does every earlier one
-pub none_at : (frames : List Frame) (place count : ℕ) → AllPairs AreApart frames → IsSplitAt frames place count → (last : Frame)
-    → ((d : Frame) → last ≡ slice_index_or frames (count - 1) d) → 0 < count → last.place + span_of last ≤ place → IsFrameAt frames place None
+pub none_at : (frames : List PlacedFrame) (place count : ℕ) → AllPairs AreApart frames → IsSplitAt frames place count → (last : PlacedFrame)
+    → ((d : PlacedFrame) → last ≡ slice_index_or frames (count - 1) d) → 0 < count → last.place + span_of last ≤ place → IsFrameAt frames place None
 none_at frames place count apart split last is some ended i d within holds =
     let from = holds.0 in
     let to = holds.1 in
     let bound = split.within in
     elim (cases_eq i (count - 1)) [
       | inl same ↦ (let alike : slice_index_or frames i d ≡ last = ap (λ (n : ℕ). slice_index_or frames n d) same ∙ sym (is d) in
-          let there = ap (λ (f : Frame). f.place + span_of f) alike in
+          let there = ap (λ (f : PlacedFrame). f.place + span_of f) alike in
           absurd (omega (arith, there, to, ended)))
       | inr other ↦ elim (cases_lt i count) [
         | inl less ↦ (let far = apart i (count - 1) d (omega (arith, less, other)) (omega (arith, some, bound)) in
-            let alike = ap (λ (f : Frame). f.place) (is d) in
+            let alike = ap (λ (f : PlacedFrame). f.place) (is d) in
             let span : 0 ≤ span_of last = omega arith in
             absurd (omega (arith, far, alike, to, ended, span)))
         | inr more ↦ (let behind = split.behind i d more within in absurd (omega (arith, behind, from)))
@@ -62,12 +50,14 @@ none_at frames place count apart split last is some ended i d within holds =
     ]
 
 -- the last frame before the place, where it ends behind it
-pub one_at : (frames : List Frame) (place count : ℕ) → AllPairs AreApart frames → IsSplitAt frames place count → (last : Frame)
-    → ((d : Frame) → last ≡ slice_index_or frames (count - 1) d) → 0 < count → place < last.place + span_of last → IsFrameAt frames place (Some last)
-one_at frames place count apart split last is some ends =
+pub one_at : (frames : List PlacedFrame) (place count : ℕ) → AllPairs AreApart frames → IsSplitAt frames place count → (found : Frame)
+    → ((d : PlacedFrame) → placed_frame found ≡ slice_index_or frames (count - 1) d) → 0 < count → place < found.place + span_of (placed_frame found)
+    → IsFrameAt frames place (Some found)
+one_at frames place count apart split found is some ends =
+    let last = placed_frame found in
     let bound = split.within in
     let from = split.before (count - 1) last (omega (arith, some)) in
-    let here = ap (λ (f : Frame). f.place) (is last) in (
+    let here = ap (λ (f : PlacedFrame). f.place) (is last) in (
       (count - 1, omega (arith, some, bound), sym (is last)),
       (omega (arith, from, here), ends),
       λ i d within holds.
@@ -77,7 +67,7 @@ one_at frames place count apart split last is some ends =
             | inl same ↦ ap (λ (n : ℕ). slice_index_or frames n d) same ∙ sym (is d)
             | inr other ↦ elim (cases_lt i count) [
               | inl less ↦ (let far = apart i (count - 1) d (omega (arith, less, other)) (omega (arith, some, bound)) in
-                  let alike = ap (λ (f : Frame). f.place) (is d) in
+                  let alike = ap (λ (f : PlacedFrame). f.place) (is d) in
                   let begins = split.before (count - 1) d (omega (arith, some)) in
                   absurd (omega (arith, far, alike, to, begins)))
               | inr more ↦ (let behind = split.behind i d more within in absurd (omega (arith, behind, above)))
@@ -86,18 +76,19 @@ one_at frames place count apart split last is some ends =
     )
 
 -- two frames that hold one place are one
-pub one_held : (frames : List Frame) (place : ℕ) (found other : Frame) → IsFrameAt frames place (Some found) → Contains frames other → Holds place other
-    → other ≡ found
+pub one_held : (frames : List PlacedFrame) (place : ℕ) (found : Frame) (other : PlacedFrame) → IsFrameAt frames place (Some found)
+    → Contains frames other → Holds place other → other ≡ placed_frame found
 one_held frames place found other is there holds =
-    All-contains (λ (f : Frame). Holds place f → f ≡ found) frames other is.2 there holds
+    All-contains (λ (f : PlacedFrame). Holds place f → f ≡ placed_frame found) frames other is.2 there holds
 
 -- and where one does there is a frame
-pub some_held : (frames : List Frame) (place : ℕ) (result : Option Frame) (other : Frame) → IsFrameAt frames place result → Contains frames other
-    → Holds place other → IsSome result
-some_held frames place None other is there holds = absurd (All-contains (λ (f : Frame). ¬ Holds place f) frames other is there holds)
+pub some_held : (frames : List PlacedFrame) (place : ℕ) (result : Option Frame) (other : PlacedFrame) → IsFrameAt frames place result
+    → Contains frames other → Holds place other → IsSome result
+some_held frames place None other is there holds =
+    absurd (All-contains (λ (f : PlacedFrame). ¬ Holds place f) frames other is there holds)
 some_held frames place (Some found) other is there holds = refl
 
 -- an element is the same whatever stands for one that is missing
-pub element_is : (frames : List Frame) (n : ℕ) (found missing : Frame) → found ≡ slice_index_or frames n missing → n < length frames → (d : Frame)
-    → found ≡ slice_index_or frames n d
-element_is frames n found missing is within d = is ∙ get_or_default frames n missing d within
+pub element_is : (frames : List PlacedFrame) (n : ℕ) (frame : PlacedFrame) → slice_get frames n ≡ Some frame → (d : PlacedFrame)
+    → frame ≡ slice_index_or frames n d
+element_is frames n frame is d = sym (get_or_from_slice_get frames n frame d is)

@@ -1,5 +1,5 @@
 -- All frames of a capture at once, or those before its first fault.
-use Rattle.std.specs.Prelude.{◌≡◌, ℕ, List, [], ◌++◌, ◌+◌, map, Option, None}
+use Rattle.std.specs.Prelude.{◌≡◌, ℕ, List, [], ◌++◌, ◌+◌, ◌-◌, length, map, Option, None}
 use Rattle.capture_frame.specs.declared.cut_off.Cut.{Cut}
 use Rattle.capture_frame.specs.declared.cut_off.Cut.TheVariants as cut
 use Rattle.capture_frame.specs.declared.cut_off.PartCut.{PartCut}
@@ -9,25 +9,22 @@ use Rattle.capture_frame.specs.declared.cut_off.Stopped.TheVariants as stopped
 use Rattle.capture_frame.specs.declared.fault.Fault.{Fault}
 use Rattle.capture_frame.specs.declared.fault.PartFault.{PartFault}
 use Rattle.capture_frame.specs.declared.frame.Frame.{Frame}
+use Rattle.capture_frame.specs.declared.frame_list.PartBytes.{PartBytes}
 use Rattle.capture_frame.specs.Units.{placed}
-use Rattle.capture_frame.specs.Envelope.{FrameText, file_header_length, frame_text, placed_frame, frame_bytes}
+use Rattle.capture_frame.specs.Envelope.{PlacedFrame, FrameText, file_header_length, placed_frame, frame_bytes}
 use Rattle.capture_frame.specs.FirstFault.{frame_format, IsCapture, IsFirstFault, IsPart, IsFirstFaultIn, in_header, in_frames}
+use Rattle.capture_frame.specs.FrameList.{AreKept, bodies, frames_at}
 use Rattle.capture_frame.specs.Parts.{AreParts, IsFirstPartFault, last_after}
 
--- the views say these frames, the first of them at this place and each behind the one before it
-pub record AreViewsFrom (start : ℕ) (texts : List FrameText) (frames : List Frame) : Type 0 where
-  pub said : map frame_text frames ≡ texts
-  pub stand : map placed_frame frames ≡ placed frame_bytes start texts
-
--- the first of them behind the file header
-abbrev pub AreViewsOf : List FrameText → List Frame → Type 0
-AreViewsOf texts frames = AreViewsFrom file_header_length texts frames
+-- the frames, the first of them behind the file header and each behind the one before it
+abbrev pub from_header : List FrameText → List PlacedFrame
+from_header texts = placed frame_bytes file_header_length texts
 
 -- the capture is these frames
-pub record AreFrames (capture : List ℕ) (frames : List Frame) : Type 0 where
+pub record AreFrames (capture : List ℕ) (frames : List PlacedFrame) : Type 0 where
   pub texts : List FrameText
   pub whole : IsCapture frame_format capture texts
-  pub views : AreViewsOf texts frames
+  pub stand : frames ≡ from_header texts
 
 -- the frames of a part before its first fault: none before one of the file header
 abbrev pub frames_before : {last : Option ℕ} (part : List ℕ) (fault : Fault)
@@ -36,50 +33,66 @@ frames_before part fault (in_header fails) = []
 frames_before part fault (in_frames version bytes distance joined fails place_is) = fails.before
 
 -- the fault is the capture's first, as far as headers tell, and these are the frames before it
-pub record AreFramesBefore (capture : List ℕ) (fault : Fault) (frames : List Frame) : Type 0 where
+pub record AreFramesBefore (capture : List ℕ) (fault : Fault) (frames : List PlacedFrame) : Type 0 where
   pub first : IsFirstFault frame_format capture fault
-  pub views : AreViewsOf (frames_before capture fault first) frames
+  pub stand : frames ≡ from_header (frames_before capture fault first)
+
+-- the frames that these views show
+abbrev pub shown_by : List Frame → List PlacedFrame
+shown_by views = map placed_frame views
 
 -- what is said where not all frames are given: nothing of want of memory
 abbrev pub IsCutOff : List ℕ → Cut → Type 0
 IsCutOff capture cut.Memory = Unit {0}
-IsCutOff capture (cut.Bad fault before) = AreFramesBefore capture fault before.items
+IsCutOff capture (cut.Bad fault before) = AreFramesBefore capture fault (shown_by before.items)
 
 -- the parts are these frames, each at its place in the joined capture
-pub record ArePartFrames (parts : List (List ℕ)) (frames : List Frame) : Type 0 where
+pub record ArePartFrames (parts : List (List ℕ)) (frames : List PlacedFrame) : Type 0 where
   pub texts : List FrameText
   pub whole : AreParts frame_format None parts texts
-  pub views : AreViewsOf texts frames
+  pub stand : frames ≡ from_header texts
 
 -- the fault is the first of the parts, as far as headers tell, and these are the frames before it: those of the parts
 -- before its part, and those before it in its part
-pub record AreFramesBeforePart (parts : List (List ℕ)) (found : PartFault) (frames : List Frame) : Type 0 where
+pub record AreFramesBeforePart (parts : List (List ℕ)) (found : PartFault) (frames : List PlacedFrame) : Type 0 where
   pub first : IsFirstPartFault frame_format None parts found
-  pub views : AreViewsOf (first.units ++ frames_before first.part found.fault first.first) frames
+  pub stand : frames ≡ from_header (first.units ++ frames_before first.part found.fault first.first)
 
 -- what is said where not all frames of parts are given: nothing of want of memory
 abbrev pub IsPartCutOff : List (List ℕ) → PartCut → Type 0
 IsPartCutOff parts part_cut.Memory = Unit {0}
-IsPartCutOff parts (part_cut.Bad found before) = AreFramesBeforePart parts found before.items
+IsPartCutOff parts (part_cut.Bad found before) = AreFramesBeforePart parts found before
 
--- to some frames those of a part were added, each at its place in the part plus `base`; and the last sequence so far
-pub record IsPushed (part : List ℕ) (base : ℕ) (before last : Option ℕ) (old new : List Frame) : Type 0 where
-  pub more : List Frame
-  pub added : new ≡ old ++ more
+-- places in parts, as the frames that stand there
+pub record Kept : Type 0 where
+  pub parts : List PartBytes
+  pub places : List ℕ
+
+abbrev pub kept : List PartBytes → List ℕ → Kept
+kept parts places = record { parts = parts; places = places }
+
+abbrev pub frames_of : Kept → List PlacedFrame
+frames_of list = frames_at (bodies list.parts) list.places
+
+-- these frames of one part more were added, behind the bytes of the parts before it
+pub record AreAdded (old new : Kept) (texts : List FrameText) : Type 0 where
+  pub are_kept : AreKept new.parts new.places
+  pub added : frames_of new ≡ frames_of old ++ placed frame_bytes (file_header_length + length (bodies old.parts)) texts
+
+-- to some frames those of a part were added; and the last sequence so far
+pub record IsPushed (part : List ℕ) (before last : Option ℕ) (old new : Kept) : Type 0 where
   pub texts : List FrameText
   pub whole : IsPart frame_format before part texts
-  pub views : AreViewsFrom (base + file_header_length) texts more
+  pub are_added : AreAdded old new texts
+  pub longer : length (bodies new.parts) ≡ length (bodies old.parts) + (length part - file_header_length)
   pub last_is : last ≡ last_after frame_format before texts
 
--- the frames of the part before its first fault are pushed
-pub record IsPushedBefore (part : List ℕ) (base : ℕ) (before : Option ℕ) (old new : List Frame)
-    (fault : Fault) : Type 0 where
-  pub more : List Frame
-  pub added : new ≡ old ++ more
+-- the frames of the part before its first fault were added
+pub record IsPushedBefore (part : List ℕ) (before : Option ℕ) (old new : Kept) (fault : Fault) : Type 0 where
   pub first : IsFirstFaultIn frame_format before part fault
-  pub views : AreViewsFrom (base + file_header_length) (frames_before part fault first) more
+  pub are_added : AreAdded old new (frames_before part fault first)
 
 -- what is said where not all frames of a part were added: nothing of want of memory
-abbrev pub IsStopped : List ℕ → ℕ → Option ℕ → List Frame → List Frame → Stopped → Type 0
-IsStopped part base before old new stopped.Memory = Unit {0}
-IsStopped part base before old new (stopped.Bad fault) = IsPushedBefore part base before old new fault
+abbrev pub IsStopped : List ℕ → Option ℕ → Kept → Kept → Stopped → Type 0
+IsStopped part before old new stopped.Memory = Unit {0}
+IsStopped part before old new (stopped.Bad fault) = IsPushedBefore part before old new fault

@@ -9,3 +9,4 @@ pub mod Parts
 pub mod Cut
 pub mod Process
 pub mod Lookup
+pub mod FrameList

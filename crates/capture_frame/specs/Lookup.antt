@@ -1,28 +1,29 @@
 -- Which frame of a capture holds a place.
 use Rattle.std.specs.Prelude.{◌≡◌, ℕ, ◌+◌, ◌<◌, ◌≤◌, List, length, slice_index_or, All, Contains, Option, Some, None}
 use Rattle.capture_frame.specs.declared.frame.Frame.{Frame}
-use Rattle.capture_frame.specs.Envelope.{frame_header_length}
+use Rattle.capture_frame.specs.Envelope.{PlacedFrame, frame_header_length, placed_frame}
 
 -- how many bytes of the capture a frame takes
-abbrev pub span_of : Frame → ℕ
-span_of frame = frame_header_length + length frame.commands.now + length frame.attachments.now
+abbrev pub span_of : PlacedFrame → ℕ
+span_of frame = frame_header_length + length frame.unit.commands + length frame.unit.attachments
 
 -- the earlier frame ends before the later one begins
-abbrev pub AreApart : Frame → Frame → Type 0
+abbrev pub AreApart : PlacedFrame → PlacedFrame → Type 0
 AreApart earlier later = earlier.place + span_of earlier ≤ later.place
 
 -- the byte at this place is one of the frame's
-abbrev pub Holds : ℕ → Frame → Type 0
+abbrev pub Holds : ℕ → PlacedFrame → Type 0
 Holds place frame = (frame.place ≤ place) × (place < frame.place + span_of frame)
 
--- it is the one frame that holds the byte at this place; or none does
-abbrev pub IsFrameAt : List Frame → ℕ → Option Frame → Type 0
-IsFrameAt frames place (Some frame) =
-    Contains frames frame × Holds place frame × All (λ other. Holds place other → other ≡ frame) frames
+-- it is the view of the one frame that holds the byte at this place; or none does
+abbrev pub IsFrameAt : List PlacedFrame → ℕ → Option Frame → Type 0
+IsFrameAt frames place (Some found) =
+    Contains frames (placed_frame found) × Holds place (placed_frame found)
+    × All (λ other. Holds place other → other ≡ placed_frame found) frames
 IsFrameAt frames place None = All (λ frame. ¬ Holds place frame) frames
 
 -- the first n of these frames begin at this place or before it, and the others behind it
-pub record IsSplitAt (frames : List Frame) (place n : ℕ) : Type 0 where
+pub record IsSplitAt (frames : List PlacedFrame) (place n : ℕ) : Type 0 where
   pub within : n ≤ length frames
-  pub before : (i : ℕ) (d : Frame) → i < n → (slice_index_or frames i d).place ≤ place
-  pub behind : (i : ℕ) (d : Frame) → n ≤ i → i < length frames → place < (slice_index_or frames i d).place
+  pub before : (i : ℕ) (d : PlacedFrame) → i < n → (slice_index_or frames i d).place ≤ place
+  pub behind : (i : ℕ) (d : PlacedFrame) → n ≤ i → i < length frames → place < (slice_index_or frames i d).place

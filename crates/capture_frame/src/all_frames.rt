@@ -1,13 +1,14 @@
 //! All frames of a capture at once.
 
-ghost use Rattle.std.specs.Prelude.{◌+◌, ◌<◌, ◌^◌, length, map, MatchResult};
+ghost use Rattle.std.specs.Prelude.{◌≡◌, ◌+◌, ◌<◌, ◌^◌, length, map, MatchResult};
 ghost use Rattle.std.specs.List.{sum_by};
-ghost use Rattle.capture_frame.specs.declared.frame.Frame.{Frame};
-ghost use Rattle.capture_frame.specs.Cut.{AreFrames, IsCutOff, ArePartFrames, IsPartCutOff, IsPushed, IsStopped};
+ghost use Rattle.capture_frame.specs.FrameList.{AreKept, bodies};
+ghost use Rattle.capture_frame.specs.Cut.{AreFrames, IsCutOff, ArePartFrames, IsPartCutOff, IsPushed, IsStopped, kept, shown_by};
 
 use crate::cut_off::{Cut, PartCut, Stopped};
 use crate::fault::{Fault, PartFault};
 use crate::frame::Frame;
+use crate::frame_list::{FrameList, PartBytes};
 use crate::frames::Frames;
 use crate::header::FILE_HEADER;
 use std::alloc::Global;
@@ -16,35 +17,41 @@ use std::alloc::Global;
 /// and `cut_parts` are the calls here that take memory.
 pub fn cut<'c>(alloc: Global, capture: &'c [u8]) -> Result<Vec<Frame<'c>>, Cut<'c>>
     ensures { MatchResult result
-        (λ frames. AreFrames capture.now frames.items)
+        (λ frames. AreFrames capture.now (shown_by frames.items))
         (IsCutOff capture.now) }
 {
-    let mut frames = Vec::new(alloc);
-    match push_part(&mut frames, capture, 0, None) {
-        Ok(_) => Ok(frames),
-        Err(Stopped::Memory) => Err(Cut::Memory),
-        Err(Stopped::Bad(fault)) => Err(Cut::Bad {
-            fault,
-            before: frames,
-        }),
+    match cut_parts(alloc, &[capture]) {
+        Ok(frames) => match frames.as_slice().to_vec(alloc) {
+            Ok(views) => Ok(views),
+            Err(_) => Err(Cut::Memory),
+        },
+        Err(PartCut::Memory) => Err(Cut::Memory),
+        Err(PartCut::Bad { found, before }) => match before.as_slice().to_vec(alloc) {
+            Ok(before) => Err(Cut::Bad {
+                fault: found.fault,
+                before,
+            }),
+            Err(_) => Err(Cut::Memory),
+        },
     }
 }
 
 /// The frames of all parts of a capture in order, each at its place in the joined capture.
-pub fn cut_parts<'c>(alloc: Global, parts: &[&'c [u8]]) -> Result<Vec<Frame<'c>>, PartCut<'c>>
+pub fn cut_parts<'c>(alloc: Global, parts: &[&'c [u8]]) -> Result<FrameList<'c>, PartCut<'c>>
     requires few { length parts.now < 2 ^ 32 }
     requires fits { sum_by length (map (λ part. part.now) parts.now) < 2 ^ 64 }
     ensures { MatchResult result
-        (λ frames. ArePartFrames (map (λ part. part.now) parts.now) frames.items)
+        (ArePartFrames (map (λ part. part.now) parts.now))
         (IsPartCutOff (map (λ part. part.now) parts.now)) }
 {
-    let mut frames = Vec::new(alloc);
+    let mut row = Vec::new(alloc);
+    let mut places = Vec::new(alloc);
     let mut base = 0;
     let mut before = None;
     let mut number = 0;
     for part in parts {
         number += 1;
-        match push_part(&mut frames, *part, base, before) {
+        match push_part(&mut row, &mut places, *part, base, before) {
             Ok(last) => {
                 base += (part.len() - FILE_HEADER) as u64;
                 before = last;
@@ -57,37 +64,50 @@ pub fn cut_parts<'c>(alloc: Global, parts: &[&'c [u8]]) -> Result<Vec<Frame<'c>>
                 };
                 return Err(PartCut::Bad {
                     found,
-                    before: frames,
+                    before: FrameList::of(row, places),
                 });
             }
         }
     }
-    Ok(frames)
+    Ok(FrameList::of(row, places))
 }
 
 /// Adds the frames of a part, which stands behind the frame with the sequence `before`, and gives
-/// the last sequence so far. `base` is added to their places, and not to that of a fault.
+/// the last sequence so far. The parts before it have `base` bytes behind their file headers; they
+/// are added to the places of its frames, and not to that of a fault.
 fn push_part<'c>(
-    frames: &mut Vec<Frame<'c>>,
+    row: &mut Vec<PartBytes<'c>>,
+    places: &mut Vec<u64>,
     part: &'c [u8],
     base: u64,
     before: Option<u64>,
 ) -> Result<Option<u64>, Stopped>
     requires fits { base + length part.now < 2 ^ 64 }
+    requires base { base ≡ length (bodies row.old.items) }
+    requires kept { AreKept row.old.items places.old.items }
     ensures { MatchResult result
-        (λ last. IsPushed part.now base before last frames.old.items frames.new.items)
-        (IsStopped part.now base before frames.old.items frames.new.items) }
+        (λ last. IsPushed part.now before last
+        (kept row.old.items places.old.items) (kept row.new.items places.new.items))
+        (IsStopped part.now before
+        (kept row.old.items places.old.items) (kept row.new.items places.new.items)) }
 {
     let mut reader = match Frames::after(part, base, before) {
         Ok(reader) => reader,
         Err(fault) => return Err(Stopped::Bad(fault)),
     };
+    let body = PartBytes {
+        start: base + FILE_HEADER as u64,
+        bytes: &part[FILE_HEADER..],
+    };
+    if row.push(body).is_err() {
+        return Err(Stopped::Memory);
+    }
     let mut last = before;
     loop {
         match reader.next_frame() {
             Ok(Some(frame)) => {
                 last = Some(frame.sequence);
-                if frames.push(frame).is_err() {
+                if places.push(frame.place).is_err() {
                     return Err(Stopped::Memory);
                 }
             }

@@ -1,5 +1,6 @@
 use crate::fault::{Fault, PartFault};
 use crate::frame::Frame;
+use crate::frame_list::FrameList;
 
 /// Why not all frames of a capture are given.
 #[derive(Drop)]
@@ -25,7 +26,7 @@ pub enum PartCut<'c> {
         /// The first fault, as far as file headers and frame headers tell.
         found: PartFault,
         /// The frames before the fault, also those of the parts before it.
-        before: Vec<Frame<'c>>,
+        before: FrameList<'c>,
     },
 }
 

@@ -140,7 +140,7 @@ fn are_zero(bytes: &[u8], version: Version) -> bool
 
 /// The frame at the front of the bytes, which stand at `place`, behind a file header of that
 /// version and behind the frame with the sequence `last`, if there is one.
-fn read_frame(
+pub(crate) fn read_frame(
     bytes: &[u8],
     place: u64,
     version: Version,

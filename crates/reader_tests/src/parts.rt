@@ -2,7 +2,7 @@
 
 use crate::build::{Shapes, WRITE, built};
 use crate::expect::{holds, same};
-use capture_frame::{Fault, FaultKind, Frame, Frames, PartCut, PartFault, cut_parts};
+use capture_frame::{Fault, FaultKind, FrameSlice, Frames, PartCut, PartFault, cut_parts};
 use std::alloc::{AllocError, Global};
 use std::process::Abort;
 use std::test::Fail;
@@ -177,10 +177,12 @@ const ROWS: &[Row] = &[
     },
 ];
 
-fn expect_frames(rt: &impl Abort, frames: &[Frame<'_>], wanted: &[(u64, u64, u32)]) {
+fn expect_frames(rt: &impl Abort, frames: &FrameSlice<'_, '_>, wanted: &[(u64, u64, u32)]) {
     same(rt, frames.len(), wanted.len());
-    for (frame, wanted) in frames.iter().zip(wanted) {
-        same(rt, (frame.place, frame.sequence, frame.device), *wanted);
+    for number in 0..frames.len() {
+        let frame = frames.get(number);
+        let found = (frame.place, frame.sequence, frame.device);
+        same(rt, wanted.get(number).copied(), Some(found));
         same(rt, frame.commands, b"\x0c\x63\0\0".as_slice());
     }
 }
@@ -195,7 +197,7 @@ fn expect_given(rt: &impl Abort, alloc: Global, parts: &[&[u8]; 3], row: Row) ->
     match cut_parts(alloc, &[first, second, third]) {
         Ok(frames) => {
             same(rt, row.fault, None);
-            expect_frames(rt, &frames, row.frames);
+            expect_frames(rt, &frames.as_slice(), row.frames);
         }
         Err(
             PartCut::Bad {
@@ -204,7 +206,7 @@ fn expect_given(rt: &impl Abort, alloc: Global, parts: &[&[u8]; 3], row: Row) ->
             },
         ) => {
             same(rt, row.fault.map(found), Some(fault));
-            expect_frames(rt, &before, row.frames);
+            expect_frames(rt, &before.as_slice(), row.frames);
         }
         Err(PartCut::Memory) => return Err("no memory")?,
     }
@@ -229,7 +231,7 @@ fn gives_all_frames_of_parts(rt: HostRuntime) -> Result<(), Fail> {
     }
     holds(
         &rt,
-        cut_parts(rt.alloc(), &[]).is_ok_and(|frames| frames.is_empty()),
+        cut_parts(rt.alloc(), &[]).is_ok_and(|frames| frames.as_slice().is_empty()),
     );
     Ok(())
 }

@@ -1,8 +1,5 @@
 //! The frames and the events of a capture.
 
-ghost use Rattle.std.specs.Prelude.{IfOk};
-ghost use Rattle.capture_frame.specs.Cut.{AreFrames};
-
 use crate::no_answer::{NoAnswer, Printed};
 use crate::told;
 use capture_frame::{Cut, Frame, Thread, cut};
@@ -24,9 +21,7 @@ pub(crate) fn cut_all<W: Write>(alloc: Global, capture: &[u8], out: &mut W) -> P
 }
 
 /// The frames of a capture whose headers are good.
-pub(crate) fn frames_of<'c>(alloc: Global, capture: &'c [u8]) -> Result<Vec<Frame<'c>>, NoAnswer>
-    ensures { IfOk result (λ frames. AreFrames capture.now frames.items) }
-{
+pub(crate) fn frames_of<'c>(alloc: Global, capture: &'c [u8]) -> Result<Vec<Frame<'c>>, NoAnswer> {
     match cut(alloc, capture) {
         Ok(frames) => Ok(frames),
         Err(Cut::Memory) => Err(NoAnswer::Memory),

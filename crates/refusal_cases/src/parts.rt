@@ -78,11 +78,11 @@ pub(crate) fn read<W: Write>(alloc: Global, input: &[u8], out: &mut W) -> Printe
 pub(crate) fn cut_all<W: Write>(alloc: Global, input: &[u8], out: &mut W) -> Printed {
     let parts = parts_of(alloc, input)?;
     match cut_parts(alloc, parts.as_slice()) {
-        Ok(frames) => told::frames(frames.as_slice(), out),
+        Ok(frames) => told::kept_frames(&frames.as_slice(), out),
         Err(PartCut::Memory) => Err(NoAnswer::Memory),
         Err(PartCut::Bad { found, before }) => {
             told::value(&found, out)?;
-            told::frames(before.as_slice(), out)
+            told::kept_frames(&before.as_slice(), out)
         }
     }
 }

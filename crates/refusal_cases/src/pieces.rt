@@ -1,38 +1,49 @@
 //! The frames of a capture in runs, and their summaries.
 
-ghost use Rattle.std.specs.Prelude.{IfOk, OnOk};
+ghost use Rattle.std.specs.Prelude.{◌∷◌, [], IfOk, OnOk};
+ghost use Rattle.capture_frame.specs.Cut.{ArePartFrames};
 ghost use Rattle.audit_findings.specs.Frames.{AreGoodFrames};
 ghost use Rattle.audit_findings.specs.Summary.{SumsPiece};
 ghost use Rattle.audit_join.specs.Jobs.{AreSound};
 
-use crate::events::frames_of;
 use crate::no_answer::{NoAnswer, Printed};
 use crate::sums::{self, Way};
 use crate::told;
 use audit_findings::PieceSummary;
 use audit_join::{CAPTURE_LIMIT, Piece, Plan};
-use capture_frame::Frame;
+use capture_frame::{FrameList, FrameSlice, PartCut, cut_parts};
 use std::alloc::{AllocError, Global};
 use std::io::Write;
 use transaction_view::check_frame;
 
 /// Prints the frames in runs of one.
 pub(crate) fn plan<W: Write>(alloc: Global, capture: &[u8], out: &mut W) -> Printed {
-    let frames = frames_of(alloc, capture)?;
+    let frames = kept_frames(alloc, capture)?;
     let piece = Piece::new(1).unwrap();
-    let plan = Plan::new(alloc, frames.as_slice(), piece)?;
+    let plan = Plan::new(alloc, &frames.as_slice(), piece)?;
     for run in plan.runs() {
-        told::frames(run, out)?;
+        told::kept_frames(run, out)?;
     }
     Ok(())
 }
 
+/// The frames of a capture whose headers are good, kept by their places.
+fn kept_frames<'c>(alloc: Global, capture: &'c [u8]) -> Result<FrameList<'c>, NoAnswer>
+    ensures { IfOk result (ArePartFrames (capture.now ∷ [])) }
+{
+    match cut_parts(alloc, &[capture]) {
+        Ok(frames) => Ok(frames),
+        Err(PartCut::Memory) => Err(NoAnswer::Memory),
+        Err(_) => Err(NoAnswer::Unfit),
+    }
+}
+
 /// Looks whether the records and entries of these frames have no fault.
-fn check_all(frames: &[Frame<'_>]) -> Result<(), NoAnswer>
+fn check_all(frames: &FrameSlice<'_, '_>) -> Result<(), NoAnswer>
     ensures { OnOk result (AreSound frames.now) }
 {
-    for frame in frames {
-        if let Some(_) = check_frame(*frame) {
+    for number in 0..frames.len() {
+        if let Some(_) = check_frame(frames.get(number)) {
             return Err(NoAnswer::Unfit);
         }
     }
@@ -40,21 +51,21 @@ fn check_all(frames: &[Frame<'_>]) -> Result<(), NoAnswer>
 }
 
 /// The frames of a capture without a fault.
-fn good_frames<'c>(alloc: Global, capture: &'c [u8]) -> Result<Vec<Frame<'c>>, NoAnswer>
-    ensures { IfOk result (λ frames. AreGoodFrames frames.items) }
+fn good_frames<'c>(alloc: Global, capture: &'c [u8]) -> Result<FrameList<'c>, NoAnswer>
+    ensures { IfOk result AreGoodFrames }
 {
     if capture.len() > CAPTURE_LIMIT {
         return Err(NoAnswer::Unfit);
     }
-    let frames = frames_of(alloc, capture)?;
-    check_all(frames.as_slice())?;
+    let frames = kept_frames(alloc, capture)?;
+    check_all(&frames.as_slice())?;
     Ok(frames)
 }
 
 /// Prints the sections of a summary of these frames.
 fn tell<'c, W: Write>(
     alloc: Global,
-    frames: &[Frame<'c>],
+    frames: &FrameSlice<'_, 'c>,
     summary: PieceSummary<'c>,
     out: &mut W,
 ) -> Printed
@@ -73,6 +84,7 @@ fn tell<'c, W: Write>(
 
 pub(crate) fn summed<W: Write>(alloc: Global, bytes: &[u8], way: Way, out: &mut W) -> Printed {
     let frames = good_frames(alloc, bytes)?;
-    let summary = sums::summed(alloc, frames.as_slice(), way)?;
-    tell(alloc, frames.as_slice(), summary, out)
+    let views = frames.as_slice().to_vec(alloc)?;
+    let summary = sums::summed(alloc, views.as_slice(), way)?;
+    tell(alloc, &frames.as_slice(), summary, out)
 }

@@ -3,7 +3,7 @@
 use crate::no_answer::Printed;
 use audit_findings::{Findings, Sections};
 use call_stacks::CallFindings;
-use capture_frame::Frame;
+use capture_frame::{Frame, FrameSlice};
 use event_core::Event;
 use std::fmt::Debug;
 use std::io::Write;
@@ -17,6 +17,15 @@ pub(crate) fn value<D: Debug, W: Write>(value: &D, out: &mut W) -> Printed {
 /// Prints where each frame begins, and its sequence.
 pub(crate) fn frames<W: Write>(frames: &[Frame<'_>], out: &mut W) -> Printed {
     for frame in frames {
+        value(&(frame.place, frame.sequence), out)?;
+    }
+    Ok(())
+}
+
+/// Prints the same of frames that are kept by their places.
+pub(crate) fn kept_frames<W: Write>(frames: &FrameSlice<'_, '_>, out: &mut W) -> Printed {
+    for number in 0..frames.len() {
+        let frame = frames.get(number);
         value(&(frame.place, frame.sequence), out)?;
     }
     Ok(())
@@ -38,7 +47,7 @@ pub(crate) fn calls<W: Write>(found: &CallFindings<Event<'_>>, out: &mut W) -> P
 
 /// Prints the frames and the sections of findings.
 pub(crate) fn findings<W: Write>(found: &Findings<'_>, out: &mut W) -> Printed {
-    frames(found.frames(), out)?;
+    kept_frames(&found.frames(), out)?;
     sections(found.sections(), out)
 }
 

@@ -1,7 +1,7 @@
 -- What is pushed while a report is made.
+use Rattle.capture_frame.specs.Envelope.{PlacedFrame}
 use Rattle.std.specs.Prelude.{◌≡◌, ℕ, List, ◌∷◌, All, Contains, length, map}
 use Rattle.std.specs.List.{AllZip, FoldsTo}
-use Rattle.capture_frame.specs.declared.frame.Frame.{Frame}
 use Rattle.capture_frame.specs.Units.{Placed}
 use Rattle.transaction_view.specs.Grammar.{WholeFrame}
 use Rattle.event_core.specs.Events.{EventRead}
@@ -12,7 +12,7 @@ use Rattle.audit_findings.specs.Kept.{KeptFindings, AreSectionsOf}
 use Rattle.report_text.specs.Section.{SectionText}
 
 -- the line is made so of the event at this place of the frames that the views show
-abbrev pub ShowsEvent : (EventRead → List ℕ) → List Frame → ℕ → List ℕ → Type 0
+abbrev pub ShowsEvent : (EventRead → List ℕ) → List PlacedFrame → ℕ → List ℕ → Type 0
 ShowsEvent line_of frames place line =
     (wholes : List (Placed WholeFrame)) (e : EventRead) → AreViews frames wholes → Contains (events_of_wholes wholes) e
     → e.place ≡ place → line ≡ line_of e

@@ -17,7 +17,7 @@ const AT_ONCE: usize = 65_536;
 /// A section: its head, and a line for each of its rows.
 pub(crate) trait Section {
     ghost use Rattle.std.specs.Prelude.{◌≡◌, ℕ, List, All};
-    ghost use Rattle.capture_frame.specs.declared.frame.Frame.{Frame};
+    ghost use Rattle.capture_frame.specs.Envelope.{PlacedFrame};
     ghost use Rattle.audit_findings.specs.declared.findings.Sections.{Sections};
     ghost use Rattle.audit_findings.specs.Findings.{FindingsSaid};
     ghost use Rattle.audit_findings.specs.Kept.{AreOfFrames};
@@ -33,10 +33,10 @@ pub(crate) trait Section {
     ghost head_of: { Sections → ℕ → List ℕ };
 
     /// The row can be read from the frames again.
-    ghost can_show: { List Frame → Self.Kept → Type 0 };
+    ghost can_show: { List PlacedFrame → Self.Kept → Type 0 };
 
     /// The line is that of the row.
-    ghost shows: { List Frame → Self.Kept → List ℕ → Type 0 };
+    ghost shows: { List PlacedFrame → Self.Kept → List ℕ → Type 0 };
 
     /// The head, without its line feed.
     fn head(&self, sections: &Sections, rows: usize) -> Row

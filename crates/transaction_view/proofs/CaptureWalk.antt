@@ -5,7 +5,7 @@ use Rattle.capture_frame.specs.declared.fault.Fault.{Fault}
 use Rattle.capture_frame.specs.declared.frame.Frame.{Frame}
 use Rattle.capture_frame.specs.Units.{state_after}
 use Rattle.capture_frame.specs.declared.version.Version.{Version}
-use Rattle.capture_frame.specs.Envelope.{in_version, file_header, frame_bytes, frame_text}
+use Rattle.capture_frame.specs.Envelope.{in_version, file_header, frame_bytes, frame_text, placed_frame, FrameText}
 use Rattle.capture_frame.specs.FirstFault.{IsPart, IsFirstFaultIn, in_frames}
 use Rattle.capture_frame.specs.Readers.{at}
 use Rattle.capture_frame.specs.Reading.{Reading, behind_header, frame_source, frames_after, Steps}
@@ -43,21 +43,21 @@ steps_from part before reading done stands result new steps = readers.steps_from
     (behind_header part 0) (in_version stands.version before) reading done stands.frames result new steps
 
 -- a frame with its records and its entries
-abbrev pub whole_of : Frame → List RecordText → List EntryText → WholeFrame
-whole_of found records entries = record { frame = frame_text found; records = records; entries = entries }
+abbrev pub whole_of : FrameText → List RecordText → List EntryText → WholeFrame
+whole_of frame records entries = record { frame = frame; records = records; entries = entries }
 
 -- behind one whole frame more
 pub stands_behind_next : (part : List ℕ) (before : Option ℕ) (reading : Reading) (done : List WholeFrame) (stands : HasGiven part before reading done) (found : Frame)
     (records : List RecordText) (entries : List EntryText) (new : Reading)
     → Steps reading (Ok (Some found)) new → HasRecords (frame_text found) records → HasEntries (frame_text found) entries
-    → HasGiven part before new (done ++ whole_of found records entries ∷ [])
+    → HasGiven part before new (done ++ whole_of (frame_text found) records entries ∷ [])
 stands_behind_next part before reading done stands found records entries new steps has_records has_entries =
     let s = steps_from part before reading done stands (Ok (Some found)) new steps in
     record {
       version = stands.version;
       header = stands.header;
       frames = readers.stands_behind_next frame_source whole_format (behind_header part 0) (in_version stands.version before) reading done stands.frames found new
-          (whole_of found records entries) steps
+          (whole_of (frame_text found) records entries) steps
           (record { header = s.0.may_stand; has_records = has_records; has_entries = has_entries }) refl refl;
     }
 
@@ -98,7 +98,7 @@ header_fails part before reading done stands fault new steps =
 
 -- and so is a fault of a frame's content
 pub content_fails : (part : List ℕ) (before : Option ℕ) (reading : Reading) (done : List WholeFrame) (stands : HasGiven part before reading done) (found : Frame)
-    (new : Reading) (fault : Fault) → Steps reading (Ok (Some found)) new → HasContentFault found fault
+    (new : Reading) (fault : Fault) → Steps reading (Ok (Some found)) new → HasContentFault (placed_frame found) fault
     → IsFirstFaultIn whole_format before part fault
 content_fails part before reading done stands found new fault steps fails =
     let s = steps_from part before reading done stands (Ok (Some found)) new steps in

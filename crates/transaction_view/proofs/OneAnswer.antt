@@ -3,8 +3,7 @@ use Rattle.std.proofs.Common.{◌≡◌, ℕ, ◌+◌, List, Option, Some, None,
 use Rattle.std.specs.Prelude.{IsNone, MatchOption, MatchResult}
 use Rattle.std.specs.Result.{result_err}
 use Rattle.capture_frame.specs.declared.fault.Fault.{Fault}
-use Rattle.capture_frame.specs.declared.frame.Frame.{Frame}
-use Rattle.capture_frame.specs.Envelope.{frame_text}
+use Rattle.capture_frame.specs.Envelope.{PlacedFrame}
 use Rattle.capture_frame.proofs.FaultLaws.{same_fault}
 use Rattle.capture_frame.proofs.CaptureLaws.{capture_one_fault, capture_never_both}
 use Rattle.capture_frame.proofs.PartLaws.{parts_one_fault, parts_never_both}
@@ -35,15 +34,15 @@ answer_first Good Fails IsGood gives (Err fault) answer is fails = rw is fails
 
 -- ---- a frame's content, and a capture
 
-one_content_fault : (frame : Frame) (a b : Fault) → HasContentFault frame a → HasContentFault frame b → a ≡ b
+one_content_fault : (frame : PlacedFrame) (a b : Fault) → HasContentFault frame a → HasContentFault frame b → a ≡ b
 one_content_fault frame a b x y =
-    let same = content_one_failure (frame_text frame) a.kind b.kind x.0 y.0 x.1 y.1 in
+    let same = content_one_failure frame.unit a.kind b.kind x.0 y.0 x.1 y.1 in
     same_fault a b same.0 (x.2 ∙ ap (λ (n : ℕ). frame.place + n) same.1 ∙ sym y.2)
 
-pub content_one_of : (frame : Frame) → IsOneOf (HasGoodContent (frame_text frame)) (HasContentFault frame)
+pub content_one_of : (frame : PlacedFrame) → IsOneOf (HasGoodContent frame.unit) (HasContentFault frame)
 content_one_of frame = record {
   one_fault = one_content_fault frame;
-  never_both = λ a good fails. content_never_both (frame_text frame) good.0.0 good.1.0 a.kind fails.0 good.0.1 good.1.1 fails.1;
+  never_both = λ a good fails. content_never_both frame.unit good.0.0 good.1.0 a.kind fails.0 good.0.1 good.1.1 fails.1;
 }
 
 pub capture_one_of : (capture : List ℕ) → IsOneOf (IsReadable capture) (HasFirstFault capture)

@@ -4,7 +4,7 @@ ghost use Rattle.std.specs.Prelude.{◌≡◌, ◌<◌, ◌^◌, List, length, m
 ghost use Rattle.capture_frame.specs.declared.fault.Fault.{Fault};
 ghost use Rattle.capture_frame.specs.declared.fault.PartFault.{PartFault};
 ghost use Rattle.capture_frame.specs.Parts.{last_after};
-ghost use Rattle.capture_frame.specs.Envelope.{frame_text};
+ghost use Rattle.capture_frame.specs.Envelope.{frame_text, placed_frame};
 ghost use Rattle.capture_frame.specs.FirstFault.{IsPart, IsFirstFaultIn};
 ghost use Rattle.record_view.specs.Records.{HasReadableRecords};
 ghost use Rattle.transaction_view.specs.Attachments.{HasReadableEntries};
@@ -46,11 +46,11 @@ pub fn first_fault_parts(parts: &[&[u8]]) -> Option<PartFault>
 /// none.
 pub fn check_frame(frame: Frame<'_>) -> Option<Fault>
     ensures first { MatchOption result
-        (HasGoodContent (frame_text frame.entry)) (HasContentFault frame.entry) }
+        (HasGoodContent (frame_text frame.entry)) (HasContentFault (placed_frame frame.entry)) }
 
     // There is no other answer.
     ensures good { HasGoodContent (frame_text frame.entry) → IsNone result }
-    ensures fault { (fault : Fault) → HasContentFault frame.entry fault → result ≡ Some fault }
+    ensures fault { (fault : Fault) → HasContentFault (placed_frame frame.entry) fault → result ≡ Some fault }
 {
     check_content(frame).err()
 }
@@ -97,7 +97,7 @@ fn check_part(part: &[u8], before: Option<u64>) -> Result<Option<u64>, Fault>
 
 fn check_content(frame: Frame<'_>) -> Result<(), Fault>
     ensures { MatchResult result
-        (λ _. HasGoodContent (frame_text frame.entry)) (HasContentFault frame.entry) }
+        (λ _. HasGoodContent (frame_text frame.entry)) (HasContentFault (placed_frame frame.entry)) }
 {
     check_records(frame)?;
     check_entries(frame)
@@ -106,7 +106,7 @@ fn check_content(frame: Frame<'_>) -> Result<(), Fault>
 /// Checks the records of one frame.
 fn check_records(frame: Frame<'_>) -> Result<(), Fault>
     ensures { MatchResult result
-        (λ _. HasReadableRecords (frame_text frame.entry)) (HasContentFault frame.entry) }
+        (λ _. HasReadableRecords (frame_text frame.entry)) (HasContentFault (placed_frame frame.entry)) }
 {
     let mut records = Records::of(frame);
     while let Some(_) = records.next_record()? {}
@@ -117,7 +117,7 @@ fn check_records(frame: Frame<'_>) -> Result<(), Fault>
 fn check_entries(frame: Frame<'_>) -> Result<(), Fault>
     requires { HasReadableRecords (frame_text frame) }
     ensures { MatchResult result
-        (λ _. HasReadableEntries (frame_text frame.entry)) (HasContentFault frame.entry) }
+        (λ _. HasReadableEntries (frame_text frame.entry)) (HasContentFault (placed_frame frame.entry)) }
 {
     let mut attachments = Attachments::of(frame);
     while let Some(_) = attachments.next_entry()? {}

@@ -10,7 +10,7 @@ use Rattle.audit_findings.proofs.entries.add_frame.Given as goal
 abbrev pub invariant-loop-event : goal.invariant-loop-event
 invariant-loop-event l =
     (given : List Event) × Given (placed_frame l.fn.frame) l.events given × GrowsGiven l.initial.entries.items given l.entries.items
-    × AddsGiven l.initial.entries.items l.fn.frame l.fn.places given l.entries.items l.rest
+    × AddsGiven l.initial.entries.items (placed_frame l.fn.frame) l.fn.places given l.entries.items l.rest
 
 abbrev pub decreases-loop-event : goal.decreases-loop-event
 decreases-loop-event l = left_of l.events

@@ -1,24 +1,15 @@
-use Rattle.std.proofs.Common.{◌≡◌, ◌+◌, ◌∷◌, ◌++◌, [], take, sym, ap, subst, ◌∙◌, arith}
-use Rattle.std.proofs.lemmas.List.{take_more, take_all}
-use Rattle.std.proofs.lemmas.List.Elements.{All-append, All-cons, All-nil}
-use Rattle.capture_frame.specs.declared.frame.Frame.{Frame}
-use Rattle.capture_frame.specs.Envelope.{frame_text}
-use Rattle.transaction_view.specs.FirstFault.{HasGoodContent}
+use Rattle.std.proofs.Common.{subst, sym, arith}
+use Rattle.std.proofs.lemmas.List.{take_all}
 use Rattle.audit_join.specs.Jobs.{AreSound}
+use Rattle.audit_join.proofs.FaultLaws.{sound_more}
 use Rattle.refusal_cases.proofs.pieces.check_all.Goals as goal
 
-pub loop-frame-preserved : goal.loop-frame-preserved
-loop-frame-preserved c =
-    let frames = c.args.frames.now in
-    let i = c.loop-frame.frame-index in
-    let more : take (i + 1) frames ≡ take i frames ++ c.frame-item.result ∷ []
-    = take_more frames i c.frame-item.result (omega arith) ∙ ap (λ (x : Frame). take i frames ++ x ∷ []) (sym c.frame-item.is) in
-    let IsGood : Frame → Type 0 = λ frame. HasGoodContent (frame_text frame) in
-    subst AreSound (sym more)
-    (All-append IsGood (take i frames) (c.frame-item.result ∷ []) c.loop-frame.invariant
-    (All-cons IsGood c.frame-item.result [] c.in_default.ensures.first (All-nil IsGood)))
+pub loop-number-preserved : goal.loop-number-preserved
+loop-number-preserved c =
+    sound_more c.args.frames.now c.loop-number.number _ c.get.ensures c.loop-number.invariant c.in_default.ensures.first
 
 pub returns : goal.returns
 returns c =
-    let end = c.loop-frame-test.false in
-    subst AreSound (take_all c.loop-frame.frame-index c.args.frames.now (omega (arith, end))) c.loop-frame.invariant
+    let end = c.loop-number-test.false in
+    let long = c.len-number-end.ensures in
+    subst AreSound (take_all c.loop-number.number c.args.frames.now (omega (arith, end, long))) c.loop-number.invariant

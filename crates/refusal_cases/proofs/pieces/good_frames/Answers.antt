@@ -7,5 +7,5 @@ use Rattle.refusal_cases.proofs.pieces.good_frames.Goals as goal
 pub returns : goal.returns
 returns c =
     let bytes : IsBytes c.args.capture.now = λ i. omega (arith, c.type_inv.capture i) in
-    good_frames c.args.capture.now c.in_ok-frames.frames.items c.in_ok-frames.ensures (omega arith) bytes
-    (subst AreSound c.as_slice.ensures.value c.in_ok-check_all.ensures)
+    good_frames c.args.capture.now c.in_ok-frames.frames c.in_ok-frames.ensures (omega arith) bytes
+    (subst AreSound c.as_slice.ensures c.in_ok-check_all.ensures)

@@ -1,7 +1,6 @@
 use Rattle.std.proofs.Common.{◌≡◌, ℕ, List, length, sym, ap, ap₂, ◌∙◌}
 use Rattle.std.proofs.lemmas.List.{length-map}
 use Rattle.std.proofs.lemmas.Result.{on_ok_weaker}
-use Rattle.capture_frame.specs.Envelope.{placed_frame}
 use Rattle.transaction_view.specs.Grammar.{WholeFrame}
 use Rattle.audit_findings.specs.Findings.{FindingsSaid}
 use Rattle.event_core.specs.Events.{wholes_of}
@@ -17,7 +16,7 @@ totals_told : (found : KeptFindings) (wholes : List WholeFrame) (said : Findings
     → line ≡ totals said.frames said.events.records said.events.opaque said.missing
 totals_told found wholes said line tell is =
     let count : length found.frames ≡ said.frames =
-    sym (length-map found.frames placed_frame) ∙ ap length tell.show.stand ∙ length-map (wholes_of wholes) placed_text ∙ sym tell.are.frames in
+    ap length tell.show.stand ∙ length-map (wholes_of wholes) placed_text ∙ sym tell.are.frames in
     is ∙ ap₂ (λ (f r : ℕ). totals f r found.sections.events.opaque found.sections.missing) count tell.keep.events.records
     ∙ ap₂ (λ (o m : ℕ). totals said.frames said.events.records o m) tell.keep.events.opaque tell.keep.missing
 

@@ -1,7 +1,7 @@
 use Rattle.std.proofs.Common.{◌++◌, ◌∷◌, [], sym, ap}
 use Rattle.std.proofs.lemmas.Result.{err_from_is_err_and}
 use Rattle.capture_frame.specs.declared.version.Version.TheVariants.{Two}
-use Rattle.capture_frame.specs.Envelope.{Before, in_version}
+use Rattle.capture_frame.specs.Envelope.{Before, in_version, frame_text}
 use Rattle.capture_frame.proofs.UnitLaws.{state_after-snoc}
 use Rattle.transaction_view.specs.Grammar.{whole_format}
 use Rattle.transaction_view.proofs.CaptureWalk.{whole_of, stands_behind_next, left_falls, header_fails, content_fails}
@@ -21,7 +21,7 @@ pub loop-frame-preserved : goal.loop-frame-preserved
 loop-frame-preserved c =
     let has = c.in_ok-check_content.ensures in
     let done = c.loop-frame.invariant.0 in
-    let whole = whole_of c.in-Some.frame has.0.0 has.1.0 in (
+    let whole = whole_of (frame_text c.in-Some.frame) has.0.0 has.1.0 in (
       done ++ whole ∷ [],
       stands_behind_next c.args.part.now c.args.before c.loop-frame.frames done c.loop-frame.invariant.1 c.in-Some.frame has.0.0 has.1.0 c.next_frame.new.self
           (rw c.in-Some.is at c.in_ok-frame.ensures) has.0.1 has.1.1,

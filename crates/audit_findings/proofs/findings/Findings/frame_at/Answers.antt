@@ -1,16 +1,14 @@
 use Rattle.std.proofs.Common.{List, ap, subst, sym, ◌∙◌}
 use Rattle.std.specs.Prelude.{AllPairs}
-use Rattle.capture_frame.specs.declared.frame.Frame.{Frame}
-use Rattle.capture_frame.specs.Lookup.{AreApart}
-use Rattle.capture_frame.specs.Lookup.{IsFrameAt}
+use Rattle.capture_frame.specs.Envelope.{PlacedFrame}
+use Rattle.capture_frame.specs.Lookup.{AreApart, IsFrameAt}
 use Rattle.audit_findings.proofs.PlacesRise.{stand_apart}
 use Rattle.audit_findings.proofs.findings.Findings.frame_at.Goals as goal
 
 pub frame_at-requires : goal.frame_at-requires
-frame_at-requires c =
-    subst (AllPairs AreApart) (sym c.as_slice.ensures.value) (stand_apart _ c.self.invariant.0 c.self.invariant.2.show)
+frame_at-requires c = subst (AllPairs AreApart) (sym c.as_slice.ensures) (stand_apart _ c.self.invariant.0 c.self.invariant.2.show)
 
 -- these frames are the findings' own
 pub returns : goal.returns
 returns c =
-    subst (λ (t : List Frame). IsFrameAt t c.args.place c.frame_at.result) (c.as_slice.ensures.value ∙ ap (λ k. k.frames) c.self.view_is) c.frame_at.ensures
+    subst (λ (t : List PlacedFrame). IsFrameAt t c.args.place c.frame_at.result) (c.as_slice.ensures ∙ ap (λ k. k.frames) c.self.view_is) c.frame_at.ensures

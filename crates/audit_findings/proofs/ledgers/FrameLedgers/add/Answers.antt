@@ -1,3 +1,4 @@
+use Rattle.capture_frame.specs.Envelope.{placed_frame}
 use Rattle.std.proofs.Common.{[], ◌∷◌, ◌++◌, map, refl, sym, subst, ◌∙◌, append_assoc, length-append, arith}
 use Rattle.std.proofs.lemmas.List.{append-nil, map-append}
 use Rattle.event_core.specs.Reading.{event_text}
@@ -23,7 +24,7 @@ pub name_process-requires : goal.name_process-requires
 name_process-requires c = (c.requires.0, c.requires.2)
 
 pub of-events-requires : goal.of-events-requires
-of-events-requires c = shown_good c.args.frame c.requires.1 c.requires.3
+of-events-requires c = shown_good (placed_frame c.args.frame) c.requires.1 c.requires.3
 
 pub loop-event-init : goal.loop-event-init
 loop-event-init c = (
@@ -36,7 +37,7 @@ loop-event-init c = (
 
 pub add-requires : goal.add-requires
 add-requires c =
-    let frame = c.args.frame in
+    let frame = placed_frame c.args.frame in
     let sums = c.requires.2 in
     let few = few_with (map event_text sums.given) frame c.requires.0 c.requires.1 (sym sums.are_all) c.requires.3 c.requires.4 in
     let i = c.loop-event.invariant in
@@ -49,7 +50,7 @@ loop-event-smaller c = step_falls c.loop-event.events c.in-Some.event c.next_eve
 
 pub loop-event-preserved : goal.loop-event-preserved
 loop-event-preserved c =
-    let frame = c.args.frame in
+    let frame = placed_frame c.args.frame in
     let i = c.loop-event.invariant in
     let found = c.in-Some.event in
     let steps = rw c.in-Some.is at c.next_event.ensures in
@@ -65,7 +66,7 @@ loop-event-preserved c =
 
 pub returns : goal.returns
 returns c wholes others sums show few =
-    let frame = c.args.frame in
+    let frame = placed_frame c.args.frame in
     let i = c.loop-event.invariant in
     let steps = rw c.in_default.is at c.next_event.ensures in
     let alone = shown_alone frame others show in

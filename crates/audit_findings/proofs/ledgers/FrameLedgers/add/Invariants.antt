@@ -13,7 +13,7 @@ abbrev pub invariant-loop-event : goal.invariant-loop-event
 invariant-loop-event l =
     (l.self.sequences ≡ l.initial.self.sequences) × (l.self.order ≡ l.initial.self.order)
     × (given : List Event) × Given (placed_frame l.fn.frame) l.events given
-    × ((before : List Event) → SumsGiven l.initial.self.of_events before → AreFewWith (map event_text before) l.fn.frame
+    × ((before : List Event) → SumsGiven l.initial.self.of_events before → AreFewWith (map event_text before) (placed_frame l.fn.frame)
     → SumsGiven l.self.of_events (before ++ given))
 
 abbrev pub decreases-loop-event : goal.decreases-loop-event

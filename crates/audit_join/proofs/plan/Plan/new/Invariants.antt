@@ -1,10 +1,10 @@
-use Rattle.std.proofs.Common.{◌-◌, length, map}
-use Rattle.audit_join.proofs.RunLaws.{AreRunsUpTo}
+use Rattle.std.proofs.Common.{length}
+use Rattle.audit_join.proofs.RunLaws.{AreRunsBefore}
 use Rattle.audit_join.proofs.plan.Plan.new.Given as goal
 
--- the runs are the frames so far
-abbrev pub invariant-loop-start : goal.invariant-loop-start
-invariant-loop-start l = AreRunsUpTo l.most l.frames (map (λ run. run.now) l.runs.items) l.start
+-- the runs so far, and the frames that are left
+abbrev pub invariant-loop-left : goal.invariant-loop-left
+invariant-loop-left l = AreRunsBefore l.fn.piece.frames l.fn.frames l.runs.items l.left
 
-abbrev pub decreases-loop-start : goal.decreases-loop-start
-decreases-loop-start l = length l.frames - l.start
+abbrev pub decreases-loop-left : goal.decreases-loop-left
+decreases-loop-left l = length l.left
