@@ -1,37 +1,64 @@
 //! What ends a listing before its end.
 
 use audit_streams::RunError;
-use std::alloc::AllocError;
+use std::alloc::{AllocError, AllocFailed};
 use thiserror::Error;
 
 /// What ended a listing. It is displayed as its line, without the line feed.
 #[derive(Clone, Copy, Debug, PartialEq, Eq, Error)]
+#[error("{}", self.line().trim_end())]
 pub enum ListingError {
     /// The words of the command line ask for nothing.
-    #[error("usage")]
     Usage,
     /// Memory ran out.
-    #[error("fault Memory")]
     Memory,
     /// A file has more bytes than are allowed.
-    #[error("fault TooLarge")]
     TooLarge,
     /// A read failed.
-    #[error("fault Read")]
     Read,
     /// A write or the flush failed.
-    #[error("fault Write")]
     Write,
     /// A file could not be opened.
-    #[error("fault Open")]
     Open,
     /// Who reads the listing has seen enough.
-    #[error("closed")]
     Closed,
+}
+
+impl ListingError {
+    /// The status that the process ends with.
+    pub fn status(self) -> u8 {
+        match self {
+            ListingError::Usage => 64,
+            ListingError::Memory => 3,
+            ListingError::Closed => 0,
+            _ => 4,
+        }
+    }
+
+    /// The line of standard error; none where the reader has seen enough.
+    pub fn line(self) -> &'static str {
+        match self {
+            ListingError::Usage => {
+                "usage: listing FILE... [--at PLACE] [--process P] [--thread T] [--device D] [--handle H] [--cookie X] [--address A] [--code NAME] [--from N] [--to N]\n"
+            }
+            ListingError::Memory => "fault Memory\n",
+            ListingError::TooLarge => "fault TooLarge\n",
+            ListingError::Read => "fault Read\n",
+            ListingError::Write => "fault Write\n",
+            ListingError::Open => "fault Open\n",
+            ListingError::Closed => "",
+        }
+    }
 }
 
 impl From<AllocError> for ListingError {
     fn from(_error: AllocError) -> ListingError {
+        ListingError::Memory
+    }
+}
+
+impl<T: Drop> From<AllocFailed<T>> for ListingError {
+    fn from(_error: AllocFailed<T>) -> ListingError {
         ListingError::Memory
     }
 }

@@ -1,0 +1,28 @@
+//! The flags of a transaction, by name.
+
+use crate::text::push_hexadecimal;
+use binder_code::{TransactionFlags, unknown_bits};
+use bitflags::Flags;
+use std::alloc::AllocError;
+
+/// Pushes the flags of a word by name, with `|` between them, and the bits that no flag has as a
+/// number; `-` where there are none.
+pub(crate) fn push_flags(text: &mut String, word: u32) -> Result<(), AllocError> {
+    let mut mark = "";
+    for flag in TransactionFlags::flags() {
+        if word & flag.value().bits() != 0 {
+            text.push_str(mark)?;
+            text.push_str(flag.name())?;
+            mark = "|";
+        }
+    }
+    let unknown = unknown_bits(word);
+    if unknown != 0 {
+        text.push_str(mark)?;
+        push_hexadecimal(text, u64::from(unknown))?;
+    }
+    if word == 0 {
+        text.push_str("-")?;
+    }
+    Ok(())
+}

@@ -1,0 +1,54 @@
+//! The lines that are written.
+
+use crate::error::ListingError;
+use std::alloc::Global;
+use std::io::{Error, ErrorKind, Write};
+
+/// How many bytes are written at a time, but for the last line's.
+const PIECE: usize = 65_536;
+
+/// Takes lines, and writes them in pieces.
+#[derive(Drop)]
+pub(crate) struct Output<'w, W: Write> {
+    /// What is not written yet.
+    pub text: String,
+    writer: &'w mut W,
+}
+
+impl<'w, W: Write> Output<'w, W> {
+    pub(crate) fn new(alloc: Global, writer: &'w mut W) -> Output<'w, W> {
+        Output {
+            text: String::new(alloc),
+            writer,
+        }
+    }
+
+    /// Ends the line that was pushed to the text.
+    pub(crate) fn end_line(&mut self) -> Result<(), ListingError> {
+        self.text.push_str("\n")?;
+        if self.text.len() < PIECE {
+            return Ok(());
+        }
+        self.write_out()
+    }
+
+    /// Writes what is not written yet.
+    pub(crate) fn flush(&mut self) -> Result<(), ListingError> {
+        self.write_out()?;
+        self.writer.flush().map_err(|error| write_error(&error))
+    }
+
+    fn write_out(&mut self) -> Result<(), ListingError> {
+        let written = self.writer.write_all(self.text.as_bytes());
+        self.text.clear();
+        written.map_err(|error| write_error(&error))
+    }
+}
+
+/// What ends a listing that can't be written.
+fn write_error(error: &Error) -> ListingError {
+    match error.kind() {
+        ErrorKind::BrokenPipe => ListingError::Closed,
+        _ => ListingError::Write,
+    }
+}
