@@ -2,113 +2,237 @@
 
 use crate::attached::has_named;
 use crate::content::Item;
-use crate::fields::{fields_of, name_one_of};
-use binder_code::Kind;
-use capture_frame::Frame;
+use crate::fields::{fields_of, has_field};
+use capture_frame::{Direction, Frame};
 use record_view::Record;
+use transaction_view::Transaction;
 
-/// Records of a name, or of a code word.
-#[derive(Clone, Copy)]
-pub enum CodeAsked {
-    Named(Kind),
-    Word(u64),
+/// What an option narrows.
+#[derive(Clone, Copy, PartialEq, Eq)]
+pub enum Narrowing {
+    Device,
+    Process,
+    Thread,
+    /// The lowest sequence of a frame.
+    From,
+    /// The highest sequence of a frame.
+    To,
+    /// The direction of a frame: 1 a write, 2 a read.
+    Direction,
+    /// A kind of records, by its number in `Kind`.
+    Kind,
+    /// A code word.
+    Word,
+    /// A handle that the record names: as target, as what is counted or watched, or in an object.
+    Handle,
+    /// A cookie that the record names, in an object too.
+    Cookie,
+    /// The pointer of a node that the record names, in an object too.
+    Node,
+    /// A buffer of a transaction or a reply, or what is freed.
+    Address,
+    /// A bit of the flags of a transaction or a reply.
+    Flag,
+    /// How much data a transaction or a reply has more than.
+    Larger,
 }
 
-/// What is asked of a capture: of each option the numbers behind it. An option without numbers asks
-/// for nothing, and one with several for what fits one of them.
+/// A narrowing, and the number behind it.
+#[derive(Clone, Copy)]
+pub struct Word {
+    pub narrowing: Narrowing,
+    pub number: u64,
+}
+
+/// What is looked for by its place.
+#[derive(Clone, Copy, PartialEq, Eq)]
+pub enum Sought {
+    /// Nothing: each record that is asked for has its line.
+    Nothing,
+    /// Records that have a byte, or whose attachment has it. They are shown in whole.
+    Record,
+    /// Frames that have a byte.
+    Frame,
+    /// Calls whose opener has a byte, up to their closers.
+    Call,
+}
+
+/// How the line of a record is written.
+#[derive(Clone, Copy, PartialEq, Eq)]
+pub enum Form {
+    /// What it says, each field by its name.
+    Lines,
+    /// Columns with a tab between.
+    Tab,
+}
+
+/// What is asked of a capture. One narrowing with several numbers takes what fits one of them.
 #[derive(Drop)]
 pub struct Asked {
-    /// A byte of the record, or of its attachment, in bytes from the capture's first.
+    pub words: Vec<Word>,
+    pub sought: Sought,
+    /// Where that is, in bytes from the capture's first.
     pub places: Vec<u64>,
-    pub devices: Vec<u64>,
-    pub processes: Vec<u64>,
-    pub threads: Vec<u64>,
-    /// The lowest sequence of a frame.
-    pub lowest: Vec<u64>,
-    /// The highest sequence of a frame.
-    pub highest: Vec<u64>,
-    pub codes: Vec<CodeAsked>,
-    /// A handle that the record names: as target, as what is counted or watched, or in an object.
-    pub handles: Vec<u64>,
-    /// A cookie that the record names, in an object too.
-    pub cookies: Vec<u64>,
-    /// A buffer of a transaction or a reply, or what is freed.
-    pub addresses: Vec<u64>,
+    /// Whether the line of a record is followed by those of its objects.
+    pub objects: bool,
+    pub form: Form,
 }
 
 impl Asked {
     /// Whether records of this frame are asked for.
     pub(crate) fn has_frame(&self, frame: Frame<'_>) -> bool {
-        has(&self.devices, u64::from(frame.device))
-            && has(&self.processes, u64::from(frame.process))
-            && has(&self.threads, u64::from(frame.thread))
-            && begins(&self.lowest, frame.sequence)
-            && ends(&self.highest, frame.sequence)
+        self.words.is_empty()
+            || self.has(Narrowing::Device, u64::from(frame.device))
+                && self.has(Narrowing::Process, u64::from(frame.process))
+                && self.has(Narrowing::Thread, u64::from(frame.thread))
+                && self.has(Narrowing::Direction, direction_number(frame.direction))
+                && self.has_sequence(frame.sequence)
     }
 
     /// Whether the record is asked for, but for its place.
     pub(crate) fn has_item(&self, item: Item<'_>) -> bool {
-        self.has_code(item.record)
-            && self.has_address(item.record)
-            && has_name(&self.handles, "handle", item)
-            && has_name(&self.cookies, "cookie", item)
+        self.words.is_empty()
+            || self.has_code(item.record)
+                && self.has_fields(item)
+                && self.has_transaction(item.record)
+    }
+
+    /// Whether the number is one of those behind a narrowing, if there are any.
+    fn has(&self, narrowing: Narrowing, number: u64) -> bool {
+        let mut asked = false;
+        for word in &self.words {
+            if word.narrowing == narrowing {
+                if word.number == number {
+                    return true;
+                }
+                asked = true;
+            }
+        }
+        !asked
+    }
+
+    fn has_sequence(&self, sequence: u64) -> bool {
+        let mut from = u64::MAX;
+        let mut to = 0;
+        for word in &self.words {
+            match word.narrowing {
+                Narrowing::From => from = from.min(word.number),
+                Narrowing::To => to = to.max(word.number),
+                _ => {}
+            }
+        }
+        (from <= sequence || !self.narrows(Narrowing::From))
+            && (sequence <= to || !self.narrows(Narrowing::To))
+    }
+
+    fn narrows(&self, narrowing: Narrowing) -> bool {
+        for word in &self.words {
+            if word.narrowing == narrowing {
+                return true;
+            }
+        }
+        false
     }
 
     fn has_code(&self, record: Record<'_>) -> bool {
-        self.codes.is_empty()
-            || self
-                .codes
-                .as_slice()
-                .iter()
-                .any(|code| is_of_code(*code, record))
+        let mut asked = false;
+        for word in &self.words {
+            let number = match word.narrowing {
+                Narrowing::Kind => record.kind as u64,
+                Narrowing::Word => u64::from(record.code.0),
+                _ => continue,
+            };
+            if word.number == number {
+                return true;
+            }
+            asked = true;
+        }
+        !asked
     }
 
-    fn has_address(&self, record: Record<'_>) -> bool {
-        let fields = fields_of(record.kind);
-        let numbers = self.addresses.as_slice();
-        numbers.is_empty()
-            || name_one_of(fields, record.payload, "address", numbers)
-            || name_one_of(fields, record.payload, "buffer", numbers)
+    fn has_fields(&self, item: Item<'_>) -> bool {
+        self.has_named(Narrowing::Handle, item, ["handle", "handle"], "handle")
+            && self.has_named(Narrowing::Cookie, item, ["cookie", "cookie"], "cookie")
+            && self.has_named(Narrowing::Node, item, ["ptr", "ptr"], "binder")
+            && self.has_named(Narrowing::Address, item, ["address", "buffer"], "")
+    }
+
+    /// Whether the record has a number behind a narrowing in one of these two fields, or one of its
+    /// objects in that field.
+    fn has_named(
+        &self,
+        narrowing: Narrowing,
+        item: Item<'_>,
+        names: [&str; 2],
+        of_object: &str,
+    ) -> bool {
+        let mut asked = false;
+        for word in &self.words {
+            if word.narrowing == narrowing {
+                if is_named(item, names, of_object, word.number) {
+                    return true;
+                }
+                asked = true;
+            }
+        }
+        !asked
+    }
+
+    /// Whether the flags and the size of a transaction or a reply are asked for.
+    fn has_transaction(&self, record: Record<'_>) -> bool {
+        if !self.narrows(Narrowing::Flag) && !self.narrows(Narrowing::Larger) {
+            return true;
+        }
+        match Transaction::of(record) {
+            Some(transaction) => self.has_flags(transaction.flags())
+                && self.has_size(transaction.data_size()),
+            None => false,
+        }
+    }
+
+    fn has_flags(&self, flags: u32) -> bool {
+        let mut asked = false;
+        for word in &self.words {
+            if word.narrowing == Narrowing::Flag {
+                if u64::from(flags) & word.number != 0 {
+                    return true;
+                }
+                asked = true;
+            }
+        }
+        !asked
+    }
+
+    fn has_size(&self, size: u64) -> bool {
+        let mut asked = false;
+        for word in &self.words {
+            if word.narrowing == Narrowing::Larger {
+                if size > word.number {
+                    return true;
+                }
+                asked = true;
+            }
+        }
+        !asked
     }
 }
 
-fn is_of_code(asked: CodeAsked, record: Record<'_>) -> bool {
-    match asked {
-        CodeAsked::Named(kind) => kind == record.kind,
-        CodeAsked::Word(word) => word == u64::from(record.code.0),
+/// The number of a direction in a frame header.
+pub(crate) fn direction_number(direction: Direction) -> u64 {
+    match direction {
+        Direction::Write => 1,
+        Direction::Read => 2,
     }
 }
 
-/// Whether the number is one of those that are asked for.
-fn has(asked: &Vec<u64>, number: u64) -> bool {
-    asked.is_empty() || asked.as_slice().contains(&number)
-}
-
-/// Whether the number is not below one of those that are asked for.
-fn begins(asked: &Vec<u64>, number: u64) -> bool {
-    asked.is_empty() || asked.as_slice().iter().any(|lowest| *lowest <= number)
-}
-
-/// Whether the number is not above one of those that are asked for.
-fn ends(asked: &Vec<u64>, number: u64) -> bool {
-    asked.is_empty() || asked.as_slice().iter().any(|highest| number <= *highest)
-}
-
-/// Whether the record, or an object of its attachment, names a number that is asked for in this
-/// field.
-fn has_name(asked: &Vec<u64>, name: &str, item: Item<'_>) -> bool {
-    let numbers = asked.as_slice();
-    if numbers.is_empty() {
-        return true;
-    }
+fn is_named(item: Item<'_>, names: [&str; 2], of_object: &str, number: u64) -> bool {
     let record = item.record;
-    if name_one_of(fields_of(record.kind), record.payload, name, numbers) {
-        return true;
-    }
-    match item.entry {
-        Some(entry) => has_named(entry, name, numbers),
-        None => false,
-    }
+    let fields = fields_of(record.kind);
+    has_field(fields, record.payload, names[0], number)
+        || has_field(fields, record.payload, names[1], number)
+        || item
+            .entry
+            .is_some_and(|entry| has_named(entry, of_object, number))
 }
 
 /// Whether the byte at this place is one of the record's, or of its attachment's.

@@ -2,7 +2,7 @@
 
 ghost use Rattle.std.specs.Prelude.{◌+◌, ◌<◌, ◌^◌, length};
 
-use crate::fields::{name_one_of, object_fields};
+use crate::fields::{has_field, object_fields};
 use crate::line::push_fields;
 use crate::text::push_decimal;
 use capture_frame::u64_at;
@@ -86,11 +86,11 @@ fn without_first(list: &[u8]) -> &[u8]
     &list[OFFSET..]
 }
 
-/// Whether an object of the attachment names one of these numbers in this field.
-pub(crate) fn has_named(entry: Entry<'_>, name: &str, numbers: &[u64]) -> bool {
+/// Whether an object of the attachment has this number in a field of this name.
+pub(crate) fn has_named(entry: Entry<'_>, name: &str, number: u64) -> bool {
     for attached in EachObject::of(entry) {
         if let Ok(object) = attached.found
-            && name_one_of(object_fields(object.sort), object.bytes, name, numbers)
+            && has_field(object_fields(object.sort), object.bytes, name, number)
         {
             return true;
         }

@@ -1,16 +1,38 @@
 //! The words of the command line, and what they ask for.
 
-use crate::asked::{Asked, CodeAsked};
+use crate::asked::{Asked, Form, Narrowing, Sought, Word};
 use crate::error::ListingError;
 use crate::kinds::kind_named;
 use crate::number::number_of;
+use binder_code::TransactionFlags;
+use bitflags::Flags;
 use clap::error::ErrorKind;
 use clap::{Arg, ArgAction, ArgMatches, Command, Error};
 use std::alloc::{AllocError, Global};
 
-/// The options, each of which has a value and may be repeated.
-const OPTIONS: [&str; 10] = [
-    "at", "process", "thread", "device", "handle", "cookie", "address", "code", "from", "to",
+/// The options that narrow what is listed, each with what it narrows. `code` has a name in place of
+/// a code word, `direction` and `flag` have one in place of a number.
+const NARROWINGS: [(&str, Narrowing); 13] = [
+    ("device", Narrowing::Device),
+    ("process", Narrowing::Process),
+    ("thread", Narrowing::Thread),
+    ("from", Narrowing::From),
+    ("to", Narrowing::To),
+    ("direction", Narrowing::Direction),
+    ("code", Narrowing::Word),
+    ("handle", Narrowing::Handle),
+    ("cookie", Narrowing::Cookie),
+    ("node", Narrowing::Node),
+    ("address", Narrowing::Address),
+    ("flag", Narrowing::Flag),
+    ("larger", Narrowing::Larger),
+];
+
+/// The options that look for something by its place.
+const PLACES: [(&str, Sought); 3] = [
+    ("at", Sought::Record),
+    ("frame", Sought::Frame),
+    ("call", Sought::Call),
 ];
 
 /// Why words are not taken.
@@ -22,6 +44,7 @@ pub(crate) enum WordsError {
     Usage,
 }
 
+// An option with a value, which may be repeated.
 fn option<'a>(alloc: Global, name: &'a str) -> Arg<'a> {
     Arg::new(alloc, name).long(name).action(ArgAction::Append)
 }
@@ -34,12 +57,21 @@ fn files<'a>(alloc: Global) -> Arg<'a> {
         .num_args(1..)
 }
 
+fn objects<'a>(alloc: Global) -> Arg<'a> {
+    Arg::new(alloc, "objects")
+        .long("objects")
+        .action(ArgAction::SetTrue)
+}
+
 fn command<'a>(alloc: Global) -> Result<Command<'a>, AllocError> {
     let mut command = Command::new(alloc, "listing").arg(files(alloc))?;
-    for name in OPTIONS {
+    for (name, _) in NARROWINGS {
         command = command.arg(option(alloc, name))?;
     }
-    Ok(command)
+    for (name, _) in PLACES {
+        command = command.arg(option(alloc, name))?;
+    }
+    command.arg(objects(alloc))?.arg(option(alloc, "form"))
 }
 
 fn refusal(error: &Error) -> WordsError {
@@ -69,64 +101,104 @@ pub(crate) fn files_of<'m, 'a>(matches: &'m ArgMatches<'a>) -> Option<&'m [&'a s
     matches.get_strs("files")
 }
 
-fn numbers(alloc: Global, matches: &ArgMatches<'_>, name: &str) -> Result<Vec<u64>, ListingError> {
-    let mut numbers = Vec::new(alloc);
-    let Some(words) = matches.get_strs(name) else {
-        return Ok(numbers);
-    };
-    for word in words {
-        let Some(number) = number_of(word) else {
-            return Err(ListingError::Usage);
-        };
-        numbers.push(number)?;
-    }
-    Ok(numbers)
-}
-
-fn codes(alloc: Global, matches: &ArgMatches<'_>) -> Result<Vec<CodeAsked>, ListingError> {
-    let mut codes = Vec::new(alloc);
-    let Some(words) = matches.get_strs("code") else {
-        return Ok(codes);
-    };
-    for word in words {
-        codes.push(code_of(word)?)?;
-    }
-    Ok(codes)
-}
-
-/// The name of a kind, or a code word.
-fn code_of(word: &str) -> Result<CodeAsked, ListingError> {
-    if let Some(kind) = kind_named(word) {
-        return Ok(CodeAsked::Named(kind));
-    }
-    match number_of(word) {
-        Some(number) => Ok(CodeAsked::Word(number)),
-        None => Err(ListingError::Usage),
-    }
-}
-
 /// What the words ask for, of which these are the matches.
 pub(crate) fn asked_of(alloc: Global, matches: &ArgMatches<'_>) -> Result<Asked, ListingError> {
-    let places = numbers(alloc, matches, "at")?;
-    let devices = numbers(alloc, matches, "device")?;
-    let processes = numbers(alloc, matches, "process")?;
-    let threads = numbers(alloc, matches, "thread")?;
-    let lowest = numbers(alloc, matches, "from")?;
-    let highest = numbers(alloc, matches, "to")?;
-    let codes = codes(alloc, matches)?;
-    let handles = numbers(alloc, matches, "handle")?;
-    let cookies = numbers(alloc, matches, "cookie")?;
-    let addresses = numbers(alloc, matches, "address")?;
-    Ok(Asked {
-        places,
-        devices,
-        processes,
-        threads,
-        lowest,
-        highest,
-        codes,
-        handles,
-        cookies,
-        addresses,
-    })
+    let mut asked = Asked {
+        words: Vec::new(alloc),
+        sought: Sought::Nothing,
+        places: Vec::new(alloc),
+        objects: matches.get_flag("objects"),
+        form: Form::Lines,
+    };
+    for (name, narrowing) in NARROWINGS {
+        push_words(&mut asked, matches, name, narrowing)?;
+    }
+    for (name, sought) in PLACES {
+        push_places(&mut asked, matches, name, sought)?;
+    }
+    set_form(&mut asked, matches)?;
+    Ok(asked)
+}
+
+/// Pushes the words behind an option.
+fn push_words(
+    asked: &mut Asked,
+    matches: &ArgMatches<'_>,
+    name: &str,
+    narrowing: Narrowing,
+) -> Result<(), ListingError> {
+    let Some(values) = matches.get_strs(name) else {
+        return Ok(());
+    };
+    for value in values {
+        let Some(word) = word_of(narrowing, value) else {
+            return Err(ListingError::Usage);
+        };
+        asked.words.push(word)?;
+    }
+    Ok(())
+}
+
+fn word_of(narrowing: Narrowing, value: &str) -> Option<Word> {
+    if narrowing == Narrowing::Word
+        && let Some(kind) = kind_named(value)
+    {
+        return Some(Word {
+            narrowing: Narrowing::Kind,
+            number: kind as u64,
+        });
+    }
+    let number = match narrowing {
+        Narrowing::Direction => direction_of(value)?,
+        Narrowing::Flag => u64::from(TransactionFlags::from_name(value)?.bits()),
+        _ => number_of(value)?,
+    };
+    Some(Word { narrowing, number })
+}
+
+fn direction_of(value: &str) -> Option<u64> {
+    if value == "write" {
+        return Some(1);
+    }
+    if value == "read" {
+        return Some(2);
+    }
+    None
+}
+
+/// Pushes the places behind an option. Only one option with places can be there.
+fn push_places(
+    asked: &mut Asked,
+    matches: &ArgMatches<'_>,
+    name: &str,
+    sought: Sought,
+) -> Result<(), ListingError> {
+    let Some(values) = matches.get_strs(name) else {
+        return Ok(());
+    };
+    if asked.sought != Sought::Nothing {
+        return Err(ListingError::Usage);
+    }
+    asked.sought = sought;
+    for value in values {
+        let Some(place) = number_of(value) else {
+            return Err(ListingError::Usage);
+        };
+        asked.places.push(place)?;
+    }
+    Ok(())
+}
+
+/// Sets the form of the lines. A record in whole and objects are shown in lines alone.
+fn set_form(asked: &mut Asked, matches: &ArgMatches<'_>) -> Result<(), ListingError> {
+    let Some(values) = matches.get_strs("form") else {
+        return Ok(());
+    };
+    for value in values {
+        if *value != "tab" || asked.objects || asked.sought == Sought::Record {
+            return Err(ListingError::Usage);
+        }
+        asked.form = Form::Tab;
+    }
+    Ok(())
 }

@@ -78,21 +78,19 @@ fn long_of(bytes: &[u8]) -> Option<u64> {
     Some(u64_at(bytes, 0))
 }
 
-/// Whether a listed field of this name holds one of these numbers.
-pub(crate) fn name_one_of(fields: &[Field], bytes: &[u8], name: &str, numbers: &[u64]) -> bool {
+/// Whether a listed field of this name holds this number.
+pub(crate) fn has_field(fields: &[Field], bytes: &[u8], name: &str, number: u64) -> bool {
     for field in fields {
-        if field.is_listed() && field.0 == name && holds_one_of(*field, bytes, numbers) {
+        if field.is_listed() && field.0 == name && holds(*field, bytes, number) {
             return true;
         }
     }
     false
 }
 
-fn holds_one_of(field: Field, bytes: &[u8], numbers: &[u64]) -> bool {
+fn holds(field: Field, bytes: &[u8], number: u64) -> bool {
     match field.value_in(bytes) {
-        Some(Value::Decimal(number)) | Some(Value::Hexadecimal(number)) => numbers.contains(
-            &number,
-        ),
+        Some(Value::Decimal(held)) | Some(Value::Hexadecimal(held)) => held == number,
         _ => false,
     }
 }

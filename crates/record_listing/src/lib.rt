@@ -4,6 +4,8 @@
 
 mod asked;
 mod attached;
+mod calls;
+mod columns;
 mod command_line;
 mod content;
 mod error;
@@ -19,7 +21,7 @@ mod stopped;
 mod text;
 mod whole;
 
-pub use asked::{Asked, CodeAsked};
+pub use asked::{Asked, Form, Narrowing, Sought, Word};
 pub use content::{Content, Item};
 pub use error::ListingError;
 pub use parts::list_parts;

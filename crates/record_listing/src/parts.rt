@@ -2,13 +2,15 @@
 
 ghost use Rattle.std.specs.Prelude.{◌+◌, ◌<◌, ◌^◌, length};
 
-use crate::asked::{Asked, covers};
+use crate::asked::{Asked, Form, Sought, covers};
+use crate::calls::Followed;
+use crate::columns::push_columns;
 use crate::content::{Content, Item};
 use crate::error::ListingError;
 use crate::line::{push_counted, push_line};
 use crate::output::Output;
 use crate::stopped::Stopped;
-use crate::whole::write_whole;
+use crate::whole::{write_objects, write_whole};
 use audit_streams::{read_capture, write_text};
 use capture_frame::{FILE_HEADER, Fault, Frame, Frames};
 use std::alloc::{AllocError, Global};
@@ -28,8 +30,24 @@ enum Ended {
     Malformed,
 }
 
+/// What has come of what is sought.
+#[derive(Drop)]
+struct Seen {
+    /// The places where nothing is found yet.
+    open: Vec<u64>,
+    /// The calls whose closers are still ahead.
+    followed: Vec<Followed>,
+}
+
+impl Seen {
+    /// Whether all is found that is sought.
+    fn is_complete(&self, asked: &Asked) -> bool {
+        asked.sought != Sought::Nothing && self.open.is_empty() && self.followed.is_empty()
+    }
+}
+
 /// Lists what is asked for of the parts that the readers give, in their order, and gives the status:
-/// 0, 1 where a place that is asked for is in no record, or 2 where a part is malformed. Each reader
+/// 0, 1 where nothing is at a place that is asked for, or 2 where a part is malformed. Each reader
 /// is read to its end before the next one.
 pub fn list_parts<R: Read + Drop, W: Write, E: Write>(
     alloc: Global,
@@ -38,25 +56,38 @@ pub fn list_parts<R: Read + Drop, W: Write, E: Write>(
     out: &mut W,
     err: &mut E,
 ) -> Result<u8, ListingError> {
-    let mut open = asked.places.clone()?;
+    let mut seen = Seen {
+        open: asked.places.clone()?,
+        followed: Vec::new(alloc),
+    };
     let mut output = Output::new(alloc, out);
-    let ended = list_all(alloc, asked, &mut open, readers, &mut output);
+    let ended = list_all(alloc, asked, &mut seen, readers, &mut output);
     output.flush()?;
     match ended? {
         Ended::Malformed => Ok(2),
-        Ended::Listed if open.is_empty() => Ok(0),
+        Ended::Listed if seen.open.is_empty() => Ok(0),
         Ended::Listed => {
-            tell_missing(alloc, &open, err)?;
+            tell_missing(alloc, asked.sought, &seen.open, err)?;
             Ok(1)
         }
     }
 }
 
-/// Tells which places are in no record.
-fn tell_missing<E: Write>(alloc: Global, places: &Vec<u64>, err: &mut E) -> Result<(), AllocError> {
+/// Tells at which places nothing is found.
+fn tell_missing<E: Write>(
+    alloc: Global,
+    sought: Sought,
+    places: &Vec<u64>,
+    err: &mut E,
+) -> Result<(), AllocError> {
+    let what = match sought {
+        Sought::Frame => "listing: no frame has the byte at ",
+        Sought::Call => "listing: no call has its opener at ",
+        _ => "listing: no record has the byte at ",
+    };
     let mut text = String::new(alloc);
     for place in places {
-        push_counted(&mut text, "listing: no record has the byte at ", *place)?;
+        push_counted(&mut text, what, *place)?;
         text.push_str("\n")?;
     }
     let _ = write_text(err, text.as_bytes());
@@ -68,7 +99,7 @@ fn tell_missing<E: Write>(alloc: Global, places: &Vec<u64>, err: &mut E) -> Resu
 fn list_all<R: Read + Drop, W: Write>(
     alloc: Global,
     asked: &Asked,
-    open: &mut Vec<u64>,
+    seen: &mut Seen,
     readers: Vec<R>,
     output: &mut Output<'_, W>,
 ) -> Result<Ended, ListingError> {
@@ -80,7 +111,7 @@ fn list_all<R: Read + Drop, W: Write>(
             return Err(ListingError::TooLarge);
         }
         let part = read_capture(alloc, &mut reader, FILE_LIMIT)?;
-        match list_part(asked, open, part.as_slice(), base, before, output) {
+        match list_part(asked, seen, part.as_slice(), base, before, output) {
             Ok(last) => before = last,
             Err(Stopped::Found) => return Ok(Ended::Listed),
             Err(Stopped::Failed(error)) => return Err(error),
@@ -113,7 +144,7 @@ fn push_fault(
 /// Lists a part, and gives the sequence of the last frame so far.
 fn list_part<W: Write>(
     asked: &Asked,
-    open: &mut Vec<u64>,
+    seen: &mut Seen,
     part: &[u8],
     base: u64,
     before: Option<u64>,
@@ -122,7 +153,7 @@ fn list_part<W: Write>(
     requires { base + length part.now < 2 ^ 64 }
 {
     let frames = Frames::after(part, base, before)?;
-    match list_frames(asked, open, frames, before, output) {
+    match list_frames(asked, seen, frames, before, output) {
         Err(Stopped::Malformed(fault)) => Err(Stopped::Malformed(Fault {
             kind: fault.kind,
             place: fault.place.saturating_sub(base),
@@ -133,14 +164,14 @@ fn list_part<W: Write>(
 
 fn list_frames<W: Write>(
     asked: &Asked,
-    open: &mut Vec<u64>,
+    seen: &mut Seen,
     mut frames: Frames<'_>,
     before: Option<u64>,
     output: &mut Output<'_, W>,
 ) -> Result<Option<u64>, Stopped> {
     let mut last = before;
     while let Some(frame) = frames.next_frame()? {
-        list_frame(asked, open, frame, output)?;
+        list_frame(asked, seen, frame, output)?;
         last = Some(frame.sequence);
     }
     Ok(last)
@@ -149,51 +180,130 @@ fn list_frames<W: Write>(
 /// Lists what is asked for of a frame, up to its first fault.
 fn list_frame<W: Write>(
     asked: &Asked,
-    open: &mut Vec<u64>,
+    seen: &mut Seen,
     frame: Frame<'_>,
     output: &mut Output<'_, W>,
 ) -> Result<(), Stopped> {
     let fault = check_frame(frame);
-    if asked.has_frame(frame) {
-        list_content(asked, open, frame, output)?;
+    if is_listed(asked, seen, frame) {
+        list_content(asked, seen, frame, output)?;
     }
     match fault {
         Some(fault) => Err(Stopped::Malformed(fault)),
-        None if open.is_empty() && !asked.places.is_empty() => Err(Stopped::Found),
+        None if seen.is_complete(asked) => Err(Stopped::Found),
         None => Ok(()),
     }
 }
 
+/// Whether the records of a frame are looked at.
+fn is_listed(asked: &Asked, seen: &mut Seen, frame: Frame<'_>) -> bool {
+    match asked.sought {
+        Sought::Call => true,
+        Sought::Frame => {
+            let count = seen.open.len();
+            seen.open.retain(|place| !is_in_frame(*place, frame));
+            seen.open.len() < count && asked.has_frame(frame)
+        }
+        Sought::Nothing | Sought::Record => asked.has_frame(frame),
+    }
+}
+
+/// Whether the byte at this place is one of the frame's.
+fn is_in_frame(place: u64, frame: Frame<'_>) -> bool {
+    let end = frame.attachments_place() + frame.attachments.len() as u64;
+    frame.place <= place && place < end
+}
+
 fn list_content<W: Write>(
     asked: &Asked,
-    open: &mut Vec<u64>,
+    seen: &mut Seen,
     frame: Frame<'_>,
     output: &mut Output<'_, W>,
 ) -> Result<(), ListingError> {
     for item in Content::of(frame) {
-        if asked.has_item(item) {
-            list_item(asked, open, frame, item, output)?;
+        match asked.sought {
+            Sought::Nothing | Sought::Frame => {
+                if asked.has_item(item) {
+                    write_item(asked, frame, item, output)?;
+                }
+            }
+            Sought::Record => list_sought(asked, seen, frame, item, output)?,
+            Sought::Call => list_called(asked, seen, frame, item, output)?,
         }
     }
     Ok(())
 }
 
-/// Writes the line of a record; or, where places are asked for, the whole of it where it has one.
-fn list_item<W: Write>(
+/// Writes a record in whole, where it has a place that is sought.
+fn list_sought<W: Write>(
     asked: &Asked,
-    open: &mut Vec<u64>,
+    seen: &mut Seen,
     frame: Frame<'_>,
     item: Item<'_>,
     output: &mut Output<'_, W>,
 ) -> Result<(), ListingError> {
-    if asked.places.is_empty() {
-        push_line(&mut output.text, frame, item)?;
-        return output.end_line();
+    if !asked.has_item(item) {
+        return Ok(());
     }
-    let count = open.len();
-    open.retain(|place| !covers(*place, item));
-    if open.len() < count {
+    let count = seen.open.len();
+    seen.open.retain(|place| !covers(*place, item));
+    if seen.open.len() < count {
         write_whole(output, frame, item)?;
+    }
+    Ok(())
+}
+
+/// Writes the line of a record, where it is of a call that is sought.
+fn list_called<W: Write>(
+    asked: &Asked,
+    seen: &mut Seen,
+    frame: Frame<'_>,
+    item: Item<'_>,
+    output: &mut Output<'_, W>,
+) -> Result<(), ListingError> {
+    if is_of_call(seen, frame, item)? && asked.has_frame(frame) && asked.has_item(item) {
+        write_item(asked, frame, item, output)?;
+    }
+    Ok(())
+}
+
+/// Whether a record is of a call that is sought: its opener, its closer, or one of its thread
+/// between them.
+fn is_of_call(seen: &mut Seen, frame: Frame<'_>, item: Item<'_>) -> Result<bool, AllocError> {
+    if let Some(followed) = Followed::from(frame, item.record) {
+        let count = seen.open.len();
+        seen.open.retain(|place| !covers(*place, item));
+        if seen.open.len() < count {
+            seen.followed.push(followed)?;
+        }
+    }
+    let mut is_of_one = false;
+    for followed in seen.followed.iter_mut() {
+        if followed.is_of(frame) {
+            followed.follow(item);
+            is_of_one = true;
+        }
+    }
+    seen.followed.retain(|followed| !followed.is_closed());
+    Ok(is_of_one)
+}
+
+/// Writes the line of a record, and those of its objects where they are asked for.
+fn write_item<W: Write>(
+    asked: &Asked,
+    frame: Frame<'_>,
+    item: Item<'_>,
+    output: &mut Output<'_, W>,
+) -> Result<(), ListingError> {
+    match asked.form {
+        Form::Lines => push_line(&mut output.text, frame, item)?,
+        Form::Tab => push_columns(&mut output.text, frame, item)?,
+    }
+    output.end_line()?;
+    if asked.objects
+        && let Some(entry) = item.entry
+    {
+        return write_objects(output, entry);
     }
     Ok(())
 }
