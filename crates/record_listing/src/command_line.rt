@@ -4,6 +4,7 @@ use crate::asked::{Asked, Form, Narrowing, Sought, Word};
 use crate::error::ListingError;
 use crate::kinds::kind_named;
 use crate::number::number_of;
+use crate::tables::{Name, name_of};
 use binder_code::TransactionFlags;
 use bitflags::Flags;
 use clap::error::ErrorKind;
@@ -71,7 +72,11 @@ fn command<'a>(alloc: Global) -> Result<Command<'a>, AllocError> {
     for (name, _) in PLACES {
         command = command.arg(option(alloc, name))?;
     }
-    command.arg(objects(alloc))?.arg(option(alloc, "form"))
+    command
+        .arg(objects(alloc))?
+        .arg(option(alloc, "form"))?
+        .arg(option(alloc, "table"))?
+        .arg(option(alloc, "tables"))
 }
 
 fn refusal(error: &Error) -> WordsError {
@@ -99,6 +104,27 @@ pub(crate) fn matches_of<'a>(
 /// The files that are named.
 pub(crate) fn files_of<'m, 'a>(matches: &'m ArgMatches<'a>) -> Option<&'m [&'a str]> {
     matches.get_strs("files")
+}
+
+/// Which tables are asked for.
+#[derive(Clone, Copy)]
+pub(crate) enum Tables<'a> {
+    One(Name),
+    /// All, into this folder.
+    All(&'a str),
+}
+
+/// The tables that the words ask for, if they do.
+pub(crate) fn tables_of<'a>(matches: &ArgMatches<'a>) -> Result<Option<Tables<'a>>, ListingError> {
+    match (matches.get_strs("table"), matches.get_strs("tables")) {
+        (None, None) => Ok(None),
+        (Some([word]), None) => match name_of(word) {
+            Some(name) => Ok(Some(Tables::One(name))),
+            None => Err(ListingError::Usage),
+        },
+        (None, Some([folder])) => Ok(Some(Tables::All(folder))),
+        _ => Err(ListingError::Usage),
+    }
 }
 
 /// What the words ask for, of which these are the matches.

@@ -18,6 +18,7 @@ mod output;
 mod parts;
 mod status;
 mod stopped;
+mod tables;
 mod text;
 mod whole;
 

@@ -46,7 +46,7 @@ impl<'w, W: Write> Output<'w, W> {
 }
 
 /// What ends a listing that can't be written.
-fn write_error(error: &Error) -> ListingError {
+pub(crate) fn write_error(error: &Error) -> ListingError {
     match error.kind() {
         ErrorKind::BrokenPipe => ListingError::Closed,
         _ => ListingError::Write,

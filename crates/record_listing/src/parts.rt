@@ -18,7 +18,7 @@ use std::io::{Read, Write};
 use transaction_view::check_frame;
 
 /// The most bytes that a file may have.
-const FILE_LIMIT: usize = 1_073_741_824;
+pub(crate) const FILE_LIMIT: usize = 1_073_741_824;
 
 /// The most bytes that the files before one may have together.
 const LIMIT: u64 = 1_099_511_627_776;
@@ -103,10 +103,12 @@ fn list_all<R: Read + Drop, W: Write>(
     readers: Vec<R>,
     output: &mut Output<'_, W>,
 ) -> Result<Ended, ListingError> {
-    let count = readers.len();
+    let count = readers.len() as u64;
     let mut base = 0u64;
     let mut before = None;
-    for (number, mut reader) in readers.into_iter().enumerate() {
+    let mut number = 0u64;
+    for mut reader in readers {
+        number = number.saturating_add(1);
         if base > LIMIT {
             return Err(ListingError::TooLarge);
         }
@@ -125,18 +127,19 @@ fn list_all<R: Read + Drop, W: Write>(
     Ok(Ended::Listed)
 }
 
-/// Pushes the line that names a fault, as the auditor does.
-fn push_fault(
+/// Pushes the line that names a fault, as the auditor does: of several parts with the number of its
+/// own.
+pub(crate) fn push_fault(
     text: &mut String,
     fault: Fault,
-    number: usize,
-    count: usize,
+    part: u64,
+    parts: u64,
 ) -> Result<(), AllocError> {
     let kind = fault.kind;
     write!(text, "malformed {kind:?}")?;
     push_counted(text, " at ", fault.place)?;
-    if count > 1 {
-        push_counted(text, " in part ", (number as u64).saturating_add(1))?;
+    if parts > 1 {
+        push_counted(text, " in part ", part)?;
     }
     text.push_str("\n")
 }

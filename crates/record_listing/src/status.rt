@@ -1,9 +1,12 @@
 //! From the words of a command line to two streams and a status.
 
-use crate::command_line::{WordsError, asked_of, files_of, matches_of};
+use crate::command_line::{Tables, WordsError, asked_of, files_of, matches_of, tables_of};
 use crate::error::ListingError;
-use crate::parts::list_parts;
-use audit_streams::write_text;
+use crate::output::write_error;
+use crate::parts::{FILE_LIMIT, list_parts, push_fault};
+use crate::tables::{Ending, NAMES, write_table};
+use audit_streams::{read_parts, write_text};
+use clap::ArgMatches;
 use std::alloc::{AllocError, Global};
 use std::env::Args;
 use std::fs::Files;
@@ -51,12 +54,85 @@ fn answer_words<T: Files, W: Write, E: Write>(
         Err(WordsError::Memory) => return Err(ListingError::Memory),
         Err(WordsError::Usage) => return Err(ListingError::Usage),
     };
-    let asked = asked_of(alloc, &matches)?;
     let Some(files) = files_of(&matches) else {
         return Err(ListingError::Usage);
     };
+    match tables_of(&matches)? {
+        Some(tables) => answer_tables(rt, alloc, tables, files, out, err),
+        None => answer_listing(rt, alloc, &matches, files, out, err),
+    }
+}
+
+/// Lists what is asked for of these files.
+fn answer_listing<T: Files, W: Write, E: Write>(
+    rt: &T,
+    alloc: Global,
+    matches: &ArgMatches<'_>,
+    files: &[&str],
+    out: &mut W,
+    err: &mut E,
+) -> Result<u8, ListingError> {
+    let asked = asked_of(alloc, matches)?;
     let readers = open_files(rt, alloc, files)?;
     list_parts(alloc, &asked, readers, out, err)
+}
+
+/// Writes tables of the capture that these files have.
+fn answer_tables<T: Files, W: Write, E: Write>(
+    rt: &T,
+    alloc: Global,
+    tables: Tables<'_>,
+    files: &[&str],
+    out: &mut W,
+    err: &mut E,
+) -> Result<u8, ListingError> {
+    let readers = open_files(rt, alloc, files)?;
+    let parts = read_parts(alloc, readers, FILE_LIMIT)?;
+    match tables {
+        Tables::One(name) => {
+            let ending = write_table(alloc, name, parts.as_slice(), out)?;
+            tell_ending(alloc, ending, err)
+        }
+        Tables::All(folder) => {
+            let ending = write_tables(rt, alloc, folder, parts.as_slice())?;
+            tell_ending(alloc, ending, out)
+        }
+    }
+}
+
+/// Writes all tables, each to a file of its own.
+fn write_tables<T: Files>(
+    rt: &T,
+    alloc: Global,
+    folder: &str,
+    parts: &[Vec<u8>],
+) -> Result<Ending, ListingError> {
+    let mut ending = Ending::new(parts.len() as u64);
+    for (word, name) in NAMES {
+        let path = path_of(alloc, folder, word)?;
+        let mut file = fs::create(rt, path.as_str()).map_err(|error| write_error(&error))?;
+        ending = write_table(alloc, name, parts, &mut file)?;
+    }
+    Ok(ending)
+}
+
+fn path_of(alloc: Global, folder: &str, name: &str) -> Result<String, AllocError> {
+    let mut path = String::from_str(alloc, folder)?;
+    path.push_str("/")?;
+    path.push_str(name)?;
+    path.push_str(".rows")?;
+    Ok(path)
+}
+
+/// Tells the fault of a malformed capture, and gives the status.
+fn tell_ending<W: Write>(alloc: Global, ending: Ending, out: &mut W) -> Result<u8, ListingError> {
+    let Some((fault, part)) = ending.fault else {
+        return Ok(0);
+    };
+    let mut text = String::new(alloc);
+    push_fault(&mut text, fault, part, ending.parts)?;
+    write_text(out, text.as_bytes())?;
+    Ok(2)
 }
 
 /// Opens each of these files, in order. Memory for them all is taken first.

@@ -1,0 +1,86 @@
+//! The processes and the threads of a capture, each with its number and its span.
+
+use crate::calls::thread_of;
+use capture_frame::{Frame, Process, Thread};
+use indexmap::IndexMap;
+use std::alloc::{AllocError, Global};
+
+/// From where to where something has frames.
+#[derive(Clone, Copy)]
+pub(crate) struct Span {
+    /// The number of the process.
+    pub upid: u64,
+    /// The sequence of its first frame.
+    pub first: u64,
+    /// The sequence of its last frame so far.
+    pub last: u64,
+    /// How many frames it has so far.
+    pub frames: u64,
+}
+
+/// The processes and the threads so far, in the order of their first frames. The first one has the
+/// number 1.
+#[derive(Drop)]
+pub(crate) struct Spans {
+    pub processes: IndexMap<Process, Span>,
+    pub threads: IndexMap<Thread, Span>,
+}
+
+impl Spans {
+    pub(crate) fn new(alloc: Global) -> Spans {
+        Spans {
+            processes: IndexMap::new(alloc),
+            threads: IndexMap::new(alloc),
+        }
+    }
+
+    /// Counts a frame in, and gives the numbers of its process and of its thread.
+    pub(crate) fn add(&mut self, frame: Frame<'_>) -> Result<(u64, u64), AllocError> {
+        let process = frame.of_process();
+        let upid = match self.processes.get_index_of(&process) {
+            Some(index) => {
+                lengthen(self.processes.get_mut(&process), frame.sequence);
+                number_at(index)
+            }
+            None => {
+                let upid = number_at(self.processes.len());
+                self.processes.insert(process, begun(upid, frame.sequence))?;
+                upid
+            }
+        };
+        let thread = thread_of(frame);
+        let utid = match self.threads.get_index_of(&thread) {
+            Some(index) => {
+                lengthen(self.threads.get_mut(&thread), frame.sequence);
+                number_at(index)
+            }
+            None => {
+                let utid = number_at(self.threads.len());
+                self.threads.insert(thread, begun(upid, frame.sequence))?;
+                utid
+            }
+        };
+        Ok((upid, utid))
+    }
+}
+
+/// The number of what is at this index.
+pub(crate) fn number_at(index: usize) -> u64 {
+    (index as u64).saturating_add(1)
+}
+
+fn begun(upid: u64, sequence: u64) -> Span {
+    Span {
+        upid,
+        first: sequence,
+        last: sequence,
+        frames: 1,
+    }
+}
+
+fn lengthen(span: Option<&mut Span>, sequence: u64) {
+    if let Some(span) = span {
+        span.last = sequence;
+        span.frames = span.frames.saturating_add(1);
+    }
+}
