@@ -4,7 +4,7 @@ use crate::command_line::{Tables, WordsError, asked_of, files_of, matches_of, ta
 use crate::error::ListingError;
 use crate::output::write_error;
 use crate::parts::{FILE_LIMIT, list_parts, push_fault};
-use crate::tables::{Ending, NAMES, write_table};
+use crate::tables::{Book, Ending, NAMES, Name, Rows, write_table};
 use audit_streams::{read_parts, write_text};
 use clap::ArgMatches;
 use std::alloc::{AllocError, Global};
@@ -88,15 +88,32 @@ fn answer_tables<T: Files, W: Write, E: Write>(
 ) -> Result<u8, ListingError> {
     let readers = open_files(rt, alloc, files)?;
     let parts = read_parts(alloc, readers, FILE_LIMIT)?;
+    // The book has much to let go of, which is done here alone.
+    let mut book = Book::new(alloc);
+    let ended = write_asked(rt, alloc, tables, parts.as_slice(), &mut book, out);
+    drop(book);
+    let ending = ended?;
+    match tables {
+        Tables::One(_) => tell_ending(alloc, ending, err),
+        Tables::All(_) => tell_ending(alloc, ending, out),
+    }
+}
+
+/// Writes one table to the output, or all to their files.
+fn write_asked<T: Files, W: Write>(
+    rt: &T,
+    alloc: Global,
+    tables: Tables<'_>,
+    parts: &[Vec<u8>],
+    book: &mut Book,
+    out: &mut W,
+) -> Result<Ending, ListingError> {
     match tables {
         Tables::One(name) => {
-            let ending = write_table(alloc, name, parts.as_slice(), out)?;
-            tell_ending(alloc, ending, err)
+            let mut rows = Rows::new(alloc, out);
+            write_table(alloc, name, parts, book, &mut rows)
         }
-        Tables::All(folder) => {
-            let ending = write_tables(rt, alloc, folder, parts.as_slice())?;
-            tell_ending(alloc, ending, out)
-        }
+        Tables::All(folder) => write_tables(rt, alloc, folder, parts, book),
     }
 }
 
@@ -106,14 +123,28 @@ fn write_tables<T: Files>(
     alloc: Global,
     folder: &str,
     parts: &[Vec<u8>],
+    book: &mut Book,
 ) -> Result<Ending, ListingError> {
     let mut ending = Ending::new(parts.len() as u64);
     for (word, name) in NAMES {
-        let path = path_of(alloc, folder, word)?;
-        let mut file = fs::create(rt, path.as_str()).map_err(|error| write_error(&error))?;
-        ending = write_table(alloc, name, parts, &mut file)?;
+        ending = write_file(rt, alloc, (folder, word), name, parts, book)?;
     }
     Ok(ending)
+}
+
+/// Writes a table to the file of its name in a folder.
+fn write_file<T: Files>(
+    rt: &T,
+    alloc: Global,
+    path: (&str, &str),
+    name: Name,
+    parts: &[Vec<u8>],
+    book: &mut Book,
+) -> Result<Ending, ListingError> {
+    let path = path_of(alloc, path.0, path.1)?;
+    let mut file = fs::create(rt, path.as_str()).map_err(|error| write_error(&error))?;
+    let mut rows = Rows::new(alloc, &mut file);
+    write_table(alloc, name, parts, book, &mut rows)
 }
 
 fn path_of(alloc: Global, folder: &str, name: &str) -> Result<String, AllocError> {

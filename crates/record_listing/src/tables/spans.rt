@@ -34,6 +34,12 @@ impl Spans {
         }
     }
 
+    /// Forgets all.
+    pub(crate) fn clear(&mut self) {
+        self.processes.clear();
+        self.threads.clear();
+    }
+
     /// Counts a frame in, and gives the numbers of its process and of its thread.
     pub(crate) fn add(&mut self, frame: Frame<'_>) -> Result<(u64, u64), AllocError> {
         let process = frame.of_process();

@@ -6,7 +6,9 @@ use crate::content::{Content, Item};
 use crate::error::ListingError;
 use crate::stopped::Stopped;
 use crate::tables::frames::{CaptureTable, FrameTable, ProcessTable, ThreadTable};
+use crate::tables::ledger::Ledger;
 use crate::tables::objects::ObjectTable;
+use crate::tables::pairs::pair;
 use crate::tables::records::RecordTable;
 use crate::tables::rows::Rows;
 use crate::tables::spans::Spans;
@@ -24,6 +26,11 @@ pub(crate) enum Name {
     Frame,
     Record,
     Object,
+    Call,
+    Generation,
+    Send,
+    Delivery,
+    Level,
 }
 
 /// A frame, and the numbers of its process and of its thread.
@@ -94,13 +101,18 @@ pub(crate) trait Table {
 }
 
 /// The tables by name.
-pub(crate) const NAMES: [(&str, Name); 6] = [
+pub(crate) const NAMES: [(&str, Name); 11] = [
     ("capture", Name::Capture),
     ("process", Name::Process),
     ("thread", Name::Thread),
     ("frame", Name::Frame),
     ("record", Name::Record),
     ("object", Name::Object),
+    ("call", Name::Call),
+    ("generation", Name::Generation),
+    ("send", Name::Send),
+    ("delivery", Name::Delivery),
+    ("level", Name::Level),
 ];
 
 /// The table of this name.
@@ -113,35 +125,99 @@ pub(crate) fn name_of(word: &str) -> Option<Name> {
     None
 }
 
+/// What ways through a capture keep: the processes and threads of the latest one, and what the
+/// tables from call on come to, which is made once.
+#[derive(Drop)]
+pub(crate) struct Book {
+    spans: Spans,
+    ledger: Ledger,
+    /// How the way that made the ledger ended.
+    made: Option<Ending>,
+}
+
+impl Book {
+    pub(crate) fn new(alloc: Global) -> Book {
+        Book {
+            spans: Spans::new(alloc),
+            ledger: Ledger::new(alloc),
+            made: None,
+        }
+    }
+}
+
 /// Writes a table of the capture that has these parts, and tells how the way through it ended.
 pub(crate) fn write_table<W: Write>(
     alloc: Global,
     name: Name,
     parts: &[Vec<u8>],
-    out: &mut W,
+    book: &mut Book,
+    rows: &mut Rows<'_, W>,
 ) -> Result<Ending, ListingError> {
     match name {
-        Name::Capture => written(alloc, CaptureTable::new(), parts, out),
-        Name::Process => written(alloc, ProcessTable, parts, out),
-        Name::Thread => written(alloc, ThreadTable::new(alloc), parts, out),
-        Name::Frame => written(alloc, FrameTable::new(), parts, out),
-        Name::Record => written(alloc, RecordTable, parts, out),
-        Name::Object => written(alloc, ObjectTable, parts, out),
+        Name::Capture => written(&mut CaptureTable::new(), parts, &mut book.spans, rows),
+        Name::Process => written(&mut ProcessTable, parts, &mut book.spans, rows),
+        Name::Thread => written(&mut ThreadTable::new(alloc), parts, &mut book.spans, rows),
+        Name::Frame => written(&mut FrameTable::new(), parts, &mut book.spans, rows),
+        Name::Record => written(&mut RecordTable, parts, &mut book.spans, rows),
+        Name::Object => written(&mut ObjectTable, parts, &mut book.spans, rows),
+        _ => write_booked(alloc, name, parts, book, rows),
     }
 }
 
 /// Writes what the table gives.
-fn written<T: Table + Drop, W: Write>(
-    alloc: Global,
-    mut table: T,
+fn written<T: Table, W: Write>(
+    table: &mut T,
     parts: &[Vec<u8>],
-    out: &mut W,
+    spans: &mut Spans,
+    rows: &mut Rows<'_, W>,
 ) -> Result<Ending, ListingError> {
-    let mut rows = Rows::new(alloc, out);
-    let mut spans = Spans::new(alloc);
-    let ending = walk(&mut table, &mut spans, parts, &mut rows)?;
-    table.finish(&spans, ending, &mut rows)?;
+    let ending = walk(table, spans, parts, rows)?;
+    table.finish(spans, ending, rows)?;
     rows.flush()?;
+    Ok(ending)
+}
+
+/// Writes a table of what the capture comes to.
+fn write_booked<W: Write>(
+    alloc: Global,
+    name: Name,
+    parts: &[Vec<u8>],
+    book: &mut Book,
+    rows: &mut Rows<'_, W>,
+) -> Result<Ending, ListingError> {
+    let ending = match book.made {
+        Some(ending) => ending,
+        None => make_book(alloc, parts, book, rows)?,
+    };
+    match name {
+        Name::Call => book.ledger.calls.write(rows)?,
+        Name::Generation => book.ledger.generations.write(rows)?,
+        Name::Send => book.ledger.sends.write(rows)?,
+        Name::Delivery => book.ledger.deliveries.write(rows)?,
+        _ => {
+            let processes = book.spans.processes.len();
+            book.ledger.levels.write(processes, rows)?;
+        }
+    }
+    rows.flush()?;
+    Ok(ending)
+}
+
+/// Goes through the capture twice: for the sequences of its frames, and for all else. No row comes of
+/// it.
+fn make_book<W: Write>(
+    alloc: Global,
+    parts: &[Vec<u8>],
+    book: &mut Book,
+    rows: &mut Rows<'_, W>,
+) -> Result<Ending, ListingError> {
+    let mut capture = CaptureTable::new();
+    walk(&mut capture, &mut book.spans, parts, rows)?;
+    let (first, last) = capture.span.unwrap_or((0, 0));
+    book.ledger.levels.set_span(first, last);
+    let ending = walk(&mut book.ledger, &mut book.spans, parts, rows)?;
+    pair(alloc, &mut book.ledger)?;
+    book.made = Some(ending);
     Ok(ending)
 }
 
@@ -156,6 +232,7 @@ fn walk<T: Table, W: Write>(
     let mut base = 0u64;
     let mut before = None;
     let mut number = 0u64;
+    spans.clear();
     for part in parts {
         number = number.saturating_add(1);
         match walk_part(table, spans, part.as_slice(), base, before, rows) {
