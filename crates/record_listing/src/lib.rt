@@ -11,6 +11,7 @@ mod content;
 mod error;
 mod fields;
 mod flags;
+mod help;
 mod kinds;
 mod line;
 mod number;

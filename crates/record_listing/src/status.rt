@@ -2,6 +2,7 @@
 
 use crate::command_line::{Tables, WordsError, asked_of, files_of, matches_of, tables_of};
 use crate::error::ListingError;
+use crate::help::HELP;
 use crate::output::write_error;
 use crate::parts::{FILE_LIMIT, list_parts, push_fault};
 use crate::tables::{Book, Ending, NAMES, Name, Rows, write_table};
@@ -13,9 +14,6 @@ use std::fs::Files;
 use std::io::{ErrorKind, Write};
 use std::process::ExitCode;
 use std::{fs, io};
-
-/// What `--help` writes.
-const HELP: &str = "Lists the records of a capture, a line each.\n";
 
 /// Does what the words ask for, and gives the status that the process ends with. The first word is
 /// the program's own name.

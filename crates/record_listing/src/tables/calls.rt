@@ -84,6 +84,15 @@ impl Calls {
         }
     }
 
+    /// Makes room for a thread, at its first frame.
+    pub(crate) fn add_thread(&mut self, utid: u64) -> Result<(), AllocError> {
+        if self.stacks.len() as u64 == utid.saturating_sub(1) {
+            let open = Vec::new(self.alloc);
+            self.stacks.push(Stack { open, last: None })?;
+        }
+        Ok(())
+    }
+
     pub(crate) fn get(&self, index: Option<usize>) -> Option<Call> {
         self.rows.as_slice().get(index?).copied()
     }
@@ -91,10 +100,6 @@ impl Calls {
     /// Takes a record.
     pub(crate) fn add(&mut self, step: Step) -> Result<Change, AllocError> {
         let at = step.utid.saturating_sub(1) as usize;
-        if self.stacks.len() == at {
-            let open = Vec::new(self.alloc);
-            self.stacks.push(Stack { open, last: None })?;
-        }
         let Some(stack) = self.stacks.as_mut_slice().get_mut(at) else {
             return Ok(Change::Nothing);
         };

@@ -361,6 +361,7 @@ impl Ledger {
 impl Table for Ledger {
     fn add_frame(&mut self, standing: Standing<'_>) -> Result<(), ListingError> {
         self.levels.go_to(standing.frame.sequence);
+        self.calls.add_thread(standing.utid)?;
         self.sends.add_thread(standing.utid)?;
         Ok(())
     }

@@ -53,7 +53,7 @@ impl Sends {
         }
     }
 
-    /// Makes room for a thread.
+    /// Makes room for a thread, at its first frame.
     pub(crate) fn add_thread(&mut self, utid: u64) -> Result<(), AllocError> {
         if self.lines.len() as u64 == utid.saturating_sub(1) {
             self.lines.push(VecDeque::new(self.alloc))?;
