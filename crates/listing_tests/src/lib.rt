@@ -1,0 +1,7 @@
+//! Tests of `record_listing` that no run of the program can make: readers and writers that fail.
+#![tactic(auto)]
+
+#[cfg(test)]
+mod devices;
+#[cfg(test)]
+mod listings;
