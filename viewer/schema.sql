@@ -46,6 +46,10 @@ CREATE TABLE side_lost(seq INTEGER PRIMARY KEY, device INTEGER, process INTEGER,
 CREATE TABLE capture(key TEXT PRIMARY KEY, value) WITHOUT ROWID;
 CREATE TABLE report(id INTEGER PRIMARY KEY, section TEXT NOT NULL, place INTEGER, device INTEGER, process INTEGER,
   text TEXT NOT NULL) STRICT;
+CREATE TABLE finding(id INTEGER PRIMARY KEY, report INTEGER, section TEXT NOT NULL, what TEXT NOT NULL, place INTEGER,
+  seq INTEGER, upid INTEGER NOT NULL, utid INTEGER, handle INTEGER, code INTEGER, ptr INTEGER, cookie INTEGER,
+  generation INTEGER, target INTEGER, path TEXT, n_all INTEGER, n_good INTEGER, longest_seq INTEGER, longest INTEGER,
+  age_seq INTEGER, age INTEGER, later INTEGER, lead INTEGER, rule TEXT, note TEXT) STRICT;
 
 -- ---- names of numbers
 

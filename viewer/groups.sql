@@ -1,0 +1,68 @@
+-- Findings in groups, and who talks to whom: what the page shows first. After rules.sql.
+BEGIN;
+
+-- What a finding is called: by its rule, or by its section and what it is there.
+CREATE TABLE title(rule TEXT, section TEXT, what TEXT, title TEXT NOT NULL) STRICT;
+INSERT INTO title VALUES
+  (NULL, 'calls', 'open', 'calls without an answer'), (NULL, 'calls', 'failed', 'calls that failed'),
+  (NULL, 'calls', 'crossed', 'calls closed by what is no answer'), (NULL, 'served', 'open', 'served calls not replied'),
+  (NULL, 'served', 'crossed', 'served calls closed by what is no reply'), (NULL, 'strays', NULL, 'closers of no call'),
+  (NULL, 'refused', NULL, 'sends that were refused'), (NULL, 'handles', NULL, 'references held'),
+  (NULL, 'handles', 'balanced', 'references, balanced'), (NULL, 'nodes', NULL, 'own objects held by others'),
+  (NULL, 'nodes', 'balanced', 'own objects, balanced'), (NULL, 'buffers', 'BR_REPLY', 'replies never freed'),
+  (NULL, 'buffers', NULL, 'received transactions never freed'), (NULL, 'frees', NULL, 'frees of what was not delivered'),
+  (NULL, 'requests', NULL, 'requests for deaths'), (NULL, 'deaths', 'unacknowledged', 'deaths not acknowledged'),
+  (NULL, 'deaths', 'stray', 'acknowledgements of no death'), (NULL, 'clears', 'unconfirmed', 'clears not confirmed'),
+  (NULL, 'clears', 'stray', 'confirmations of no clear'), (NULL, 'objects', NULL, 'bad objects'),
+  (NULL, 'flags', NULL, 'unknown flags'), (NULL, 'oneway', NULL, 'oneway sends that never came'),
+  ('H1', 'handles', NULL, 'handles that nobody gave'), ('H2', 'handles', NULL, 'references let go too often'),
+  ('H2', 'nodes', NULL, 'references given back too often'), ('H3', 'handles', NULL, 'references to an object told dead'),
+  ('H4', 'handles', NULL, 'references taken more than once'), ('H5', 'handles', NULL, 'references kept'),
+  ('U4', 'nodes', NULL, 'references never acknowledged'), ('U6', 'nodes', NULL, 'references not acknowledged yet'),
+  ('T1', 'nodes', NULL, 'references not acknowledged yet'), ('F1', 'frees', NULL, 'buffers freed twice'),
+  ('S1', NULL, NULL, 'sends that were refused'), ('S2', NULL, NULL, 'replies without a call');
+
+-- The finding that leads: an open call leads its served end and its buffer.
+CREATE TABLE finding_head(id INTEGER PRIMARY KEY, grp INTEGER NOT NULL) STRICT;
+CREATE TEMP TABLE named AS
+SELECT f.id, f.path, r.verdict, iif(f.section IN ('calls', 'served', 'buffers', 'refused', 'oneway', 'objects'), 0, f.upid) AS upid,
+  (SELECT t.title FROM title t WHERE (t.rule IS NULL OR t.rule = f.rule) AND (t.section IS NULL OR t.section = f.section)
+    AND (t.what IS NULL OR t.what = f.what) ORDER BY t.rule IS NULL, t.what IS NULL LIMIT 1) AS title
+FROM finding f JOIN rule r ON r.id = f.rule WHERE f.lead IS NULL;
+INSERT INTO finding_head SELECT id, min(id) OVER (PARTITION BY title, path, verdict, upid) FROM named;
+INSERT INTO finding_head
+SELECT f.id, h.grp FROM finding f JOIN finding_head h ON h.id = f.lead;
+CREATE INDEX head_of_group ON finding_head(grp);
+
+-- A group: n findings, without those that are led, of n_all of the path.
+CREATE TABLE finding_group(grp INTEGER PRIMARY KEY, verdict TEXT NOT NULL, title TEXT NOT NULL, path TEXT NOT NULL,
+  n INTEGER NOT NULL, n_all INTEGER, processes INTEGER NOT NULL, who TEXT NOT NULL, first INTEGER, last INTEGER,
+  rules TEXT NOT NULL) STRICT;
+INSERT INTO finding_group
+SELECT h.grp, n.verdict, n.title, n.path, sum(f.lead IS NULL), max(iif(f.lead IS NULL, f.n_all, NULL)),
+  count(DISTINCT iif(f.lead IS NULL, f.upid, NULL)),
+  group_concat(DISTINCT iif(f.lead IS NULL, (SELECT who FROM who w WHERE w.upid = f.upid), NULL)),
+  min(iif(f.lead IS NULL, f.place, NULL)), max(iif(f.lead IS NULL, f.place, NULL)),
+  group_concat(DISTINCT iif(f.lead IS NULL, f.rule, NULL))
+FROM finding_head h JOIN finding f USING (id) JOIN named n ON n.id = h.grp GROUP BY h.grp;
+
+-- Who talks to whom, by handle and code.
+CREATE TABLE traffic(upid INTEGER NOT NULL, handle INTEGER NOT NULL, generation INTEGER NOT NULL, code INTEGER NOT NULL,
+  oneway INTEGER NOT NULL, sends INTEGER NOT NULL, failed INTEGER NOT NULL, refused INTEGER NOT NULL,
+  open INTEGER NOT NULL, bytes INTEGER NOT NULL, delivered INTEGER NOT NULL, one_fits INTEGER NOT NULL,
+  buffers INTEGER NOT NULL, buffers_peak INTEGER, longest_seq INTEGER, node_upid INTEGER, ptr INTEGER,
+  cookie INTEGER) STRICT;
+INSERT INTO traffic
+SELECT x.upid, x.handle, x.generation, x.code, x.oneway, x.sends, x.failed, x.refused, x.open, x.bytes, x.delivered,
+  x.one_fits, x.buffers, x.peak, x.longest_seq, n.upid, n.ptr, n.cookie
+FROM (SELECT g.upid, g.handle, s.generation, r.code, r.flags & 1 AS oneway, count(*) AS sends,
+    coalesce(sum(c.verdict = 3), 0) AS failed, count(s.refused) AS refused, coalesce(sum(c.verdict = 0), 0) AS open,
+    CAST(min(total(r.data_size), 9e18) AS INTEGER) AS bytes, count(s.delivery) AS delivered,
+    coalesce(sum(s.certain AND s.fits = 1), 0) AS one_fits,
+    coalesce(sum(s.delivery IS NOT NULL AND d.freed_by IS NULL), 0) AS buffers, max(d.held) AS peak,
+    max(c.dur_seq) AS longest_seq
+  FROM raw_send s JOIN raw_record r USING (place) JOIN raw_generation g ON g.id = s.generation
+    LEFT JOIN raw_call c USING (place) LEFT JOIN raw_delivery d ON d.place = s.delivery
+  GROUP BY s.generation, r.code, r.flags & 1) x LEFT JOIN node_of n ON n.generation = x.generation;
+
+COMMIT;

@@ -1,0 +1,327 @@
+"""From a capture to its database: the programs that read it, the side list, and the rows of the proved report."""
+
+import os
+import pathlib
+import re
+import shutil
+import sqlite3
+import struct
+import subprocess
+from typing import Callable, Iterator
+
+FOLDER = pathlib.Path(__file__).resolve().parent
+
+# What the loader needs to be built: a command or a header, and the package that has it.
+NEEDED = (("cc", "gcc"), ("sqlite3.h", "libsqlite3-dev"))
+
+# Numbers from here on are the recorder's own, where an id is taken already.
+OWN_NUMBERS = 2**22
+
+HEADER_KINDS, FRAME_KINDS, RECORD_KINDS = range(1, 5), range(5, 10), range(10, 13)
+
+
+class Stopped(Exception):
+    """What ends `./view` early: the status, and the line that says why."""
+
+    def __init__(self, status: int, line: str):
+        super().__init__(line)
+        self.status = status
+
+
+# ---- the loader
+
+
+def has_header(name: str) -> bool:
+    asked = subprocess.run(["cc", "-E", "-include", name, "-x", "c", os.devnull], capture_output=True)
+    return asked.returncode == 0
+
+
+def missing_tools() -> list[tuple[str, str]]:
+    """What is missing to build the loader, each with its package; headers are asked for where there is a compiler."""
+    if shutil.which("cc") is None:
+        return [("cc", "gcc and libsqlite3-dev")]
+    return [needed for needed in NEEDED[1:] if not has_header(needed[0])]
+
+
+def loader() -> pathlib.Path:
+    """The loader, which is built where it is not there, or older than its source."""
+    source, program = FOLDER / "load.c", FOLDER / "out" / "load"
+    if program.exists() and program.stat().st_mtime >= source.stat().st_mtime:
+        return program
+    for name, package in missing_tools():
+        raise Stopped(1, f"{name} is missing to build the loader; this installs it: apt-get install "
+                         + package.replace(" and ", " "))
+    program.parent.mkdir(exist_ok=True)
+    new = program.with_suffix(f".{os.getpid()}")
+    built = subprocess.run(["cc", "-O2", "-std=gnu11", "-Wall", "-Wextra", "-o", new, source, "-lsqlite3"],
+                           capture_output=True, text=True)
+    if built.returncode:
+        raise Stopped(1, f"the loader could not be built: {built.stderr.strip()}")
+    new.replace(program)
+    return program
+
+
+def load_rows(database: pathlib.Path, rows: pathlib.Path) -> None:
+    """A new database of the `.rows` files of a folder."""
+    loaded = subprocess.run([loader(), database, rows, FOLDER / "schema.sql"], capture_output=True, text=True)
+    if loaded.returncode:
+        raise Stopped(4, loaded.stderr.strip().removeprefix("load: "))
+
+
+# ---- the programs
+
+
+def ended(program: str, status: int, told: bytes) -> None:
+    """Raises where a program of the repository has no answer about a capture."""
+    if status not in (0, 2):
+        words = told.decode(errors="replace").strip().splitlines()
+        raise Stopped(status if status in (3, 4) else 1, f"./{program}: {words[-1] if words else f'status {status}'}")
+
+
+def start(root: pathlib.Path, program: str, *words: object) -> subprocess.Popen:
+    """A program of the repository. What it tells while it builds itself goes to standard error, as without `./view`."""
+    return subprocess.Popen([root / program, *map(str, words)], stdout=subprocess.PIPE, stderr=subprocess.PIPE)
+
+
+def answer(program: str, begun: subprocess.Popen) -> tuple[int, str]:
+    """The status of a program, 0 or 2, and what it wrote."""
+    text, told = begun.communicate()
+    ended(program, begun.returncode, told)
+    return begun.returncode, text.decode()
+
+
+# ---- a malformed capture
+
+
+def copy_begin(source: str, length: int, target: pathlib.Path) -> None:
+    with open(source, "rb") as old, open(target, "wb") as new:
+        while length:
+            piece = old.read(min(length, 2**20))
+            if not piece:
+                raise Stopped(4, f"{source} became shorter while it was read")
+            new.write(piece)
+            length -= len(piece)
+
+
+def before_fault(database: sqlite3.Connection, files: list[str], folder: pathlib.Path) -> list[str]:
+    """Files with what comes before the first fault, a good capture with the same places. Where the fault lies within a
+    frame, its good records, or its good entries, make a shorter frame."""
+    kind, place, part = database.execute("SELECT fault, fault_place, fault_part FROM raw_capture").fetchone()
+    if kind in HEADER_KINDS and part > 1:
+        return files[:part - 1]
+    cut = folder / "before-fault.cap"
+    if kind in HEADER_KINDS:
+        cut.write_bytes(struct.pack("<8sII", b"BNDRCAP2", 8, 0))
+        return [str(cut)]
+    copy_begin(files[part - 1], place, cut)
+    if kind not in FRAME_KINDS:
+        shift = sum(os.path.getsize(name) - 16 for name in files[:part - 1])
+        frame, commands = database.execute(
+            "SELECT place, command_length FROM raw_frame ORDER BY place DESC LIMIT 1").fetchone()
+        behind = place - (frame - shift) - 32
+        lengths = (behind, 0) if kind in RECORD_KINDS else (commands, behind - commands)
+        with open(cut, "r+b") as mended:
+            mended.seek(frame - shift + 20)
+            mended.write(struct.pack("<II", *lengths))
+    return [*files[:part - 1], str(cut)]
+
+
+# ---- the side list
+
+
+def unescaped(name: str) -> str:
+    """A name of the side list: a control character or a backslash stands in it as `\\x` and two digits."""
+    return re.sub(r"\\x([0-9a-f]{2})", lambda found: chr(int(found[1], 16)), name)
+
+
+def side_lines(path: str) -> Iterator[tuple[int, str, list[str], dict[str, str]]]:
+    """The lines of a side list but those of frames: time, word, numbers by position, and fields by name. A last line
+    that was cut short is left out."""
+    try:
+        with open(path, encoding="utf-8", errors="replace", newline="\n") as lines:
+            if next(lines, "") != "binder side list 1\n":
+                raise Stopped(4, f"{path} is no side list of version 1")
+            for line in lines:
+                if line.endswith("\n"):
+                    yield line_of(line[:-1], path)
+    except OSError as error:
+        raise Stopped(4, f"{path}: {error.strerror}") from error
+
+
+def line_of(line: str, path: str) -> tuple[int, str, list[str], dict[str, str]]:
+    front, named, name = line.partition(" name=")
+    time, word, *fields = front.split(" ")
+    if not time.isdigit():
+        raise Stopped(4, f"{path} has a line without a time: {line[:80]}")
+    positional = [field for field in fields if "=" not in field]
+    keyed = dict(field.split("=", 1) for field in fields if "=" in field)
+    if named:
+        keyed["name"] = unescaped(name)
+    return int(time), word, positional, keyed
+
+
+class SideList:
+    """Puts the lines of a side list into the database."""
+
+    def __init__(self, database: sqlite3.Connection):
+        self.database = database
+        self.facts: dict[str, object] = {"side_list": 1}
+        self.pending: list[tuple[int, int]] = []
+
+    def load(self, path: str) -> None:
+        for time, word, positional, keyed in side_lines(path):
+            taker = getattr(self, f"take_{word}", None)
+            if taker:
+                try:
+                    taker(time, positional, keyed)
+                except (KeyError, ValueError, IndexError) as error:
+                    raise Stopped(4, f"{path}: a line '{word}' at {time} is not as the format says") from error
+        self.flush()
+
+    def flush(self) -> None:
+        self.database.executemany("INSERT OR REPLACE INTO side_time VALUES (?, ?)", self.pending)
+        self.pending.clear()
+
+    def take_frame(self, time: int, positional: list[str], _: dict[str, str]) -> None:
+        self.pending.append((int(positional[0]), time))
+        if len(self.pending) >= 100_000:
+            self.flush()
+
+    def take_begin(self, time: int, _: list[str], keyed: dict[str, str]) -> None:
+        self.facts.update(begin_ts=time, realtime=int(keyed["realtime"]), kernel=keyed["kernel"],
+                          machine=keyed["machine"])
+
+    def take_device(self, _: int, positional: list[str], keyed: dict[str, str]) -> None:
+        self.database.execute("INSERT OR REPLACE INTO side_device VALUES (?, ?)", (int(positional[0]), keyed["name"]))
+
+    def take_process(self, time: int, positional: list[str], keyed: dict[str, str]) -> None:
+        self.database.execute(
+            "INSERT OR REPLACE INTO side_process VALUES (?, ?, ?, ?, ?, ?, ?, NULL, NULL)",
+            (*map(int, positional[:2]), int(keyed["pid"]), int(keyed["opening"]), keyed["met"], keyed["name"], time))
+
+    def take_thread(self, _: int, positional: list[str], keyed: dict[str, str]) -> None:
+        self.database.execute("INSERT OR REPLACE INTO side_thread VALUES (?, ?, ?, ?, ?, NULL, NULL, NULL)",
+                              (*map(int, positional[:3]), int(keyed["tid"]), keyed["name"]))
+
+    def take_lost(self, _: int, positional: list[str], keyed: dict[str, str]) -> None:
+        who = [int(keyed[name]) if name in keyed else None for name in ("device", "process", "thread")]
+        self.database.execute("INSERT OR REPLACE INTO side_lost VALUES (?, ?, ?, ?, ?)",
+                              (int(positional[0]), *who, keyed["why"]))
+
+    def take_end(self, time: int, positional: list[str], keyed: dict[str, str]) -> None:
+        after, what = int(keyed["after"]), positional[0]
+        if what == "thread":
+            self.database.execute("UPDATE side_thread SET ended_after = ?, ended = ?, why = ? WHERE (device, process,"
+                                  " thread) = (?, ?, ?)", (after, time, keyed["why"], *map(int, positional[1:4])))
+        elif what == "opening":
+            self.database.execute("UPDATE side_process SET ended_after = ?, ended = ? WHERE (device, process) = (?, ?)"
+                                  " AND ended IS NULL", (after, time, *map(int, positional[1:3])))
+        elif what == "pid":
+            self.database.execute("UPDATE side_process SET ended_after = ?, ended = ? WHERE pid = ? AND ended IS NULL",
+                                  (after, time, int(positional[1])))
+        elif what == "recording":
+            self.facts.update(end_ts=time, lost=int(keyed["lost"]))
+
+
+# ---- the report
+
+
+# The sections whose rows begin with a device; those of `codes` have none, and all others begin with a place.
+OF_PROCESSES = {"handles", "nodes", "oneway"}
+
+
+def signed(number: int) -> int:
+    """The number as SQLite has it, in two's complement."""
+    return number - 2**64 if number >= 2**63 else number
+
+
+def load_report(database: sqlite3.Connection, text: str) -> None:
+    """The report, line by line; its heads are the rows of section `head`."""
+    rows, section = [], "head"
+    for line in text.splitlines():
+        words = line.split()
+        if not line.startswith("  "):
+            section = words[0]
+            rows.append(("head", None, None, None, line))
+        elif section == "codes":
+            rows.append((section, None, None, None, line.strip()))
+        else:
+            first = 0 if section in OF_PROCESSES else 1
+            place = int(words[0]) if first else None
+            rows.append((section, place, int(words[first]), int(words[first + 1]), line.strip()))
+    database.executemany("INSERT INTO report(section, place, device, process, text) VALUES (?, ?, ?, ?, ?)", rows)
+
+
+class Row:
+    """What a row of the report says, by the names of the table `finding`."""
+
+    def __init__(self, section: str, text: str):
+        words = text.split()
+        self.what, self.handle, self.code, self.ptr, self.cookie = section, None, None, None, None
+        numbers = {"calls": (6, 4, 5), "served": (6, None, 5), "strays": (4,), "refused": (4,), "buffers": (5,),
+                   "requests": (None, 3), "deaths": (4,), "clears": (4,), "objects": (5,), "flags": (3,),
+                   "handles": (None, 2), "oneway": (None,)}
+        what, handle, code = (*numbers.get(section, ()), None, None, None)[:3]
+        self.what = section if what is None else words[what]
+        self.handle = None if handle is None else int(words[handle])
+        self.code = None if code is None else int(words[code])
+        if section == "handles":
+            self.what = "held" if words[3] != "0" or words[5] != "0" else "balanced"
+        if section == "nodes":
+            self.what = "held" if any(word != "0" for word in (words[4], words[6], words[8], words[9])) else "balanced"
+            self.ptr, self.cookie = signed(int(words[2], 16)), signed(int(words[3], 16))
+
+
+def load_findings(database: sqlite3.Connection) -> None:
+    """Each row of the report that says something of one thing is a finding; the rules judge them."""
+    upids = {(device, process): upid for upid, device, process in
+             database.execute("SELECT upid, device, process FROM raw_process")}
+    rows = database.execute("SELECT id, section, place, device, process, text FROM report"
+                            " WHERE section NOT IN ('head', 'codes', 'oneway')").fetchall()
+    made = []
+    for number, section, place, device, process, text in rows:
+        row = Row(section, text)
+        made.append((number, section, row.what, place, upids[device, process], row.handle, row.code, row.ptr, row.cookie))
+    database.executemany("INSERT INTO finding(report, section, what, place, upid, handle, code, ptr, cookie)"
+                         " VALUES (?, ?, ?, ?, ?, ?, ?, ?, ?)", made)
+
+
+# ---- all of it
+
+
+def run_statements(database: sqlite3.Connection, name: str, tell: Callable[[str, float], None] | None = None) -> None:
+    """Runs a file of SQL statements, one after another."""
+    import time
+    statement = ""
+    for line in (FOLDER / name).read_text().splitlines(keepends=True):
+        statement += line
+        if sqlite3.complete_statement(statement):
+            begun = time.monotonic()
+            try:
+                database.execute(statement)
+            except sqlite3.Error as error:
+                raise RuntimeError(f"{name}: {error}: {statement}") from error
+            if tell:
+                tell(" ".join(statement.split()), time.monotonic() - begun)
+            statement = ""
+
+
+def open_database(path: pathlib.Path) -> sqlite3.Connection:
+    database = sqlite3.connect(path, isolation_level=None)
+    for setting in ("journal_mode=OFF", "synchronous=OFF", "locking_mode=EXCLUSIVE", "cache_size=-131072",
+                    "temp_store=MEMORY"):
+        database.execute(f"PRAGMA {setting}")
+    return database
+
+
+def load_facts(database: sqlite3.Connection, files: list[str], malformed: str | None,
+               facts: dict[str, object]) -> None:
+    """The table `capture`."""
+    names = ("parts", "bytes", "frames", "records", "first_seq", "last_seq", "missing")
+    row = database.execute(f"SELECT {', '.join(names)} FROM raw_capture").fetchone()
+    known: dict[str, object] = {"file": " ".join(os.path.basename(name) for name in files), "side_list": 0,
+                                **dict(zip(names, row)), "malformed": malformed, **facts}
+    known["first_ts"], known["last_ts"] = database.execute(
+        "SELECT (SELECT ts FROM side_time WHERE seq = ?), (SELECT ts FROM side_time WHERE seq = ?)",
+        (row[4], row[5])).fetchone()
+    database.executemany("INSERT INTO capture VALUES (?, ?)", known.items())
