@@ -71,22 +71,20 @@ def load_rows(database: pathlib.Path, rows: pathlib.Path) -> None:
 # ---- the programs
 
 
-def ended(program: str, status: int, told: bytes) -> None:
-    """Raises where a program of the repository has no answer about a capture."""
-    if status not in (0, 2):
-        words = told.decode(errors="replace").strip().splitlines()
-        raise Stopped(status if status in (3, 4) else 1, f"./{program}: {words[-1] if words else f'status {status}'}")
-
-
 def start(root: pathlib.Path, program: str, *words: object) -> subprocess.Popen:
-    """A program of the repository. What it tells while it builds itself goes to standard error, as without `./view`."""
-    return subprocess.Popen([root / program, *map(str, words)], stdout=subprocess.PIPE, stderr=subprocess.PIPE)
+    """A program of the repository. What it tells, while it builds itself or of a fault, goes to standard error."""
+    try:
+        return subprocess.Popen([root / program, *map(str, words)], stdin=subprocess.DEVNULL, stdout=subprocess.PIPE)
+    except OSError as error:
+        raise Stopped(1, f"./{program}: {error.strerror}") from error
 
 
 def answer(program: str, begun: subprocess.Popen) -> tuple[int, str]:
     """The status of a program, 0 or 2, and what it wrote."""
-    text, told = begun.communicate()
-    ended(program, begun.returncode, told)
+    text, _ = begun.communicate()
+    if begun.returncode not in (0, 2):
+        raise Stopped(begun.returncode if begun.returncode in (3, 4) else 1,
+                      f"./{program} ended with status {begun.returncode}")
     return begun.returncode, text.decode()
 
 
@@ -289,24 +287,18 @@ def load_findings(database: sqlite3.Connection) -> None:
 # ---- all of it
 
 
-def run_statements(database: sqlite3.Connection, name: str, tell: Callable[[str, float], None] | None = None) -> None:
+def run_statements(database: sqlite3.Connection, name: str) -> None:
     """Runs a file of SQL statements, one after another."""
-    import time
     statement = ""
     for line in (FOLDER / name).read_text().splitlines(keepends=True):
         statement += line
         if sqlite3.complete_statement(statement):
-            begun = time.monotonic()
-            try:
-                database.execute(statement)
-            except sqlite3.Error as error:
-                raise RuntimeError(f"{name}: {error}: {statement}") from error
-            if tell:
-                tell(" ".join(statement.split()), time.monotonic() - begun)
+            database.execute(statement)
             statement = ""
 
 
 def open_database(path: pathlib.Path) -> sqlite3.Connection:
+    """The database, for one who has it alone and makes it again where it is not whole: without a journal."""
     database = sqlite3.connect(path, isolation_level=None)
     for setting in ("journal_mode=OFF", "synchronous=OFF", "locking_mode=EXCLUSIVE", "cache_size=-131072",
                     "temp_store=MEMORY"):
@@ -325,3 +317,52 @@ def load_facts(database: sqlite3.Connection, files: list[str], malformed: str | 
         "SELECT (SELECT ts FROM side_time WHERE seq = ?), (SELECT ts FROM side_time WHERE seq = ?)",
         (row[4], row[5])).fetchone()
     database.executemany("INSERT INTO capture VALUES (?, ?)", known.items())
+
+
+def database_of(root: pathlib.Path, files: list[str], side: str | None, made: pathlib.Path,
+                tell: Callable[[str], None]) -> str | None:
+    """Makes the database of a capture, with the report and what the rules say of it. Answers the line of its first
+    fault; None where it has none."""
+    loader()
+    rows = made.with_suffix(".rows")
+    rows.mkdir()
+    tell("reading the capture")
+    reporting = start(root, "audit", "report", *files)
+    try:
+        listing, fault = answer("listing", start(root, "listing", "--tables", rows, *files))
+        tell("making the database")
+        load_rows(made, rows)
+        shutil.rmtree(rows)
+        auditing, report = answer("audit", reporting)
+    finally:
+        if reporting.poll() is None:
+            reporting.kill()
+    if listing != auditing:
+        raise Stopped(1, f"./listing and ./audit do not agree: {fault.strip()!r} and {report[:80]!r}")
+    database = open_database(made)
+    malformed = fault.strip() or None
+    if malformed:
+        _, report = answer("audit", start(root, "audit", "report", *before_fault(database, files, made.parent)))
+    tell("judging")
+    database.execute("BEGIN")
+    taken = SideList(database)
+    if side is not None:
+        taken.load(side)
+    load_report(database, report)
+    load_facts(database, files, malformed, taken.facts if side is not None else {})
+    load_findings(database)
+    database.execute("COMMIT")
+    for name in ("rules.sql", "groups.sql"):
+        run_statements(database, name)
+    database.close()
+    return malformed
+
+
+def keep(made: pathlib.Path, path: pathlib.Path) -> None:
+    """Keeps a database under a name that is not there yet."""
+    try:
+        with open(path, "xb"):
+            pass
+    except FileExistsError as error:
+        raise Stopped(1, f"{path} exists already") from error
+    made.replace(path)

@@ -159,8 +159,8 @@ WHERE section NOT IN ('calls', 'served') AND (later IS NULL OR EXISTS (SELECT 1 
 
 UPDATE finding SET path = CASE
   WHEN section IN ('calls', 'refused', 'oneway') OR section IN ('strays', 'objects', 'flags') AND generation IS NOT NULL
-  THEN iif(code IS NULL, 'a reply', 'code ' || code || ' to ') || iif(code IS NULL, '',
-    coalesce((SELECT who FROM who WHERE upid = target) || printf(' node 0x%x', ptr), 'handle ' || handle))
+  THEN iif(generation IS NULL, 'a reply', 'code ' || code || ' to '
+    || coalesce((SELECT who FROM who WHERE upid = target) || printf(' node 0x%x', ptr), 'handle ' || handle))
   WHEN section = 'buffers' AND what = 'BR_REPLY' THEN coalesce('reply to code ' || code || ' of '
     || coalesce((SELECT who FROM who WHERE upid = target) || printf(' node 0x%x', ptr), 'handle ' || handle),
     'reply to no call')
@@ -175,6 +175,7 @@ UPDATE finding SET path = CASE
   WHEN section = 'nodes' THEN printf('node 0x%x', ptr)
   WHEN section = 'frees' THEN (SELECT printf('address 0x%x', address) FROM raw_record r WHERE r.place = finding.place)
   ELSE '' END;
+UPDATE finding SET path = '' WHERE path IS NULL;
 
 -- Buffers, by what they came for. Those of the paths that findings have, whole: how many, how many were freed, and how
 -- long these were held at most.

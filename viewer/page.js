@@ -1,0 +1,46 @@
+// Sorts a table by the column whose head is pressed, and hides the rows and groups that have not the words of the box.
+// The page is read without it.
+'use strict';
+
+const numberOr = text => {
+  const plain = text.replace(/,/g, '');
+  return /^-?[0-9.]+/.test(plain) ? parseFloat(plain) : text;
+};
+const keyOf = (row, column) => {
+  const cell = row.cells[column];
+  return numberOr(cell.dataset.key ?? cell.textContent.trim());
+};
+const compare = (one, other) =>
+  typeof one === typeof other ? (one > other) - (one < other) : typeof one === 'number' ? -1 : 1;
+
+const sortBy = head => {
+  const rows = head.closest('table').tBodies[0];
+  const column = [...head.parentNode.children].indexOf(head);
+  const rising = head.getAttribute('aria-sort') !== 'ascending';
+  for (const other of head.parentNode.children) other.setAttribute('aria-sort', 'none');
+  head.setAttribute('aria-sort', rising ? 'ascending' : 'descending');
+  const sorted = [...rows.rows].sort((one, other) =>
+    compare(keyOf(one, column), keyOf(other, column)) * (rising ? 1 : -1));
+  rows.append(...sorted);
+};
+
+for (const head of document.querySelectorAll('table.sorted th')) {
+  const button = document.createElement('button');
+  button.append(...head.childNodes);
+  head.append(button);
+  button.addEventListener('click', () => sortBy(head));
+}
+
+const box = document.querySelector('.filter');
+const input = document.createElement('input');
+input.type = 'search';
+input.placeholder = 'show only what has these words';
+input.setAttribute('aria-label', input.placeholder);
+input.addEventListener('input', () => {
+  const words = input.value.toLowerCase().split(/\s+/).filter(Boolean);
+  for (const one of document.querySelectorAll('details.group, table.sorted tbody tr')) {
+    const text = one.textContent.toLowerCase();
+    one.hidden = !words.every(word => text.includes(word));
+  }
+});
+box.append(input);

@@ -1,0 +1,388 @@
+"""The page of a capture: what the queries over its database say, as HTML that needs no network and no script."""
+
+import base64
+import hashlib
+import html
+import pathlib
+import shlex
+import sqlite3
+import unicodedata
+from typing import Callable, Iterator, NamedTuple
+
+from viewer.lane import lane_of
+from viewer.loading import Stopped
+
+FOLDER = pathlib.Path(__file__).resolve().parent
+
+# At most so many rows a block, findings a group and lanes a page; the rest is counted.
+ROWS, FINDINGS, LANES = 1000, 100, 300
+
+VERDICTS = ("real", "maybe", "explained", "normal")
+
+# ---- text
+
+
+def is_sign(character: str) -> bool:
+    """Whether a character is not seen, or changes how others are: controls, marks of direction, and what has no name."""
+    return unicodedata.category(character) in ("Cc", "Cf", "Cs", "Co", "Cn", "Zl", "Zp")
+
+
+def text_of(value: object) -> str:
+    """A value as text of the page. What is not seen is written as its number, apart from the rest."""
+    if value is None:
+        return ""
+    shown = str(value)
+    if len(shown) > 400:
+        shown = f"{shown[:400]}… ({len(shown):,} characters)"
+    return "".join(f'<span class="sign">U+{ord(character):04X}</span>' if is_sign(character)
+                   else html.escape(character) for character in shown)
+
+
+def name_of(value: object) -> str:
+    """A name from a stranger: its letters may run from right to left, and what stands beside it does not."""
+    return f"<bdi>{text_of(value)}</bdi>"
+
+
+def number_of(value: int | None) -> str:
+    return "" if value is None else f"{value:,}"
+
+
+def duration_of(nanoseconds: int | None) -> str:
+    """A time in three digits."""
+    if nanoseconds is None:
+        return ""
+    for unit, size in (("s", 10**9), ("ms", 10**6), ("µs", 10**3)):
+        if nanoseconds >= size:
+            return f"{nanoseconds / size:.3g} {unit}" if nanoseconds < 1000 * size else f"{nanoseconds / size:,.0f} {unit}"
+    return f"{nanoseconds} ns"
+
+
+class Cell(NamedTuple):
+    """What stands in a cell: its HTML, whether it is a number, and what it is sorted by where its text is not that."""
+    inner: str
+    is_number: bool = False
+    key: int | None = None
+
+
+def number_cell(value: int | None) -> Cell:
+    return Cell(number_of(value), True, value)
+
+
+def duration_cell(seconds: int | None, frames: int | None) -> Cell:
+    """How long something took: a time, or where there is none a number of frames."""
+    if seconds is not None:
+        return Cell(duration_of(seconds), True, seconds)
+    return Cell("" if frames is None else f"{frames:,} frames", True, frames)
+
+
+def cell_of(cell: Cell) -> str:
+    key = "" if cell.key is None else f' data-key="{cell.key}"'
+    return f"<td{' class=number' if cell.is_number else ''}{key}>{cell.inner}"
+
+
+def table_of(name: str, heads: list[str], rows: list[list[Cell]], all_rows: int | None = None) -> str:
+    """A table that can be sorted. A head that begins with # is of numbers."""
+    if not rows:
+        return '<p class="dim">none</p>'
+    left = (all_rows or len(rows)) - len(rows)
+    head = "".join(f"<th{' class=number' if one[0] == '#' else ''} aria-sort=none>{one.lstrip('#')}" for one in heads)
+    body = "".join("<tr>" + "".join(map(cell_of, row)) + "\n" for row in rows)
+    more = f'<p class="of">and {left:,} more</p>' if left > 0 else ""
+    return (f'<div class="scroll" tabindex=0 role=region aria-label="{name}"><table class="sorted"><thead><tr>{head}'
+            f"</thead><tbody>\n{body}</tbody></table></div>{more}")
+
+
+# ---- plots
+
+
+def plot(values: list[int], width: int = 112, height: int = 24) -> str:
+    """Sixteen values as steps."""
+    top = max(values, default=0)
+    if top <= 0:
+        return ""
+    step, scale = (width - 2) / len(values), (height - 5) / top
+    path = "".join(f"{'M1 ' if at == 0 else 'V'}{height - 2 - value * scale:.1f}H{1 + (at + 1) * step:.1f}"
+                   for at, value in enumerate(values))
+    told = ", ".join(map(str, values))
+    return (f'<svg class="plot" viewBox="0 0 {width} {height}" width={width} height={height} role=img aria-label="{told}">'
+            f'<path class="axis" d="M1 {height - 2}H{width - 1}"/><path class="line" d="{path}"/></svg>')
+
+
+def strip(places: list[int], whole: int, width: int = 112, height: int = 14) -> str:
+    """A mark for each place in the capture."""
+    marks = "".join(f"M{1 + (width - 3) * place / max(whole, 1):.1f} 3V{height - 1}" for place in places)
+    return (f'<svg class="plot" viewBox="0 0 {width} {height}" width={width} height={height} role=img'
+            f' aria-label="where in the capture"><path class="axis" d="M1 {height - 4}H{width - 1}"/>'
+            f'<path class="line" d="{marks}"/></svg>')
+
+
+# ---- the page
+
+
+class Page:
+    """The parts of the page, each by queries of its own."""
+
+    def __init__(self, database: sqlite3.Connection, files: list[str], side: str | None):
+        self.database = database
+        self.command = " ".join(["./listing", *map(shlex.quote, files)])
+        self.side = "" if side is None else f" --side {shlex.quote(side)}"
+        self.facts = dict(database.execute("SELECT key, value FROM capture"))
+        self.who = dict(database.execute("SELECT upid, who FROM who"))
+        self.rules = dict(database.execute("SELECT id, text FROM rule"))
+        self.lanes = 0
+
+    def ask(self, query: str, *values: object) -> list[tuple]:
+        return self.database.execute(query, values).fetchall()
+
+    def name(self, upid: int | None) -> str:
+        return name_of(self.who.get(upid)) if upid is not None else ""
+
+    # -- the capture
+
+    def unknown(self) -> Iterator[str]:
+        """What is not known of the capture."""
+        if not self.facts["side_list"]:
+            yield "No side list: no times, no names, no ends, and what came before the capture is not known."
+            return
+        met = [who for _, who in self.ask("SELECT upid, who FROM who JOIN process USING (upid) WHERE met IS NOT"
+                                          " 'from-start' ORDER BY upid LIMIT 20")]
+        if met:
+            yield ("Met in mid-life, so that what came before is not known: " + ", ".join(map(name_of, met))
+                   + (", …" if len(met) == 20 else "") + ".")
+        lost = self.ask("SELECT why, count(*) FROM side_lost WHERE seq BETWEEN (SELECT first_seq FROM raw_capture)"
+                        " AND (SELECT last_seq FROM raw_capture) GROUP BY 1 ORDER BY 2 DESC")
+        if lost:
+            yield "Lost frames: " + ", ".join(f"{number_of(count)} {text_of(why)}" for why, count in lost) + "."
+        if "end_ts" not in self.facts:
+            yield "The side list has no end: the recorder was killed, or had no more room."
+
+    def head(self) -> str:
+        facts = self.facts
+        span = ""
+        if facts.get("first_ts") is not None and facts.get("last_ts") is not None:
+            span = f" over {duration_of(facts['last_ts'] - facts['first_ts'])}"
+        first = f'<p class="fault">{text_of(facts["malformed"])}: all below is of what comes before it.</p>' \
+            if facts["malformed"] else ""
+        missing = number_of(facts["missing"]) if facts["missing"] else "no"
+        told = "".join(f'<p class="dim">{one}</p>' for one in self.unknown())
+        return (f"{first}<h1>{name_of(facts['file'])}</h1>"
+                f'<p class="dim">{number_of(facts["frames"])} frames, {number_of(facts["records"])} records,'
+                f' {number_of(facts["bytes"])} bytes{span}; {missing} frames missing; {len(self.who)} processes.</p>{told}')
+
+    def counts(self) -> str:
+        groups = dict(self.ask("SELECT verdict, count(*) FROM finding_group GROUP BY 1"))
+        rows = dict(self.ask("SELECT verdict, sum(n) FROM finding_group GROUP BY 1"))
+        boxes = "".join(f'<div class="{verdict}"><b>{number_of(groups.get(verdict, 0))}</b>{verdict}'
+                        f'<span class="of"> · {number_of(rows.get(verdict, 0))} rows</span></div>' for verdict in VERDICTS)
+        return (f'<div class="counts">{boxes}</div><p class="dim">Verdicts, paths and counts are <b>inferred</b> by the'
+                ' rules of docs/VIEW.md. What stands in <span class="proved">green</span> is the proved report, word by'
+                ' word.</p><div class="filter"></div>')
+
+    # -- findings
+
+    def finding(self, row: tuple) -> str:
+        _, section, place, utid, upid, rule, note, text, thread = row
+        look = f"<code>{text_of(f'{self.command} --at {place}')}</code>" if place is not None else ""
+        why = text_of(self.rules[rule]) + (f" ({text_of(note)})" if note else "")
+        proved = f"{section}: {text_of(text)}" if text else ""
+        return (f"<tr><td>{look}<td>{self.name(upid)}{f' thread {thread}' if thread is not None else ''}"
+                f'<td class="dim">{why} <span class="rule">{rule}</span><td class="proved">{proved}\n')
+
+    def group(self, row: tuple) -> str:
+        number, verdict, title, path, n, n_all, who, first, last, rules = row
+        found = self.ask(
+            "SELECT f.id, f.section, f.place, f.utid, f.upid, f.rule, f.note, r.text, t.thread FROM finding_head h"
+            " JOIN finding f USING (id) LEFT JOIN report r ON r.id = f.report LEFT JOIN raw_thread t USING (utid)"
+            f" WHERE h.grp = ? ORDER BY f.lead IS NOT NULL, f.place LIMIT {FINDINGS + 1}", number)
+        places = [one[2] for one in found if one[2] is not None]
+        count = f"{number_of(n)}" + (f' <span class="of">of {number_of(n_all)}</span>' if n_all is not None else "")
+        marks = self.growth(number) if n >= 8 else strip(places, self.facts["bytes"]) if places else ""
+        span = "" if first is None else number_of(first) + (f" to {number_of(last)}" if last != first else "")
+        why = " ".join(f'{text_of(self.rules[rule])} <span class="rule">{rule}</span>' for rule in rules.split(","))
+        more = '<p class="of">and more: SELECT * FROM finding JOIN finding_head USING (id) WHERE grp = ' \
+            f"{number}</p>" if len(found) > FINDINGS else ""
+        return (f'<details class="group {verdict}"><summary><span><span class="verdict {verdict}">{verdict}</span></span>'
+                f'<span><b>{title}</b> {name_of(path)}<br><span class="dim">{why}</span></span>'
+                f'<span class="count">{count}</span><span class="who">{self.names(who)}</span>'
+                f'<span class="marks">{marks}<br><span class="of">{span}</span></span></summary><div class="inner">'
+                f'<div class="scroll" tabindex=0 role=region aria-label="findings"><table>'
+                f'{"".join(map(self.finding, found[:FINDINGS]))}</table></div>{more}{self.lane(verdict, found)}</div></details>\n')
+
+    def names(self, who: str | None) -> str:
+        """Some names, of which there may be many."""
+        names = (who or "").split(",")
+        return ", ".join(map(name_of, names[:8])) + (f" and {len(names) - 8:,} more" if len(names) > 8 else "")
+
+    def growth(self, group: int) -> str:
+        """How many findings of a group there are at the end of each of 16 slices of the capture."""
+        slices = dict(self.ask(
+            "SELECT (f.seq - c.first_seq) * 16 / (c.last_seq - c.first_seq + 1), count(*) FROM finding_head h"
+            " JOIN finding f USING (id), raw_capture c WHERE h.grp = ? AND f.lead IS NULL AND f.seq NOTNULL GROUP BY 1",
+            group))
+        values, so_far = [], 0
+        for at in range(16):
+            so_far += slices.get(at, 0)
+            values.append(so_far)
+        return plot(values)
+
+    def lane(self, verdict: str, found: list[tuple]) -> str:
+        """What the thread of the first finding did around it."""
+        at = next(((one[3], one[2]) for one in found if one[2] is not None and one[3] is not None), None)
+        if at is None or verdict == "normal" or self.lanes >= LANES:
+            return ""
+        self.lanes += 1
+        lines = "\n".join(f"<b>{text_of(line)}</b>" if bold else text_of(line)
+                          for line, bold in lane_of(self.database, *at))
+        return f'<p class="of">What its thread did around place {at[1]}:</p><pre class="lane" tabindex=0>{lines}</pre>'
+
+    def groups(self, *verdicts: str) -> str:
+        marks = ",".join("?" * len(verdicts))
+        rows = self.ask("SELECT grp, verdict, title, path, n, n_all, who, first, last, rules FROM finding_group"
+                        f" WHERE verdict IN ({marks}) ORDER BY verdict = 'real' DESC, n DESC, first LIMIT {ROWS}", *verdicts)
+        (count,), = self.ask(f"SELECT count(*) FROM finding_group WHERE verdict IN ({marks})", *verdicts)
+        more = f'<p class="of">and {count - len(rows):,} more groups</p>' if count > len(rows) else ""
+        return "".join(map(self.group, rows)) + more if rows else '<p class="box">Nothing.</p>'
+
+    # -- tables
+
+    def processes(self) -> str:
+        rows = self.ask(
+            "SELECT p.upid, p.device, p.pid, (SELECT count(*) FROM raw_thread t WHERE t.upid = p.upid), p.met, p.frames,"
+            " p.first_seq, p.last_seq, p.ended, p.ended_after FROM process p"
+            f" ORDER BY p.upid LIMIT {ROWS}")
+        begun = self.facts.get("begin_ts")
+        ended = [Cell(f"after {number_of(row[9])}" + (f", at {duration_of(row[8] - begun)}" if begun else ""))
+                 if row[9] is not None else Cell("") for row in rows]
+        return table_of("processes", ["process", "#device", "#pid", "#threads", "met", "#frames", "#first seq", "#last seq",
+                                      "ended"],
+                        [[Cell(self.name(row[0])), number_cell(row[1]), Cell(str(row[2] or ""), True, row[2]),
+                          number_cell(row[3]), Cell(text_of(row[4])), *map(number_cell, row[5:8]), end]
+                         for row, end in zip(rows, ended)], len(self.who))
+
+    def talk(self) -> str:
+        rows = self.ask(
+            "SELECT upid, handle, node_upid, ptr, code, oneway, sends, failed, refused, open, bytes, buffers, buffers_peak,"
+            f" longest_seq, delivered, one_fits FROM traffic ORDER BY sends DESC LIMIT {ROWS}")
+        (count,), = self.ask("SELECT count(*) FROM traffic")
+        cells = []
+        for (upid, handle, node, ptr, code, oneway, sends, failed, refused, open_, size, buffers, peak, longest, delivered,
+             one_fits) in rows:
+            certain = "no delivery" if not delivered else "all" if one_fits == delivered \
+                else f"{100 * one_fits // delivered} %"
+            cells.append([Cell(self.name(upid)), number_cell(handle), Cell(self.name(node) or '<span class="dim">not known</span>'),
+                          Cell(f"<code>0x{ptr % 2**64:x}</code>" if node is not None else ""), number_cell(code),
+                          Cell("oneway" if oneway else "call"), *map(number_cell, (sends, failed or refused, open_, size,
+                                                                                   buffers, peak, longest)),
+                          Cell(certain)])
+        return table_of("who talks to whom", ["caller", "#handle", "served by", "node", "#code", "kind", "#sends", "#failed",
+                                              "#open", "#bytes", "#buffers now", "#at the peak", "#longest, frames",
+                                              "one send fits"], cells, count)
+
+    def levels(self) -> str:
+        rows = self.ask(
+            "SELECT upid, json_group_array(buffers), json_group_array(bytes), json_group_array(refs),"
+            " json_group_array(calls), json_group_array(served) FROM (SELECT * FROM level ORDER BY upid, slice)"
+            f" GROUP BY upid ORDER BY max(buffers) DESC, upid LIMIT {ROWS}")
+        cells = []
+        for upid, *columns in rows:
+            cells.append([Cell(self.name(upid))])
+            for column in columns:
+                values = [int(one) for one in column.strip("[]").split(",")]
+                cells[-1].append(Cell(f'{plot(values, 150, 30)}<div class="of">peak {max(values):,}, end {values[-1]:,}</div>',
+                                      False, max(values)))
+        return table_of("growth", ["process", "buffers", "their bytes", "strong references", "calls open",
+                                   "calls being served"], cells, len(self.who))
+
+    def slow_calls(self) -> str:
+        rows = self.ask(
+            "WITH c AS (SELECT place, utid, verdict, closer, dur_seq, seq FROM raw_call WHERE served = 0 AND verdict <> 1"
+            f" UNION ALL SELECT * FROM (SELECT place, utid, verdict, closer, dur_seq, seq FROM raw_call WHERE served = 0"
+            f" AND verdict = 1 ORDER BY dur_seq DESC LIMIT 50) LIMIT {ROWS})"
+            " SELECT c.place, t.upid, t.thread, r.handle, r.code, v.name, c.closer, c.dur_seq, z.ts - x.ts, s.delivery, s.fits,"
+            " (SELECT dt.upid FROM raw_delivery d JOIN raw_thread dt USING (utid) WHERE d.place = s.delivery),"
+            " (SELECT k.closer FROM raw_call k WHERE k.place = s.delivery)"
+            " FROM c JOIN raw_thread t USING (utid) JOIN raw_record r USING (place) JOIN verdict v ON v.number = c.verdict"
+            " LEFT JOIN raw_send s USING (place) LEFT JOIN side_time x ON x.seq = c.seq"
+            " LEFT JOIN side_time z ON z.seq = c.seq + c.dur_seq ORDER BY c.verdict = 1, c.dur_seq DESC")
+        cells = [[Cell(f"<code>{place}</code>", True, place), Cell(f"{self.name(upid)} thread {thread}"),
+                  Cell(self.name(server) or f"handle {handle}"), number_cell(code), Cell(verdict),
+                  duration_cell(took, frames), Cell("" if delivery is None else f"{delivery}" + (
+                      "" if fits == 1 else f' <i class="of">one of {fits}</i>'), True, delivery),
+                  Cell("" if replied is None else str(replied), True, replied),
+                  Cell("<b>never</b>" if closer is None else str(closer), True, closer)]
+                 for (place, upid, thread, handle, code, verdict, closer, frames, took, delivery, fits, server, replied) in rows]
+        return table_of("calls", ["#place", "caller", "served by", "#code", "verdict", "#took", "#delivered at",
+                                  "#replied at", "#closed at"], cells)
+
+    def heads(self) -> str:
+        lines = "".join(f'<div class="proved">{text_of(text)}</div>' for text, in
+                        self.ask("SELECT text FROM report WHERE section = 'head' ORDER BY id"))
+        return f'<div class="box heads">{lines}</div>'
+
+    def parts(self) -> Iterator[str]:
+        yield self.head()
+        yield self.counts()
+        yield "<h2>Look at these</h2>" + self.groups("real", "maybe")
+        yield ('<h2>Explained</h2><p class="dim">Ends, what was under way when the capture ended, and what began before'
+               " it.</p>" + self.groups("explained"))
+        yield "<h2>Processes</h2>" + self.processes()
+        yield ('<h2>Who talks to whom</h2><p class="dim">Which process and node a handle leads to is inferred from sends and'
+               " deliveries that fit. The last column says of how many deliveries one send alone fits; of the others the"
+               " counts are right together, and which send is which is not certain. Buffers at the peak are those of all"
+               " callers.</p>" + self.talk())
+        yield ('<h2>Growth</h2><p class="dim">What each process holds at most in each of 16 slices of the capture. Steps'
+               " that rise to the end are what a leak looks like.</p>" + self.levels())
+        yield "<h2>Calls without an answer, and those that took longest</h2>" + self.slow_calls()
+        yield ('<details class="fold"><summary>Normal rows: references and requests in use</summary>'
+               + self.groups("normal") + "</details>")
+        yield "<h2>The heads of the proved report</h2>" + self.heads()
+
+
+def document(page: Page) -> Iterator[str]:
+    """The whole page. Its policy lets nothing be loaded, and no script run but its own."""
+    style, script = ((FOLDER / name).read_text() for name in ("page.css", "page.js"))
+    digest = base64.b64encode(hashlib.sha256(script.encode()).digest()).decode()
+    yield ('<!doctype html>\n<html lang="en"><meta charset="utf-8"><meta name="viewport"'
+           ' content="width=device-width, initial-scale=1"><meta http-equiv="Content-Security-Policy" content="default-src'
+           f" 'none'; style-src 'unsafe-inline'; script-src 'sha256-{digest}'\">"
+           f"<title>{text_title(page.facts['file'])}: Binder capture</title>\n<style>{style}</style>\n")
+    yield from page.parts()
+    yield f"\n<script>{script}</script>\n</html>\n"
+
+
+def text_title(value: object) -> str:
+    """A title has no markup: what is not seen is left out of it."""
+    return html.escape("".join(one for one in str(value)[:200] if not is_sign(one)))
+
+
+def write(database: sqlite3.Connection, files: list[str], side: str | None, path: pathlib.Path) -> None:
+    """Writes the page into a new file."""
+    try:
+        with open(path, "x", encoding="utf-8", errors="replace") as out:
+            out.writelines(document(Page(database, files, side)))
+    except FileExistsError as error:
+        raise Stopped(1, f"{path} exists already") from error
+
+
+# ---- lines
+
+
+def field_of(value: object) -> str:
+    """A field of a line: what would end it is written as a number."""
+    return "-" if value in (None, "") else "".join(
+        f"\\x{ord(one):02x}" if one == "\\" or is_sign(one) else one for one in str(value))
+
+
+def group_lines(database: sqlite3.Connection) -> Iterator[str]:
+    """The groups as lines of fields with tabs between: verdict, kind, n, all, device, process, path, rule."""
+    for number, *fields in database.execute(
+            "SELECT grp, verdict, title, n, n_all, path, rules FROM finding_group"
+            " ORDER BY CASE verdict WHEN 'real' THEN 1 WHEN 'maybe' THEN 2 WHEN 'explained' THEN 3 ELSE 4 END, n DESC,"
+            " first, grp").fetchall():
+        verdict, title, n, n_all, path, rules = fields
+        of = database.execute("SELECT DISTINCT p.device, p.process FROM finding_head h JOIN finding f USING (id)"
+                              " JOIN raw_process p USING (upid) WHERE h.grp = ? AND f.lead IS NULL ORDER BY 1, 2",
+                              (number,)).fetchall()
+        devices = ",".join(map(str, dict.fromkeys(device for device, _ in of)))
+        processes = ",".join(map(str, dict.fromkeys(process for _, process in of)))
+        yield "\t".join(map(field_of, (verdict, title, n, n_all, devices, processes, path, rules))) + "\n"
