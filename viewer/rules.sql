@@ -259,7 +259,7 @@ CREATE UNIQUE INDEX temp.ended_finding ON ended(id);
 
 CREATE TABLE rule(id TEXT PRIMARY KEY, verdict TEXT NOT NULL, text TEXT NOT NULL) STRICT;
 INSERT INTO rule VALUES
-  ('A1', 'explained', 'It is the other end, or the buffer, of a call that is open: one finding with it.'),
+  ('A1', 'explained', 'The other end, or the buffer, of a call: one finding with it.'),
   ('M1', 'explained', 'Frames are missing, and the one that it lacks may be among them.'),
   ('P1', 'explained', 'What came before the capture is not known, and it may belong there.'),
   ('T1', 'explained', 'Its process or thread ended then, and the driver has let it go.'),
@@ -337,15 +337,16 @@ CREATE UNIQUE INDEX temp.failure_of ON failure(id);
 -- A: one finding with an open call.
 UPDATE finding SET rule = 'A1', lead = w.id FROM waits w
 WHERE section IN ('served', 'buffers') AND w.delivery = finding.place AND (w.replied = 0 OR section = 'served');
-UPDATE finding SET rule = 'A1', lead = v.id FROM finding v
+-- A call that failed since its server ended, and the end of this one.
+UPDATE finding SET rule = 'A1', lead = f.id FROM raw_delivery d JOIN finding f ON f.place = d.send
+WHERE finding.section = 'served' AND finding.what = 'open' AND d.place = finding.place AND f.section = 'calls'
+  AND f.what = 'failed' AND finding.rule IS NULL;
+UPDATE finding SET rule = 'A1', lead = coalesce(v.lead, v.id) FROM finding v
 WHERE finding.section = 'buffers' AND v.section = 'served' AND v.what = 'open' AND v.place = finding.place AND finding.rule IS NULL;
 
 -- C, T, U: calls and served calls that are open.
 UPDATE finding SET rule = 'T1' WHERE rule IS NULL AND section IN ('calls', 'served') AND what = 'open'
   AND finding.id IN (SELECT id FROM ended);
-UPDATE finding SET rule = 'E3' FROM raw_delivery d JOIN raw_call c ON c.place = d.send JOIN raw_record e
-  ON e.place = c.closer
-WHERE rule IS NULL AND section = 'served' AND what = 'open' AND d.place = finding.place AND e.kind = 261;
 UPDATE finding SET rule = iif(finding.id IN (SELECT id FROM old), 'C1', 'C2'),
   note = 'replied at ' || (SELECT closer FROM raw_call c WHERE c.place = w.delivery)
 FROM waits w WHERE rule IS NULL AND w.id = finding.id AND w.replied = 2;

@@ -2,37 +2,38 @@
 PRAGMA user_version = 1;
 
 -- ---- raw tables: as the rows of `./listing --tables` come, column by column. They may change; the views below may not.
+-- They are not STRICT: the loader has whole numbers alone, and to look at each took a quarter of its time.
 
 CREATE TABLE raw_capture(layout INTEGER NOT NULL, parts INTEGER NOT NULL, bytes INTEGER NOT NULL,
   frames INTEGER NOT NULL, records INTEGER NOT NULL, first_seq INTEGER, last_seq INTEGER, missing INTEGER NOT NULL,
-  fault INTEGER, fault_place INTEGER, fault_part INTEGER) STRICT;
+  fault INTEGER, fault_place INTEGER, fault_part INTEGER);
 CREATE TABLE raw_process(upid INTEGER PRIMARY KEY, device INTEGER NOT NULL, process INTEGER NOT NULL,
-  first_seq INTEGER NOT NULL, last_seq INTEGER NOT NULL, frames INTEGER NOT NULL) STRICT;
+  first_seq INTEGER NOT NULL, last_seq INTEGER NOT NULL, frames INTEGER NOT NULL);
 CREATE TABLE raw_thread(utid INTEGER PRIMARY KEY, upid INTEGER NOT NULL, thread INTEGER NOT NULL,
   first_seq INTEGER NOT NULL, last_seq INTEGER NOT NULL, frames INTEGER NOT NULL,
-  last_record INTEGER, last_write INTEGER) STRICT;
+  last_record INTEGER, last_write INTEGER);
 CREATE TABLE raw_frame(seq INTEGER PRIMARY KEY, place INTEGER NOT NULL, utid INTEGER NOT NULL,
   direction INTEGER NOT NULL, command_length INTEGER NOT NULL, attachment_length INTEGER NOT NULL,
-  records INTEGER NOT NULL) STRICT;
+  records INTEGER NOT NULL);
 CREATE TABLE raw_record(place INTEGER PRIMARY KEY, seq INTEGER NOT NULL, utid INTEGER NOT NULL, kind INTEGER NOT NULL,
   handle INTEGER, ptr INTEGER, cookie INTEGER, address INTEGER, code INTEGER, flags INTEGER, sender_pid INTEGER,
   sender_euid INTEGER, data_size INTEGER, offsets_size INTEGER, offsets INTEGER, extra INTEGER, attachment INTEGER,
-  value INTEGER) STRICT;
+  value INTEGER);
 CREATE TABLE raw_object(place INTEGER NOT NULL, idx INTEGER NOT NULL, offset INTEGER NOT NULL, sort INTEGER,
   flags INTEGER, binder INTEGER, handle INTEGER, fd INTEGER, cookie INTEGER, num_fds INTEGER, buffer INTEGER,
-  length INTEGER, parent INTEGER, parent_offset INTEGER, bad INTEGER) STRICT;
+  length INTEGER, parent INTEGER, parent_offset INTEGER, bad INTEGER);
 CREATE TABLE raw_call(place INTEGER PRIMARY KEY, seq INTEGER NOT NULL, utid INTEGER NOT NULL, served INTEGER NOT NULL,
-  depth INTEGER NOT NULL, parent INTEGER, verdict INTEGER NOT NULL, closer INTEGER, dur_seq INTEGER) STRICT;
+  depth INTEGER NOT NULL, parent INTEGER, verdict INTEGER NOT NULL, closer INTEGER, dur_seq INTEGER);
 CREATE TABLE raw_generation(id INTEGER PRIMARY KEY, upid INTEGER NOT NULL, handle INTEGER NOT NULL, n INTEGER NOT NULL,
   begin INTEGER NOT NULL, end INTEGER, given_by INTEGER, held_since INTEGER, acquired INTEGER NOT NULL,
   released INTEGER NOT NULL, increfs INTEGER NOT NULL, decrefs INTEGER NOT NULL, strong INTEGER NOT NULL,
-  weak INTEGER NOT NULL, held_strong INTEGER NOT NULL, held_weak INTEGER NOT NULL) STRICT;
+  weak INTEGER NOT NULL, held_strong INTEGER NOT NULL, held_weak INTEGER NOT NULL);
 CREATE TABLE raw_send(place INTEGER PRIMARY KEY, seq INTEGER NOT NULL, utid INTEGER NOT NULL, generation INTEGER,
-  confirmed INTEGER, refused INTEGER, delivery INTEGER, certain INTEGER, fits INTEGER) STRICT;
+  confirmed INTEGER, refused INTEGER, delivery INTEGER, certain INTEGER, fits INTEGER);
 CREATE TABLE raw_delivery(place INTEGER PRIMARY KEY, seq INTEGER NOT NULL, utid INTEGER NOT NULL, freed_by INTEGER,
-  dur_seq INTEGER, call INTEGER, send INTEGER, held INTEGER NOT NULL) STRICT;
+  dur_seq INTEGER, call INTEGER, send INTEGER, held INTEGER NOT NULL);
 CREATE TABLE raw_level(upid INTEGER NOT NULL, slice INTEGER NOT NULL, buffers INTEGER NOT NULL, bytes INTEGER NOT NULL,
-  refs INTEGER NOT NULL, calls INTEGER NOT NULL, served INTEGER NOT NULL) STRICT;
+  refs INTEGER NOT NULL, calls INTEGER NOT NULL, served INTEGER NOT NULL);
 
 -- ---- what `./view` adds: the side list, the proved report, and what the rules make of it
 
