@@ -8,7 +8,7 @@ CREATE INDEX frame_of_thread ON raw_frame(utid, seq);
 CREATE INDEX call_of_thread ON raw_call(utid, place);
 CREATE INDEX object_of_record ON raw_object(place, idx);
 CREATE INDEX send_refused ON raw_send(refused) WHERE refused IS NOT NULL;
-CREATE INDEX generation_of_handle ON raw_generation(upid, handle);
+CREATE INDEX generation_of_handle ON raw_generation(upid, handle, begin);
 
 -- ---- who is who
 
@@ -65,7 +65,9 @@ WHERE s.delivery IS NULL AND s.refused IS NULL AND s.generation IN (SELECT gener
 CREATE TEMP TABLE dead_record AS
 SELECT r.place, t.upid, r.utid, r.kind, r.handle, r.cookie FROM raw_record r JOIN raw_thread t USING (utid)
 WHERE r.kind IN (14, 15, 16, 271, 272);
-CREATE INDEX temp.dead_cookie ON dead_record(upid, cookie, place);
+CREATE INDEX temp.dead_cookie ON dead_record(upid, cookie, kind, place);
+CREATE INDEX temp.dead_handle ON dead_record(upid, handle, kind, place);
+CREATE UNIQUE INDEX temp.dead_place ON dead_record(place);
 -- The deaths that a process was told of, each with the generation that the latest request with its cookie names.
 CREATE TEMP TABLE told AS
 SELECT d.place, d.upid, d.cookie, q.handle, (SELECT g.id FROM raw_generation g WHERE g.upid = q.upid
@@ -144,8 +146,8 @@ WHERE l.utid = finding.utid AND p.upid = iif(section = 'oneway', finding.target,
 
 -- later: what its thread began after it, up to 4. A call that is open takes in all that its thread does after it: so a
 -- call counts that lies no deeper than one that would begin there. Of what is no transaction write frames count.
-UPDATE finding SET later = (SELECT count(*) FROM (SELECT 1 FROM raw_call c WHERE c.utid = finding.utid
-  AND c.place > finding.place AND c.depth <= coalesce(
+UPDATE finding SET later = (SELECT count(*) FROM (SELECT 1 FROM (SELECT depth FROM raw_call c
+  WHERE c.utid = finding.utid AND c.place > finding.place ORDER BY c.place LIMIT 64) c WHERE c.depth <= coalesce(
     (SELECT o.depth FROM raw_delivery d JOIN raw_call o ON o.place = d.call WHERE d.place = finding.place),
     (SELECT o.depth + (o.closer IS NULL OR o.closer > finding.place) FROM raw_call o WHERE o.utid = finding.utid
       AND o.place < finding.place ORDER BY o.place DESC LIMIT 1), 1) LIMIT 4))
@@ -312,10 +314,18 @@ SELECT f.id, f.place, f.upid, f.utid, s.delivery, v.utid AS server, v.verdict AS
 FROM finding f JOIN raw_send s USING (place) LEFT JOIN raw_call v ON v.place = s.delivery
   LEFT JOIN raw_thread st ON st.utid = v.utid
 WHERE f.section = 'calls' AND f.what = 'open';
+CREATE INDEX temp.waits_thread ON waits(utid, place);
+CREATE INDEX temp.waits_server ON waits(server, upid);
+CREATE TEMP TABLE few AS SELECT upid FROM waits GROUP BY upid HAVING count(*) <= 16;
 CREATE TEMP TABLE waits_for AS
-SELECT w.id, n.id AS next FROM waits w JOIN waits n ON n.utid = w.server AND n.place > w.delivery
-UNION SELECT w.id, n.id FROM waits w JOIN waits n ON n.upid = w.server_upid AND w.delivery IS NULL
-WHERE NOT EXISTS (SELECT 1 FROM waits x WHERE x.server = w.utid AND x.upid = w.server_upid);
+SELECT w.id, (SELECT n.id FROM waits n WHERE n.utid = w.server AND n.place > w.delivery ORDER BY n.place DESC LIMIT 1)
+  AS next
+FROM waits w WHERE w.delivery IS NOT NULL
+UNION SELECT w.id, n.id FROM waits w JOIN waits n ON n.upid = w.server_upid
+WHERE w.delivery IS NULL AND w.upid IN (SELECT upid FROM few) AND w.server_upid IN (SELECT upid FROM few)
+  AND NOT EXISTS (SELECT 1 FROM waits x WHERE x.server = w.utid AND x.upid = w.server_upid);
+DELETE FROM waits_for WHERE next IS NULL;
+CREATE INDEX temp.next_wait ON waits_for(id);
 CREATE TEMP TABLE ring AS
 WITH RECURSIVE chain(id, at, length) AS (SELECT id, id, 0 FROM waits
   UNION SELECT c.id, n.next, c.length + 1 FROM chain c JOIN waits_for n ON n.id = c.at WHERE c.length < 8)
@@ -333,6 +343,7 @@ UNION ALL SELECT f.id, e.kind, f.generation, s.place, 1 FROM finding f JOIN raw_
 UNION ALL SELECT f.id, e.kind, NULL, NULL, 1 FROM finding f JOIN raw_record e USING (place)
 WHERE f.section = 'refused' AND NOT EXISTS (SELECT 1 FROM raw_send s WHERE s.refused = f.place);
 CREATE UNIQUE INDEX temp.failure_of ON failure(id);
+CREATE INDEX temp.failure_before ON failure(generation, kind, place);
 
 -- A: one finding with an open call.
 UPDATE finding SET rule = 'A1', lead = w.id FROM waits w
@@ -350,13 +361,13 @@ UPDATE finding SET rule = 'T1' WHERE rule IS NULL AND section IN ('calls', 'serv
 UPDATE finding SET rule = iif(finding.id IN (SELECT id FROM old), 'C1', 'C2'),
   note = 'replied at ' || (SELECT closer FROM raw_call c WHERE c.place = w.delivery)
 FROM waits w WHERE rule IS NULL AND w.id = finding.id AND w.replied = 2;
+UPDATE finding SET rule = 'C3' WHERE rule IS NULL AND id IN (SELECT id FROM ring) AND (SELECT missing FROM last) = 0
+  AND finding.id IN (SELECT id FROM old);
 UPDATE finding SET rule = 'U1' WHERE rule IS NULL AND section IN ('calls', 'served') AND what = 'open' AND n_good >= 3
   AND coalesce(age <= 2 * longest, age_seq <= 2 * longest_seq);
 UPDATE finding SET rule = iif((SELECT missing FROM last) > 0, 'M1', iif(n_good >= 3, 'U2', rule))
 WHERE rule IS NULL AND section IN ('calls', 'served') AND what = 'open' AND n_good >= 3
   AND coalesce(age > 10 * longest, age_seq > 10 * longest_seq);
-UPDATE finding SET rule = 'C3' WHERE rule IS NULL AND id IN (SELECT id FROM ring) AND (SELECT missing FROM last) = 0
-  AND finding.id IN (SELECT id FROM old);
 UPDATE finding SET rule = 'U6' WHERE rule IS NULL AND section IN ('calls', 'served') AND what = 'open' AND later = 0
   AND age IS NOT NULL AND finding.id NOT IN (SELECT id FROM old);
 UPDATE finding SET rule = iif(w.delivery IS NULL, 'C5', 'C4'),
@@ -375,6 +386,9 @@ UPDATE finding SET rule = CASE e.kind WHEN 261 THEN 'E3' WHEN 274 THEN 'E4' ELSE
 FROM failure e WHERE rule IS NULL AND e.id = finding.id;
 
 -- S: strays, and calls that are crossed.
+CREATE TEMP TABLE first_crossed AS
+SELECT utid, min(closer) AS closer FROM raw_call WHERE verdict = 4 GROUP BY utid;
+CREATE UNIQUE INDEX temp.first_crossed_of ON first_crossed(utid);
 UPDATE finding SET rule = 'S1', note = 'the send at ' || s.place FROM raw_send s
 WHERE rule IS NULL AND section = 'strays' AND s.refused = finding.place;
 UPDATE finding SET rule = 'S1', note = 'the send at ' || s.place FROM raw_call c JOIN raw_send s ON s.refused = c.closer
@@ -382,7 +396,7 @@ WHERE rule IS NULL AND what = 'crossed' AND c.place = finding.place;
 UPDATE finding SET rule = 'S2', note = 'refused at ' || s.refused FROM raw_send s
 WHERE rule IS NULL AND section = 'strays' AND s.place = finding.place AND s.refused IS NOT NULL;
 UPDATE finding SET rule = CASE
-  WHEN EXISTS (SELECT 1 FROM raw_call c WHERE c.utid = finding.utid AND c.verdict = 4 AND c.closer < finding.place) THEN 'S3'
+  WHEN EXISTS (SELECT 1 FROM first_crossed c WHERE c.utid = finding.utid AND c.closer < finding.place) THEN 'S3'
   WHEN (SELECT missing FROM last) > 0 THEN 'M1'
   WHEN (SELECT known FROM process_life p WHERE p.upid = finding.upid) THEN 'S4' ELSE 'P1' END
 WHERE rule IS NULL AND (section = 'strays' OR what = 'crossed');
@@ -415,11 +429,15 @@ UPDATE finding SET rule = iif(h.known, iif((SELECT missing FROM last) > 0, 'M1',
 WHERE rule IS NULL AND h.id = finding.id AND h.text GLOB '* -*';
 UPDATE finding SET rule = 'H3', note = 'told at ' || t.place FROM told t
 WHERE rule IS NULL AND section = 'handles' AND what = 'held' AND t.generation = finding.generation;
-UPDATE finding SET rule = 'H4', note = g.acquired || ' times' FROM raw_generation g
+CREATE TEMP TABLE most_strong AS
+SELECT upid, handle, max(strong) AS strong FROM (SELECT t.upid, r.handle, sum((r.kind = 5) - (r.kind = 6))
+    OVER (PARTITION BY t.upid, r.handle ORDER BY r.place) AS strong
+  FROM raw_record r JOIN raw_thread t USING (utid)
+  WHERE r.kind IN (5, 6) AND EXISTS (SELECT 1 FROM raw_generation WHERE acquired > 1 AND strong > 0)) GROUP BY 1, 2;
+CREATE UNIQUE INDEX temp.most_strong_of ON most_strong(upid, handle);
+UPDATE finding SET rule = 'H4', note = g.acquired || ' times' FROM raw_generation g JOIN most_strong m USING (upid, handle)
 WHERE rule IS NULL AND section = 'handles' AND what = 'held' AND g.id = finding.generation AND g.acquired > 1
-  AND (SELECT max(strong) FROM (SELECT sum((r.kind = 5) - (r.kind = 6)) OVER (ORDER BY r.place) AS strong
-    FROM raw_record r JOIN raw_thread t USING (utid) WHERE t.upid = g.upid AND r.handle = g.handle AND r.kind IN (5, 6)
-      AND r.place >= g.begin)) > 1;
+  AND m.strong > 1;
 UPDATE finding SET rule = 'H5', code = g.code, n_all = p.n, path = iif(g.reply, 'given by replies to code ',
   'given by calls of code ') || g.code
 FROM given g JOIN given_path p ON p.upid = g.upid AND p.code IS g.code AND p.reply = g.reply AND p.asked IS g.asked
@@ -437,13 +455,18 @@ UPDATE finding SET rule = 'D1' FROM raw_generation g WHERE rule IS NULL AND sect
   AND g.id = finding.generation AND g.end IS NOT NULL;
 UPDATE finding SET rule = 'D1' FROM raw_generation g WHERE rule IS NULL AND section = 'requests'
   AND g.id = finding.generation AND g.acquired > 0 AND g.strong + g.weak + g.held_strong + g.held_weak = 0;
-UPDATE finding SET rule = 'D2', note = 'the first one is at ' || p.place FROM dead_record p
-WHERE rule IS NULL AND section IN ('requests', 'clears') AND p.kind = 14 AND p.upid = finding.upid
-  AND p.handle = finding.handle AND p.cookie <> finding.cookie AND p.place < (SELECT min(q.place) FROM dead_record q
-    WHERE q.kind = 14 AND q.upid = finding.upid AND q.cookie = finding.cookie AND q.handle = finding.handle)
-  AND NOT EXISTS (SELECT 1 FROM dead_record c WHERE c.kind = 15 AND c.upid = p.upid AND c.cookie = p.cookie
-    AND c.handle = p.handle AND c.place > p.place AND c.place < (SELECT min(q.place) FROM dead_record q
-      WHERE q.kind = 14 AND q.upid = finding.upid AND q.cookie = finding.cookie AND q.handle = finding.handle));
+CREATE TEMP TABLE second_request AS
+SELECT q.upid, q.handle, q.cookie, q.place, (SELECT p.place FROM dead_record p WHERE p.upid = q.upid
+  AND p.handle = q.handle AND p.kind = 14 AND p.place < q.place ORDER BY p.place DESC LIMIT 1) AS before
+FROM (SELECT upid, handle, cookie, min(place) AS place FROM dead_record WHERE kind = 14 GROUP BY 1, 2, 3) q
+WHERE EXISTS (SELECT 1 FROM finding WHERE section IN ('requests', 'clears'));
+DELETE FROM second_request WHERE before IS NULL OR EXISTS (SELECT 1 FROM dead_record p JOIN dead_record c
+  ON c.upid = p.upid AND c.handle = p.handle AND c.kind = 15 AND c.cookie = p.cookie
+  WHERE p.place = second_request.before AND c.place BETWEEN p.place AND second_request.place);
+CREATE UNIQUE INDEX temp.second_request_of ON second_request(upid, handle, cookie);
+UPDATE finding SET rule = 'D2', note = 'the one before is at ' || q.before FROM second_request q
+WHERE rule IS NULL AND section IN ('requests', 'clears')
+  AND (q.upid, q.handle, q.cookie) = (finding.upid, finding.handle, finding.cookie);
 UPDATE finding SET rule = 'H6' WHERE rule IS NULL AND section = 'requests';
 UPDATE finding SET rule = 'D3', note = 'the one at ' || d.place FROM finding d
 WHERE finding.rule IS NULL AND finding.section = 'clears' AND finding.what = 'unconfirmed' AND d.section = 'deaths'
@@ -457,10 +480,18 @@ UPDATE finding SET rule = CASE WHEN (SELECT missing FROM last) > 0 THEN 'M1'
 WHERE rule IS NULL AND section IN ('deaths', 'clears');
 
 -- F: frees.
-UPDATE finding SET rule = iif((SELECT missing FROM last) > 0, 'M1', 'F1'), note = 'at ' || d.freed_by
-FROM raw_record x, raw_record r JOIN raw_delivery d ON d.place = r.place JOIN raw_thread t ON t.utid = d.utid
-WHERE rule IS NULL AND section = 'frees' AND x.place = finding.place AND r.address = x.address
-  AND t.upid = finding.upid AND d.freed_by < finding.place;
+CREATE TEMP TABLE freed AS
+SELECT t.upid, r.address, d.place, d.freed_by FROM raw_delivery d JOIN raw_record r USING (place)
+  JOIN raw_thread t ON t.utid = d.utid
+WHERE d.freed_by IS NOT NULL AND r.address IN (SELECT x.address FROM finding f JOIN raw_record x USING (place)
+  WHERE f.section = 'frees');
+CREATE INDEX temp.freed_address ON freed(upid, address, place);
+UPDATE finding SET rule = iif((SELECT missing FROM last) > 0, 'M1', 'F1'), note = 'at ' || d.freed_by,
+  path = iif(d.kind = 'BR_REPLY', 'reply to code ', 'code ') || coalesce(d.code, '?')
+FROM raw_record x, delivery d
+WHERE rule IS NULL AND finding.section = 'frees' AND x.place = finding.place AND d.freed_by < finding.place
+  AND d.place = (SELECT e.place FROM freed e WHERE e.upid = finding.upid AND e.address = x.address
+    AND e.place < finding.place ORDER BY e.place DESC LIMIT 1);
 UPDATE finding SET rule = CASE WHEN (SELECT missing FROM last) > 0 THEN 'M1'
   WHEN (SELECT known FROM process_life p WHERE p.upid = finding.upid) THEN 'F2' ELSE 'P1' END
 WHERE rule IS NULL AND section = 'frees';
