@@ -163,7 +163,7 @@ class Page:
             span = f" over {duration_of(facts['last_ts'] - facts['first_ts'])}"
         first = f'<p class="fault">{text_of(facts["malformed"])}: all below is of what comes before it.</p>' \
             if facts["malformed"] else ""
-        missing = number_of(facts["missing"]) if facts["missing"] else "no"
+        missing = number_of(facts["missing"] % 2**64) if facts["missing"] else "no"
         told = "".join(f'<p class="dim">{one}</p>' for one in self.unknown())
         return (f"{first}<h1>{name_of(facts['file'])}</h1>"
                 f'<p class="dim">{number_of(facts["frames"])} frames, {number_of(facts["records"])} records,'

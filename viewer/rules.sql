@@ -365,7 +365,7 @@ UPDATE finding SET rule = 'C3' WHERE rule IS NULL AND id IN (SELECT id FROM ring
   AND finding.id IN (SELECT id FROM old);
 UPDATE finding SET rule = 'U1' WHERE rule IS NULL AND section IN ('calls', 'served') AND what = 'open' AND n_good >= 3
   AND coalesce(age <= 2 * longest, age_seq <= 2 * longest_seq);
-UPDATE finding SET rule = iif((SELECT missing FROM last) > 0, 'M1', iif(n_good >= 3, 'U2', rule))
+UPDATE finding SET rule = iif((SELECT missing FROM last) <> 0, 'M1', iif(n_good >= 3, 'U2', rule))
 WHERE rule IS NULL AND section IN ('calls', 'served') AND what = 'open' AND n_good >= 3
   AND coalesce(age > 10 * longest, age_seq > 10 * longest_seq);
 UPDATE finding SET rule = 'U6' WHERE rule IS NULL AND section IN ('calls', 'served') AND what = 'open' AND later = 0
@@ -397,7 +397,7 @@ UPDATE finding SET rule = 'S2', note = 'refused at ' || s.refused FROM raw_send 
 WHERE rule IS NULL AND section = 'strays' AND s.place = finding.place AND s.refused IS NOT NULL;
 UPDATE finding SET rule = CASE
   WHEN EXISTS (SELECT 1 FROM first_crossed c WHERE c.utid = finding.utid AND c.closer < finding.place) THEN 'S3'
-  WHEN (SELECT missing FROM last) > 0 THEN 'M1'
+  WHEN (SELECT missing FROM last) <> 0 THEN 'M1'
   WHEN (SELECT known FROM process_life p WHERE p.upid = finding.upid) THEN 'S4' ELSE 'P1' END
 WHERE rule IS NULL AND (section = 'strays' OR what = 'crossed');
 
@@ -406,7 +406,7 @@ UPDATE finding SET rule = 'T1' WHERE rule IS NULL AND section = 'buffers' AND la
   AND finding.id IN (SELECT id FROM ended);
 UPDATE finding SET rule = 'U1' WHERE rule IS NULL AND section = 'buffers' AND n_good >= 3
   AND coalesce(age <= longest, age_seq <= longest_seq);
-UPDATE finding SET rule = 'M1' WHERE rule IS NULL AND section = 'buffers' AND (SELECT missing FROM last) > 0;
+UPDATE finding SET rule = 'M1' WHERE rule IS NULL AND section = 'buffers' AND (SELECT missing FROM last) <> 0;
 UPDATE finding SET rule = 'U3' FROM (SELECT path FROM finding WHERE section = 'buffers' AND rule IS NULL AND later > 0
   GROUP BY path HAVING count(*) >= 3 AND count(*) >= 0.8 * max(n_all)) p
 WHERE rule IS NULL AND section = 'buffers' AND later > 0 AND p.path = finding.path;
@@ -421,11 +421,11 @@ SELECT f.id, f.upid, f.handle, f.generation, f.what, CAST(substr(r.text, 1, 0) A
   (SELECT known FROM process_life p WHERE p.upid = f.upid) AS known,
   EXISTS (SELECT 1 FROM raw_generation g WHERE g.upid = f.upid AND g.handle = f.handle AND g.given_by IS NOT NULL) AS given
 FROM finding f JOIN report r ON r.id = f.report WHERE f.section IN ('handles', 'nodes');
-UPDATE finding SET rule = iif(h.known, iif((SELECT missing FROM last) > 0, 'M1', 'H1'), 'P1') FROM handle_row h
+UPDATE finding SET rule = iif(h.known, iif((SELECT missing FROM last) <> 0, 'M1', 'H1'), 'P1') FROM handle_row h
 WHERE rule IS NULL AND section = 'handles' AND h.id = finding.id AND NOT h.given AND finding.handle <> 0
   AND EXISTS (SELECT 1 FROM raw_generation g WHERE g.upid = h.upid AND g.handle = h.handle
     AND g.acquired + g.released + g.increfs + g.decrefs > 0);
-UPDATE finding SET rule = iif(h.known, iif((SELECT missing FROM last) > 0, 'M1', 'H2'), 'P1') FROM handle_row h
+UPDATE finding SET rule = iif(h.known, iif((SELECT missing FROM last) <> 0, 'M1', 'H2'), 'P1') FROM handle_row h
 WHERE rule IS NULL AND h.id = finding.id AND h.text GLOB '* -*';
 UPDATE finding SET rule = 'H3', note = 'told at ' || t.place FROM told t
 WHERE rule IS NULL AND section = 'handles' AND what = 'held' AND t.generation = finding.generation;
@@ -445,7 +445,7 @@ WHERE rule IS NULL AND section = 'handles' AND what = 'held' AND g.generation = 
   AND p.kept >= iif(g.reply, 4, 2) AND p.kept >= 0.8 * p.n AND coalesce(g.asked, 1) <> 0
   AND finding.upid NOT IN (SELECT upid FROM manager);
 UPDATE finding SET rule = CASE WHEN later = 0 AND finding.id IN (SELECT id FROM ended) THEN 'T1'
-  WHEN (SELECT missing FROM last) > 0 THEN 'M1' WHEN later > 1 THEN 'U4' ELSE 'U6' END
+  WHEN (SELECT missing FROM last) <> 0 THEN 'M1' WHEN later > 1 THEN 'U4' ELSE 'U6' END
 WHERE rule IS NULL AND section = 'nodes' AND EXISTS (SELECT 1 FROM report r WHERE r.id = finding.report
   AND NOT r.text GLOB '* 0 0');
 UPDATE finding SET rule = 'H6' WHERE rule IS NULL AND section IN ('handles', 'nodes');
@@ -472,10 +472,10 @@ UPDATE finding SET rule = 'D3', note = 'the one at ' || d.place FROM finding d
 WHERE finding.rule IS NULL AND finding.section = 'clears' AND finding.what = 'unconfirmed' AND d.section = 'deaths'
   AND d.what = 'unacknowledged' AND d.upid = finding.upid AND d.cookie = finding.cookie;
 UPDATE finding SET rule = CASE WHEN later = 0 AND finding.id IN (SELECT id FROM ended) THEN 'T1'
-  WHEN (SELECT missing FROM last) > 0 THEN 'M1' WHEN later > 1 THEN 'U4'
+  WHEN (SELECT missing FROM last) <> 0 THEN 'M1' WHEN later > 1 THEN 'U4'
   WHEN finding.id IN (SELECT id FROM old) THEN 'U5' ELSE 'U6' END
 WHERE rule IS NULL AND section IN ('deaths', 'clears') AND what IN ('unacknowledged', 'unconfirmed');
-UPDATE finding SET rule = CASE WHEN (SELECT missing FROM last) > 0 THEN 'M1'
+UPDATE finding SET rule = CASE WHEN (SELECT missing FROM last) <> 0 THEN 'M1'
   WHEN (SELECT known FROM process_life p WHERE p.upid = finding.upid) THEN 'D4' ELSE 'P1' END
 WHERE rule IS NULL AND section IN ('deaths', 'clears');
 
@@ -486,13 +486,13 @@ SELECT t.upid, r.address, d.place, d.freed_by FROM raw_delivery d JOIN raw_recor
 WHERE d.freed_by IS NOT NULL AND r.address IN (SELECT x.address FROM finding f JOIN raw_record x USING (place)
   WHERE f.section = 'frees');
 CREATE INDEX temp.freed_address ON freed(upid, address, place);
-UPDATE finding SET rule = iif((SELECT missing FROM last) > 0, 'M1', 'F1'), note = 'at ' || d.freed_by,
+UPDATE finding SET rule = iif((SELECT missing FROM last) <> 0, 'M1', 'F1'), note = 'at ' || d.freed_by,
   path = iif(d.kind = 'BR_REPLY', 'reply to code ', 'code ') || coalesce(d.code, '?')
 FROM raw_record x, delivery d
 WHERE rule IS NULL AND finding.section = 'frees' AND x.place = finding.place AND d.freed_by < finding.place
   AND d.place = (SELECT e.place FROM freed e WHERE e.upid = finding.upid AND e.address = x.address
     AND e.place < finding.place ORDER BY e.place DESC LIMIT 1);
-UPDATE finding SET rule = CASE WHEN (SELECT missing FROM last) > 0 THEN 'M1'
+UPDATE finding SET rule = CASE WHEN (SELECT missing FROM last) <> 0 THEN 'M1'
   WHEN (SELECT known FROM process_life p WHERE p.upid = finding.upid) THEN 'F2' ELSE 'P1' END
 WHERE rule IS NULL AND section = 'frees';
 
@@ -510,7 +510,7 @@ UPDATE finding SET rule = 'U1' WHERE rule IS NULL AND section = 'oneway' AND n_g
 UPDATE finding SET rule = 'W2', note = 'the one at ' || f.place FROM finding f JOIN raw_record r ON r.place = f.place
 WHERE finding.rule IS NULL AND finding.section = 'oneway' AND f.section = 'buffers' AND r.flags & 1 AND r.kind <> 259
   AND f.upid = finding.target AND f.ptr = finding.ptr AND f.cookie = finding.cookie;
-UPDATE finding SET rule = 'M1' WHERE rule IS NULL AND section = 'oneway' AND (SELECT missing FROM last) > 0;
+UPDATE finding SET rule = 'M1' WHERE rule IS NULL AND section = 'oneway' AND (SELECT missing FROM last) <> 0;
 UPDATE finding SET rule = CASE WHEN finding.id IN (SELECT id FROM old) THEN 'W3' WHEN age IS NULL AND later > 0 THEN 'W3'
   ELSE 'U6' END WHERE rule IS NULL AND section = 'oneway';
 
