@@ -22,7 +22,7 @@
 #include <sys/stat.h>
 #include <unistd.h>
 
-enum { MOST_COLUMNS = 63, LONGEST_NAME = 256 };
+enum { MOST_COLUMNS = 63, LONGEST_NAME = 256, KEPT = 1 << 26 };
 
 static void stop(const char *format, ...) __attribute__((noreturn, format(printf, 1, 2)));
 
@@ -90,6 +90,7 @@ struct cursor {
 	sqlite3_vtab_cursor base;
 	size_t at, next;
 	uint64_t mask;
+	size_t given_back;
 };
 
 static const struct rows *rows_of(const sqlite3_vtab_cursor *cursor)
@@ -110,10 +111,20 @@ static size_t numbers_of(uint64_t mask)
 	return (size_t)__builtin_popcountll(mask);
 }
 
+/* What was read is given back to the system from time to time: else the whole file would stay in memory. */
+static void give_back(struct cursor *cursor, const struct rows *rows)
+{
+	if (cursor->at - cursor->given_back < KEPT)
+		return;
+	madvise(rows->bytes + cursor->given_back, KEPT, MADV_DONTNEED);
+	cursor->given_back += KEPT;
+}
+
 static int go_on(sqlite3_vtab_cursor *base)
 {
 	struct cursor *cursor = (struct cursor *)base;
 	const struct rows *rows = rows_of(base);
+	give_back(cursor, rows);
 	size_t left = rows->length - cursor->next;
 	cursor->at = cursor->next;
 	if (left == 0)
@@ -133,7 +144,7 @@ static int go_on(sqlite3_vtab_cursor *base)
 static int go_to_begin(sqlite3_vtab_cursor *base, int plan, const char *name, int count, sqlite3_value **values)
 {
 	(void)plan, (void)name, (void)count, (void)values;
-	((struct cursor *)base)->next = 0;
+	((struct cursor *)base)->next = ((struct cursor *)base)->given_back = 0;
 	return go_on(base);
 }
 

@@ -136,6 +136,13 @@ SELECT t.utid, min(coalesce(t.ended_after, p.ended_after), coalesce(p.ended_afte
 FROM (SELECT utid, upid, iif(ended_after <= last.seq, ended_after, NULL) AS ended_after,
     iif(ended_after <= last.seq, ended, NULL) AS ended FROM thread, last) t JOIN process_life p USING (upid);
 CREATE UNIQUE INDEX temp.life_of_thread ON life(utid);
+-- Processes of which frames are missing. A side list says whose they were; of those of which it does not, all may be.
+CREATE TEMP TABLE lossy AS
+WITH lost AS (SELECT l.* FROM side_lost l, raw_capture c WHERE l.seq BETWEEN c.first_seq AND c.last_seq)
+SELECT upid FROM raw_process p, last
+WHERE last.missing <> 0 AND (last.missing <> (SELECT count(*) FROM lost WHERE process IS NOT NULL)
+  OR EXISTS (SELECT 1 FROM lost l WHERE (l.device, l.process) = (p.device, p.process)));
+
 -- Of a call its thread counts, of a oneway send its receiver, and of all else its process.
 UPDATE finding SET
   age_seq = max(0, coalesce(iif(section IN ('calls', 'served'), l.ended_after, p.ended_after), last.seq) - finding.seq),
@@ -212,7 +219,7 @@ WHERE s.generation IS NOT NULL
   AND r.code IN (SELECT code FROM finding WHERE section IN ('calls', 'served', 'refused', 'strays', 'oneway', 'objects'))
 GROUP BY 1, 2, 3, 4, 5;
 UPDATE finding SET n_all = p.n, n_good = p.good, longest_seq = p.longest_seq, longest = p.longest
-FROM send_path p LEFT JOIN raw_record r ON 1
+FROM send_path p, raw_record r
 WHERE section IN ('calls', 'refused', 'oneway', 'strays', 'objects') AND r.place = finding.place
   AND p.code = finding.code AND p.upid = coalesce(finding.target, -finding.upid)
   AND p.ptr = iif(finding.target IS NULL, finding.handle, finding.ptr)
@@ -253,7 +260,8 @@ SELECT f.id FROM finding f WHERE f.age > max(100000000, 10 * coalesce(f.longest,
 CREATE UNIQUE INDEX temp.old_finding ON old(id);
 -- What ended with its thread or process, and was not old then.
 CREATE TEMP TABLE ended AS
-SELECT f.id FROM finding f JOIN life l USING (utid) JOIN process_life p ON p.upid = iif(section = 'oneway', f.target, f.upid)
+SELECT f.id FROM finding f JOIN life l USING (utid)
+  JOIN process_life p ON p.upid = iif(section = 'oneway', f.target, f.upid)
 WHERE iif(section = 'oneway', p.ended_after, l.ended_after) IS NOT NULL AND f.id NOT IN (SELECT id FROM old);
 CREATE UNIQUE INDEX temp.ended_finding ON ended(id);
 
@@ -262,7 +270,8 @@ CREATE UNIQUE INDEX temp.ended_finding ON ended(id);
 CREATE TABLE rule(id TEXT PRIMARY KEY, verdict TEXT NOT NULL, text TEXT NOT NULL) STRICT;
 INSERT INTO rule VALUES
   ('A1', 'explained', 'The other end, or the buffer, of a call: one finding with it.'),
-  ('M1', 'explained', 'Frames are missing, and the one that it lacks may be among them.'),
+  ('M1', 'explained', 'Frames of its process are missing, and the one that it lacks may be among them.'),
+  ('M2', 'maybe', 'It has lasted as what is real does, but frames of its process are missing.'),
   ('P1', 'explained', 'What came before the capture is not known, and it may belong there.'),
   ('T1', 'explained', 'Its process or thread ended then, and the driver has let it go.'),
   ('U1', 'explained', 'Under way: others of its path took as long.'),
@@ -361,17 +370,17 @@ UPDATE finding SET rule = 'T1' WHERE rule IS NULL AND section IN ('calls', 'serv
 UPDATE finding SET rule = iif(finding.id IN (SELECT id FROM old), 'C1', 'C2'),
   note = 'replied at ' || (SELECT closer FROM raw_call c WHERE c.place = w.delivery)
 FROM waits w WHERE rule IS NULL AND w.id = finding.id AND w.replied = 2;
-UPDATE finding SET rule = 'C3' WHERE rule IS NULL AND id IN (SELECT id FROM ring) AND (SELECT missing FROM last) = 0
-  AND finding.id IN (SELECT id FROM old);
+UPDATE finding SET rule = iif(upid IN (SELECT upid FROM lossy), 'M2', 'C3')
+WHERE rule IS NULL AND id IN (SELECT id FROM ring) AND finding.id IN (SELECT id FROM old);
 UPDATE finding SET rule = 'U1' WHERE rule IS NULL AND section IN ('calls', 'served') AND what = 'open' AND n_good >= 3
   AND coalesce(age <= 2 * longest, age_seq <= 2 * longest_seq);
-UPDATE finding SET rule = iif((SELECT missing FROM last) <> 0, 'M1', iif(n_good >= 3, 'U2', rule))
+UPDATE finding SET rule = iif(upid IN (SELECT upid FROM lossy), 'M2', 'U2')
 WHERE rule IS NULL AND section IN ('calls', 'served') AND what = 'open' AND n_good >= 3
   AND coalesce(age > 10 * longest, age_seq > 10 * longest_seq);
 UPDATE finding SET rule = 'U6' WHERE rule IS NULL AND section IN ('calls', 'served') AND what = 'open' AND later = 0
   AND age IS NOT NULL AND finding.id NOT IN (SELECT id FROM old);
 UPDATE finding SET rule = iif(w.delivery IS NULL, 'C5', 'C4'),
-  note = coalesce((SELECT who FROM who WHERE upid = w.server_upid) || ' got it at ' || w.delivery, '')
+  note = coalesce((SELECT who FROM who WHERE upid = w.server_upid) || ' got it at ' || w.delivery, 'not got')
     || coalesce((SELECT ' and waits itself, for the call at ' || n.place FROM waits_for x JOIN waits n ON n.id = x.next
       WHERE x.id = finding.id), '')
 FROM waits w WHERE rule IS NULL AND w.id = finding.id;
@@ -387,7 +396,8 @@ FROM failure e WHERE rule IS NULL AND e.id = finding.id;
 
 -- S: strays, and calls that are crossed.
 CREATE TEMP TABLE first_crossed AS
-SELECT utid, min(closer) AS closer FROM raw_call WHERE verdict = 4 GROUP BY utid;
+SELECT utid, min(closer) AS closer FROM raw_call
+WHERE verdict = 4 AND EXISTS (SELECT 1 FROM finding WHERE section = 'strays' OR what = 'crossed') GROUP BY utid;
 CREATE UNIQUE INDEX temp.first_crossed_of ON first_crossed(utid);
 UPDATE finding SET rule = 'S1', note = 'the send at ' || s.place FROM raw_send s
 WHERE rule IS NULL AND section = 'strays' AND s.refused = finding.place;
@@ -397,7 +407,7 @@ UPDATE finding SET rule = 'S2', note = 'refused at ' || s.refused FROM raw_send 
 WHERE rule IS NULL AND section = 'strays' AND s.place = finding.place AND s.refused IS NOT NULL;
 UPDATE finding SET rule = CASE
   WHEN EXISTS (SELECT 1 FROM first_crossed c WHERE c.utid = finding.utid AND c.closer < finding.place) THEN 'S3'
-  WHEN (SELECT missing FROM last) <> 0 THEN 'M1'
+  WHEN finding.upid IN (SELECT upid FROM lossy) THEN 'M1'
   WHEN (SELECT known FROM process_life p WHERE p.upid = finding.upid) THEN 'S4' ELSE 'P1' END
 WHERE rule IS NULL AND (section = 'strays' OR what = 'crossed');
 
@@ -406,26 +416,27 @@ UPDATE finding SET rule = 'T1' WHERE rule IS NULL AND section = 'buffers' AND la
   AND finding.id IN (SELECT id FROM ended);
 UPDATE finding SET rule = 'U1' WHERE rule IS NULL AND section = 'buffers' AND n_good >= 3
   AND coalesce(age <= longest, age_seq <= longest_seq);
-UPDATE finding SET rule = 'M1' WHERE rule IS NULL AND section = 'buffers' AND (SELECT missing FROM last) <> 0;
-UPDATE finding SET rule = 'U3' FROM (SELECT path FROM finding WHERE section = 'buffers' AND rule IS NULL AND later > 0
-  GROUP BY path HAVING count(*) >= 3 AND count(*) >= 0.8 * max(n_all)) p
+UPDATE finding SET rule = iif(upid IN (SELECT upid FROM lossy), 'M2', 'U3')
+FROM (SELECT path FROM finding WHERE section = 'buffers' AND rule IS NULL AND later > 0 GROUP BY path
+   HAVING count(*) >= 3 AND count(*) >= 0.8 * max(n_all)) p
 WHERE rule IS NULL AND section = 'buffers' AND later > 0 AND p.path = finding.path;
-UPDATE finding SET rule = 'U2' WHERE rule IS NULL AND section = 'buffers' AND n_good >= 3 AND later >= 3
+UPDATE finding SET rule = iif(upid IN (SELECT upid FROM lossy), 'M2', 'U2')
+WHERE rule IS NULL AND section = 'buffers' AND n_good >= 3 AND later >= 3
   AND coalesce(age > 10 * longest, age_seq > 10 * longest_seq);
 UPDATE finding SET rule = CASE WHEN later > 0 THEN 'U4' WHEN finding.id IN (SELECT id FROM old) THEN 'U5'
   ELSE 'U6' END WHERE rule IS NULL AND section = 'buffers';
 
 -- H: handles and nodes.
 CREATE TEMP TABLE handle_row AS
-SELECT f.id, f.upid, f.handle, f.generation, f.what, CAST(substr(r.text, 1, 0) AS TEXT) AS none, r.text,
+SELECT f.id, f.upid, f.handle, f.generation, f.what, r.text,
   (SELECT known FROM process_life p WHERE p.upid = f.upid) AS known,
   EXISTS (SELECT 1 FROM raw_generation g WHERE g.upid = f.upid AND g.handle = f.handle AND g.given_by IS NOT NULL) AS given
 FROM finding f JOIN report r ON r.id = f.report WHERE f.section IN ('handles', 'nodes');
-UPDATE finding SET rule = iif(h.known, iif((SELECT missing FROM last) <> 0, 'M1', 'H1'), 'P1') FROM handle_row h
+UPDATE finding SET rule = iif(h.known, iif(finding.upid IN (SELECT upid FROM lossy), 'M1', 'H1'), 'P1') FROM handle_row h
 WHERE rule IS NULL AND section = 'handles' AND h.id = finding.id AND NOT h.given AND finding.handle <> 0
   AND EXISTS (SELECT 1 FROM raw_generation g WHERE g.upid = h.upid AND g.handle = h.handle
     AND g.acquired + g.released + g.increfs + g.decrefs > 0);
-UPDATE finding SET rule = iif(h.known, iif((SELECT missing FROM last) <> 0, 'M1', 'H2'), 'P1') FROM handle_row h
+UPDATE finding SET rule = iif(h.known, iif(finding.upid IN (SELECT upid FROM lossy), 'M1', 'H2'), 'P1') FROM handle_row h
 WHERE rule IS NULL AND h.id = finding.id AND h.text GLOB '* -*';
 UPDATE finding SET rule = 'H3', note = 'told at ' || t.place FROM told t
 WHERE rule IS NULL AND section = 'handles' AND what = 'held' AND t.generation = finding.generation;
@@ -445,7 +456,7 @@ WHERE rule IS NULL AND section = 'handles' AND what = 'held' AND g.generation = 
   AND p.kept >= iif(g.reply, 4, 2) AND p.kept >= 0.8 * p.n AND coalesce(g.asked, 1) <> 0
   AND finding.upid NOT IN (SELECT upid FROM manager);
 UPDATE finding SET rule = CASE WHEN later = 0 AND finding.id IN (SELECT id FROM ended) THEN 'T1'
-  WHEN (SELECT missing FROM last) <> 0 THEN 'M1' WHEN later > 1 THEN 'U4' ELSE 'U6' END
+  WHEN finding.upid IN (SELECT upid FROM lossy) THEN 'M1' WHEN later > 1 THEN 'U4' ELSE 'U6' END
 WHERE rule IS NULL AND section = 'nodes' AND EXISTS (SELECT 1 FROM report r WHERE r.id = finding.report
   AND NOT r.text GLOB '* 0 0');
 UPDATE finding SET rule = 'H6' WHERE rule IS NULL AND section IN ('handles', 'nodes');
@@ -472,10 +483,10 @@ UPDATE finding SET rule = 'D3', note = 'the one at ' || d.place FROM finding d
 WHERE finding.rule IS NULL AND finding.section = 'clears' AND finding.what = 'unconfirmed' AND d.section = 'deaths'
   AND d.what = 'unacknowledged' AND d.upid = finding.upid AND d.cookie = finding.cookie;
 UPDATE finding SET rule = CASE WHEN later = 0 AND finding.id IN (SELECT id FROM ended) THEN 'T1'
-  WHEN (SELECT missing FROM last) <> 0 THEN 'M1' WHEN later > 1 THEN 'U4'
+  WHEN finding.upid IN (SELECT upid FROM lossy) THEN 'M1' WHEN later > 1 THEN 'U4'
   WHEN finding.id IN (SELECT id FROM old) THEN 'U5' ELSE 'U6' END
 WHERE rule IS NULL AND section IN ('deaths', 'clears') AND what IN ('unacknowledged', 'unconfirmed');
-UPDATE finding SET rule = CASE WHEN (SELECT missing FROM last) <> 0 THEN 'M1'
+UPDATE finding SET rule = CASE WHEN finding.upid IN (SELECT upid FROM lossy) THEN 'M1'
   WHEN (SELECT known FROM process_life p WHERE p.upid = finding.upid) THEN 'D4' ELSE 'P1' END
 WHERE rule IS NULL AND section IN ('deaths', 'clears');
 
@@ -483,16 +494,16 @@ WHERE rule IS NULL AND section IN ('deaths', 'clears');
 CREATE TEMP TABLE freed AS
 SELECT t.upid, r.address, d.place, d.freed_by FROM raw_delivery d JOIN raw_record r USING (place)
   JOIN raw_thread t ON t.utid = d.utid
-WHERE d.freed_by IS NOT NULL AND r.address IN (SELECT x.address FROM finding f JOIN raw_record x USING (place)
-  WHERE f.section = 'frees');
+WHERE EXISTS (SELECT 1 FROM finding WHERE section = 'frees') AND d.freed_by IS NOT NULL
+  AND r.address IN (SELECT x.address FROM finding f JOIN raw_record x USING (place) WHERE f.section = 'frees');
 CREATE INDEX temp.freed_address ON freed(upid, address, place);
-UPDATE finding SET rule = iif((SELECT missing FROM last) <> 0, 'M1', 'F1'), note = 'at ' || d.freed_by,
+UPDATE finding SET rule = iif(finding.upid IN (SELECT upid FROM lossy), 'M1', 'F1'), note = 'at ' || d.freed_by,
   path = iif(d.kind = 'BR_REPLY', 'reply to code ', 'code ') || coalesce(d.code, '?')
 FROM raw_record x, delivery d
 WHERE rule IS NULL AND finding.section = 'frees' AND x.place = finding.place AND d.freed_by < finding.place
   AND d.place = (SELECT e.place FROM freed e WHERE e.upid = finding.upid AND e.address = x.address
     AND e.place < finding.place ORDER BY e.place DESC LIMIT 1);
-UPDATE finding SET rule = CASE WHEN (SELECT missing FROM last) <> 0 THEN 'M1'
+UPDATE finding SET rule = CASE WHEN finding.upid IN (SELECT upid FROM lossy) THEN 'M1'
   WHEN (SELECT known FROM process_life p WHERE p.upid = finding.upid) THEN 'F2' ELSE 'P1' END
 WHERE rule IS NULL AND section = 'frees';
 
@@ -510,7 +521,7 @@ UPDATE finding SET rule = 'U1' WHERE rule IS NULL AND section = 'oneway' AND n_g
 UPDATE finding SET rule = 'W2', note = 'the one at ' || f.place FROM finding f JOIN raw_record r ON r.place = f.place
 WHERE finding.rule IS NULL AND finding.section = 'oneway' AND f.section = 'buffers' AND r.flags & 1 AND r.kind <> 259
   AND f.upid = finding.target AND f.ptr = finding.ptr AND f.cookie = finding.cookie;
-UPDATE finding SET rule = 'M1' WHERE rule IS NULL AND section = 'oneway' AND (SELECT missing FROM last) <> 0;
+UPDATE finding SET rule = 'M1' WHERE rule IS NULL AND section = 'oneway' AND finding.upid IN (SELECT upid FROM lossy);
 UPDATE finding SET rule = CASE WHEN finding.id IN (SELECT id FROM old) THEN 'W3' WHEN age IS NULL AND later > 0 THEN 'W3'
   ELSE 'U6' END WHERE rule IS NULL AND section = 'oneway';
 
