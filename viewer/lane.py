@@ -60,8 +60,9 @@ def lane_of(database: sqlite3.Connection, utid: int, place: int) -> Iterator[tup
     lines = records(database, BEFORE, utid, place, RECORDS + 1) + records(database, AFTER, utid, place, RECORDS)
     if not lines:
         return
-    openers = dict(database.execute("SELECT place, coalesce(closer, 9223372036854775807) FROM raw_call WHERE utid = ? AND"
-                                    " place BETWEEN ? AND ?", (utid, lines[0].place, lines[-1].place)))
+    openers = dict(database.execute("SELECT place, coalesce(closer, 9223372036854775807) FROM raw_call"
+                                    " WHERE utid = ? AND place BETWEEN ? AND ?",
+                                    (utid, lines[0].place, lines[-1].place)))
     stack = open_calls(database, utid, lines[0].place)
     yield f"{'place':>10} {'seq':>8}", False
     for line in lines:

@@ -127,8 +127,14 @@ def before_fault(database: sqlite3.Connection, files: list[str], folder: pathlib
 # ---- the side list
 
 
+# The longest name that is kept. Those of the system have at most 15 bytes.
+LONGEST_NAME = 256
+
+
 def unescaped(name: str) -> str:
     """A name of the side list: a control character or a backslash stands in it as `\\x` and two digits."""
+    if len(name) > LONGEST_NAME:
+        name = name[:LONGEST_NAME] + "…"
     return re.sub(r"\\x([0-9a-f]{2})", lambda found: chr(int(found[1], 16)), name)
 
 
@@ -279,7 +285,8 @@ def load_findings(database: sqlite3.Connection) -> None:
     made = []
     for number, section, place, device, process, text in rows:
         row = Row(section, text)
-        made.append((number, section, row.what, place, upids[device, process], row.handle, row.code, row.ptr, row.cookie))
+        made.append((number, section, row.what, place, upids[device, process], row.handle, row.code, row.ptr,
+                     row.cookie))
     database.executemany("INSERT INTO finding(report, section, what, place, upid, handle, code, ptr, cookie)"
                          " VALUES (?, ?, ?, ?, ?, ?, ?, ?, ?)", made)
 

@@ -3,11 +3,12 @@
 import base64
 import hashlib
 import html
+import json
 import pathlib
 import shlex
 import sqlite3
 import unicodedata
-from typing import Callable, Iterator, NamedTuple
+from typing import Iterator, NamedTuple
 
 from viewer.lane import lane_of
 from viewer.loading import Stopped
@@ -23,7 +24,7 @@ VERDICTS = ("real", "maybe", "explained", "normal")
 
 
 def is_sign(character: str) -> bool:
-    """Whether a character is not seen, or changes how others are: controls, marks of direction, and what has no name."""
+    """Whether a character is not seen, or changes how others are: controls, marks of direction, what has no name."""
     return unicodedata.category(character) in ("Cc", "Cf", "Cs", "Co", "Cn", "Zl", "Zp")
 
 
@@ -53,7 +54,8 @@ def duration_of(nanoseconds: int | None) -> str:
         return ""
     for unit, size in (("s", 10**9), ("ms", 10**6), ("µs", 10**3)):
         if nanoseconds >= size:
-            return f"{nanoseconds / size:.3g} {unit}" if nanoseconds < 1000 * size else f"{nanoseconds / size:,.0f} {unit}"
+            count = nanoseconds / size
+            return f"{count:.3g} {unit}" if count < 1000 else f"{count:,.0f} {unit}"
     return f"{nanoseconds} ns"
 
 
@@ -104,8 +106,9 @@ def plot(values: list[int], width: int = 112, height: int = 24) -> str:
     path = "".join(f"{'M1 ' if at == 0 else 'V'}{height - 2 - value * scale:.1f}H{1 + (at + 1) * step:.1f}"
                    for at, value in enumerate(values))
     told = ", ".join(map(str, values))
-    return (f'<svg class="plot" viewBox="0 0 {width} {height}" width={width} height={height} role=img aria-label="{told}">'
-            f'<path class="axis" d="M1 {height - 2}H{width - 1}"/><path class="line" d="{path}"/></svg>')
+    return (f'<svg class="plot" viewBox="0 0 {width} {height}" width={width} height={height} role=img'
+            f' aria-label="{told}"><path class="axis" d="M1 {height - 2}H{width - 1}"/>'
+            f'<path class="line" d="{path}"/></svg>')
 
 
 def strip(places: list[int], whole: int, width: int = 112, height: int = 14) -> str:
@@ -133,6 +136,13 @@ class Page:
 
     def ask(self, query: str, *values: object) -> list[tuple]:
         return self.database.execute(query, values).fetchall()
+
+    def asked(self, name: str, *values: object) -> list[tuple]:
+        """What the query in a file answers."""
+        return self.ask((FOLDER / "queries" / f"{name}.sql").read_text(), *values)
+
+    def count(self, table: str, condition: str = "1", *values: object) -> int:
+        return self.ask(f"SELECT count(*) FROM {table} WHERE {condition}", *values)[0][0]
 
     def name(self, upid: int | None) -> str:
         return name_of(self.who.get(upid)) if upid is not None else ""
@@ -167,13 +177,15 @@ class Page:
         told = "".join(f'<p class="dim">{one}</p>' for one in self.unknown())
         return (f"{first}<h1>{name_of(facts['file'])}</h1>"
                 f'<p class="dim">{number_of(facts["frames"])} frames, {number_of(facts["records"])} records,'
-                f' {number_of(facts["bytes"])} bytes{span}; {missing} frames missing; {len(self.who)} processes.</p>{told}')
+                f' {number_of(facts["bytes"])} bytes{span}; {missing} frames missing;'
+                f" {len(self.who)} processes.</p>{told}")
 
     def counts(self) -> str:
         groups = dict(self.ask("SELECT verdict, count(*) FROM finding_group GROUP BY 1"))
         rows = dict(self.ask("SELECT verdict, sum(n) FROM finding_group GROUP BY 1"))
         boxes = "".join(f'<div class="{verdict}"><b>{number_of(groups.get(verdict, 0))}</b>{verdict}'
-                        f'<span class="of"> · {number_of(rows.get(verdict, 0))} rows</span></div>' for verdict in VERDICTS)
+                        f'<span class="of"> · {number_of(rows.get(verdict, 0))} rows</span></div>'
+                        for verdict in VERDICTS)
         return (f'<div class="counts">{boxes}</div><p class="dim">Verdicts, paths and counts are <b>inferred</b> by the'
                 ' rules of docs/VIEW.md. What stands in <span class="proved">green</span> is the proved report, word by'
                 ' word.</p><div class="filter"></div>')
@@ -181,7 +193,7 @@ class Page:
     # -- findings
 
     def finding(self, row: tuple) -> str:
-        _, section, place, utid, upid, rule, note, text, thread = row
+        section, place, _, upid, rule, note, text, thread = row
         look = f"<code>{text_of(f'{self.command} --at {place}')}</code>" if place is not None else ""
         why = text_of(self.rules[rule]) + (f" ({text_of(note)})" if note else "")
         proved = f"{section}: {text_of(text)}" if text else ""
@@ -190,23 +202,24 @@ class Page:
 
     def group(self, row: tuple) -> str:
         number, verdict, title, path, n, n_all, who, first, last, rules = row
-        found = self.ask(
-            "SELECT f.id, f.section, f.place, f.utid, f.upid, f.rule, f.note, r.text, t.thread FROM finding_head h"
-            " JOIN finding f USING (id) LEFT JOIN report r ON r.id = f.report LEFT JOIN raw_thread t USING (utid)"
-            f" WHERE h.grp = ? ORDER BY f.lead IS NOT NULL, f.place LIMIT {FINDINGS + 1}", number)
-        places = [one[2] for one in found if one[2] is not None]
-        count = f"{number_of(n)}" + (f' <span class="of">of {number_of(n_all)}</span>' if n_all is not None else "")
+        found = self.asked("findings", number, FINDINGS + 1)
+        places = [one[1] for one in found if one[1] is not None]
+        count = number_of(n) + (f' <span class="of">of {number_of(n_all)}</span>' if n_all is not None else "")
         marks = self.growth(number) if n >= 8 else strip(places, self.facts["bytes"]) if places else ""
         span = "" if first is None else number_of(first) + (f" to {number_of(last)}" if last != first else "")
         why = " ".join(f'{text_of(self.rules[rule])} <span class="rule">{rule}</span>' for rule in rules.split(","))
-        more = '<p class="of">and more: SELECT * FROM finding JOIN finding_head USING (id) WHERE grp = ' \
-            f"{number}</p>" if len(found) > FINDINGS else ""
-        return (f'<details class="group {verdict}"><summary><span><span class="verdict {verdict}">{verdict}</span></span>'
+        line = (f'<span><span class="verdict {verdict}">{verdict}</span></span>'
                 f'<span><b>{title}</b> {name_of(path)}<br><span class="dim">{why}</span></span>'
                 f'<span class="count">{count}</span><span class="who">{self.names(who)}</span>'
-                f'<span class="marks">{marks}<br><span class="of">{span}</span></span></summary><div class="inner">'
-                f'<div class="scroll" tabindex=0 role=region aria-label="findings"><table>'
-                f'{"".join(map(self.finding, found[:FINDINGS]))}</table></div>{more}{self.lane(verdict, found)}</div></details>\n')
+                f'<span class="marks">{marks}<br><span class="of">{span}</span></span>')
+        return (f'<details class="group {verdict}"><summary>{line}</summary><div class="inner">'
+                f"{self.findings(number, found)}{self.lane(verdict, found)}</div></details>\n")
+
+    def findings(self, group: int, found: list[tuple]) -> str:
+        more = (f'<p class="of">and more: SELECT * FROM finding JOIN finding_head USING (id) WHERE grp = {group}</p>'
+                if len(found) > FINDINGS else "")
+        rows = "".join(map(self.finding, found[:FINDINGS]))
+        return f'<div class="scroll" tabindex=0 role=region aria-label="findings"><table>{rows}</table></div>{more}'
 
     def names(self, who: str | None) -> str:
         """Some names, of which there may be many."""
@@ -215,10 +228,7 @@ class Page:
 
     def growth(self, group: int) -> str:
         """How many findings of a group there are at the end of each of 16 slices of the capture."""
-        slices = dict(self.ask(
-            "SELECT (f.seq - c.first_seq) * 16 / (c.last_seq - c.first_seq + 1), count(*) FROM finding_head h"
-            " JOIN finding f USING (id), raw_capture c WHERE h.grp = ? AND f.lead IS NULL AND f.seq NOTNULL GROUP BY 1",
-            group))
+        slices = dict(self.asked("group_growth", group))
         values, so_far = [], 0
         for at in range(16):
             so_far += slices.get(at, 0)
@@ -227,7 +237,7 @@ class Page:
 
     def lane(self, verdict: str, found: list[tuple]) -> str:
         """What the thread of the first finding did around it."""
-        at = next(((one[3], one[2]) for one in found if one[2] is not None and one[3] is not None), None)
+        at = next(((one[2], one[1]) for one in found if one[1] is not None and one[2] is not None), None)
         if at is None or verdict == "normal" or self.lanes >= LANES:
             return ""
         self.lanes += 1
@@ -236,83 +246,69 @@ class Page:
         return f'<p class="of">What its thread did around place {at[1]}:</p><pre class="lane" tabindex=0>{lines}</pre>'
 
     def groups(self, *verdicts: str) -> str:
-        marks = ",".join("?" * len(verdicts))
-        rows = self.ask("SELECT grp, verdict, title, path, n, n_all, who, first, last, rules FROM finding_group"
-                        f" WHERE verdict IN ({marks}) ORDER BY verdict = 'real' DESC, n DESC, first LIMIT {ROWS}", *verdicts)
-        (count,), = self.ask(f"SELECT count(*) FROM finding_group WHERE verdict IN ({marks})", *verdicts)
-        more = f'<p class="of">and {count - len(rows):,} more groups</p>' if count > len(rows) else ""
-        return "".join(map(self.group, rows)) + more if rows else '<p class="box">Nothing.</p>'
+        """The groups of some verdicts, one after another."""
+        shown, left = "", 0
+        for verdict in verdicts:
+            rows = self.asked("groups", verdict, ROWS)
+            left += self.count("finding_group", "verdict = ?", verdict) - len(rows)
+            shown += "".join(map(self.group, rows))
+        more = f'<p class="of">and {left:,} more groups</p>' if left else ""
+        return shown + more if shown else '<p class="box">Nothing.</p>'
 
     # -- tables
 
     def processes(self) -> str:
-        rows = self.ask(
-            "SELECT p.upid, p.device, p.pid, (SELECT count(*) FROM raw_thread t WHERE t.upid = p.upid), p.met, p.frames,"
-            " p.first_seq, p.last_seq, p.ended, p.ended_after FROM process p"
-            f" ORDER BY p.upid LIMIT {ROWS}")
         begun = self.facts.get("begin_ts")
-        ended = [Cell(f"after {number_of(row[9])}" + (f", at {duration_of(row[8] - begun)}" if begun else ""))
-                 if row[9] is not None else Cell("") for row in rows]
-        return table_of("processes", ["process", "#device", "#pid", "#threads", "met", "#frames", "#first seq", "#last seq",
-                                      "ended"],
-                        [[Cell(self.name(row[0])), number_cell(row[1]), Cell(str(row[2] or ""), True, row[2]),
-                          number_cell(row[3]), Cell(text_of(row[4])), *map(number_cell, row[5:8]), end]
-                         for row, end in zip(rows, ended)], len(self.who))
+        heads = ["process", "#device", "#pid", "#threads", "met", "#frames", "#first seq", "#last seq", "ended"]
+        cells = []
+        for upid, device, pid, threads, met, frames, first, last, ended, after in self.asked("processes", ROWS):
+            end = "" if after is None else f"after {number_of(after)}"
+            if after is not None and begun is not None:
+                end += f", at {duration_of(ended - begun)}"
+            cells.append([Cell(self.name(upid)), number_cell(device), Cell(str(pid or ""), True, pid),
+                          number_cell(threads), Cell(text_of(met)), *map(number_cell, (frames, first, last)),
+                          Cell(end)])
+        return table_of("processes", heads, cells, len(self.who))
 
     def talk(self) -> str:
-        rows = self.ask(
-            "SELECT upid, handle, node_upid, ptr, code, oneway, sends, failed, refused, open, bytes, buffers, buffers_peak,"
-            f" longest_seq, delivered, one_fits FROM traffic ORDER BY sends DESC LIMIT {ROWS}")
-        (count,), = self.ask("SELECT count(*) FROM traffic")
+        heads = ["caller", "#handle", "served by", "node", "#code", "kind", "#sends", "#failed", "#open", "#bytes",
+                 "#buffers now", "#at the peak", "#longest, frames", "one send fits"]
         cells = []
-        for (upid, handle, node, ptr, code, oneway, sends, failed, refused, open_, size, buffers, peak, longest, delivered,
-             one_fits) in rows:
-            certain = "no delivery" if not delivered else "all" if one_fits == delivered \
-                else f"{100 * one_fits // delivered} %"
-            cells.append([Cell(self.name(upid)), number_cell(handle), Cell(self.name(node) or '<span class="dim">not known</span>'),
-                          Cell(f"<code>0x{ptr % 2**64:x}</code>" if node is not None else ""), number_cell(code),
-                          Cell("oneway" if oneway else "call"), *map(number_cell, (sends, failed or refused, open_, size,
-                                                                                   buffers, peak, longest)),
-                          Cell(certain)])
-        return table_of("who talks to whom", ["caller", "#handle", "served by", "node", "#code", "kind", "#sends", "#failed",
-                                              "#open", "#bytes", "#buffers now", "#at the peak", "#longest, frames",
-                                              "one send fits"], cells, count)
+        for upid, handle, node, ptr, code, oneway, delivered, one_fits, *numbers in self.asked("talk", ROWS):
+            certain = ("no delivery" if not delivered else "all" if one_fits == delivered
+                       else f"{100 * one_fits // delivered} %")
+            server, its_node = '<span class="dim">not known</span>', ""
+            if node is not None:
+                server, its_node = self.name(node), f"<code>0x{ptr % 2**64:x}</code>"
+            cells.append([Cell(self.name(upid)), number_cell(handle), Cell(server), Cell(its_node), number_cell(code),
+                          Cell("oneway" if oneway else "call"), *map(number_cell, numbers), Cell(certain)])
+        return table_of("who talks to whom", heads, cells, self.count("traffic"))
 
     def levels(self) -> str:
-        rows = self.ask(
-            "SELECT upid, json_group_array(buffers), json_group_array(bytes), json_group_array(refs),"
-            " json_group_array(calls), json_group_array(served) FROM (SELECT * FROM level ORDER BY upid, slice)"
-            f" GROUP BY upid ORDER BY max(buffers) DESC, upid LIMIT {ROWS}")
+        heads = ["process", "buffers", "their bytes", "strong references", "calls open", "calls being served"]
         cells = []
-        for upid, *columns in rows:
+        for upid, *columns in self.asked("growth", ROWS):
             cells.append([Cell(self.name(upid))])
-            for column in columns:
-                values = [int(one) for one in column.strip("[]").split(",")]
-                cells[-1].append(Cell(f'{plot(values, 150, 30)}<div class="of">peak {max(values):,}, end {values[-1]:,}</div>',
-                                      False, max(values)))
-        return table_of("growth", ["process", "buffers", "their bytes", "strong references", "calls open",
-                                   "calls being served"], cells, len(self.who))
+            for values in map(json.loads, columns):
+                told = f"peak {max(values):,}, end {values[-1]:,}"
+                cells[-1].append(Cell(f'{plot(values, 150, 30)}<div class="of">{told}</div>', False, max(values)))
+        return table_of("growth", heads, cells, len(self.who))
 
     def slow_calls(self) -> str:
-        rows = self.ask(
-            "WITH c AS (SELECT place, utid, verdict, closer, dur_seq, seq FROM raw_call WHERE served = 0 AND verdict <> 1"
-            f" UNION ALL SELECT * FROM (SELECT place, utid, verdict, closer, dur_seq, seq FROM raw_call WHERE served = 0"
-            f" AND verdict = 1 ORDER BY dur_seq DESC LIMIT 50) LIMIT {ROWS})"
-            " SELECT c.place, t.upid, t.thread, r.handle, r.code, v.name, c.closer, c.dur_seq, z.ts - x.ts, s.delivery, s.fits,"
-            " (SELECT dt.upid FROM raw_delivery d JOIN raw_thread dt USING (utid) WHERE d.place = s.delivery),"
-            " (SELECT k.closer FROM raw_call k WHERE k.place = s.delivery)"
-            " FROM c JOIN raw_thread t USING (utid) JOIN raw_record r USING (place) JOIN verdict v ON v.number = c.verdict"
-            " LEFT JOIN raw_send s USING (place) LEFT JOIN side_time x ON x.seq = c.seq"
-            " LEFT JOIN side_time z ON z.seq = c.seq + c.dur_seq ORDER BY c.verdict = 1, c.dur_seq DESC")
-        cells = [[Cell(f"<code>{place}</code>", True, place), Cell(f"{self.name(upid)} thread {thread}"),
-                  Cell(self.name(server) or f"handle {handle}"), number_cell(code), Cell(verdict),
-                  duration_cell(took, frames), Cell("" if delivery is None else f"{delivery}" + (
-                      "" if fits == 1 else f' <i class="of">one of {fits}</i>'), True, delivery),
-                  Cell("" if replied is None else str(replied), True, replied),
-                  Cell("<b>never</b>" if closer is None else str(closer), True, closer)]
-                 for (place, upid, thread, handle, code, verdict, closer, frames, took, delivery, fits, server, replied) in rows]
-        return table_of("calls", ["#place", "caller", "served by", "#code", "verdict", "#took", "#delivered at",
-                                  "#replied at", "#closed at"], cells)
+        heads = ["#place", "caller", "served by", "#code", "verdict", "#took", "#delivered at", "#replied at",
+                 "#closed at"]
+        cells = []
+        for (place, upid, thread, handle, code, verdict, closer, frames, took, delivery, fits, server,
+             replied) in self.asked("calls", ROWS):
+            got = "" if delivery is None else str(delivery)
+            if fits is not None and fits != 1:
+                got += f' <i class="of">one of {fits}</i>'
+            cells.append([Cell(f"<code>{place}</code>", True, place), Cell(f"{self.name(upid)} thread {thread}"),
+                          Cell(self.name(server) or f"handle {handle}"), number_cell(code), Cell(verdict),
+                          duration_cell(took, frames), Cell(got, True, delivery),
+                          Cell("" if replied is None else str(replied), True, replied),
+                          Cell("<b>never</b>" if closer is None else str(closer), True, closer)])
+        return table_of("calls", heads, cells)
 
     def heads(self) -> str:
         lines = "".join(f'<div class="proved">{text_of(text)}</div>' for text, in
@@ -326,12 +322,12 @@ class Page:
         yield ('<h2>Explained</h2><p class="dim">Ends, what was under way when the capture ended, and what began before'
                " it.</p>" + self.groups("explained"))
         yield "<h2>Processes</h2>" + self.processes()
-        yield ('<h2>Who talks to whom</h2><p class="dim">Which process and node a handle leads to is inferred from sends and'
-               " deliveries that fit. The last column says of how many deliveries one send alone fits; of the others the"
-               " counts are right together, and which send is which is not certain. Buffers at the peak are those of all"
-               " callers.</p>" + self.talk())
-        yield ('<h2>Growth</h2><p class="dim">What each process holds at most in each of 16 slices of the capture. Steps'
-               " that rise to the end are what a leak looks like.</p>" + self.levels())
+        yield ('<h2>Who talks to whom</h2><p class="dim">Which process and node a handle leads to is inferred from'
+               " sends and deliveries that fit. The last column says of how many deliveries one send alone fits; of the"
+               " others the counts are right together, and which send is which is not certain. Buffers at the peak are"
+               " those of all callers.</p>" + self.talk())
+        yield ('<h2>Growth</h2><p class="dim">What each process holds at most in each of 16 slices of the capture.'
+               " Steps that rise to the end are what a leak looks like.</p>" + self.levels())
         yield "<h2>Calls without an answer, and those that took longest</h2>" + self.slow_calls()
         yield ('<details class="fold"><summary>Normal rows: references and requests in use</summary>'
                + self.groups("normal") + "</details>")
@@ -343,8 +339,8 @@ def document(page: Page) -> Iterator[str]:
     style, script = ((FOLDER / name).read_text() for name in ("page.css", "page.js"))
     digest = base64.b64encode(hashlib.sha256(script.encode()).digest()).decode()
     yield ('<!doctype html>\n<html lang="en"><meta charset="utf-8"><meta name="viewport"'
-           ' content="width=device-width, initial-scale=1"><meta http-equiv="Content-Security-Policy" content="default-src'
-           f" 'none'; style-src 'unsafe-inline'; script-src 'sha256-{digest}'\">"
+           ' content="width=device-width, initial-scale=1"><meta http-equiv="Content-Security-Policy"'
+           f" content=\"default-src 'none'; style-src 'unsafe-inline'; script-src 'sha256-{digest}'\">"
            f"<title>{text_title(page.facts['file'])}: Binder capture</title>\n<style>{style}</style>\n")
     yield from page.parts()
     yield f"\n<script>{script}</script>\n</html>\n"
