@@ -440,15 +440,18 @@ UPDATE finding SET rule = iif(h.known, iif(finding.upid IN (SELECT upid FROM los
 WHERE rule IS NULL AND h.id = finding.id AND h.text GLOB '* -*';
 UPDATE finding SET rule = 'H3', note = 'told at ' || t.place FROM told t
 WHERE rule IS NULL AND section = 'handles' AND what = 'held' AND t.generation = finding.generation;
-CREATE TEMP TABLE most_strong AS
-SELECT upid, handle, max(strong) AS strong FROM (SELECT t.upid, r.handle, sum((r.kind = 5) - (r.kind = 6))
-    OVER (PARTITION BY t.upid, r.handle ORDER BY r.place) AS strong
+CREATE TEMP TABLE most_held AS
+SELECT upid, handle, max(strong) AS strong, max(weak) AS weak FROM (
+  SELECT t.upid, r.handle, sum((r.kind = 5) - (r.kind = 6)) OVER changes AS strong,
+    sum((r.kind = 4) - (r.kind = 7)) OVER changes AS weak
   FROM raw_record r JOIN raw_thread t USING (utid)
-  WHERE r.kind IN (5, 6) AND EXISTS (SELECT 1 FROM raw_generation WHERE acquired > 1 AND strong > 0)) GROUP BY 1, 2;
-CREATE UNIQUE INDEX temp.most_strong_of ON most_strong(upid, handle);
-UPDATE finding SET rule = 'H4', note = g.acquired || ' times' FROM raw_generation g JOIN most_strong m USING (upid, handle)
-WHERE rule IS NULL AND section = 'handles' AND what = 'held' AND g.id = finding.generation AND g.acquired > 1
-  AND m.strong > 1;
+  WHERE r.kind BETWEEN 4 AND 7 AND EXISTS (SELECT 1 FROM raw_generation WHERE acquired > 1 OR increfs > 1)
+  WINDOW changes AS (PARTITION BY t.upid, r.handle ORDER BY r.place)) GROUP BY 1, 2;
+CREATE UNIQUE INDEX temp.most_held_of ON most_held(upid, handle);
+UPDATE finding SET rule = 'H4', note = iif(m.strong > 1 AND g.strong > 0, g.acquired || ' times', g.increfs || ' times, weakly')
+FROM raw_generation g JOIN most_held m USING (upid, handle)
+WHERE rule IS NULL AND section = 'handles' AND what = 'held' AND g.id = finding.generation
+  AND (m.strong > 1 AND g.strong > 0 OR m.weak > 1 AND g.weak > 0);
 UPDATE finding SET rule = 'H5', code = g.code, n_all = p.n, path = iif(g.reply, 'given by replies to code ',
   'given by calls of code ') || g.code
 FROM given g JOIN given_path p ON p.upid = g.upid AND p.code IS g.code AND p.reply = g.reply AND p.asked IS g.asked

@@ -1,5 +1,6 @@
 /* Scenarios for checks/view, each with one fault made on purpose, or none: callbacks, replies, twice, embrace, deaf,
- * held-back; slow, mourned, hung, too-large, sessions, dead-user. */
+ * held-back; slow, mourned, hung, too-large, sessions, dead-user; quarter, weak-refs, lookups, double-reply, chain,
+ * ack-twice. */
 #define _GNU_SOURCE
 #include <pthread.h>
 #include <signal.h>
@@ -395,7 +396,203 @@ static void dead_user(void)
 	wait_until(&shared->resting, 1);
 }
 
+/* ---- quarter: the service never frees each fourth buffer, whatever it came for */
+
+static void forget_each_fourth(struct exchange *exchange, transaction *delivered)
+{
+	static int served;
+	queue_reply(exchange, (void *)delivered->data.ptr.buffer, delivered->data_size, NULL, 0, 0);
+	turn(exchange, false);
+	if (++served % 4) free_buffer(exchange, delivered);
+}
+
+static void forgetful_service(void)
+{
+	struct exchange exchange;
+	struct opening opening = registered(&exchange);
+	opening.serve = forget_each_fourth;
+	exchange.opening = &opening;
+	command(&exchange, BC_ENTER_LOOPER, NULL);
+	turn(&exchange, false);
+	shared->ready++;
+	serve_forever(&exchange);
+}
+
+static void steady_client(void)
+{
+	struct exchange exchange;
+	struct opening opening = open_device("binder");
+	begin(&exchange, &opening);
+	uint32_t handle = look_up(&exchange);
+	calls(&exchange, handle, 20);
+	let_go(&exchange, handle);
+	ready_to_rest(&exchange);
+}
+
+static void quarter(void)
+{
+	start("manager", manager);
+	wait_until(&shared->ready, 1);
+	start("service", forgetful_service);
+	wait_until(&shared->ready, 2);
+	start("client", steady_client);
+	wait_until(&shared->resting, 1);
+}
+
+/* ---- weak-refs: a client takes a weak reference each time it looks up, and lets go of one */
+
+static void weak_client(void)
+{
+	struct exchange exchange;
+	struct opening opening = open_device("binder");
+	begin(&exchange, &opening);
+	for (int i = 0; i < 4; i++) {
+		uint32_t handle = look_up(&exchange);
+		number_command(&exchange, BC_INCREFS, handle);
+		calls(&exchange, handle, 2);
+		if (!i) number_command(&exchange, BC_DECREFS, handle);
+		let_go(&exchange, handle);
+	}
+	ready_to_rest(&exchange);
+}
+
+static void weak_refs(void) { play("client", weak_client); }
+
+/* ---- lookups: nothing is wrong: a client looks up, calls and lets go, again and again */
+
+static void coming_and_going(void)
+{
+	struct exchange exchange;
+	struct opening opening = open_device("binder");
+	begin(&exchange, &opening);
+	for (int i = 0; i < 6; i++) {
+		uint32_t handle = look_up(&exchange);
+		number_command(&exchange, BC_INCREFS, handle);
+		calls(&exchange, handle, 2);
+		number_command(&exchange, BC_DECREFS, handle);
+		let_go(&exchange, handle);
+	}
+	ready_to_rest(&exchange);
+}
+
+static void lookups(void)
+{
+	manager_and_service("service");
+	start("client", coming_and_going);
+	start("client", coming_and_going);
+	wait_until(&shared->resting, 2);
+}
+
+/* ---- double-reply: the service replies to each third call twice */
+
+static void reply_twice(struct exchange *exchange, transaction *delivered)
+{
+	static int served;
+	queue_reply(exchange, NULL, 0, NULL, 0, 0);
+	turn(exchange, true);
+	drain(exchange);
+	if (++served % 3 == 0) {
+		queue_reply(exchange, NULL, 0, NULL, 0, 0);
+		turn(exchange, true);
+		drain(exchange);
+	}
+	free_buffer(exchange, delivered);
+}
+
+static void stuttering_service(void)
+{
+	struct exchange exchange;
+	struct opening opening = registered(&exchange);
+	opening.serve = reply_twice;
+	exchange.opening = &opening;
+	command(&exchange, BC_ENTER_LOOPER, NULL);
+	turn(&exchange, false);
+	shared->ready++;
+	serve_forever(&exchange);
+}
+
+static void spaced_client(void)
+{
+	struct exchange exchange;
+	struct opening opening = open_device("binder");
+	begin(&exchange, &opening);
+	uint32_t handle = look_up(&exchange);
+	for (int i = 0; i < 7; i++) {
+		calls(&exchange, handle, 1);
+		usleep(30000);		/* the second reply is on its way */
+	}
+	ready_to_rest(&exchange);
+}
+
+static void double_reply(void)
+{
+	start("manager", manager);
+	wait_until(&shared->ready, 1);
+	start("service", stuttering_service);
+	wait_until(&shared->ready, 2);
+	start("client", spaced_client);
+	wait_until(&shared->resting, 1);
+}
+
+/* ---- chain: the service calls an object of the client back, whose process never answers */
+
+static void never_serve(struct exchange *exchange, transaction *delivered)
+{
+	(void)delivered;
+	turn(exchange, false);
+	shared->resting++;
+	rest();
+}
+
+static void chained_client(void)
+{
+	struct exchange exchange;
+	struct opening opening = open_device("binder");
+	begin(&exchange, &opening);
+	uint32_t handle = look_up(&exchange);
+	calls(&exchange, handle, 5);
+	opening.serve = never_serve;
+	give_object(&exchange, handle, CALL_BACK, 0);
+	rest();
+}
+
+static void chain(void) { play("client", chained_client); }
+
+/* ---- ack-twice: a client acknowledges a death twice */
+
+static void eager_client(void)
+{
+	struct exchange exchange;
+	struct opening opening = open_device("binder");
+	uint64_t cookie = 0xacac;
+	begin(&exchange, &opening);
+	uint32_t handle = look_up(&exchange);
+	calls(&exchange, handle, 3);
+	death_command(&exchange, BC_REQUEST_DEATH_NOTIFICATION, handle, cookie);
+	command(&exchange, BC_ENTER_LOOPER, NULL);
+	turn(&exchange, false);
+	shared->stage++;
+	while (!shared->deaths) {
+		turn(&exchange, true);
+		drain(&exchange);
+	}
+	command(&exchange, BC_DEAD_BINDER_DONE, &cookie);
+	let_go(&exchange, handle);
+	ready_to_rest(&exchange);
+}
+
+static void ack_twice(void)
+{
+	manager_and_service("short-lived");
+	start("client", eager_client);
+	wait_until(&shared->stage, 1);
+	kill(shared->process[1], SIGKILL);
+	waitpid(shared->process[1], NULL, 0);
+	wait_until(&shared->resting, 1);
+}
+
 const struct scenario fault_scenarios[] = {
 	{"callbacks", callbacks}, {"replies", replies}, {"twice", twice}, {"embrace", embrace}, {"deaf", deaf},
 	{"held-back", held_back}, {"slow", slow}, {"mourned", mourned}, {"hung", hung}, {"too-large", too_large},
-	{"sessions", sessions}, {"dead-user", dead_user}, {0}};
+	{"sessions", sessions}, {"dead-user", dead_user}, {"quarter", quarter}, {"weak-refs", weak_refs},
+	{"lookups", lookups}, {"double-reply", double_reply}, {"chain", chain}, {"ack-twice", ack_twice}, {0}};
