@@ -11,12 +11,6 @@ from typing import Callable, Iterator
 
 FOLDER = pathlib.Path(__file__).resolve().parent
 
-# What the loader needs to be built: a command or a header, and the package that has it.
-NEEDED = (("cc", "gcc"), ("sqlite3.h", "libsqlite3-dev"))
-
-# Numbers from here on are the recorder's own, where an id is taken already.
-OWN_NUMBERS = 2**22
-
 HEADER_KINDS, FRAME_KINDS, RECORD_KINDS = range(1, 5), range(5, 10), range(10, 13)
 
 
@@ -36,11 +30,11 @@ def has_header(name: str) -> bool:
     return asked.returncode == 0
 
 
-def missing_tools() -> list[tuple[str, str]]:
-    """What is missing to build the loader, each with its package; headers are asked for where there is a compiler."""
+def missing_tool() -> tuple[str, str] | None:
+    """What is missing to build the loader, and the packages that have it."""
     if shutil.which("cc") is None:
-        return [("cc", "gcc and libsqlite3-dev")]
-    return [needed for needed in NEEDED[1:] if not has_header(needed[0])]
+        return "cc", "gcc libsqlite3-dev"
+    return None if has_header("sqlite3.h") else ("sqlite3.h", "libsqlite3-dev")
 
 
 def loader() -> pathlib.Path:
@@ -48,9 +42,8 @@ def loader() -> pathlib.Path:
     source, program = FOLDER / "load.c", FOLDER / "out" / "load"
     if program.exists() and program.stat().st_mtime >= source.stat().st_mtime:
         return program
-    for name, package in missing_tools():
-        raise Stopped(1, f"{name} is missing to build the loader; this installs it: apt-get install "
-                         + package.replace(" and ", " "))
+    if missing := missing_tool():
+        raise Stopped(1, "{} is missing to build the loader; this installs it: apt-get install {}".format(*missing))
     program.parent.mkdir(exist_ok=True)
     new = program.with_suffix(f".{os.getpid()}")
     built = subprocess.run(["cc", "-O2", "-std=gnu11", "-Wall", "-Wextra", "-o", new, source, "-lsqlite3"],
@@ -124,6 +117,28 @@ def before_fault(database: sqlite3.Connection, files: list[str], folder: pathlib
     return [*files[:part - 1], str(cut)]
 
 
+# ---- numbers
+
+
+def signed(unsigned: int) -> int:
+    """The number as SQLite has it, in two's complement."""
+    return unsigned - 2**64 if unsigned >= 2**63 else unsigned
+
+
+def number(word: str) -> int:
+    """A number of at most 64 bits, as SQLite has it."""
+    if not (word.isascii() and word.isdigit() and int(word) < 2**64):
+        raise ValueError(word)
+    return signed(int(word))
+
+
+def numbers(words: list[str], count: int) -> list[int]:
+    """The first so many of some numbers; fewer are an error."""
+    if len(words) < count:
+        raise IndexError(count)
+    return [number(word) for word in words[:count]]
+
+
 # ---- the side list
 
 
@@ -154,9 +169,10 @@ def side_lines(path: str) -> Iterator[tuple[int, str, list[str], dict[str, str]]
 
 def line_of(line: str, path: str) -> tuple[int, str, list[str], dict[str, str]]:
     front, named, name = line.partition(" name=")
-    time, word, *fields = front.split(" ")
-    if not time.isdigit():
-        raise Stopped(4, f"{path} has a line without a time: {line[:80]}")
+    time, _, rest = front.partition(" ")
+    word, *fields = rest.split(" ")
+    if not (time.isascii() and time.isdigit() and int(time) < 2**63):
+        raise Stopped(4, f"{path} has a line without a time: {line[:80]!r}")
     positional = [field for field in fields if "=" not in field]
     keyed = dict(field.split("=", 1) for field in fields if "=" in field)
     if named:
@@ -187,44 +203,46 @@ class SideList:
         self.pending.clear()
 
     def take_frame(self, time: int, positional: list[str], _: dict[str, str]) -> None:
-        self.pending.append((int(positional[0]), time))
+        self.pending.append((*numbers(positional, 1), time))
         if len(self.pending) >= 100_000:
             self.flush()
 
     def take_begin(self, time: int, _: list[str], keyed: dict[str, str]) -> None:
-        self.facts.update(begin_ts=time, realtime=int(keyed["realtime"]), kernel=keyed["kernel"],
+        self.facts.update(begin_ts=time, realtime=number(keyed["realtime"]), kernel=keyed["kernel"],
                           machine=keyed["machine"])
 
     def take_device(self, _: int, positional: list[str], keyed: dict[str, str]) -> None:
-        self.database.execute("INSERT OR REPLACE INTO side_device VALUES (?, ?)", (int(positional[0]), keyed["name"]))
+        self.database.execute("INSERT OR REPLACE INTO side_device VALUES (?, ?)",
+                              (*numbers(positional, 1), keyed["name"]))
 
     def take_process(self, time: int, positional: list[str], keyed: dict[str, str]) -> None:
         self.database.execute(
             "INSERT OR REPLACE INTO side_process VALUES (?, ?, ?, ?, ?, ?, ?, NULL, NULL)",
-            (*map(int, positional[:2]), int(keyed["pid"]), int(keyed["opening"]), keyed["met"], keyed["name"], time))
+            (*numbers(positional, 2), number(keyed["pid"]), number(keyed["opening"]), keyed["met"], keyed["name"],
+             time))
 
     def take_thread(self, _: int, positional: list[str], keyed: dict[str, str]) -> None:
         self.database.execute("INSERT OR REPLACE INTO side_thread VALUES (?, ?, ?, ?, ?, NULL, NULL, NULL)",
-                              (*map(int, positional[:3]), int(keyed["tid"]), keyed["name"]))
+                              (*numbers(positional, 3), number(keyed["tid"]), keyed["name"]))
 
     def take_lost(self, _: int, positional: list[str], keyed: dict[str, str]) -> None:
-        who = [int(keyed[name]) if name in keyed else None for name in ("device", "process", "thread")]
+        who = [number(keyed[name]) if name in keyed else None for name in ("device", "process", "thread")]
         self.database.execute("INSERT OR REPLACE INTO side_lost VALUES (?, ?, ?, ?, ?)",
-                              (int(positional[0]), *who, keyed["why"]))
+                              (*numbers(positional, 1), *who, keyed["why"]))
 
     def take_end(self, time: int, positional: list[str], keyed: dict[str, str]) -> None:
-        after, what = int(keyed["after"]), positional[0]
+        after, what = number(keyed["after"]), positional[0]
         if what == "thread":
             self.database.execute("UPDATE side_thread SET ended_after = ?, ended = ?, why = ? WHERE (device, process,"
-                                  " thread) = (?, ?, ?)", (after, time, keyed["why"], *map(int, positional[1:4])))
+                                  " thread) = (?, ?, ?)", (after, time, keyed["why"], *numbers(positional[1:], 3)))
         elif what == "opening":
             self.database.execute("UPDATE side_process SET ended_after = ?, ended = ? WHERE (device, process) = (?, ?)"
-                                  " AND ended IS NULL", (after, time, *map(int, positional[1:3])))
+                                  " AND ended IS NULL", (after, time, *numbers(positional[1:], 2)))
         elif what == "pid":
             self.database.execute("UPDATE side_process SET ended_after = ?, ended = ? WHERE pid = ? AND ended IS NULL",
-                                  (after, time, int(positional[1])))
+                                  (after, time, *numbers(positional[1:], 1)))
         elif what == "recording":
-            self.facts.update(end_ts=time, lost=int(keyed["lost"]))
+            self.facts.update(end_ts=time, lost=number(keyed["lost"]))
 
 
 # ---- the report
@@ -232,11 +250,6 @@ class SideList:
 
 # The sections whose rows begin with a device; those of `codes` have none, and all others begin with a place.
 OF_PROCESSES = {"handles", "nodes", "oneway"}
-
-
-def signed(number: int) -> int:
-    """The number as SQLite has it, in two's complement."""
-    return number - 2**64 if number >= 2**63 else number
 
 
 def load_report(database: sqlite3.Connection, text: str) -> None:
