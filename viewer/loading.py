@@ -331,7 +331,8 @@ def load_facts(database: sqlite3.Connection, files: list[str], malformed: str | 
     """The table `capture`."""
     names = ("parts", "bytes", "frames", "records", "first_seq", "last_seq", "missing")
     row = database.execute(f"SELECT {', '.join(names)} FROM raw_capture").fetchone()
-    known: dict[str, object] = {"file": " ".join(os.path.basename(name) for name in files), "side_list": 0,
+    shown = os.fsencode(" ".join(os.path.basename(name) for name in files)).decode(errors="replace")
+    known: dict[str, object] = {"file": shown, "side_list": 0,
                                 **dict(zip(names, row)), "malformed": malformed, **facts}
     known["first_ts"], known["last_ts"] = database.execute(
         "SELECT (SELECT ts FROM side_time WHERE seq = ?), (SELECT ts FROM side_time WHERE seq = ?)",
