@@ -10,13 +10,15 @@ INSERT INTO title VALUES
   (NULL, 'refused', NULL, 'sends that were refused'), (NULL, 'handles', NULL, 'references held'),
   (NULL, 'handles', 'balanced', 'references, balanced'), (NULL, 'nodes', NULL, 'own objects held by others'),
   (NULL, 'nodes', 'balanced', 'own objects, balanced'), (NULL, 'buffers', 'BR_REPLY', 'replies never freed'),
-  (NULL, 'buffers', NULL, 'received transactions never freed'), (NULL, 'frees', NULL, 'frees of what was not delivered'),
+  (NULL, 'buffers', NULL, 'received transactions never freed'),
+  (NULL, 'frees', NULL, 'frees of what was not delivered'),
   (NULL, 'requests', NULL, 'requests for deaths'), (NULL, 'deaths', 'unacknowledged', 'deaths not acknowledged'),
   (NULL, 'deaths', 'stray', 'acknowledgements of no death'), (NULL, 'clears', 'unconfirmed', 'clears not confirmed'),
   (NULL, 'clears', 'stray', 'confirmations of no clear'), (NULL, 'objects', NULL, 'bad objects'),
   (NULL, 'flags', NULL, 'unknown flags'), (NULL, 'oneway', NULL, 'oneway sends that never came'),
   ('H1', 'handles', NULL, 'handles that nobody gave'), ('H2', 'handles', NULL, 'references let go too often'),
-  ('H2', 'nodes', NULL, 'references given back too often'), ('H3', 'handles', NULL, 'references to an object told dead'),
+  ('H2', 'nodes', NULL, 'references given back too often'),
+  ('H3', 'handles', NULL, 'references to an object told dead'),
   ('H4', 'handles', NULL, 'references taken more than once'), ('H5', 'handles', NULL, 'references kept'),
   ('U4', 'nodes', NULL, 'references never acknowledged'), ('U6', 'nodes', NULL, 'references not acknowledged yet'),
   ('T1', 'nodes', NULL, 'references not acknowledged yet'), ('F1', 'frees', NULL, 'buffers freed twice'),
@@ -25,9 +27,10 @@ INSERT INTO title VALUES
 -- The finding that leads: an open call leads its served end and its buffer.
 CREATE TABLE finding_head(id INTEGER PRIMARY KEY, grp INTEGER NOT NULL) STRICT;
 CREATE TEMP TABLE named AS
-SELECT f.id, f.path, r.verdict, iif(f.section IN ('calls', 'served', 'buffers', 'refused', 'oneway', 'objects'), 0, f.upid) AS upid,
-  (SELECT t.title FROM title t WHERE (t.rule IS NULL OR t.rule = f.rule) AND (t.section IS NULL OR t.section = f.section)
-    AND (t.what IS NULL OR t.what = f.what) ORDER BY t.rule IS NULL, t.what IS NULL LIMIT 1) AS title
+SELECT f.id, f.path, r.verdict,
+  iif(f.section IN ('calls', 'served', 'buffers', 'refused', 'oneway', 'objects'), 0, f.upid) AS upid,
+  (SELECT t.title FROM title t WHERE (t.rule IS NULL OR t.rule = f.rule)
+    AND (t.section IS NULL OR t.section = f.section) AND (t.what IS NULL OR t.what = f.what) ORDER BY t.rule IS NULL, t.what IS NULL LIMIT 1) AS title
 FROM finding f JOIN rule r ON r.id = f.rule WHERE f.lead IS NULL;
 INSERT INTO finding_head SELECT id, min(id) OVER (PARTITION BY title, path, verdict, upid) FROM named;
 INSERT INTO finding_head

@@ -3,8 +3,8 @@
 import sqlite3
 from typing import Iterator, NamedTuple
 
-# So many records before the place, and after it; and of a frame at most so many bytes.
-RECORDS, BYTES = 6, 4000
+# So many records before the place, and after it, of so many frames of all threads; of a frame at most so many bytes.
+RECORDS, FRAMES, BYTES = 6, 20_000, 4000
 
 # BR_TRANSACTION_COMPLETE and BR_NOOP tell least.
 LEFT_OUT = "(262, 268)"
@@ -27,13 +27,13 @@ def fields_of(kind: str, handle: int | None, code: int | None, size: int | None,
 
 FIELDS = "SELECT r.place, r.seq, k.name, r.handle, r.code, r.data_size, r.address, r.cookie"
 WANTED = f"JOIN kind k ON k.number = r.kind WHERE r.kind NOT IN {LEFT_OUT} ORDER BY r.place"
-OF_THREAD = "FROM (SELECT * FROM raw_frame WHERE utid = :utid AND records > 0 AND seq"
+OF_THREAD = "FROM (SELECT * FROM raw_frame WHERE utid = :utid AND records > 0 AND seq BETWEEN"
 ITS_SEQ = "(SELECT seq FROM raw_record WHERE place = :place)"
-BEFORE = (f"{FIELDS} {OF_THREAD} <= {ITS_SEQ} ORDER BY seq DESC LIMIT :count) f JOIN raw_record r ON r.place BETWEEN"
-          " max(f.place + 32, min(f.place + 31 + f.command_length, :place) - :bytes)"
+BEFORE = (f"{FIELDS} {OF_THREAD} {ITS_SEQ} - {FRAMES} AND {ITS_SEQ} ORDER BY seq DESC LIMIT :count) f"
+          " JOIN raw_record r ON r.place BETWEEN max(f.place + 32, min(f.place + 31 + f.command_length, :place) - :bytes)"
           f" AND min(f.place + 31 + f.command_length, :place) {WANTED} DESC LIMIT :count")
-AFTER = (f"{FIELDS} {OF_THREAD} >= {ITS_SEQ} ORDER BY seq LIMIT :count) f JOIN raw_record r ON r.place BETWEEN"
-         " max(f.place + 32, :place + 1)"
+AFTER = (f"{FIELDS} {OF_THREAD} {ITS_SEQ} AND {ITS_SEQ} + {FRAMES} ORDER BY seq LIMIT :count) f"
+         " JOIN raw_record r ON r.place BETWEEN max(f.place + 32, :place + 1)"
          f" AND min(f.place + 31 + f.command_length, max(f.place + 32, :place) + :bytes) {WANTED} LIMIT :count")
 
 

@@ -7,7 +7,7 @@ import shutil
 import sqlite3
 import struct
 import subprocess
-from typing import Callable, Iterator
+from typing import Callable, Iterable
 
 FOLDER = pathlib.Path(__file__).resolve().parent
 
@@ -64,21 +64,17 @@ def load_rows(database: pathlib.Path, rows: pathlib.Path) -> None:
 # ---- the programs
 
 
-def start(root: pathlib.Path, program: str, *words: object) -> subprocess.Popen:
-    """A program of the repository. What it tells, while it builds itself or of a fault, goes to standard error."""
+def answer(root: pathlib.Path, program: str, *words: object) -> tuple[int, str]:
+    """The status of a program of the repository, 0 or 2, and what it wrote. What it tells, while it builds itself or of
+    a fault, goes to standard error."""
     try:
-        return subprocess.Popen([root / program, *map(str, words)], stdin=subprocess.DEVNULL, stdout=subprocess.PIPE)
+        ended = subprocess.run([root / program, *map(str, words)], stdin=subprocess.DEVNULL, stdout=subprocess.PIPE)
     except OSError as error:
         raise Stopped(1, f"./{program}: {error.strerror}") from error
-
-
-def answer(program: str, begun: subprocess.Popen) -> tuple[int, str]:
-    """The status of a program, 0 or 2, and what it wrote."""
-    text, _ = begun.communicate()
-    if begun.returncode not in (0, 2):
-        raise Stopped(begun.returncode if begun.returncode in (3, 4) else 1,
-                      f"./{program} ended with status {begun.returncode}")
-    return begun.returncode, text.decode()
+    if ended.returncode not in (0, 2):
+        raise Stopped(ended.returncode if ended.returncode in (3, 4) else 1,
+                      f"./{program} ended with status {ended.returncode}")
+    return ended.returncode, ended.stdout.decode()
 
 
 # ---- a malformed capture
@@ -153,21 +149,8 @@ def unescaped(name: str) -> str:
     return re.sub(r"\\x([0-9a-f]{2})", lambda found: chr(int(found[1], 16)), name)
 
 
-def side_lines(path: str) -> Iterator[tuple[int, str, list[str], dict[str, str]]]:
-    """The lines of a side list but those of frames: time, word, numbers by position, and fields by name. A last line
-    that was cut short is left out."""
-    try:
-        with open(path, encoding="utf-8", errors="replace", newline="\n") as lines:
-            if next(lines, "") != "binder side list 1\n":
-                raise Stopped(4, f"{path} is no side list of version 1")
-            for line in lines:
-                if line.endswith("\n"):
-                    yield line_of(line[:-1], path)
-    except OSError as error:
-        raise Stopped(4, f"{path}: {error.strerror}") from error
-
-
 def line_of(line: str, path: str) -> tuple[int, str, list[str], dict[str, str]]:
+    """A line of a side list: time, word, numbers by position, and fields by name."""
     front, named, name = line.partition(" name=")
     time, _, rest = front.partition(" ")
     word, *fields = rest.split(" ")
@@ -180,6 +163,10 @@ def line_of(line: str, path: str) -> tuple[int, str, list[str], dict[str, str]]:
     return int(time), word, positional, keyed
 
 
+# The time and the number of a frame, of at most 18 digits each.
+FRAME_LINE = re.compile(r"([0-9]{1,18}) frame ([0-9]{1,18})\n")
+
+
 class SideList:
     """Puts the lines of a side list into the database."""
 
@@ -189,23 +176,43 @@ class SideList:
         self.pending: list[tuple[int, int]] = []
 
     def load(self, path: str) -> None:
-        for time, word, positional, keyed in side_lines(path):
-            taker = getattr(self, f"take_{word}", None)
-            if taker:
-                try:
-                    taker(time, positional, keyed)
-                except (KeyError, ValueError, IndexError) as error:
-                    raise Stopped(4, f"{path}: a line '{word}' at {time} is not as the format says") from error
+        """All lines of a side list. A last one that was cut short is left out."""
+        try:
+            with open(path, encoding="utf-8", errors="replace", newline="\n") as lines:
+                if next(lines, "") != "binder side list 1\n":
+                    raise Stopped(4, f"{path} is no side list of version 1")
+                self.take_lines(lines, path)
+        except OSError as error:
+            raise Stopped(4, f"{path}: {error.strerror}") from error
         self.flush()
 
+    def take_lines(self, lines: Iterable[str], path: str) -> None:
+        pending = self.pending
+        for line in lines:
+            # Nearly all lines are those of frames, so they are not taken apart like the others.
+            if frame := FRAME_LINE.match(line):
+                pending.append((int(frame[1]), int(frame[2])))
+                if len(pending) >= 100_000:
+                    self.flush()
+            elif line.endswith("\n"):
+                self.take(line_of(line[:-1], path), path)
+
+    def take(self, line: tuple[int, str, list[str], dict[str, str]], path: str) -> None:
+        time, word, positional, keyed = line
+        taker = getattr(self, f"take_{word}", None)
+        if taker is None:
+            return
+        try:
+            taker(time, positional, keyed)
+        except (KeyError, ValueError, IndexError) as error:
+            raise Stopped(4, f"{path}: a line '{word}' at {time} is not as the format says") from error
+
     def flush(self) -> None:
-        self.database.executemany("INSERT OR REPLACE INTO side_time VALUES (?, ?)", self.pending)
+        self.database.executemany("INSERT OR REPLACE INTO side_time(ts, seq) VALUES (?, ?)", self.pending)
         self.pending.clear()
 
     def take_frame(self, time: int, positional: list[str], _: dict[str, str]) -> None:
-        self.pending.append((*numbers(positional, 1), time))
-        if len(self.pending) >= 100_000:
-            self.flush()
+        self.pending.append((time, *numbers(positional, 1)))
 
     def take_begin(self, time: int, _: list[str], keyed: dict[str, str]) -> None:
         self.facts.update(begin_ts=time, realtime=number(keyed["realtime"]), kernel=keyed["kernel"],
@@ -347,23 +354,20 @@ def database_of(root: pathlib.Path, files: list[str], side: str | None, made: pa
     loader()
     rows = made.with_suffix(".rows")
     rows.mkdir()
+    # One after another: each of them may need more memory than the capture has bytes.
+    tell("judging the capture")
+    auditing, report = answer(root, "audit", "report", *files)
     tell("reading the capture")
-    reporting = start(root, "audit", "report", *files)
-    try:
-        listing, fault = answer("listing", start(root, "listing", "--tables", rows, *files))
-        tell("making the database")
-        load_rows(made, rows)
-        shutil.rmtree(rows)
-        auditing, report = answer("audit", reporting)
-    finally:
-        if reporting.poll() is None:
-            reporting.kill()
-    if listing != auditing:
-        raise Stopped(1, f"./listing and ./audit do not agree: {fault.strip()!r} and {report[:80]!r}")
-    database = open_database(made)
+    listing, fault = answer(root, "listing", "--tables", rows, *files)
     malformed = fault.strip() or None
+    if (listing, malformed) != (auditing, report.strip() if auditing else None):
+        raise Stopped(1, f"./listing and ./audit do not agree: {fault.strip()!r} and {report[:80]!r}")
+    tell("making the database")
+    load_rows(made, rows)
+    shutil.rmtree(rows)
+    database = open_database(made)
     if malformed:
-        _, report = answer("audit", start(root, "audit", "report", *before_fault(database, files, made.parent)))
+        _, report = answer(root, "audit", "report", *before_fault(database, files, made.parent))
     tell("judging")
     database.execute("BEGIN")
     taken = SideList(database)

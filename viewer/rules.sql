@@ -4,7 +4,6 @@ BEGIN;
 
 -- ---- indexes: each is here since a query below, or one of the page, was slow without it
 
-CREATE INDEX frame_of_thread ON raw_frame(utid, seq);
 CREATE INDEX call_of_thread ON raw_call(utid, place);
 CREATE INDEX object_of_record ON raw_object(place, idx);
 CREATE INDEX send_refused ON raw_send(refused) WHERE refused IS NOT NULL;
@@ -35,7 +34,8 @@ SELECT generation, node_upid, ptr, cookie, 1 FROM peer WHERE certain > 0 GROUP B
 INSERT INTO node_of
 SELECT generation, node_upid, ptr, cookie, 0 FROM peer WHERE generation NOT IN (SELECT generation FROM node_of)
 GROUP BY generation HAVING count(*) = 1;
--- A handle that was never used leads to the object that was handed over: the sender's own, or one that it has a handle of.
+-- A handle that was never used leads to the object that was handed over: the sender's own, or one that it has a handle
+-- of.
 CREATE TEMP TABLE handed AS
 SELECT g.id AS generation, o.sort, t.upid, o.binder AS ptr, o.cookie, o.handle, s.place, s.certain
 FROM raw_generation g JOIN raw_delivery d ON d.place = g.given_by JOIN raw_send s ON s.place = d.send
@@ -94,7 +94,8 @@ WHERE section = 'nodes' AND (a.upid, a.ptr, a.cookie) = (finding.upid, finding.p
 -- What a record of a finding says of it. An error reply is about the send that it refuses.
 UPDATE finding SET seq = r.seq, utid = r.utid FROM raw_record r WHERE r.place = finding.place;
 UPDATE finding SET generation = s.generation, code = r.code, handle = r.handle
-FROM raw_send s JOIN raw_record r ON r.place = s.place WHERE s.refused = finding.place AND section IN ('refused', 'strays');
+FROM raw_send s JOIN raw_record r ON r.place = s.place
+WHERE s.refused = finding.place AND section IN ('refused', 'strays');
 UPDATE finding SET generation = s.generation, code = r.code, handle = r.handle
 FROM raw_send s JOIN raw_record r ON r.place = s.place WHERE s.place = finding.place AND s.generation IS NOT NULL
   AND section IN ('calls', 'oneway', 'objects', 'flags');
@@ -102,7 +103,8 @@ UPDATE finding SET code = d.code, handle = d.handle, ptr = iif(d.kind = 'BR_REPL
   cookie = iif(d.kind = 'BR_REPLY', NULL, d.cookie), generation = s.generation
 FROM delivery d LEFT JOIN raw_send s ON s.place = d.call AND d.kind = 'BR_REPLY'
 WHERE d.place = finding.place AND section = 'buffers';
-UPDATE finding SET ptr = r.ptr, cookie = r.cookie FROM raw_record r WHERE r.place = finding.place AND section = 'served';
+UPDATE finding SET ptr = r.ptr, cookie = r.cookie FROM raw_record r
+WHERE r.place = finding.place AND section = 'served';
 -- A reply has no code of its own: it is about the served call that it closes.
 UPDATE finding SET code = r.code, ptr = r.ptr, cookie = r.cookie FROM raw_call c JOIN raw_record r ON r.place = c.place
 WHERE c.served AND c.closer = finding.place AND section = 'objects' AND c.utid = finding.utid;
@@ -123,10 +125,12 @@ FROM node_of n WHERE n.generation = finding.generation;
 CREATE TEMP TABLE last AS
 SELECT c.last_seq AS seq, c.missing, iif(EXISTS (SELECT 1 FROM side_time s WHERE s.seq > c.last_seq),
   (SELECT ts FROM side_time s WHERE s.seq = c.last_seq),
-  coalesce((SELECT value FROM capture WHERE key = 'end_ts'), (SELECT ts FROM side_time s WHERE s.seq = c.last_seq))) AS ts
+  coalesce((SELECT value FROM capture WHERE key = 'end_ts'),
+    (SELECT ts FROM side_time s WHERE s.seq = c.last_seq))) AS ts
 FROM raw_capture c;
 CREATE TEMP TABLE process_life AS
-SELECT upid, iif(ended_after <= last.seq, ended_after, NULL) AS ended_after, iif(ended_after <= last.seq, ended, NULL) AS ended,
+SELECT upid, iif(ended_after <= last.seq, ended_after, NULL) AS ended_after,
+  iif(ended_after <= last.seq, ended, NULL) AS ended,
   coalesce(met = 'from-start', 0) AS known
 FROM process, last;
 CREATE UNIQUE INDEX temp.life_of_process ON process_life(upid);
@@ -152,17 +156,21 @@ FROM last, life l, process_life p
 WHERE l.utid = finding.utid AND p.upid = iif(section = 'oneway', finding.target, finding.upid);
 
 -- later: what its thread began after it, up to 4. A call that is open takes in all that its thread does after it: so a
--- call counts that lies no deeper than one that would begin there. Of what is no transaction write frames count.
+-- call counts that lies no deeper than one that would begin there. Of what is no transaction write frames count; they
+-- are looked for among the next 2,000 frames, and after these at least one is known of.
 UPDATE finding SET later = (SELECT count(*) FROM (SELECT 1 FROM (SELECT depth FROM raw_call c
   WHERE c.utid = finding.utid AND c.place > finding.place ORDER BY c.place LIMIT 64) c WHERE c.depth <= coalesce(
     (SELECT o.depth FROM raw_delivery d JOIN raw_call o ON o.place = d.call WHERE d.place = finding.place),
     (SELECT o.depth + (o.closer IS NULL OR o.closer > finding.place) FROM raw_call o WHERE o.utid = finding.utid
       AND o.place < finding.place ORDER BY o.place DESC LIMIT 1), 1) LIMIT 4))
 WHERE section IN ('calls', 'served', 'buffers');
-UPDATE finding SET later = max(coalesce(later, 0), (SELECT count(*) FROM (SELECT 1 FROM raw_frame f
-  WHERE f.utid = finding.utid AND f.seq > finding.seq AND f.direction = 1 AND f.records > 0 LIMIT 4)))
-WHERE section NOT IN ('calls', 'served') AND (later IS NULL OR EXISTS (SELECT 1 FROM raw_record r
-  WHERE r.place = finding.place AND r.kind IN (258, 514) AND r.flags & 1));
+UPDATE finding SET later = max(coalesce(later, 0), iif(t.last_write > finding.place, max(1, (SELECT count(*) FROM (
+    SELECT 1 FROM raw_frame f WHERE f.seq > finding.seq AND f.seq <= finding.seq + 2000 AND f.utid = finding.utid
+      AND f.direction = 1 AND f.records > 0 LIMIT 4))), 0))
+FROM raw_thread t
+WHERE t.utid = finding.utid AND section NOT IN ('calls', 'served')
+  AND (later IS NULL OR EXISTS (SELECT 1 FROM raw_record r
+    WHERE r.place = finding.place AND r.kind IN (258, 514) AND r.flags & 1));
 
 -- ---- paths: what findings are grouped by, and all that took the same one
 
@@ -178,7 +186,8 @@ UPDATE finding SET path = CASE
     || (SELECT who FROM who w WHERE w.upid = finding.upid) || printf(' node 0x%x', ptr)
   WHEN section = 'objects' THEN coalesce('a reply to code ' || code, 'a reply')
   WHEN section IN ('handles', 'requests', 'deaths', 'clears') AND target IS NOT NULL
-  THEN 'handle ' || coalesce(handle, '?') || ', ' || (SELECT who FROM who WHERE upid = target) || printf(' node 0x%x', ptr)
+  THEN 'handle ' || coalesce(handle, '?') || ', ' || (SELECT who FROM who WHERE upid = target)
+    || printf(' node 0x%x', ptr)
   WHEN section = 'handles' THEN 'handle ' || handle
   WHEN section IN ('requests', 'deaths', 'clears') THEN coalesce('handle ' || handle, printf('cookie 0x%x', cookie))
   WHEN section = 'nodes' THEN printf('node 0x%x', ptr)
@@ -199,7 +208,8 @@ WITH d AS (
   WHERE EXISTS (SELECT 1 FROM finding WHERE section = 'buffers'))
 SELECT reply, code, upid, ptr, cookie, oneway, count(*) AS n, count(freed_by) AS good, max(dur_seq) AS longest_seq,
   max(z.ts - x.ts) AS longest, max(iif(freed_by IS NULL, place, NULL)) AS one
-FROM d LEFT JOIN side_time x ON x.seq = d.seq LEFT JOIN side_time z ON z.seq = d.seq + d.dur_seq GROUP BY 1, 2, 3, 4, 5, 6;
+FROM d LEFT JOIN side_time x ON x.seq = d.seq LEFT JOIN side_time z ON z.seq = d.seq + d.dur_seq
+GROUP BY 1, 2, 3, 4, 5, 6;
 CREATE TEMP TABLE buffer_text AS
 SELECT f.path, b.n, b.good, b.longest_seq, b.longest FROM buffer_path b JOIN finding f ON f.place = b.one
 WHERE f.section = 'buffers';
@@ -216,7 +226,8 @@ FROM raw_send s JOIN raw_record r USING (place) JOIN raw_thread t ON t.utid = s.
   LEFT JOIN raw_record e ON e.place = iif(r.flags & 1, s.delivery, iif(c.verdict = 1, c.closer, NULL))
   LEFT JOIN side_time x ON x.seq = s.seq LEFT JOIN side_time z ON z.seq = e.seq
 WHERE s.generation IS NOT NULL
-  AND r.code IN (SELECT code FROM finding WHERE section IN ('calls', 'served', 'refused', 'strays', 'oneway', 'objects'))
+  AND r.code IN (SELECT code FROM finding
+    WHERE section IN ('calls', 'served', 'refused', 'strays', 'oneway', 'objects'))
 GROUP BY 1, 2, 3, 4, 5;
 UPDATE finding SET n_all = p.n, n_good = p.good, longest_seq = p.longest_seq, longest = p.longest
 FROM send_path p, raw_record r
@@ -233,7 +244,8 @@ FROM (SELECT r.code, t.upid, r.ptr, r.cookie, count(*) AS n, sum(c.verdict = 2) 
   FROM raw_call c JOIN raw_record r USING (place) JOIN raw_thread t ON t.utid = c.utid
     LEFT JOIN side_time x ON x.seq = c.seq LEFT JOIN side_time z ON z.seq = c.seq + c.dur_seq
   WHERE c.served AND r.code IN (SELECT code FROM finding WHERE section = 'served') GROUP BY 1, 2, 3, 4) p
-WHERE section = 'served' AND (p.code, p.upid, p.ptr, p.cookie) = (finding.code, finding.upid, finding.ptr, finding.cookie);
+WHERE section = 'served'
+  AND (p.code, p.upid, p.ptr, p.cookie) = (finding.code, finding.upid, finding.ptr, finding.cookie);
 -- Handles, by what gave them: the code of the transaction, or of the call that the reply answers. A handle that no
 -- delivery gave has none.
 CREATE TEMP TABLE given AS
@@ -245,13 +257,15 @@ CREATE UNIQUE INDEX temp.given_generation ON given(generation);
 CREATE TEMP TABLE given_path AS
 SELECT upid, code, reply, asked, count(*) AS n, sum(kept) AS kept FROM given GROUP BY 1, 2, 3, 4;
 
--- Whether something is old: older than ten times the longest of its path, or where there is none ten times the median of
--- all buffers or calls; 0.1 s at least.
+-- Whether something is old: older than ten times the longest of its path, or where there is none ten times the median
+-- of all buffers or calls, of which 10,000 are looked at; 0.1 s at least.
 CREATE TEMP TABLE usual AS
 WITH held AS (SELECT z.ts - x.ts AS dur FROM raw_delivery d JOIN side_time x ON x.seq = d.seq
-    JOIN side_time z ON z.seq = d.seq + d.dur_seq ORDER BY dur),
+    JOIN side_time z ON z.seq = d.seq + d.dur_seq
+    WHERE d.place / 4 % (SELECT 1 + count(*) / 10000 FROM raw_delivery) = 0 ORDER BY dur),
   called AS (SELECT z.ts - x.ts AS dur FROM raw_call c JOIN side_time x ON x.seq = c.seq
-    JOIN side_time z ON z.seq = c.seq + c.dur_seq WHERE c.verdict IN (1, 2) ORDER BY dur)
+    JOIN side_time z ON z.seq = c.seq + c.dur_seq
+    WHERE c.verdict IN (1, 2) AND c.place / 4 % (SELECT 1 + count(*) / 10000 FROM raw_call) = 0 ORDER BY dur)
 SELECT 'buffers' AS section, (SELECT dur FROM held LIMIT 1 OFFSET (SELECT count(*) / 2 FROM held)) AS dur
 UNION ALL SELECT 'calls', (SELECT dur FROM called LIMIT 1 OFFSET (SELECT count(*) / 2 FROM called));
 CREATE TEMP TABLE old AS
@@ -362,7 +376,8 @@ UPDATE finding SET rule = 'A1', lead = f.id FROM raw_delivery d JOIN finding f O
 WHERE finding.section = 'served' AND finding.what = 'open' AND d.place = finding.place AND f.section = 'calls'
   AND f.what = 'failed' AND finding.rule IS NULL;
 UPDATE finding SET rule = 'A1', lead = coalesce(v.lead, v.id) FROM finding v
-WHERE finding.section = 'buffers' AND v.section = 'served' AND v.what = 'open' AND v.place = finding.place AND finding.rule IS NULL;
+WHERE finding.rule IS NULL AND finding.section = 'buffers' AND v.section = 'served' AND v.what = 'open'
+  AND v.place = finding.place;
 
 -- C, T, U: calls and served calls that are open.
 UPDATE finding SET rule = 'T1' WHERE rule IS NULL AND section IN ('calls', 'served') AND what = 'open'
@@ -430,13 +445,16 @@ UPDATE finding SET rule = CASE WHEN later > 0 THEN 'U4' WHEN finding.id IN (SELE
 CREATE TEMP TABLE handle_row AS
 SELECT f.id, f.upid, f.handle, f.generation, f.what, r.text,
   (SELECT known FROM process_life p WHERE p.upid = f.upid) AS known,
-  EXISTS (SELECT 1 FROM raw_generation g WHERE g.upid = f.upid AND g.handle = f.handle AND g.given_by IS NOT NULL) AS given
+  EXISTS (SELECT 1 FROM raw_generation g WHERE g.upid = f.upid AND g.handle = f.handle AND g.given_by IS NOT NULL)
+    AS given
 FROM finding f JOIN report r ON r.id = f.report WHERE f.section IN ('handles', 'nodes');
-UPDATE finding SET rule = iif(h.known, iif(finding.upid IN (SELECT upid FROM lossy), 'M1', 'H1'), 'P1') FROM handle_row h
+UPDATE finding SET rule = iif(h.known, iif(finding.upid IN (SELECT upid FROM lossy), 'M1', 'H1'), 'P1')
+FROM handle_row h
 WHERE rule IS NULL AND section = 'handles' AND h.id = finding.id AND NOT h.given AND finding.handle <> 0
   AND EXISTS (SELECT 1 FROM raw_generation g WHERE g.upid = h.upid AND g.handle = h.handle
     AND g.acquired + g.released + g.increfs + g.decrefs > 0);
-UPDATE finding SET rule = iif(h.known, iif(finding.upid IN (SELECT upid FROM lossy), 'M1', 'H2'), 'P1') FROM handle_row h
+UPDATE finding SET rule = iif(h.known, iif(finding.upid IN (SELECT upid FROM lossy), 'M1', 'H2'), 'P1')
+FROM handle_row h
 WHERE rule IS NULL AND h.id = finding.id AND h.text GLOB '* -*';
 UPDATE finding SET rule = 'H3', note = 'told at ' || t.place FROM told t
 WHERE rule IS NULL AND section = 'handles' AND what = 'held' AND t.generation = finding.generation;
@@ -448,7 +466,8 @@ SELECT upid, handle, max(strong) AS strong, max(weak) AS weak FROM (
   WHERE r.kind BETWEEN 4 AND 7 AND EXISTS (SELECT 1 FROM raw_generation WHERE acquired > 1 OR increfs > 1)
   WINDOW changes AS (PARTITION BY t.upid, r.handle ORDER BY r.place)) GROUP BY 1, 2;
 CREATE UNIQUE INDEX temp.most_held_of ON most_held(upid, handle);
-UPDATE finding SET rule = 'H4', note = iif(m.strong > 1 AND g.strong > 0, g.acquired || ' times', g.increfs || ' times, weakly')
+UPDATE finding SET rule = 'H4',
+  note = iif(m.strong > 1 AND g.strong > 0, g.acquired || ' times', g.increfs || ' times, weakly')
 FROM raw_generation g JOIN most_held m USING (upid, handle)
 WHERE rule IS NULL AND section = 'handles' AND what = 'held' AND g.id = finding.generation
   AND (m.strong > 1 AND g.strong > 0 OR m.weak > 1 AND g.weak > 0);
@@ -525,7 +544,8 @@ UPDATE finding SET rule = 'W2', note = 'the one at ' || f.place FROM finding f J
 WHERE finding.rule IS NULL AND finding.section = 'oneway' AND f.section = 'buffers' AND r.flags & 1 AND r.kind <> 259
   AND f.upid = finding.target AND f.ptr = finding.ptr AND f.cookie = finding.cookie;
 UPDATE finding SET rule = 'M1' WHERE rule IS NULL AND section = 'oneway' AND finding.upid IN (SELECT upid FROM lossy);
-UPDATE finding SET rule = CASE WHEN finding.id IN (SELECT id FROM old) THEN 'W3' WHEN age IS NULL AND later > 0 THEN 'W3'
+UPDATE finding SET rule = CASE WHEN finding.id IN (SELECT id FROM old) THEN 'W3'
+  WHEN age IS NULL AND later > 0 THEN 'W3'
   ELSE 'U6' END WHERE rule IS NULL AND section = 'oneway';
 
 COMMIT;

@@ -1,7 +1,8 @@
 -- The database of a capture. docs/DATABASE.md explains it: it is an interface, and this is its version.
 PRAGMA user_version = 1;
 
--- ---- raw tables: as the rows of `./listing --tables` come, column by column. They may change; the views below may not.
+-- ---- raw tables: as the rows of `./listing --tables` come, column by column. They may change; the views below may
+-- not.
 -- They are not STRICT: the loader has whole numbers alone, and to look at each took a quarter of its time.
 
 CREATE TABLE raw_capture(layout INTEGER NOT NULL, parts INTEGER NOT NULL, bytes INTEGER NOT NULL,
@@ -98,7 +99,8 @@ CREATE VIEW record AS
 SELECT r.place, r.seq, r.utid, t.upid, k.name AS kind, r.handle, r.ptr, r.cookie, r.address, r.code, r.flags,
   r.flags & 1 AS oneway, r.sender_pid, r.sender_euid, r.data_size, r.offsets_size, r.offsets, r.extra, r.attachment,
   r.value, x.ts
-FROM raw_record r JOIN raw_thread t USING (utid) LEFT JOIN kind k ON k.number = r.kind LEFT JOIN side_time x USING (seq);
+FROM raw_record r JOIN raw_thread t USING (utid) LEFT JOIN kind k ON k.number = r.kind
+  LEFT JOIN side_time x USING (seq);
 
 CREATE VIEW object AS
 SELECT o.place, o.idx, o.offset, s.name AS sort, o.flags, o.binder, o.handle, o.fd, o.cookie, o.num_fds, o.buffer,
@@ -161,7 +163,7 @@ CREATE TABLE about(name TEXT PRIMARY KEY, rests_on TEXT NOT NULL
 INSERT INTO about VALUES
   ('capture', 'bytes', 'what the capture is: a key and a value each'),
   ('device', 'side', 'a Binder device of the capture; its name is from the side list'),
-  ('process', 'side', 'a device and a process number, as upid; pid, name, opening, met and ends are from the side list'),
+  ('process', 'side', 'a device and a process number, as upid; pid, name, opening and ends are from the side list'),
   ('thread', 'side', 'a thread of a process, as utid; tid, name and end are from the side list'),
   ('side_lost', 'side', 'a frame that the recorder lost, and why'),
   ('frame', 'bytes', 'what one call wrote or read; ts, in nanoseconds, is from the side list'),
@@ -179,7 +181,7 @@ INSERT INTO about VALUES
   ('peer', 'inferred', 'the nodes that a generation of a handle was seen to lead to'),
   ('node_of', 'inferred', 'the one of them that is taken'),
   ('finding_head', 'inferred', 'which group a finding is in'),
-  ('finding', 'inferred', 'a row of the report, or a oneway send that never came, with a verdict and the rule that gave it'),
+  ('finding', 'inferred', 'a row of the report, or a oneway send that never came, with the rule that judged it'),
   ('finding_group', 'inferred', 'findings of one path in one line: n of all'),
   ('rule', 'inferred', 'the rules: id, verdict, and one sentence of why'),
   ('traffic', 'inferred', 'who talks to whom: a generation of a handle, a code, and how much');
