@@ -1,5 +1,7 @@
 """From a capture to its database: the programs that read it, the side list, and the rows of the proved report."""
 
+import mmap
+import operator
 import os
 import pathlib
 import re
@@ -7,9 +9,12 @@ import shutil
 import sqlite3
 import struct
 import subprocess
-from typing import Callable, Iterable
+import sys
+from typing import Callable, Iterable, Iterator
 
 FOLDER = pathlib.Path(__file__).resolve().parent
+
+MASK = struct.Struct("<Q")
 
 HEADER_KINDS, FRAME_KINDS, RECORD_KINDS = range(1, 5), range(5, 10), range(10, 13)
 
@@ -37,13 +42,16 @@ def missing_tool() -> tuple[str, str] | None:
     return None if has_header("sqlite3.h") else ("sqlite3.h", "libsqlite3-dev")
 
 
-def loader() -> pathlib.Path:
-    """The loader, which is built where it is not there, or older than its source."""
+def loader() -> pathlib.Path | None:
+    """The loader, which is built where it is not there, or older than its source; None where it can't be built, which
+    standard error is told."""
     source, program = FOLDER / "load.c", FOLDER / "out" / "load"
     if program.exists() and program.stat().st_mtime >= source.stat().st_mtime:
         return program
     if missing := missing_tool():
-        raise Stopped(1, "{} is missing to build the loader; this installs it: apt-get install {}".format(*missing))
+        sys.stderr.write("view: {} is missing to build the loader, so loading takes five times as long;"
+                         " this installs it: apt-get install {}\n".format(*missing))
+        return None
     program.parent.mkdir(exist_ok=True)
     new = program.with_suffix(f".{os.getpid()}")
     built = subprocess.run(["cc", "-O2", "-std=gnu11", "-Wall", "-Wextra", "-o", new, source, "-lsqlite3"],
@@ -54,11 +62,67 @@ def loader() -> pathlib.Path:
     return program
 
 
-def load_rows(database: pathlib.Path, rows: pathlib.Path) -> None:
-    """A new database of the `.rows` files of a folder."""
-    loaded = subprocess.run([loader(), database, rows, FOLDER / "schema.sql"], capture_output=True, text=True)
+# ---- rows
+
+
+def load_by_program(program: pathlib.Path, database: pathlib.Path, rows: pathlib.Path) -> None:
+    loaded = subprocess.run([program, database, rows, FOLDER / "schema.sql"], capture_output=True, text=True)
     if loaded.returncode:
         raise Stopped(4, loaded.stderr.strip().removeprefix("load: "))
+
+
+def rows_of(path: pathlib.Path, columns: int) -> Iterator[tuple[int | None, ...]]:
+    """The rows of a file, as docs/DATABASE.md has them."""
+    if path.stat().st_size:
+        with open(path, "rb") as file, mmap.mmap(file.fileno(), 0, access=mmap.ACCESS_READ) as data:
+            try:
+                yield from rows_in(data, path, columns)
+            except struct.error as error:
+                raise Stopped(4, f"{path} ends within a row") from error
+
+
+def rows_in(data: mmap.mmap, path: pathlib.Path, columns: int) -> Iterator[tuple[int | None, ...]]:
+    """Of each mask it is kept which numbers follow, and where in the row they go; a column without one is None."""
+    at, shapes = 0, {}
+    while at < len(data):
+        mask = MASK.unpack_from(data, at)[0]
+        if mask not in shapes:
+            if mask >> columns:
+                raise Stopped(4, f"{path} has a row with more than {columns} columns: it is of another layout")
+            there = [column for column in range(columns) if mask >> column & 1]
+            order = [there.index(column) if column in there else len(there) for column in range(columns)]
+            shapes[mask] = struct.Struct(f"<{len(there)}q"), operator.itemgetter(*order)
+        following, ordered = shapes[mask]
+        yield ordered((*following.unpack_from(data, at + 8), None))
+        at += 8 + following.size
+
+
+def load_by_python(database: pathlib.Path, rows: pathlib.Path) -> None:
+    """The same as the loader in C, and some five times slower."""
+    with open(database, "xb"):
+        pass
+    made = open_database(database)
+    made.execute("PRAGMA page_size=8192")
+    made.execute("BEGIN")
+    for statement in statements_of("schema.sql"):
+        made.execute(statement)
+    names = made.execute("SELECT name FROM sqlite_schema WHERE type = 'table' AND name GLOB 'raw_*'"
+                         " ORDER BY 1").fetchall()
+    for name, in names:
+        columns = len(made.execute(f"SELECT * FROM {name}").description)
+        path = rows / f"{name.removeprefix('raw_')}.rows"
+        made.executemany(f"INSERT INTO {name} VALUES ({', '.join('?' * columns)})", rows_of(path, columns))
+    made.execute("COMMIT")
+    made.close()
+
+
+def load_rows(database: pathlib.Path, rows: pathlib.Path) -> None:
+    """A new database of the `.rows` files of a folder: by the loader, or where it can't be built by Python."""
+    program = loader()
+    if program is None:
+        load_by_python(database, rows)
+    else:
+        load_by_program(program, database, rows)
 
 
 # ---- the programs
@@ -314,14 +378,19 @@ def load_findings(database: sqlite3.Connection) -> None:
 # ---- all of it
 
 
-def run_statements(database: sqlite3.Connection, name: str) -> None:
-    """Runs a file of SQL statements, one after another."""
+def statements_of(name: str) -> Iterator[str]:
+    """The SQL statements of a file, one after another."""
     statement = ""
     for line in (FOLDER / name).read_text().splitlines(keepends=True):
         statement += line
         if sqlite3.complete_statement(statement):
-            database.execute(statement)
+            yield statement
             statement = ""
+
+
+def run_statements(database: sqlite3.Connection, name: str) -> None:
+    for statement in statements_of(name):
+        database.execute(statement)
 
 
 def open_database(path: pathlib.Path) -> sqlite3.Connection:
@@ -351,7 +420,6 @@ def database_of(root: pathlib.Path, files: list[str], side: str | None, made: pa
                 tell: Callable[[str], None]) -> str | None:
     """Makes the database of a capture, with the report and what the rules say of it. Answers the line of its first
     fault; None where it has none."""
-    loader()
     rows = made.with_suffix(".rows")
     rows.mkdir()
     # One after another: each of them may need more memory than the capture has bytes.
