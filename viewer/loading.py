@@ -1,5 +1,6 @@
 """From a capture to its database: the programs that read it, the side list, and the rows of the proved report."""
 
+import functools
 import mmap
 import operator
 import os
@@ -9,7 +10,6 @@ import shutil
 import sqlite3
 import struct
 import subprocess
-import sys
 from typing import Callable, Iterable, Iterator
 
 FOLDER = pathlib.Path(__file__).resolve().parent
@@ -42,15 +42,13 @@ def missing_tool() -> tuple[str, str] | None:
     return None if has_header("sqlite3.h") else ("sqlite3.h", "libsqlite3-dev")
 
 
+@functools.cache
 def loader() -> pathlib.Path | None:
-    """The loader, which is built where it is not there, or older than its source; None where it can't be built, which
-    standard error is told."""
+    """The loader, which is built where it is not there, or older than its source; None where it can't be built."""
     source, program = FOLDER / "load.c", FOLDER / "out" / "load"
     if program.exists() and program.stat().st_mtime >= source.stat().st_mtime:
         return program
-    if missing := missing_tool():
-        sys.stderr.write("view: {} is missing to build the loader, so loading takes five times as long;"
-                         " this installs it: apt-get install {}\n".format(*missing))
+    if missing_tool():
         return None
     program.parent.mkdir(exist_ok=True)
     new = program.with_suffix(f".{os.getpid()}")
