@@ -85,7 +85,7 @@ struct rows {
 	int columns;
 };
 
-/* A cursor stands at a row, or at the end of the file. The numbers of a row follow its mask. */
+/* A cursor is at a row, or at the end of the file. The numbers of a row follow its mask. */
 struct cursor {
 	sqlite3_vtab_cursor base;
 	size_t at, next;

@@ -167,8 +167,8 @@ def before_fault(database: sqlite3.Connection, files: list[str], folder: pathlib
         shift = sum(os.path.getsize(name) - 16 for name in files[:part - 1])
         frame, commands = database.execute(
             "SELECT place, command_length FROM raw_frame ORDER BY place DESC LIMIT 1").fetchone()
-        behind = place - (frame - shift) - 32
-        lengths = (behind, 0) if kind in RECORD_KINDS else (commands, behind - commands)
+        good = place - (frame - shift) - 32
+        lengths = (good, 0) if kind in RECORD_KINDS else (commands, good - commands)
         with open(cut, "r+b") as mended:
             mended.seek(frame - shift + 20)
             mended.write(struct.pack("<II", *lengths))
@@ -205,7 +205,7 @@ LONGEST_NAME = 256
 
 
 def unescaped(name: str) -> str:
-    """A name of the side list: a control character or a backslash stands in it as `\\x` and two digits."""
+    """A name of the side list: a control character or a backslash is in it as `\\x` and two digits."""
     if len(name) > LONGEST_NAME:
         name = name[:LONGEST_NAME] + "…"
     return re.sub(r"\\x([0-9a-f]{2})", lambda found: chr(int(found[1], 16)), name)

@@ -40,7 +40,7 @@ def text_of(value: object) -> str:
 
 
 def name_of(value: object) -> str:
-    """A name from a stranger: its letters may run from right to left, and what stands beside it does not."""
+    """A name from a stranger: its letters may run from right to left, and what is beside it does not."""
     return f"<bdi>{text_of(value)}</bdi>"
 
 
@@ -60,7 +60,7 @@ def duration_of(nanoseconds: int | None) -> str:
 
 
 class Cell(NamedTuple):
-    """What stands in a cell: its HTML, whether it is a number, and what it is sorted by where its text is not that."""
+    """What is in a cell: its HTML, whether it is a number, and what it is sorted by where its text is not that."""
     inner: str
     is_number: bool = False
     key: int | None = None
@@ -187,7 +187,7 @@ class Page:
                         f'<span class="of"> · {number_of(rows.get(verdict, 0))} rows</span></div>'
                         for verdict in VERDICTS)
         return (f'<div class="counts">{boxes}</div><p class="dim">Verdicts, paths and counts are <b>inferred</b> by the'
-                ' rules of docs/VIEW.md. What stands in <span class="proved">green</span> is the proved report, word by'
+                ' rules of docs/VIEW.md. What is in <span class="proved">green</span> is the proved report, word by'
                 ' word.</p><div class="filter"></div>')
 
     # -- findings
