@@ -12,6 +12,8 @@ import struct
 import subprocess
 from typing import Callable, Iterable, Iterator
 
+from viewer import fit
+
 FOLDER = pathlib.Path(__file__).resolve().parent
 
 MASK = struct.Struct("<Q")
@@ -236,6 +238,11 @@ class SideList:
         self.database = database
         self.facts: dict[str, object] = {"side_list": 1}
         self.pending: list[tuple[int, int]] = []
+        self.told = 0
+
+    def last(self) -> int:
+        """The last number that the list has told of so far, of a frame or of a lost one."""
+        return max(self.told, self.pending[-1][1]) if self.pending else self.told
 
     def load(self, path: str) -> None:
         """All lines of a side list. A last one that was cut short is left out."""
@@ -247,6 +254,12 @@ class SideList:
         except OSError as error:
             raise Stopped(4, f"{path}: {error.strerror}") from error
         self.flush()
+
+    def judge(self) -> None:
+        """Ends the view of a capture that the list is surely not of, and notes where it may not be of it."""
+        if why := fit.why_other(self.database, self.last(), "end_ts" in self.facts):
+            raise Stopped(1, why)
+        self.facts["side_doubt"] = fit.doubt(self.database, self.last())
 
     def take_lines(self, lines: Iterable[str], path: str) -> None:
         pending = self.pending
@@ -271,6 +284,7 @@ class SideList:
 
     def flush(self) -> None:
         self.database.executemany("INSERT OR REPLACE INTO side_time(ts, seq) VALUES (?, ?)", self.pending)
+        self.told = self.last()
         self.pending.clear()
 
     def take_frame(self, time: int, positional: list[str], _: dict[str, str]) -> None:
@@ -291,13 +305,14 @@ class SideList:
              time))
 
     def take_thread(self, _: int, positional: list[str], keyed: dict[str, str]) -> None:
-        self.database.execute("INSERT OR REPLACE INTO side_thread VALUES (?, ?, ?, ?, ?, NULL, NULL, NULL)",
-                              (*numbers(positional, 3), number(keyed["tid"]), keyed["name"]))
+        self.database.execute("INSERT OR REPLACE INTO side_thread VALUES (?, ?, ?, ?, ?, NULL, NULL, NULL, ?)",
+                              (*numbers(positional, 3), number(keyed["tid"]), keyed["name"], self.last() + 1))
 
     def take_lost(self, _: int, positional: list[str], keyed: dict[str, str]) -> None:
         who = [number(keyed[name]) if name in keyed else None for name in ("device", "process", "thread")]
         self.database.execute("INSERT OR REPLACE INTO side_lost VALUES (?, ?, ?, ?, ?)",
                               (*numbers(positional, 1), *who, keyed["why"]))
+        self.told = max(self.last(), *numbers(positional, 1))
 
     def take_end(self, time: int, positional: list[str], keyed: dict[str, str]) -> None:
         after, what = number(keyed["after"]), positional[0]
@@ -406,7 +421,7 @@ def load_facts(database: sqlite3.Connection, files: list[str], malformed: str | 
     names = ("parts", "bytes", "frames", "records", "first_seq", "last_seq", "missing")
     row = database.execute(f"SELECT {', '.join(names)} FROM raw_capture").fetchone()
     shown = os.fsencode(" ".join(os.path.basename(name) for name in files)).decode(errors="replace")
-    known: dict[str, object] = {"file": shown, "side_list": 0,
+    known: dict[str, object] = {"file": shown, "side_list": 0, "side_doubt": None,
                                 **dict(zip(names, row)), "malformed": malformed, **facts}
     known["first_ts"], known["last_ts"] = database.execute(
         "SELECT (SELECT ts FROM side_time WHERE seq = ?), (SELECT ts FROM side_time WHERE seq = ?)",
@@ -414,10 +429,19 @@ def load_facts(database: sqlite3.Connection, files: list[str], malformed: str | 
     database.executemany("INSERT INTO capture VALUES (?, ?)", known.items())
 
 
+def refuse_unreadable(files: list[str]) -> None:
+    for name in files:
+        try:
+            open(name, "rb").close()
+        except OSError as error:
+            raise Stopped(4, f"{name}: {error.strerror}") from error
+
+
 def database_of(root: pathlib.Path, files: list[str], side: str | None, made: pathlib.Path,
                 tell: Callable[[str], None]) -> str | None:
     """Makes the database of a capture, with the report and what the rules say of it. Answers the line of its first
     fault; None where it has none."""
+    refuse_unreadable(files)
     rows = made.with_suffix(".rows")
     rows.mkdir()
     # One after another: each of them may need more memory than the capture has bytes.
@@ -439,6 +463,7 @@ def database_of(root: pathlib.Path, files: list[str], side: str | None, made: pa
     taken = SideList(database)
     if side is not None:
         taken.load(side)
+        taken.judge()
     load_report(database, report)
     load_facts(database, files, malformed, taken.facts if side is not None else {})
     load_findings(database)

@@ -154,6 +154,8 @@ class Page:
         if not self.facts["side_list"]:
             yield "No side list: no times, no names, no ends, and what came before the capture is not known."
             return
+        if self.facts["side_doubt"]:
+            yield f"<b>{text_of(self.facts['side_doubt'].capitalize())}.</b>"
         met = [who for _, who in self.ask("SELECT upid, who FROM who JOIN process USING (upid) WHERE met IS NOT"
                                           " 'from-start' ORDER BY upid LIMIT 20")]
         if met:

@@ -42,7 +42,7 @@ CREATE TABLE side_device(device INTEGER PRIMARY KEY, name TEXT NOT NULL) STRICT;
 CREATE TABLE side_process(device INTEGER, process INTEGER, pid INTEGER, opening INTEGER, met TEXT, name TEXT,
   opened INTEGER, ended_after INTEGER, ended INTEGER, PRIMARY KEY(device, process)) STRICT;
 CREATE TABLE side_thread(device INTEGER, process INTEGER, thread INTEGER, tid INTEGER, name TEXT, ended_after INTEGER,
-  ended INTEGER, why TEXT, PRIMARY KEY(device, process, thread)) STRICT;
+  ended INTEGER, why TEXT, from_seq INTEGER, PRIMARY KEY(device, process, thread)) STRICT;
 CREATE TABLE side_time(seq INTEGER PRIMARY KEY, ts INTEGER NOT NULL) STRICT;
 CREATE TABLE side_lost(seq INTEGER PRIMARY KEY, device INTEGER, process INTEGER, thread INTEGER, why TEXT) STRICT;
 CREATE TABLE capture(key TEXT PRIMARY KEY, value) WITHOUT ROWID;
