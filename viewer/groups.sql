@@ -59,7 +59,7 @@ INSERT INTO traffic
 SELECT x.upid, x.handle, x.generation, x.code, x.oneway, x.sends, x.failed, x.refused, x.open, x.bytes, x.delivered,
   x.one_fits, x.buffers, x.peak, x.longest_seq, n.upid, n.ptr, n.cookie
 FROM (SELECT g.upid, g.handle, s.generation, r.code, r.flags & 1 AS oneway, count(*) AS sends,
-    coalesce(sum(c.verdict = 3), 0) AS failed, count(s.refused) AS refused, coalesce(sum(c.verdict = 0), 0) AS open,
+    sum(coalesce(c.verdict = 3, 0) OR s.refused NOTNULL) AS failed, count(s.refused) AS refused, coalesce(sum(c.verdict = 0), 0) AS open,
     CAST(min(total(r.data_size), 9e18) AS INTEGER) AS bytes, count(s.delivery) AS delivered,
     coalesce(sum(s.certain AND s.fits = 1), 0) AS one_fits,
     coalesce(sum(s.delivery IS NOT NULL AND d.freed_by IS NULL), 0) AS buffers, max(d.held) AS peak,
