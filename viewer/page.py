@@ -289,10 +289,11 @@ class Page:
     def levels(self) -> str:
         heads = ["process", "buffers", "their bytes", "strong references", "calls open", "calls being served"]
         cells = []
-        for upid, *columns in self.asked("growth", ROWS):
+        for upid, ended, *columns in self.asked("growth", ROWS):
             cells.append([Cell(self.name(upid))])
-            for values in map(json.loads, columns):
-                told = f"peak {max(values):,}, end {values[-1]:,}"
+            for slices, last in zip(columns[::2], columns[1::2]):
+                values = json.loads(slices)
+                told = f"most {max(values):,}, " + (f"ended with {last:,}" if ended else f"at the end {last:,}")
                 cells[-1].append(Cell(f'{plot(values, 150, 30)}<div class="of">{told}</div>', False, max(values)))
         return table_of("growth", heads, cells, len(self.who))
 
@@ -328,8 +329,11 @@ class Page:
                " sends and deliveries that fit. The last column says of how many deliveries one send alone fits; of the"
                " others the counts are right together, and which send is which is not certain. Buffers at the peak are"
                " those of all callers.</p>" + self.talk())
-        yield ('<h2>Growth</h2><p class="dim">What each process holds at most in each of 16 slices of the capture.'
-               " Steps that rise to the end are what a leak looks like.</p>" + self.levels())
+        yield ('<h2>Growth</h2><p class="dim">Each step is the most that a process held in one of 16 slices of the'
+               " capture; so what it let go of in a slice makes the next step lower. Below the steps are the most of"
+               " all, and what it held at the very end, or when it ended. Steps that rise, and about as much at the end,"
+               " are what a leak looks like. After its end a process holds nothing, and a call ends with its"
+               " thread.</p>" + self.levels())
         yield "<h2>Calls without an answer, and those that took longest</h2>" + self.slow_calls()
         yield ('<details class="fold"><summary>Normal rows: references and requests in use</summary>'
                + self.groups("normal") + "</details>")

@@ -1,4 +1,25 @@
--- What each process holds in each slice; those that held most first. ?1: at most so many rows.
-SELECT upid, json_group_array(buffers), json_group_array(bytes), json_group_array(refs), json_group_array(calls),
-  json_group_array(served)
-FROM (SELECT * FROM level ORDER BY upid, slice) GROUP BY upid ORDER BY max(buffers) DESC, upid LIMIT ?1
+-- What each process holds at most in each slice, and at the very end of it or of the capture; those that held most first.
+-- After its end a process holds nothing, and a call ends with its thread. ?1: at most so many rows.
+WITH lived AS MATERIALIZED (SELECT p.upid, iif(p.ended_after <= c.last_seq, p.ended_after, NULL) AS ended_after,
+    (p.ended_after - c.first_seq) * 16 / (c.last_seq - c.first_seq + 1) AS slice FROM process p, raw_capture c),
+  left_over AS MATERIALIZED (
+    SELECT t.upid, count(*) AS buffers, min(total(r.data_size), 9e18) AS bytes FROM raw_delivery d
+      JOIN raw_record r USING (place) JOIN raw_thread t ON t.utid = d.utid WHERE d.freed_by IS NULL GROUP BY 1),
+  calling AS MATERIALIZED (
+    SELECT t.upid, sum(NOT c.served) AS calls, sum(c.served) AS served FROM raw_call c JOIN thread t USING (utid)
+      JOIN lived v USING (upid), raw_capture x
+    WHERE c.verdict = 0 AND (t.ended_after IS NULL OR t.ended_after >= coalesce(v.ended_after, x.last_seq + 1))
+    GROUP BY 1),
+  counted AS MATERIALIZED (SELECT upid, sum(strong) AS refs FROM raw_generation GROUP BY 1),
+  levels AS (SELECT l.upid, l.slice, v.slice IS NOT NULL AND l.slice > v.slice AND v.ended_after IS NOT NULL AS ended,
+      l.buffers, l.bytes, l.refs, l.calls, l.served
+    FROM raw_level l JOIN lived v USING (upid) ORDER BY l.upid, l.slice)
+SELECT l.upid, v.ended_after IS NOT NULL,
+  json_group_array(iif(l.ended, 0, l.buffers)), coalesce(b.buffers, 0),
+  json_group_array(iif(l.ended, 0, l.bytes)), CAST(coalesce(b.bytes, 0) AS INTEGER),
+  json_group_array(iif(l.ended, 0, l.refs)), coalesce(g.refs, 0),
+  json_group_array(iif(l.ended, 0, l.calls)), coalesce(o.calls, 0),
+  json_group_array(iif(l.ended, 0, l.served)), coalesce(o.served, 0)
+FROM levels l JOIN lived v USING (upid) LEFT JOIN left_over b USING (upid) LEFT JOIN calling o USING (upid)
+  LEFT JOIN counted g USING (upid)
+GROUP BY l.upid ORDER BY max(l.buffers) DESC, l.upid LIMIT ?1
