@@ -53,7 +53,7 @@ fn expect<T: Abort>(
 ) {
     let mut out = Vec::new(alloc);
     let mut err = Vec::new(alloc);
-    let listed = list_parts(alloc, &all(alloc), sources, &mut out, &mut err);
+    let listed = list_parts(alloc, &all(alloc), None, sources, &mut out, &mut err);
     assert_eq!(rt; listed, outcome);
     assert_eq!(rt; out.as_slice(), text);
     assert!(rt; err.is_empty());
@@ -92,7 +92,7 @@ fn expect_refused<T: Abort>(
 ) {
     let mut out = Refusing(kind);
     let mut err = Vec::new(alloc);
-    let listed = list_parts(alloc, &all(alloc), parts, &mut out, &mut err);
+    let listed = list_parts(alloc, &all(alloc), None, parts, &mut out, &mut err);
     assert_eq!(rt; listed, Err(due));
 }
 

@@ -75,6 +75,7 @@ fn command<'a>(alloc: Global) -> Result<Command<'a>, AllocError> {
     command
         .arg(objects(alloc))?
         .arg(option(alloc, "form"))?
+        .arg(option(alloc, "side"))?
         .arg(option(alloc, "table"))?
         .arg(option(alloc, "tables"))
 }

@@ -39,7 +39,7 @@ impl ListingError {
     pub fn line(self) -> &'static str {
         match self {
             ListingError::Usage => {
-                "usage: listing FILE... [--at PLACE] [--frame PLACE] [--call PLACE] [--process P] [--thread T] [--device D] [--direction write|read] [--from N] [--to N] [--code NAME] [--handle H] [--cookie X] [--node PTR] [--address A] [--flag NAME] [--larger BYTES] [--objects] [--form tab]; or --tables FOLDER FILE..., --table NAME FILE..., or --help\n"
+                "usage: listing FILE... [--at PLACE] [--frame PLACE] [--call PLACE] [--process P] [--thread T] [--device D] [--direction write|read] [--from N] [--to N] [--code NAME] [--handle H] [--cookie X] [--node PTR] [--address A] [--flag NAME] [--larger BYTES] [--objects] [--form tab] [--side FILE]; or --tables FOLDER FILE..., --table NAME FILE..., or --help\n"
             }
             ListingError::Memory => "fault Memory\n",
             ListingError::TooLarge => "fault TooLarge\n",

@@ -5,7 +5,7 @@ pub(crate) const HELP: &str =
 
     ./listing FILE... [--at PLACE] [--frame PLACE] [--call PLACE] [--process P] [--thread T] [--device D]
               [--direction write|read] [--from N] [--to N] [--code NAME] [--handle H] [--cookie X] [--node PTR]
-              [--address A] [--flag NAME] [--larger BYTES] [--objects] [--form tab]
+              [--address A] [--flag NAME] [--larger BYTES] [--objects] [--form tab] [--side FILE]
     ./listing --tables FOLDER FILE...
     ./listing --table NAME FILE...
 
@@ -30,6 +30,8 @@ several times takes what fits one of its values. Numbers are decimal, or hexadec
 --form tab columns with a tab between: place, sequence, device, process, thread, direction, name, code word, result,
            error, priority, handle, ptr, cookie, address, code, flags, sender_pid, sender_euid, data_size, offsets_size,
            buffer, buffers_size, secctx; empty where the record has no such field
+--side     behind each line what the side list of ./record says: time=, in nanoseconds of CLOCK_MONOTONIC, pid=, tid=,
+           thread= and process=, the names; in columns the same five
 --tables   writes NAME.rows for each raw table of docs/DATABASE.md into FOLDER
 --table    writes that table to standard output
 

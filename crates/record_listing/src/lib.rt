@@ -17,6 +17,7 @@ mod line;
 mod number;
 mod output;
 mod parts;
+mod side;
 mod status;
 mod stopped;
 mod tables;

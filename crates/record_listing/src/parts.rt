@@ -9,6 +9,7 @@ use crate::content::{Content, Item};
 use crate::error::ListingError;
 use crate::line::{push_counted, push_line};
 use crate::output::Output;
+use crate::side::Side;
 use crate::stopped::Stopped;
 use crate::whole::{write_objects, write_whole};
 use audit_streams::{read_capture, write_text};
@@ -30,16 +31,17 @@ enum Ended {
     Malformed,
 }
 
-/// What has come of what is sought.
+/// What has come of what is sought, and what is known from beside the capture.
 #[derive(Drop)]
-struct Seen {
+struct Seen<'s> {
     /// The places where nothing is found yet.
     open: Vec<u64>,
     /// The calls whose closers are still ahead.
     followed: Vec<Followed>,
+    side: Option<Side<'s>>,
 }
 
-impl Seen {
+impl Seen<'_> {
     /// Whether all is found that is sought.
     fn is_complete(&self, asked: &Asked) -> bool {
         asked.sought != Sought::Nothing && self.open.is_empty() && self.followed.is_empty()
@@ -52,6 +54,7 @@ impl Seen {
 pub fn list_parts<R: Read + Drop, W: Write, E: Write>(
     alloc: Global,
     asked: &Asked,
+    side: Option<&[u8]>,
     readers: Vec<R>,
     out: &mut W,
     err: &mut E,
@@ -59,6 +62,7 @@ pub fn list_parts<R: Read + Drop, W: Write, E: Write>(
     let mut seen = Seen {
         open: asked.places.clone()?,
         followed: Vec::new(alloc),
+        side: side.map(|list| Side::new(alloc, list)),
     };
     let mut output = Output::new(alloc, out);
     let ended = list_all(alloc, asked, &mut seen, readers, &mut output);
@@ -99,7 +103,7 @@ fn tell_missing<E: Write>(
 fn list_all<R: Read + Drop, W: Write>(
     alloc: Global,
     asked: &Asked,
-    seen: &mut Seen,
+    seen: &mut Seen<'_>,
     readers: Vec<R>,
     output: &mut Output<'_, W>,
 ) -> Result<Ended, ListingError> {
@@ -147,7 +151,7 @@ pub(crate) fn push_fault(
 /// Lists a part, and gives the sequence of the last frame so far.
 fn list_part<W: Write>(
     asked: &Asked,
-    seen: &mut Seen,
+    seen: &mut Seen<'_>,
     part: &[u8],
     base: u64,
     before: Option<u64>,
@@ -167,7 +171,7 @@ fn list_part<W: Write>(
 
 fn list_frames<W: Write>(
     asked: &Asked,
-    seen: &mut Seen,
+    seen: &mut Seen<'_>,
     mut frames: Frames<'_>,
     before: Option<u64>,
     output: &mut Output<'_, W>,
@@ -183,11 +187,14 @@ fn list_frames<W: Write>(
 /// Lists what is asked for of a frame, up to its first fault.
 fn list_frame<W: Write>(
     asked: &Asked,
-    seen: &mut Seen,
+    seen: &mut Seen<'_>,
     frame: Frame<'_>,
     output: &mut Output<'_, W>,
 ) -> Result<(), Stopped> {
     let fault = check_frame(frame);
+    if let Some(side) = &mut seen.side {
+        side.go_to(frame.sequence)?;
+    }
     if is_listed(asked, seen, frame) {
         list_content(asked, seen, frame, output)?;
     }
@@ -199,7 +206,7 @@ fn list_frame<W: Write>(
 }
 
 /// Whether the records of a frame are looked at.
-fn is_listed(asked: &Asked, seen: &mut Seen, frame: Frame<'_>) -> bool {
+fn is_listed(asked: &Asked, seen: &mut Seen<'_>, frame: Frame<'_>) -> bool {
     match asked.sought {
         Sought::Call => true,
         Sought::Frame => {
@@ -219,7 +226,7 @@ fn is_in_frame(place: u64, frame: Frame<'_>) -> bool {
 
 fn list_content<W: Write>(
     asked: &Asked,
-    seen: &mut Seen,
+    seen: &mut Seen<'_>,
     frame: Frame<'_>,
     output: &mut Output<'_, W>,
 ) -> Result<(), ListingError> {
@@ -227,7 +234,7 @@ fn list_content<W: Write>(
         match asked.sought {
             Sought::Nothing | Sought::Frame => {
                 if asked.has_item(item) {
-                    write_item(asked, frame, item, output)?;
+                    write_item(asked, seen, frame, item, output)?;
                 }
             }
             Sought::Record => list_sought(asked, seen, frame, item, output)?,
@@ -240,7 +247,7 @@ fn list_content<W: Write>(
 /// Writes a record in whole, where it has a place that is sought.
 fn list_sought<W: Write>(
     asked: &Asked,
-    seen: &mut Seen,
+    seen: &mut Seen<'_>,
     frame: Frame<'_>,
     item: Item<'_>,
     output: &mut Output<'_, W>,
@@ -259,20 +266,20 @@ fn list_sought<W: Write>(
 /// Writes the line of a record, where it is of a call that is sought.
 fn list_called<W: Write>(
     asked: &Asked,
-    seen: &mut Seen,
+    seen: &mut Seen<'_>,
     frame: Frame<'_>,
     item: Item<'_>,
     output: &mut Output<'_, W>,
 ) -> Result<(), ListingError> {
     if is_of_call(seen, frame, item)? && asked.has_frame(frame) && asked.has_item(item) {
-        write_item(asked, frame, item, output)?;
+        write_item(asked, seen, frame, item, output)?;
     }
     Ok(())
 }
 
 /// Whether a record is of a call that is sought: its opener, its closer, or one of its thread
 /// between them.
-fn is_of_call(seen: &mut Seen, frame: Frame<'_>, item: Item<'_>) -> Result<bool, AllocError> {
+fn is_of_call(seen: &mut Seen<'_>, frame: Frame<'_>, item: Item<'_>) -> Result<bool, AllocError> {
     if let Some(followed) = Followed::from(frame, item.record) {
         let count = seen.open.len();
         seen.open.retain(|place| !covers(*place, item));
@@ -294,14 +301,12 @@ fn is_of_call(seen: &mut Seen, frame: Frame<'_>, item: Item<'_>) -> Result<bool,
 /// Writes the line of a record, and those of its objects where they are asked for.
 fn write_item<W: Write>(
     asked: &Asked,
+    seen: &Seen<'_>,
     frame: Frame<'_>,
     item: Item<'_>,
     output: &mut Output<'_, W>,
 ) -> Result<(), ListingError> {
-    match asked.form {
-        Form::Lines => push_line(&mut output.text, frame, item)?,
-        Form::Tab => push_columns(&mut output.text, frame, item)?,
-    }
+    push_item(&mut output.text, asked.form, &seen.side, frame, item)?;
     output.end_line()?;
     if asked.objects
         && let Some(entry) = item.entry
@@ -309,4 +314,29 @@ fn write_item<W: Write>(
         return write_objects(output, entry);
     }
     Ok(())
+}
+
+fn push_item(
+    text: &mut String,
+    form: Form,
+    side: &Option<Side<'_>>,
+    frame: Frame<'_>,
+    item: Item<'_>,
+) -> Result<(), AllocError> {
+    match form {
+        Form::Lines => push_line(text, frame, item)?,
+        Form::Tab => push_columns(text, frame, item)?,
+    }
+    match side {
+        Some(side) => side.push(text, frame, marks_of(form)),
+        None => Ok(()),
+    }
+}
+
+/// What stands before each field of the side list.
+fn marks_of(form: Form) -> [&'static str; 5] {
+    match form {
+        Form::Lines => [" time=", " pid=", " tid=", " thread=", " process="],
+        Form::Tab => ["\t"; 5],
+    }
 }

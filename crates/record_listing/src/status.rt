@@ -71,8 +71,11 @@ fn answer_listing<T: Files, W: Write, E: Write>(
     err: &mut E,
 ) -> Result<u8, ListingError> {
     let asked = asked_of(alloc, matches)?;
+    let sides = open_side(rt, alloc, matches)?;
     let readers = open_files(rt, alloc, files)?;
-    list_parts(alloc, &asked, readers, out, err)
+    let lists = read_parts(alloc, sides, FILE_LIMIT)?;
+    let side = lists.as_slice().first().map(|list| list.as_slice());
+    list_parts(alloc, &asked, side, readers, out, err)
 }
 
 /// Writes tables of the capture that these files have.
@@ -162,6 +165,21 @@ fn tell_ending<W: Write>(alloc: Global, ending: Ending, out: &mut W) -> Result<u
     push_fault(&mut text, fault, part, ending.parts)?;
     write_text(out, text.as_bytes())?;
     Ok(2)
+}
+
+/// Opens the side list, if one is named.
+fn open_side<T: Files>(
+    rt: &T,
+    alloc: Global,
+    matches: &ArgMatches<'_>,
+) -> Result<Vec<T::File>, ListingError> {
+    let Some(names) = matches.get_strs("side") else {
+        return Ok(Vec::new(alloc));
+    };
+    if names.len() != 1 {
+        return Err(ListingError::Usage);
+    }
+    open_files(rt, alloc, names)
 }
 
 /// Opens each of these files, in order. Memory for them all is taken first.
