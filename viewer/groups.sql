@@ -27,27 +27,37 @@ INSERT INTO title VALUES
 -- The finding that leads: an open call leads its served end and its buffer.
 CREATE TABLE finding_head(id INTEGER PRIMARY KEY, grp INTEGER NOT NULL) STRICT;
 CREATE TEMP TABLE named AS
-SELECT f.id, f.path, r.verdict,
+SELECT f.id, f.path, f.rule,
+  CASE r.verdict WHEN 'real' THEN 1 WHEN 'maybe' THEN 2 WHEN 'explained' THEN 3 ELSE 4 END AS rank,
   iif(f.section IN ('calls', 'served', 'buffers', 'refused', 'oneway', 'objects'), 0, f.upid) AS upid,
   (SELECT t.title FROM title t WHERE (t.rule IS NULL OR t.rule = f.rule)
-    AND (t.section IS NULL OR t.section = f.section) AND (t.what IS NULL OR t.what = f.what) ORDER BY t.rule IS NULL, t.what IS NULL LIMIT 1) AS title
+    AND (t.section IS NULL OR t.section = f.section) AND (t.what IS NULL OR t.what = f.what)
+    ORDER BY t.rule IS NULL, t.what IS NULL LIMIT 1) AS title
 FROM finding f JOIN rule r ON r.id = f.rule WHERE f.lead IS NULL;
-INSERT INTO finding_head SELECT id, min(id) OVER (PARTITION BY title, path, verdict, upid) FROM named;
+-- Of one path what is real and what may be is one group, of the strongest verdict of its findings.
+INSERT INTO finding_head SELECT id, min(id) OVER (PARTITION BY title, path, max(rank, 2), upid) FROM named;
 INSERT INTO finding_head
 SELECT f.id, h.grp FROM finding f JOIN finding_head h ON h.id = f.lead;
 CREATE INDEX head_of_group ON finding_head(grp);
 
--- A group: n findings, without those that are led, of n_all of the path.
+CREATE TEMP TABLE ranked AS
+SELECT grp, min(rank) AS rank, group_concat(rule) AS rules
+FROM (SELECT DISTINCT h.grp, n.rank, n.rule FROM named n JOIN finding_head h USING (id) ORDER BY 1, 2, 3) GROUP BY grp;
+CREATE UNIQUE INDEX temp.ranked_group ON ranked(grp);
+
+-- A group: n findings, without those that are led, of n_all of the path. Its rules are those of its strongest verdict
+-- first.
 CREATE TABLE finding_group(grp INTEGER PRIMARY KEY, verdict TEXT NOT NULL, title TEXT NOT NULL, path TEXT NOT NULL,
   n INTEGER NOT NULL, n_all INTEGER, processes INTEGER NOT NULL, who TEXT NOT NULL, first INTEGER, last INTEGER,
   rules TEXT NOT NULL) STRICT;
 INSERT INTO finding_group
-SELECT h.grp, n.verdict, n.title, n.path, sum(f.lead IS NULL), max(iif(f.lead IS NULL, f.n_all, NULL)),
+SELECT h.grp, CASE k.rank WHEN 1 THEN 'real' WHEN 2 THEN 'maybe' WHEN 3 THEN 'explained' ELSE 'normal' END, n.title,
+  n.path, sum(f.lead IS NULL), max(iif(f.lead IS NULL, f.n_all, NULL)),
   count(DISTINCT iif(f.lead IS NULL, f.upid, NULL)),
   group_concat(DISTINCT iif(f.lead IS NULL, (SELECT who FROM who w WHERE w.upid = f.upid), NULL)),
-  min(iif(f.lead IS NULL, f.place, NULL)), max(iif(f.lead IS NULL, f.place, NULL)),
-  group_concat(DISTINCT iif(f.lead IS NULL, f.rule, NULL))
-FROM finding_head h JOIN finding f USING (id) JOIN named n ON n.id = h.grp GROUP BY h.grp;
+  min(iif(f.lead IS NULL, f.place, NULL)), max(iif(f.lead IS NULL, f.place, NULL)), k.rules
+FROM finding_head h JOIN finding f USING (id) JOIN named n ON n.id = h.grp JOIN ranked k ON k.grp = h.grp
+GROUP BY h.grp;
 
 -- Who talks to whom, by handle and code.
 CREATE TABLE traffic(upid INTEGER NOT NULL, handle INTEGER NOT NULL, generation INTEGER NOT NULL, code INTEGER NOT NULL,
@@ -59,7 +69,8 @@ INSERT INTO traffic
 SELECT x.upid, x.handle, x.generation, x.code, x.oneway, x.sends, x.failed, x.refused, x.open, x.bytes, x.delivered,
   x.one_fits, x.buffers, x.peak, x.longest_seq, n.upid, n.ptr, n.cookie
 FROM (SELECT g.upid, g.handle, s.generation, r.code, r.flags & 1 AS oneway, count(*) AS sends,
-    sum(coalesce(c.verdict = 3, 0) OR s.refused NOTNULL) AS failed, count(s.refused) AS refused, coalesce(sum(c.verdict = 0), 0) AS open,
+    sum(coalesce(c.verdict = 3, 0) OR s.refused NOTNULL) AS failed, count(s.refused) AS refused,
+    coalesce(sum(c.verdict = 0), 0) AS open,
     CAST(min(total(r.data_size), 9e18) AS INTEGER) AS bytes, count(s.delivery) AS delivered,
     coalesce(sum(s.certain AND s.fits = 1), 0) AS one_fits,
     coalesce(sum(s.delivery IS NOT NULL AND d.freed_by IS NULL), 0) AS buffers, max(d.held) AS peak,

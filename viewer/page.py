@@ -331,8 +331,8 @@ class Page:
                " those of all callers.</p>" + self.talk())
         yield ('<h2>Growth</h2><p class="dim">Each step is the most that a process held in one of 16 slices of the'
                " capture; so what it let go of in a slice makes the next step lower. Below the steps are the most of"
-               " all, and what it held at the very end, or when it ended. Steps that rise, and about as much at the end,"
-               " are what a leak looks like. After its end a process holds nothing, and a call ends with its"
+               " all, and what it held at the very end, or when it ended. Steps that rise, and about as much at the"
+               " end, are what a leak looks like. After its end a process holds nothing, and a call ends with its"
                " thread.</p>" + self.levels())
         yield "<h2>Calls without an answer, and those that took longest</h2>" + self.slow_calls()
         yield ('<details class="fold"><summary>Normal rows: references and requests in use</summary>'

@@ -289,7 +289,7 @@ INSERT INTO rule VALUES
   ('P1', 'explained', 'What came before the capture is not known, and it may belong there.'),
   ('T1', 'explained', 'Its process or thread ended then, and the driver has let it go.'),
   ('U1', 'explained', 'Under way: others of its path took as long.'),
-  ('U2', 'real', 'It has lasted more than ten times as long as any other of its path.'),
+  ('U2', 'real', 'More than ten times as long as the longest of its path that came to a good end.'),
   ('U3', 'real', 'Three or more, and nearly all of this path, while their threads went on.'),
   ('U4', 'maybe', 'Its thread went on with other work.'),
   ('U5', 'maybe', 'The last thing that its thread did, and long before the end.'),
