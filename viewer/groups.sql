@@ -64,19 +64,20 @@ CREATE TABLE traffic(upid INTEGER NOT NULL, handle INTEGER NOT NULL, generation 
   oneway INTEGER NOT NULL, sends INTEGER NOT NULL, failed INTEGER NOT NULL, refused INTEGER NOT NULL,
   open INTEGER NOT NULL, bytes INTEGER NOT NULL, delivered INTEGER NOT NULL, one_fits INTEGER NOT NULL,
   buffers INTEGER NOT NULL, buffers_peak INTEGER, longest_seq INTEGER, node_upid INTEGER, ptr INTEGER,
-  cookie INTEGER) STRICT;
+  cookie INTEGER, longest INTEGER) STRICT;
 INSERT INTO traffic
 SELECT x.upid, x.handle, x.generation, x.code, x.oneway, x.sends, x.failed, x.refused, x.open, x.bytes, x.delivered,
-  x.one_fits, x.buffers, x.peak, x.longest_seq, n.upid, n.ptr, n.cookie
+  x.one_fits, x.buffers, x.peak, x.longest_seq, n.upid, n.ptr, n.cookie, x.longest
 FROM (SELECT g.upid, g.handle, s.generation, r.code, r.flags & 1 AS oneway, count(*) AS sends,
     sum(coalesce(c.verdict = 3, 0) OR s.refused NOTNULL) AS failed, count(s.refused) AS refused,
     coalesce(sum(c.verdict = 0), 0) AS open,
     CAST(min(total(r.data_size), 9e18) AS INTEGER) AS bytes, count(s.delivery) AS delivered,
     coalesce(sum(s.certain AND s.fits = 1), 0) AS one_fits,
     coalesce(sum(s.delivery IS NOT NULL AND d.freed_by IS NULL), 0) AS buffers, max(d.held) AS peak,
-    max(c.dur_seq) AS longest_seq
+    max(c.dur_seq) AS longest_seq, max(z.ts - b.ts) AS longest
   FROM raw_send s JOIN raw_record r USING (place) JOIN raw_generation g ON g.id = s.generation
     LEFT JOIN raw_call c USING (place) LEFT JOIN raw_delivery d ON d.place = s.delivery
+    LEFT JOIN side_time b ON b.seq = c.seq LEFT JOIN side_time z ON z.seq = c.seq + c.dur_seq
   GROUP BY s.generation, r.code, r.flags & 1) x LEFT JOIN node_of n ON n.generation = x.generation;
 
 COMMIT;

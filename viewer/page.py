@@ -20,6 +20,22 @@ ROWS, FINDINGS, LANES = 1000, 100, 300
 
 VERDICTS = ("real", "maybe", "explained", "normal")
 
+# What the fields of a row of the report are, as docs/REPORT.md says.
+COLUMNS = {
+    "calls": "place device process thread handle code verdict closer",
+    "served": "place device process thread sender_pid code verdict closer",
+    "strays": "place device process thread kind",
+    "refused": "place device process thread kind",
+    "handles": "device process handle strong low weak low held_strong held_weak",
+    "nodes": "device process ptr cookie strong low weak low strong_due weak_due",
+    "buffers": "place device process address data_size kind",
+    "frees": "place device process address",
+    "requests": "place device process handle cookie",
+    "deaths": "place device process cookie which",
+    "clears": "place device process cookie which",
+    "objects": "place device process index offset cause",
+    "flags": "place device process bits"}
+
 # ---- text
 
 
@@ -44,6 +60,11 @@ def name_of(value: object) -> str:
     return f"<bdi>{text_of(value)}</bdi>"
 
 
+def counted(count: int, what: str, many: str | None = None) -> str:
+    """So many of something: 1 row, 2 rows."""
+    return f"{count:,} {what if count == 1 else many or what + 's'}"
+
+
 def number_of(value: int | None) -> str:
     return "" if value is None else f"{value:,}"
 
@@ -57,6 +78,16 @@ def duration_of(nanoseconds: int | None) -> str:
             count = nanoseconds / size
             return f"{count:.3g} {unit}" if count < 1000 else f"{count:,.0f} {unit}"
     return f"{nanoseconds} ns"
+
+
+def lasted(age: int | None, good: int | None, longest: int | None) -> str:
+    """How long a finding has lasted, and how long at most what came to a good end of its path, where that is counted;
+    nothing where times are not known."""
+    if age is None:
+        return ""
+    than = "" if good is None else ", none of its path came to a good end" if longest is None else \
+        f", the longest of its path that came to a good end {duration_of(longest)}"
+    return f' <span class="of">It has lasted {duration_of(age)}{than}.</span>'
 
 
 class Cell(NamedTuple):
@@ -74,7 +105,7 @@ def duration_cell(seconds: int | None, frames: int | None) -> Cell:
     """How long something took: a time, or where there is none a number of frames."""
     if seconds is not None:
         return Cell(duration_of(seconds), True, seconds)
-    return Cell("" if frames is None else f"{frames:,} frames", True, frames)
+    return Cell("" if frames is None else counted(frames, "frame"), True, frames)
 
 
 def cell_of(cell: Cell) -> str:
@@ -175,18 +206,18 @@ class Page:
             span = f" over {duration_of(facts['last_ts'] - facts['first_ts'])}"
         first = f'<p class="fault">{text_of(facts["malformed"])}: all below is of what comes before it.</p>' \
             if facts["malformed"] else ""
-        missing = number_of(facts["missing"] % 2**64) if facts["missing"] else "no"
+        missing = counted(facts["missing"] % 2**64, "frame") if facts["missing"] else "no frames"
         told = "".join(f'<p class="dim">{one}</p>' for one in self.unknown())
         return (f"{first}<h1>{name_of(facts['file'])}</h1>"
-                f'<p class="dim">{number_of(facts["frames"])} frames, {number_of(facts["records"])} records,'
-                f' {number_of(facts["bytes"])} bytes{span}; {missing} frames missing;'
-                f" {len(self.who)} processes.</p>{told}")
+                f'<p class="dim">{counted(facts["frames"], "frame")}, {counted(facts["records"], "record")},'
+                f' {counted(facts["bytes"], "byte")}{span}; {missing} missing;'
+                f' {counted(len(self.who), "process", "processes")}.</p>{told}')
 
     def counts(self) -> str:
         groups = dict(self.ask("SELECT verdict, count(*) FROM finding_group GROUP BY 1"))
         rows = dict(self.ask("SELECT verdict, sum(n) FROM finding_group GROUP BY 1"))
         boxes = "".join(f'<div class="{verdict}"><b>{number_of(groups.get(verdict, 0))}</b>{verdict}'
-                        f'<span class="of"> · {number_of(rows.get(verdict, 0))} rows</span></div>'
+                        f'<span class="of"> · {counted(rows.get(verdict, 0), "row")}</span></div>'
                         for verdict in VERDICTS)
         return (f'<div class="counts">{boxes}</div><p class="dim">Verdicts, paths and counts are <b>inferred</b> by the'
                 ' rules of docs/VIEW.md. What is in <span class="proved">green</span> is the proved report, word by'
@@ -195,12 +226,13 @@ class Page:
     # -- findings
 
     def finding(self, row: tuple) -> str:
-        section, place, _, upid, rule, note, text, thread = row
+        section, place, _, upid, rule, note, text, thread, *times = row
         look = f"<code>{text_of(f'{self.command} --at {place}')}</code>" if place is not None else ""
         why = text_of(self.rules[rule]) + (f" ({text_of(note)})" if note else "")
         proved = f"{section}: {text_of(text)}" if text else ""
         return (f"<tr><td>{look}<td>{self.name(upid)}{f' thread {thread}' if thread is not None else ''}"
-                f'<td class="dim">{why} <span class="rule">{rule}</span><td class="proved">{proved}\n')
+                f'<td class="dim">{why} <span class="rule">{rule}</span>{lasted(*times)}'
+                f'<td class="proved">{proved}\n')
 
     def group(self, row: tuple) -> str:
         number, verdict, title, path, n, n_all, who, first, last, rules = row
@@ -220,7 +252,12 @@ class Page:
     def findings(self, group: int, found: list[tuple]) -> str:
         more = (f'<p class="of">and more: SELECT * FROM finding JOIN finding_head USING (id) WHERE grp = {group}</p>'
                 if len(found) > FINDINGS else "")
-        rows = "".join(map(self.finding, found[:FINDINGS]))
+        rows, section = "", None
+        for row in found[:FINDINGS]:
+            if row[0] != section and row[6]:
+                section = row[0]
+                rows += f'<tr><td colspan=3><td class="of">{section}: {COLUMNS[section]}\n'
+            rows += self.finding(row)
         return f'<div class="scroll" tabindex=0 role=region aria-label="findings"><table>{rows}</table></div>{more}'
 
     def names(self, who: str | None) -> str:
@@ -254,19 +291,19 @@ class Page:
             rows = self.asked("groups", verdict, ROWS)
             left += self.count("finding_group", "verdict = ?", verdict) - len(rows)
             shown += "".join(map(self.group, rows))
-        more = f'<p class="of">and {left:,} more groups</p>' if left else ""
+        more = f'<p class="of">and {left:,} more</p>' if left else ""
         return shown + more if shown else '<p class="box">Nothing.</p>'
 
     # -- tables
 
     def processes(self) -> str:
-        begun = self.facts.get("begin_ts")
+        begun = self.facts.get("first_ts")
         heads = ["process", "#device", "#pid", "#threads", "met", "#frames", "#first seq", "#last seq", "ended"]
         cells = []
         for upid, device, pid, threads, met, frames, first, last, ended, after in self.asked("processes", ROWS):
             end = "" if after is None else f"after {number_of(after)}"
             if after is not None and begun is not None:
-                end += f", at {duration_of(ended - begun)}"
+                end += f", at {duration_of(ended - begun)}" if ended >= begun else ", before the capture"
             cells.append([Cell(self.name(upid)), number_cell(device), Cell(str(pid or ""), True, pid),
                           number_cell(threads), Cell(text_of(met)), *map(number_cell, (frames, first, last)),
                           Cell(end)])
@@ -274,16 +311,18 @@ class Page:
 
     def talk(self) -> str:
         heads = ["caller", "#handle", "served by", "node", "#code", "kind", "#sends", "#failed", "#open", "#bytes",
-                 "#buffers now", "#at the peak", "#longest, frames", "one send fits"]
+                 "#buffers now", "#at the peak", "#longest", "one send fits"]
         cells = []
-        for upid, handle, node, ptr, code, oneway, delivered, one_fits, *numbers in self.asked("talk", ROWS):
+        for upid, handle, node, ptr, code, oneway, delivered, one_fits, *numbers, longest, frames in self.asked(
+                "talk", ROWS):
             certain = ("no delivery" if not delivered else "all" if one_fits == delivered
                        else f"{100 * one_fits // delivered} %")
             server, its_node = '<span class="dim">not known</span>', ""
             if node is not None:
                 server, its_node = self.name(node), f"<code>0x{ptr % 2**64:x}</code>"
             cells.append([Cell(self.name(upid)), number_cell(handle), Cell(server), Cell(its_node), number_cell(code),
-                          Cell("oneway" if oneway else "call"), *map(number_cell, numbers), Cell(certain)])
+                          Cell("oneway" if oneway else "call"), *map(number_cell, numbers),
+                          duration_cell(longest, frames), Cell(certain)])
         return table_of("who talks to whom", heads, cells, self.count("traffic"))
 
     def levels(self) -> str:
@@ -324,7 +363,8 @@ class Page:
         yield "<h2>Look at these</h2>" + self.groups("real", "maybe")
         yield ('<h2>Explained</h2><p class="dim">Ends, what was under way when the capture ended, and what began before'
                " it.</p>" + self.groups("explained"))
-        yield "<h2>Processes</h2>" + self.processes()
+        yield ('<h2>Processes</h2><p class="dim">Times of ends count from the first frame of the capture.</p>'
+               + self.processes())
         yield ('<h2>Who talks to whom</h2><p class="dim">Which process and node a handle leads to is inferred from'
                " sends and deliveries that fit. The last column says of how many deliveries one send alone fits; of the"
                " others the counts are right together, and which send is which is not certain. Buffers at the peak are"

@@ -5,7 +5,8 @@ WITH asked AS (
     WHERE served = 0 AND verdict = 1 ORDER BY dur_seq DESC LIMIT 50)
   LIMIT ?1)
 SELECT c.place, t.upid, t.thread, r.handle, r.code, v.name, c.closer, c.dur_seq, z.ts - x.ts, s.delivery, s.fits,
-  (SELECT g.upid FROM raw_delivery d JOIN raw_thread g USING (utid) WHERE d.place = s.delivery),
+  coalesce((SELECT g.upid FROM raw_delivery d JOIN raw_thread g USING (utid) WHERE d.place = s.delivery),
+    (SELECT n.upid FROM node_of n WHERE n.generation = s.generation)),
   (SELECT k.closer FROM raw_call k WHERE k.place = s.delivery)
 FROM asked c JOIN raw_thread t USING (utid) JOIN raw_record r USING (place) JOIN verdict v ON v.number = c.verdict
   LEFT JOIN raw_send s USING (place) LEFT JOIN side_time x ON x.seq = c.seq

@@ -1,4 +1,6 @@
 -- The findings of a group, those that are led by another one last. ?1: the group, ?2: at most so many rows.
-SELECT f.section, f.place, f.utid, f.upid, f.rule, f.note, r.text, t.thread
+SELECT f.section, f.place, f.utid, f.upid, f.rule, f.note, r.text, t.thread,
+  iif(f.what IN ('open', 'held', 'unacknowledged', 'unconfirmed', 'undelivered') OR f.section = 'buffers', f.age, NULL),
+  f.n_good, f.longest
 FROM finding_head h JOIN finding f USING (id) LEFT JOIN report r ON r.id = f.report LEFT JOIN raw_thread t USING (utid)
 WHERE h.grp = ?1 ORDER BY f.lead IS NOT NULL, f.place LIMIT ?2
