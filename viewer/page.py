@@ -311,7 +311,7 @@ class Page:
 
     def talk(self) -> str:
         heads = ["caller", "#handle", "served by", "node", "#code", "kind", "#sends", "#failed", "#open", "#bytes",
-                 "#buffers now", "#at the peak", "#longest", "one send fits"]
+                 "#buffers not freed", "#at the peak", "#longest", "one send fits"]
         cells = []
         for upid, handle, node, ptr, code, oneway, delivered, one_fits, *numbers, longest, frames in self.asked(
                 "talk", ROWS):
@@ -367,8 +367,9 @@ class Page:
                + self.processes())
         yield ('<h2>Who talks to whom</h2><p class="dim">Which process and node a handle leads to is inferred from'
                " sends and deliveries that fit. The last column says of how many deliveries one send alone fits; of the"
-               " others the counts are right together, and which send is which is not certain. Buffers at the peak are"
-               " those of all callers.</p>" + self.talk())
+               " others the counts are right together, and which send is which is not certain. Failed are sends that an"
+               " error reply ended. Open calls and buffers that are not freed count those of ended processes too."
+               " Buffers at the peak are those of all callers.</p>" + self.talk())
         yield ('<h2>Growth</h2><p class="dim">Each step is the most that a process held in one of 16 slices of the'
                " capture; so what it let go of in a slice makes the next step lower. Below the steps are the most of"
                " all, and what it held at the very end, or when it ended. Steps that rise, and about as much at the"
