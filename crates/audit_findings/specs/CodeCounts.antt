@@ -20,11 +20,11 @@ pub record IsKindRow (kind : Kind) (words : List ℕ) (row : CodeRow) : Type 0 w
 abbrev pub no_record : CodeRow
 no_record = record { word = 0; count = 0 }
 
--- the rows are those of the listed kinds, in the header's order; where rows are missing, no word is of their kinds
+-- the rows are those of the listed kinds, in the order of the table; where rows are missing, no word is of their kinds
 abbrev pub CountListed : List CodeRow → List ℕ → Type 0
 CountListed rows words = (k : ℕ) → IsKindRow (slice_index_or listed k Opaque) words (slice_index_or rows k no_record)
 
--- whether a code word is that of an opaque record
+-- whether the code word of a good record is that of an opaque one
 abbrev pub is_opaque_word : ℕ → Bool
 is_opaque_word word = is_opaque_kind (result_unwrap_or (kind_of (protocol_of_word word) word) Opaque)
 

@@ -12,7 +12,7 @@ use Rattle.capture_frame.specs.Lookup.{span_of, AreApart}
 abbrev pub AreSound : List PlacedFrame → Type 0
 AreSound frames = All (λ frame. HasGoodContent frame.unit) frames
 
--- the fault is the first of these frames' records and entries
+-- the fault is the first fault of these frames' records and entries
 pub record IsFirstIn (frames : List PlacedFrame) (fault : Fault) : Type 0 where
   pub before : List PlacedFrame
   pub frame : PlacedFrame

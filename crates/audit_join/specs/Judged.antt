@@ -8,7 +8,7 @@ use Rattle.audit_join.specs.declared.audit_error.AuditError.{AuditError}
 use Rattle.audit_join.specs.Audit.{NamesFirst}
 use Rattle.audit_join.specs.Jobs.{IsFirstIn, HasFirstAt}
 
--- a fault is the first of these frames' records and entries
+-- the error names the first fault of these frames' records and entries
 abbrev pub IsFirstError : List PlacedFrame → AuditError Fault → Type 0
 IsFirstError frames error = NamesFirst (IsFirstIn frames) error
 

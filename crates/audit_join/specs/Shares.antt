@@ -1,4 +1,4 @@
--- What the shares of workers come to.
+-- What the shares of workers come to. `SumsPiece` says nothing of frames with a fault, so it comes beside `AreGoodFrames`.
 use Rattle.std.specs.Prelude.{◌≡◌, List, ◌++◌}
 use Rattle.capture_frame.specs.Cut.{shown_by}
 use Rattle.capture_frame.specs.Envelope.{PlacedFrame}
@@ -6,7 +6,7 @@ use Rattle.capture_frame.specs.declared.frame.Frame.{Frame}
 use Rattle.audit_findings.specs.Summary.{SumsPiece}
 use Rattle.audit_findings.specs.declared.piece_summary.PieceSummary.{PieceSummary}
 
--- the summary is that of these frames, which were views as it took them in
+-- the summary is that of these frames, which were views when they were added
 abbrev pub SumsShare : PieceSummary → List PlacedFrame → Type 0
 SumsShare summary frames = (views : List Frame) × (shown_by views ≡ frames) × SumsPiece summary frames
 

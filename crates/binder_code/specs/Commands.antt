@@ -69,7 +69,7 @@ row_of BrOnewaySpamSuspect = return_row 19 0 (codes "BR_ONEWAY_SPAM_SUSPECT")
 row_of BrTransactionPendingFrozen = return_row 20 0 (codes "BR_TRANSACTION_PENDING_FROZEN")
 row_of Opaque = None
 
--- the kinds that the header lists, in its order (`linux/android/binder.h`)
+-- the kinds of `linux/android/binder.h`, in the order of the table of codes (docs/COMMANDS.md)
 abbrev pub listed : List Kind
 listed =
     BcTransaction ∷

@@ -54,6 +54,6 @@ has_reply Answered = true
 has_reply Replied = true
 has_reply _ = false
 
--- whether anything else became of the call
+-- whether no reply closes the call: it failed, is crossed or is open
 abbrev pub lacks_reply : Verdict → Bool
 lacks_reply verdict = not (has_reply verdict)

@@ -57,6 +57,8 @@ impl<'c> Events<'c> {
     }
 
     /// The next event, or the end.
+    // Inlined, since an event is large and would be copied once more.
+    #[inline(always)]
     pub fn next_event(&mut self) -> Option<Event<'c>>
         ensures { Steps self.old result self.new }
     {
@@ -70,6 +72,7 @@ impl<'c> Events<'c> {
 }
 
 /// The attachment ahead, where it is that of the record at this place; then the next one is ahead.
+#[inline(always)]
 fn take_at<'c>(
     ahead: &mut Option<Entry<'c>>,
     attachments: &mut GoodEntries<'c>,

@@ -10,6 +10,7 @@ use record_view::Record;
 use transaction_view::{Entry, Transaction};
 
 /// The event of a record of the frame, with its attachment if it has one.
+#[inline(always)]
 pub(crate) fn event_of<'c>(
     frame: Frame<'c>,
     carrier: Record<'c>,

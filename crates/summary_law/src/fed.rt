@@ -31,6 +31,8 @@ impl<R: Picks, S: Summary<Item = R::Item>> Summary for Fed<R, S> {
         }
     }
 
+    // Inlined, since most things are passed over and a thing may be large.
+    #[inline(always)]
     fn add(&mut self, item: R::Thing) -> Result<(), AllocError> {
         match R::pick(item) {
             Some(found) => self.own.add(found),
