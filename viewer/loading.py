@@ -308,6 +308,13 @@ class SideList:
         self.database.execute("INSERT OR REPLACE INTO side_thread VALUES (?, ?, ?, ?, ?, NULL, NULL, NULL, ?)",
                               (*numbers(positional, 3), number(keyed["tid"]), keyed["name"], self.last() + 1))
 
+    def take_name(self, _: int, __: list[str], keyed: dict[str, str]) -> None:
+        """The last name counts. That of a process is the name of its first thread; what has ended keeps its own."""
+        pid, tid, name = number(keyed["pid"]), number(keyed["tid"]), keyed["name"]
+        self.database.execute("UPDATE side_thread SET name = ? WHERE tid = ? AND ended IS NULL", (name, tid))
+        if tid == pid:
+            self.database.execute("UPDATE side_process SET name = ? WHERE pid = ? AND ended IS NULL", (name, pid))
+
     def take_lost(self, _: int, positional: list[str], keyed: dict[str, str]) -> None:
         who = [number(keyed[name]) if name in keyed else None for name in ("device", "process", "thread")]
         self.database.execute("INSERT OR REPLACE INTO side_lost VALUES (?, ?, ?, ?, ?)",
