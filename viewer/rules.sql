@@ -246,16 +246,22 @@ FROM (SELECT r.code, t.upid, r.ptr, r.cookie, count(*) AS n, sum(c.verdict = 2) 
   WHERE c.served AND r.code IN (SELECT code FROM finding WHERE section = 'served') GROUP BY 1, 2, 3, 4) p
 WHERE section = 'served'
   AND (p.code, p.upid, p.ptr, p.cookie) = (finding.code, finding.upid, finding.ptr, finding.cookie);
--- Handles, by what gave them: the code of the transaction, or of the call that the reply answers. A handle that no
--- delivery gave has none.
+-- Handles, by what gave them: calls of a code, or replies to one. A handle that no delivery gave has no way.
 CREATE TEMP TABLE given AS
 SELECT g.id AS generation, g.upid, d.code, d.kind = 'BR_REPLY' AS reply, d.handle AS asked,
+  iif(d.kind = 'BR_REPLY', 'given by replies to code ' || d.code || ' of '
+    || coalesce(w.who || printf(' node 0x%x', n.ptr), 'handle ' || d.handle),
+    'given by calls of code ' || d.code) AS way,
   g.strong + g.weak > 0 AS kept
 FROM raw_generation g JOIN delivery d ON d.place = g.given_by
+  LEFT JOIN raw_send s ON s.place = d.call AND d.kind = 'BR_REPLY' LEFT JOIN node_of n ON n.generation = s.generation
+  LEFT JOIN who w ON w.upid = n.upid
 WHERE EXISTS (SELECT 1 FROM finding WHERE section = 'handles');
 CREATE UNIQUE INDEX temp.given_generation ON given(generation);
-CREATE TEMP TABLE given_path AS
-SELECT upid, code, reply, asked, count(*) AS n, sum(kept) AS kept FROM given GROUP BY 1, 2, 3, 4;
+CREATE TEMP TABLE given_way AS
+SELECT upid, way, count(*) AS n, sum(kept) AS kept FROM given WHERE way NOTNULL GROUP BY 1, 2;
+UPDATE finding SET n_all = w.n FROM given g JOIN given_way w ON w.upid = g.upid AND w.way = g.way
+WHERE section = 'handles' AND g.generation = finding.generation AND g.kept;
 
 -- Whether something is old: older than ten times the longest of its path, or where there is none ten times the median
 -- of all buffers or calls, of which 10,000 are looked at; 0.1 s at least.
@@ -315,10 +321,12 @@ INSERT INTO rule VALUES
   ('H4', 'maybe', 'Taken more than once, and still held.'),
   ('H5', 'maybe', 'Nearly all handles that came this way are kept.'),
   ('H6', 'normal', 'References in use.'),
+  ('H7', 'normal', 'Taken and let go of.'),
   ('D1', 'explained', 'Nothing of the handle is held any more: the driver has dropped the request.'),
   ('D2', 'maybe', 'A second request of a handle, which the driver does not take.'),
   ('D3', 'explained', 'The driver waits for the acknowledgement of the death.'),
   ('D4', 'maybe', 'It answers nothing.'),
+  ('D5', 'normal', 'No death was told: it waits for one.'),
   ('F1', 'real', 'Freed before.'),
   ('F2', 'real', 'An address that was never delivered to it.'),
   ('O1', 'real', 'Bad data that a process handed over: the driver refuses them.'),
@@ -467,20 +475,25 @@ SELECT upid, handle, max(strong) AS strong, max(weak) AS weak FROM (
   WINDOW changes AS (PARTITION BY t.upid, r.handle ORDER BY r.place)) GROUP BY 1, 2;
 CREATE UNIQUE INDEX temp.most_held_of ON most_held(upid, handle);
 UPDATE finding SET rule = 'H4',
-  note = iif(m.strong > 1 AND g.strong > 0, g.acquired || ' times', g.increfs || ' times, weakly')
+  note = iif(m.strong > 1 AND g.strong > 0, g.acquired || ' times, and let go of ' || g.released || ' times',
+    g.increfs || ' times, weakly, and let go of ' || g.decrefs || ' times')
 FROM raw_generation g JOIN most_held m USING (upid, handle)
 WHERE rule IS NULL AND section = 'handles' AND what = 'held' AND g.id = finding.generation
   AND (m.strong > 1 AND g.strong > 0 OR m.weak > 1 AND g.weak > 0);
-UPDATE finding SET rule = 'H5', code = g.code, n_all = p.n, path = iif(g.reply, 'given by replies to code ',
-  'given by calls of code ') || g.code
-FROM given g JOIN given_path p ON p.upid = g.upid AND p.code IS g.code AND p.reply = g.reply AND p.asked IS g.asked
+UPDATE finding SET rule = 'H5', code = g.code, path = g.way
+FROM given g JOIN given_way w ON w.upid = g.upid AND w.way = g.way
 WHERE rule IS NULL AND section = 'handles' AND what = 'held' AND g.generation = finding.generation
-  AND p.kept >= iif(g.reply, 4, 2) AND p.kept >= 0.8 * p.n AND coalesce(g.asked, 1) <> 0
+  AND w.kept >= iif(g.reply, 4, 2) AND w.kept >= 0.8 * w.n AND coalesce(g.asked, 1) <> 0
   AND finding.upid NOT IN (SELECT upid FROM manager);
 UPDATE finding SET rule = CASE WHEN later = 0 AND finding.id IN (SELECT id FROM ended) THEN 'T1'
   WHEN finding.upid IN (SELECT upid FROM lossy) THEN 'M1' WHEN later > 1 THEN 'U4' ELSE 'U6' END
 WHERE rule IS NULL AND section = 'nodes' AND EXISTS (SELECT 1 FROM report r WHERE r.id = finding.report
   AND NOT r.text GLOB '* 0 0');
+-- What is let go of is not in use, but for what buffers hold. Handles in use are one group with those that came so.
+UPDATE finding SET rule = 'H7' FROM handle_row h
+WHERE rule IS NULL AND h.id = finding.id AND h.what = 'balanced' AND h.text GLOB '* 0 0';
+UPDATE finding SET rule = 'H6', path = g.way, note = path FROM given g
+WHERE rule IS NULL AND section = 'handles' AND what = 'held' AND g.generation = finding.generation AND g.way NOTNULL;
 UPDATE finding SET rule = 'H6' WHERE rule IS NULL AND section IN ('handles', 'nodes');
 
 -- D: requests, deaths, clears.
@@ -500,7 +513,7 @@ CREATE UNIQUE INDEX temp.second_request_of ON second_request(upid, handle, cooki
 UPDATE finding SET rule = 'D2', note = 'the one before is at ' || q.before FROM second_request q
 WHERE rule IS NULL AND section IN ('requests', 'clears')
   AND (q.upid, q.handle, q.cookie) = (finding.upid, finding.handle, finding.cookie);
-UPDATE finding SET rule = 'H6' WHERE rule IS NULL AND section = 'requests';
+UPDATE finding SET rule = 'D5' WHERE rule IS NULL AND section = 'requests';
 UPDATE finding SET rule = 'D3', note = 'the one at ' || d.place FROM finding d
 WHERE finding.rule IS NULL AND finding.section = 'clears' AND finding.what = 'unconfirmed' AND d.section = 'deaths'
   AND d.what = 'unacknowledged' AND d.upid = finding.upid AND d.cookie = finding.cookie;
