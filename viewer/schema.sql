@@ -1,5 +1,5 @@
 -- The database of a capture. docs/DATABASE.md explains it: it is an interface, and this is its version.
-PRAGMA user_version = 1;
+PRAGMA user_version = 2;
 
 -- ---- raw tables: as the rows of `./listing --tables` come, column by column. They may change; the views below may
 -- not.
