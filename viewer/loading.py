@@ -128,17 +128,23 @@ def load_rows(database: pathlib.Path, rows: pathlib.Path) -> None:
 # ---- the programs
 
 
-def answer(root: pathlib.Path, program: str, *words: object) -> tuple[int, str]:
-    """The status of a program of the repository, 0 or 2, and what it wrote. What it tells, while it builds itself or of
-    a fault, goes to standard error."""
+def answer(root: pathlib.Path, to: pathlib.Path, program: str, *words: object) -> int:
+    """The status of a program of the repository, 0 or 2; what it writes goes into a file, since a report may be as long
+    as the capture. What it tells, while it builds itself or of a fault, goes to standard error."""
     try:
-        ended = subprocess.run([root / program, *map(str, words)], stdin=subprocess.DEVNULL, stdout=subprocess.PIPE)
+        with open(to, "wb") as out:
+            ended = subprocess.run([root / program, *map(str, words)], stdin=subprocess.DEVNULL, stdout=out)
     except OSError as error:
         raise Stopped(1, f"./{program}: {error.strerror}") from error
     if ended.returncode not in (0, 2):
         raise Stopped(ended.returncode if ended.returncode in (3, 4) else 1,
                       f"./{program} ended with status {ended.returncode}")
-    return ended.returncode, ended.stdout.decode()
+    return ended.returncode
+
+
+def fault_in(status: int, answered: pathlib.Path) -> str | None:
+    """The line of the first fault that a program wrote; None where it found none."""
+    return answered.read_text().strip() if status else None
 
 
 # ---- a malformed capture
@@ -343,21 +349,26 @@ class SideList:
 OF_PROCESSES = {"handles", "nodes", "oneway"}
 
 
-def load_report(database: sqlite3.Connection, text: str) -> None:
-    """The report, line by line; its heads are the rows of section `head`."""
-    rows, section = [], "head"
-    for line in text.splitlines():
-        words = line.split()
+def report_rows(lines: Iterable[str]) -> Iterator[tuple[str, int | None, int | None, int | None, str]]:
+    """The rows of a report: section, place, device, process, text. Its heads are the rows of section `head`."""
+    section = "head"
+    for line in lines:
+        words, text = line.split(), line.strip()
         if not line.startswith("  "):
             section = words[0]
-            rows.append(("head", None, None, None, line))
+            yield "head", None, None, None, text
         elif section == "codes":
-            rows.append((section, None, None, None, line.strip()))
+            yield section, None, None, None, text
         else:
             first = 0 if section in OF_PROCESSES else 1
-            place = int(words[0]) if first else None
-            rows.append((section, place, int(words[first]), int(words[first + 1]), line.strip()))
-    database.executemany("INSERT INTO report(section, place, device, process, text) VALUES (?, ?, ?, ?, ?)", rows)
+            yield section, int(words[0]) if first else None, int(words[first]), int(words[first + 1]), text
+
+
+def load_report(database: sqlite3.Connection, path: pathlib.Path) -> None:
+    """The report, line by line."""
+    with open(path, encoding="ascii") as lines:
+        database.executemany("INSERT INTO report(section, place, device, process, text) VALUES (?, ?, ?, ?, ?)",
+                             report_rows(lines))
 
 
 class Row:
@@ -380,19 +391,21 @@ class Row:
             self.ptr, self.cookie = signed(int(words[2], 16)), signed(int(words[3], 16))
 
 
-def load_findings(database: sqlite3.Connection) -> None:
-    """Each row of the report that says something of one thing is a finding; the rules judge them."""
+def findings_of(database: sqlite3.Connection) -> Iterator[tuple]:
+    """Each row of the report that says something of one thing."""
     upids = {(device, process): upid for upid, device, process in
              database.execute("SELECT upid, device, process FROM raw_process")}
-    rows = database.execute("SELECT id, section, place, device, process, text FROM report"
-                            " WHERE section NOT IN ('head', 'codes', 'oneway')").fetchall()
-    made = []
-    for number, section, place, device, process, text in rows:
+    for number, section, place, device, process, text in database.execute(
+            "SELECT id, section, place, device, process, text FROM report"
+            " WHERE section NOT IN ('head', 'codes', 'oneway')"):
         row = Row(section, text)
-        made.append((number, section, row.what, place, upids[device, process], row.handle, row.code, row.ptr,
-                     row.cookie))
+        yield number, section, row.what, place, upids[device, process], row.handle, row.code, row.ptr, row.cookie
+
+
+def load_findings(database: sqlite3.Connection) -> None:
+    """They are findings; the rules judge them."""
     database.executemany("INSERT INTO finding(report, section, what, place, upid, handle, code, ptr, cookie)"
-                         " VALUES (?, ?, ?, ?, ?, ?, ?, ?, ?)", made)
+                         " VALUES (?, ?, ?, ?, ?, ?, ?, ?, ?)", findings_of(database))
 
 
 # ---- all of it
@@ -449,22 +462,21 @@ def database_of(root: pathlib.Path, files: list[str], side: str | None, made: pa
     """Makes the database of a capture, with the report and what the rules say of it. Answers the line of its first
     fault; None where it has none."""
     refuse_unreadable(files)
-    rows = made.with_suffix(".rows")
+    rows, report, told = (made.with_suffix(f".{what}") for what in ("rows", "report", "told"))
     rows.mkdir()
     # One after another: each of them may need more memory than the capture has bytes.
     tell("judging the capture")
-    auditing, report = answer(root, "audit", "report", *files)
+    malformed = fault_in(answer(root, report, "audit", "report", *files), report)
     tell("reading the capture")
-    listing, fault = answer(root, "listing", "--tables", rows, *files)
-    malformed = fault.strip() or None
-    if (listing, malformed) != (auditing, report.strip() if auditing else None):
-        raise Stopped(1, f"./listing and ./audit do not agree: {fault.strip()!r} and {report[:80]!r}")
+    listed = fault_in(answer(root, told, "listing", "--tables", rows, *files), told)
+    if listed != malformed:
+        raise Stopped(1, f"./listing and ./audit do not agree: {listed!r} and {malformed!r}")
     tell("making the database")
     load_rows(made, rows)
     shutil.rmtree(rows)
     database = open_database(made)
     if malformed:
-        _, report = answer(root, "audit", "report", *before_fault(database, files, made.parent))
+        answer(root, report, "audit", "report", *before_fault(database, files, made.parent))
     tell("judging")
     database.execute("BEGIN")
     taken = SideList(database)
