@@ -113,7 +113,7 @@ def texts(folder):
 
 
 class Books:
-    """The books of one scenario: what stands in them at its end, and what they counted since its beginning."""
+    """The books of one scenario: what is in them at its end, and what they counted since its beginning."""
 
     def __init__(self, text):
         self.openings = state(text["state"])

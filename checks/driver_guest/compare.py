@@ -3,7 +3,7 @@
 
 Each folder in FOLDER is a scenario. The capture has to be well formed, and what the recorder lost has to be in the side
 list. The report is compared with the driver's books by sections.py, and, where the witness was there too, the two
-recordings frame by frame. A difference that is explained stands in the list `explained`, with its reason; any other one
+recordings frame by frame. A difference that is explained is in the list `explained`, with its reason; any other one
 is named, and the status is then 1. So it is where wrong books are not found: of each section one count is changed.
 """
 
@@ -21,7 +21,7 @@ HERE = pathlib.Path(__file__).resolve().parent
 
 
 def lines_of(name):
-    """The lines of a list in words; the comment in front of a line is its reason."""
+    """The lines of a list in words; the comment before a line is its reason."""
     reason = ""
     for line in (HERE / name).read_text().splitlines():
         if line.startswith("#"):
@@ -106,7 +106,7 @@ def lost_differences(recording):
         yield "lost", "all", why, count, 0
 
 
-PARTIAL = {"late", "killed", "stopped", "full"}		# the recorder was not there from the beginning to the end
+PARTIAL = {"late", "killed", "stopped", "full", "narrow"}	# the recorder was not there from the beginning to the end
 MOST_CUT = 8192		# bytes of a last frame of the load, which a recorder that is killed may leave cut
 
 
@@ -122,6 +122,8 @@ class Scenario:
         self.text = text
         self.output = (folder / "output").read_text(errors="replace") if (folder / "output").exists() else ""
         self.report = Report(text) if code == 0 else None
+        if self.how == "stored" and self.recording.lost:
+            self.how = "narrow"
         self.books = books_of.texts(folder) if (folder / "state").exists() else None
 
     def differences(self, texts=None):
@@ -134,6 +136,8 @@ class Scenario:
             found = [item for item in lost_differences(self.recording) if item[2] in ("untold", "broken", "not-written")]
             if self.how == "full" and "ring-full" not in {why for _, why in self.recording.lost}:
                 found.append(("lost", "all", "ring-full", 0, "some"))
+            if self.how == "narrow" and not self.recording.lost:
+                found.append(("lost", "all", "frames", 0, "some"))
             if self.recording.cut > MOST_CUT:
                 found.append(("capture", "all", "cut", self.recording.cut, 0))
             if not self.recording.frames:

@@ -52,7 +52,7 @@ static void object_client(void)
 	put_flat(&parcel, BINDER_TYPE_WEAK_HANDLE, handle, 0, 0);
 	put_descriptor(&parcel, descriptors[0]);
 	if (send_parcel(&exchange, handle, KEEP_BUFFER, TF_ACCEPT_FDS, &parcel, NULL) != BR_REPLY) fail("objects: call");
-	put_bytes(&gathered, "8 bytes.", 8);	/* the driver takes no array whose buffer object stands at offset 0 */
+	put_bytes(&gathered, "8 bytes.", 8);	/* the driver takes no array whose buffer object is at offset 0 */
 	put_pointer_and_array(&gathered, descriptors, 2);
 	if (send_parcel(&exchange, handle, ECHO, 0, &gathered, NULL) != BR_REPLY) fail("objects: gathered");
 	parcel.offsets[1] += 2;		/* not aligned: the driver refuses it */

@@ -5,6 +5,7 @@ struct scenario {
 	const char *name;
 	void (*run)(void);
 };
-extern const struct scenario call_scenarios[], held_scenarios[], end_scenarios[], odd_scenarios[], many_scenarios[], fault_scenarios[];
+extern const struct scenario call_scenarios[], held_scenarios[], end_scenarios[], odd_scenarios[], many_scenarios[], fault_scenarios[],
+	gap_scenarios[];
 extern int scale;	/* how much of it is done, where the scenario can do more or less */
 #endif
