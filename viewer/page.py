@@ -158,7 +158,8 @@ class Page:
 
     def __init__(self, database: sqlite3.Connection, files: list[str], side: str | None):
         self.database = database
-        self.command = " ".join(["./listing", *map(shlex.quote, files)])
+        named = " ".join(map(shlex.quote, files))
+        self.command, self.report = f"./listing {named}", f"./audit report {named}"
         self.side = "" if side is None else f" --side {shlex.quote(side)}"
         self.facts = dict(database.execute("SELECT key, value FROM capture"))
         self.who = dict(database.execute("SELECT upid, who FROM who"))
@@ -256,7 +257,7 @@ class Page:
         for row in found[:FINDINGS]:
             if row[0] != section and row[6]:
                 section = row[0]
-                rows += f'<tr><td colspan=3><td class="of">{section}: {COLUMNS[section]}\n'
+                rows += f'<tr><td colspan=3><td class="of">{section}: {COLUMNS[section]} (docs/REPORT.md#{section})\n'
             rows += self.finding(row)
         return f'<div class="scroll" tabindex=0 role=region aria-label="findings"><table>{rows}</table></div>{more}'
 
@@ -355,7 +356,8 @@ class Page:
     def heads(self) -> str:
         lines = "".join(f'<div class="proved">{text_of(text)}</div>' for text, in
                         self.ask("SELECT text FROM report WHERE section = 'head' ORDER BY id"))
-        return f'<div class="box heads">{lines}</div>'
+        return (f'<p class="dim"><code>{text_of(self.report)}</code> writes the whole of it, and docs/REPORT.md explains'
+                f' each section.</p><div class="box heads">{lines}</div>')
 
     def parts(self) -> Iterator[str]:
         yield self.head()
