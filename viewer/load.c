@@ -1,11 +1,12 @@
 /*
  * Loads the raw tables of a capture into a new SQLite database.
  *
- *     load DATABASE FOLDER SCHEMA
+ *     load DATABASE FOLDER SCHEMA [SIDE]
  *
  * DATABASE is made and may not exist. SCHEMA is a file of SQL statements that makes the tables: each one whose name
  * begins with raw_ takes the rows of FOLDER/NAME.rows, where NAME is what follows raw_. docs/DATABASE.md says what a
- * row is. How many columns a table has, the schema alone says. All is one transaction.
+ * row is. How many columns a table has, the schema alone says. Of SIDE, a side list, side_time takes the lines of frames;
+ * the others are not looked at. All is one transaction.
  *
  * Status 0: all is loaded. Status 1: standard error has a line that says why not, and DATABASE is not whole.
  * This is no part of what is proved: it copies numbers, and checks that rows are whole.
@@ -22,7 +23,7 @@
 #include <sys/stat.h>
 #include <unistd.h>
 
-enum { MOST_COLUMNS = 63, LONGEST_NAME = 256, KEPT = 1 << 26 };
+enum { MOST_COLUMNS = 63, LONGEST_NAME = 256, KEPT = 1 << 26, MOST_DIGITS = 18 };
 
 static void stop(const char *format, ...) __attribute__((noreturn, format(printf, 1, 2)));
 
@@ -255,6 +256,45 @@ static void load_tables(sqlite3 *database, const char *folder, struct rows **cur
 	sqlite3_finalize(next);
 }
 
+/* What follows a number of at most 18 digits; NULL where there is none. */
+static const char *after_number(const char *at, const char *end, sqlite3_int64 *number)
+{
+	const char *begin = at;
+	for (*number = 0; at < end && at - begin < MOST_DIGITS && *at >= '0' && *at <= '9'; at++)
+		*number = *number * 10 + (*at - '0');
+	return at > begin ? at : NULL;
+}
+
+/* Whether a line is one of a frame: a time, the word, a number, and nothing else. */
+static int is_of_frame(const char *line, const char *end, sqlite3_int64 *time, sqlite3_int64 *number)
+{
+	static const char word[] = " frame ";
+	const char *at = after_number(line, end, time);
+	if (!at || (size_t)(end - at) < sizeof word - 1 || memcmp(at, word, sizeof word - 1))
+		return 0;
+	return after_number(at + sizeof word - 1, end, number) == end;
+}
+
+static void load_times(sqlite3 *database, const char *path)
+{
+	size_t length;
+	unsigned char *bytes = bytes_of(path, &length);
+	const char *line = (const char *)bytes, *last = line + length, *end;
+	sqlite3_stmt *next = prepared(database, "INSERT OR REPLACE INTO side_time(ts, seq) VALUES (?, ?)");
+	for (; line < last && (end = memchr(line, '\n', (size_t)(last - line))); line = end + 1) {
+		sqlite3_int64 time, number;
+		if (!is_of_frame(line, end, &time, &number))
+			continue;
+		sqlite3_bind_int64(next, 1, time);
+		sqlite3_bind_int64(next, 2, number);
+		if (sqlite3_step(next) != SQLITE_DONE)
+			stop("%s", sqlite3_errmsg(database));
+		sqlite3_reset(next);
+	}
+	sqlite3_finalize(next);
+	forget(bytes, length);
+}
+
 static void run_file(sqlite3 *database, const char *path)
 {
 	size_t length;
@@ -267,8 +307,8 @@ static void run_file(sqlite3 *database, const char *path)
 
 int main(int count, char **words)
 {
-	if (count != 4) {
-		fputs("usage: load DATABASE FOLDER SCHEMA\n", stderr);
+	if (count != 4 && count != 5) {
+		fputs("usage: load DATABASE FOLDER SCHEMA [SIDE]\n", stderr);
 		return 64;
 	}
 	int made = open(words[1], O_WRONLY | O_CREAT | O_EXCL, 0644);
@@ -286,6 +326,8 @@ int main(int count, char **words)
 	run(database, "PRAGMA page_size=8192; PRAGMA journal_mode=OFF; PRAGMA synchronous=OFF; PRAGMA locking_mode=EXCLUSIVE; BEGIN");
 	run_file(database, words[3]);
 	load_tables(database, words[2], &current);
+	if (count == 5)
+		load_times(database, words[4]);
 	run(database, "COMMIT");
 	if (sqlite3_close(database) != SQLITE_OK)
 		stop("%s: %s", words[1], sqlite3_errmsg(database));

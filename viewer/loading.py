@@ -65,8 +65,9 @@ def loader() -> pathlib.Path | None:
 # ---- rows
 
 
-def load_by_program(program: pathlib.Path, database: pathlib.Path, rows: pathlib.Path) -> None:
-    loaded = subprocess.run([program, database, rows, FOLDER / "schema.sql"], capture_output=True, text=True)
+def load_by_program(program: pathlib.Path, database: pathlib.Path, rows: pathlib.Path, side: str | None) -> None:
+    loaded = subprocess.run([program, database, rows, FOLDER / "schema.sql", *([] if side is None else [side])],
+                            capture_output=True, text=True)
     if loaded.returncode:
         raise Stopped(4, loaded.stderr.strip().removeprefix("load: "))
 
@@ -98,7 +99,7 @@ def rows_in(data: mmap.mmap, path: pathlib.Path, columns: int) -> Iterator[tuple
 
 
 def load_by_python(database: pathlib.Path, rows: pathlib.Path) -> None:
-    """The same as the loader in C, and some five times slower."""
+    """The same as the loader in C, but for times of frames, and some five times slower."""
     with open(database, "xb"):
         pass
     made = open_database(database)
@@ -116,13 +117,15 @@ def load_by_python(database: pathlib.Path, rows: pathlib.Path) -> None:
     made.close()
 
 
-def load_rows(database: pathlib.Path, rows: pathlib.Path) -> None:
-    """A new database of the `.rows` files of a folder: by the loader, or where it can't be built by Python."""
+def load_rows(database: pathlib.Path, rows: pathlib.Path, side: str | None) -> bool:
+    """A new database of the `.rows` files of a folder: by the loader, or where it can't be built by Python. Answers
+    whether it has the times of frames of the side list, which the loader takes too."""
     program = loader()
     if program is None:
         load_by_python(database, rows)
     else:
-        load_by_program(program, database, rows)
+        load_by_program(program, database, rows, side)
+    return program is not None
 
 
 # ---- the programs
@@ -238,17 +241,18 @@ FRAME_LINE = re.compile(r"([0-9]{1,18}) frame ([0-9]{1,18})\n")
 
 
 class SideList:
-    """Puts the lines of a side list into the database."""
+    """Puts the lines of a side list into the database, those of frames where it has not got them yet."""
 
-    def __init__(self, database: sqlite3.Connection):
-        self.database = database
+    def __init__(self, database: sqlite3.Connection, has_times: bool):
+        self.database, self.has_times = database, has_times
         self.facts: dict[str, object] = {"side_list": 1}
         self.pending: list[tuple[int, int]] = []
+        self.frame: re.Match[str] | None = None
         self.told = 0
 
     def last(self) -> int:
         """The last number that the list has told of so far, of a frame or of a lost one."""
-        return max(self.told, self.pending[-1][1]) if self.pending else self.told
+        return max(self.told, int(self.frame[2])) if self.frame else self.told
 
     def load(self, path: str) -> None:
         """All lines of a side list. A last one that was cut short is left out."""
@@ -268,13 +272,12 @@ class SideList:
         self.facts["side_doubt"] = fit.doubt(self.database, self.last())
 
     def take_lines(self, lines: Iterable[str], path: str) -> None:
-        pending = self.pending
         for line in lines:
             # Nearly all lines are those of frames, so they are not taken apart like the others.
             if frame := FRAME_LINE.match(line):
-                pending.append((int(frame[1]), int(frame[2])))
-                if len(pending) >= 100_000:
-                    self.flush()
+                self.frame = frame
+                if not self.has_times:
+                    self.add_time(int(frame[1]), int(frame[2]))
             elif line.endswith("\n"):
                 self.take(line_of(line[:-1], path), path)
 
@@ -290,11 +293,17 @@ class SideList:
 
     def flush(self) -> None:
         self.database.executemany("INSERT OR REPLACE INTO side_time(ts, seq) VALUES (?, ?)", self.pending)
-        self.told = self.last()
         self.pending.clear()
 
+    def add_time(self, time: int, seq: int) -> None:
+        self.pending.append((time, seq))
+        if len(self.pending) >= 100_000:
+            self.flush()
+
     def take_frame(self, time: int, positional: list[str], _: dict[str, str]) -> None:
-        self.pending.append((time, *numbers(positional, 1)))
+        seq, = numbers(positional, 1)
+        self.told = max(self.told, seq)
+        self.add_time(time, seq)
 
     def take_begin(self, time: int, _: list[str], keyed: dict[str, str]) -> None:
         self.facts.update(begin_ts=time, realtime=number(keyed["realtime"]), kernel=keyed["kernel"],
@@ -472,14 +481,14 @@ def database_of(root: pathlib.Path, files: list[str], side: str | None, made: pa
     if listed != malformed:
         raise Stopped(1, f"./listing and ./audit do not agree: {listed!r} and {malformed!r}")
     tell("making the database")
-    load_rows(made, rows)
+    has_times = load_rows(made, rows, side)
     shutil.rmtree(rows)
     database = open_database(made)
     if malformed:
         answer(root, report, "audit", "report", *before_fault(database, files, made.parent))
     tell("judging")
     database.execute("BEGIN")
-    taken = SideList(database)
+    taken = SideList(database, has_times)
     if side is not None:
         taken.load(side)
         taken.judge()
