@@ -292,6 +292,7 @@ INSERT INTO rule VALUES
   ('A1', 'explained', 'The other end, or the buffer, of a call: one finding with it.'),
   ('M1', 'explained', 'Frames of its process are missing, and the one that it lacks may be among them.'),
   ('M2', 'maybe', 'It has lasted as what is real does, but frames of its process are missing.'),
+  ('M3', 'maybe', 'An error reply ended a send, and it need not be this one: frames of its process are missing.'),
   ('P1', 'explained', 'What came before the capture is not known, and it may belong there.'),
   ('T1', 'explained', 'Its process or thread ended then, and the driver has let it go.'),
   ('U1', 'explained', 'Under way: others of its path took as long.'),
@@ -433,6 +434,10 @@ UPDATE finding SET rule = CASE
   WHEN finding.upid IN (SELECT upid FROM lossy) THEN 'M1'
   WHEN (SELECT known FROM process_life p WHERE p.upid = finding.upid) THEN 'S4' ELSE 'P1' END
 WHERE rule IS NULL AND (section = 'strays' OR what = 'crossed');
+
+-- M: where frames are missing, an error reply may be taken for that of another send; but not of one with bad objects.
+UPDATE finding SET rule = 'M3' WHERE rule IN ('E1', 'E5', 'E6', 'S1', 'S2') AND upid IN (SELECT upid FROM lossy)
+  AND place NOT IN (SELECT place FROM finding WHERE section = 'objects');
 
 -- U: buffers.
 UPDATE finding SET rule = 'T1' WHERE rule IS NULL AND section = 'buffers' AND later = 0
