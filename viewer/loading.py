@@ -493,6 +493,7 @@ def database_of(root: pathlib.Path, files: list[str], side: str | None, made: pa
         taken.load(side)
         taken.judge()
     load_report(database, report)
+    report.unlink()
     load_facts(database, files, malformed, taken.facts if side is not None else {})
     load_findings(database)
     database.execute("COMMIT")

@@ -356,8 +356,8 @@ class Page:
     def heads(self) -> str:
         lines = "".join(f'<div class="proved">{text_of(text)}</div>' for text, in
                         self.ask("SELECT text FROM report WHERE section = 'head' ORDER BY id"))
-        return (f'<p class="dim"><code>{text_of(self.report)}</code> writes the whole of it, and docs/REPORT.md explains'
-                f' each section.</p><div class="box heads">{lines}</div>')
+        return (f'<p class="dim"><code>{text_of(self.report)}</code> writes the whole of it, and docs/REPORT.md'
+                f' explains each section.</p><div class="box heads">{lines}</div>')
 
     def parts(self) -> Iterator[str]:
         yield self.head()
@@ -378,8 +378,8 @@ class Page:
                " end, are what a leak looks like. After its end a process holds nothing, and a call ends with its"
                " thread.</p>" + self.levels())
         yield "<h2>Calls without an answer, and those that took longest</h2>" + self.slow_calls()
-        yield ('<details class="fold"><summary>Normal rows: references and requests in use</summary>'
-               + self.groups("normal") + "</details>")
+        yield ('<details class="fold"><summary>Normal rows: references in use or let go of, and requests that wait'
+               "</summary>" + self.groups("normal") + "</details>")
         yield "<h2>The heads of the proved report</h2>" + self.heads()
 
 
