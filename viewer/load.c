@@ -5,8 +5,8 @@
  *
  * DATABASE is made and may not exist. SCHEMA is a file of SQL statements that makes the tables: each one whose name
  * begins with raw_ takes the rows of FOLDER/NAME.rows, where NAME is what follows raw_. docs/DATABASE.md says what a
- * row is. How many columns a table has, the schema alone says. Of SIDE, a side list, side_time takes the lines of frames;
- * the others are not looked at. All is one transaction.
+ * row is. How many columns a table has, the schema alone says. side_time takes the lines of frames of SIDE, a side list.
+ * All is one transaction.
  *
  * Status 0: all is loaded. Status 1: standard error has a line that says why not, and DATABASE is not whole.
  * This is no part of what is proved: it copies numbers, and checks that rows are whole.
