@@ -47,13 +47,14 @@ fn sources(
 fn expect<T: Abort>(
     rt: &T,
     alloc: Global,
+    side: Option<Source>,
     sources: Vec<Source>,
     outcome: Result<u8, ListingError>,
     text: &[u8],
 ) {
     let mut out = Vec::new(alloc);
     let mut err = Vec::new(alloc);
-    let listed = list_parts(alloc, &all(alloc), None, sources, &mut out, &mut err);
+    let listed = list_parts(alloc, &all(alloc), side, sources, &mut out, &mut err);
     assert_eq!(rt; listed, outcome);
     assert_eq!(rt; out.as_slice(), text);
     assert!(rt; err.is_empty());
@@ -66,6 +67,7 @@ fn names_the_fault_in_its_part(rt: HostRuntime) -> Result<(), Fail> {
     expect(
         &rt,
         alloc,
+        None,
         sources(alloc, [ENTER, ENTER], false)?,
         Ok(2),
         text,
@@ -78,7 +80,33 @@ fn lists_what_comes_before_a_failed_read(rt: HostRuntime) -> Result<(), Fail> {
     let alloc = rt.alloc();
     let text = b"48 1 0 100 101 BC_ENTER_LOOPER\n";
     let parts = sources(alloc, [ENTER, ENTER], true)?;
-    expect(&rt, alloc, parts, Err(ListingError::Read), text);
+    expect(&rt, alloc, None, parts, Err(ListingError::Read), text);
+    Ok(())
+}
+
+#[test]
+fn reads_the_side_list_as_far_as_the_frames_go(rt: HostRuntime) -> Result<(), Fail> {
+    let alloc = rt.alloc();
+    let side = Source {
+        bytes: b"5 thread 0 100 101 pid=7 tid=8 name=a b\n9 frame 1\n",
+        fails: true,
+    };
+    let text = b"48 1 0 100 101 BC_ENTER_LOOPER time=9 pid=7 tid=8 thread=a b process=\n\
+malformed FrameSequence at 16 in part 2\n";
+    let parts = sources(alloc, [ENTER, ENTER], false)?;
+    expect(&rt, alloc, Some(side), parts, Ok(2), text);
+    Ok(())
+}
+
+#[test]
+fn ends_where_the_side_list_fails(rt: HostRuntime) -> Result<(), Fail> {
+    let alloc = rt.alloc();
+    let side = Source {
+        bytes: b"5 frame",
+        fails: true,
+    };
+    let parts = sources(alloc, [ENTER, ENTER], false)?;
+    expect(&rt, alloc, Some(side), parts, Err(ListingError::Read), b"");
     Ok(())
 }
 
@@ -92,7 +120,14 @@ fn expect_refused<T: Abort>(
 ) {
     let mut out = Refusing(kind);
     let mut err = Vec::new(alloc);
-    let listed = list_parts(alloc, &all(alloc), None, parts, &mut out, &mut err);
+    let listed = list_parts(
+        alloc,
+        &all(alloc),
+        None::<Source>,
+        parts,
+        &mut out,
+        &mut err,
+    );
     assert_eq!(rt; listed, Err(due));
 }
 

@@ -1,9 +1,7 @@
 //! What is asked of a capture.
 
-use crate::attached::has_named;
-use crate::content::Item;
-use crate::fields::{fields_of, has_field};
-use capture_frame::{Direction, Frame};
+use capture_frame::Frame;
+use record_fields::{Item, direction_number, fields_of, has_field, has_named};
 use record_view::Record;
 use transaction_view::Transaction;
 
@@ -82,11 +80,15 @@ impl Asked {
     /// Whether records of this frame are asked for.
     pub(crate) fn has_frame(&self, frame: Frame<'_>) -> bool {
         self.words.is_empty()
-            || self.has(Narrowing::Device, u64::from(frame.device))
-                && self.has(Narrowing::Process, u64::from(frame.process))
-                && self.has(Narrowing::Thread, u64::from(frame.thread))
-                && self.has(Narrowing::Direction, direction_number(frame.direction))
-                && self.has_sequence(frame.sequence)
+            || self.has(Narrowing::Device, Held::Is(u64::from(frame.device)))
+                && self.has(Narrowing::Process, Held::Is(u64::from(frame.process)))
+                && self.has(Narrowing::Thread, Held::Is(u64::from(frame.thread)))
+                && self.has(
+                    Narrowing::Direction,
+                    Held::Is(direction_number(frame.direction)),
+                )
+                && self.has(Narrowing::From, Held::From(frame.sequence))
+                && self.has(Narrowing::To, Held::To(frame.sequence))
     }
 
     /// Whether the record is asked for, but for its place.
@@ -97,32 +99,18 @@ impl Asked {
                 && self.has_transaction(item.record)
     }
 
-    /// Whether the number is one of those behind a narrowing, if there are any.
-    fn has(&self, narrowing: Narrowing, number: u64) -> bool {
+    /// Whether what a frame or a record holds fits a number behind a narrowing, if there are any.
+    fn has(&self, narrowing: Narrowing, held: Held) -> bool {
         let mut asked = false;
         for word in &self.words {
             if word.narrowing == narrowing {
-                if word.number == number {
+                if held.fits(word.number) {
                     return true;
                 }
                 asked = true;
             }
         }
         !asked
-    }
-
-    fn has_sequence(&self, sequence: u64) -> bool {
-        let mut from = u64::MAX;
-        let mut to = 0;
-        for word in &self.words {
-            match word.narrowing {
-                Narrowing::From => from = from.min(word.number),
-                Narrowing::To => to = to.max(word.number),
-                _ => {}
-            }
-        }
-        (from <= sequence || !self.narrows(Narrowing::From))
-            && (sequence <= to || !self.narrows(Narrowing::To))
     }
 
     fn narrows(&self, narrowing: Narrowing) -> bool {
@@ -184,44 +172,39 @@ impl Asked {
             return true;
         }
         match Transaction::of(record) {
-            Some(transaction) => self.has_flags(transaction.flags())
-                && self.has_size(transaction.data_size()),
+            Some(transaction) => {
+                self.has(Narrowing::Flag, Held::Bits(u64::from(transaction.flags())))
+                    && self.has(Narrowing::Larger, Held::Size(transaction.data_size()))
+            }
             None => false,
         }
     }
-
-    fn has_flags(&self, flags: u32) -> bool {
-        let mut asked = false;
-        for word in &self.words {
-            if word.narrowing == Narrowing::Flag {
-                if u64::from(flags) & word.number != 0 {
-                    return true;
-                }
-                asked = true;
-            }
-        }
-        !asked
-    }
-
-    fn has_size(&self, size: u64) -> bool {
-        let mut asked = false;
-        for word in &self.words {
-            if word.narrowing == Narrowing::Larger {
-                if size > word.number {
-                    return true;
-                }
-                asked = true;
-            }
-        }
-        !asked
-    }
 }
 
-/// The number of a direction in a frame header.
-pub(crate) fn direction_number(direction: Direction) -> u64 {
-    match direction {
-        Direction::Write => 1,
-        Direction::Read => 2,
+/// What a frame or a record holds, to be held against the numbers behind a narrowing.
+#[derive(Clone, Copy)]
+enum Held {
+    /// It is the number.
+    Is(u64),
+    /// It is that number or a higher one.
+    From(u64),
+    /// It is that number or a lower one.
+    To(u64),
+    /// It has one of the number's bits.
+    Bits(u64),
+    /// It is higher.
+    Size(u64),
+}
+
+impl Held {
+    fn fits(self, number: u64) -> bool {
+        match self {
+            Held::Is(held) => held == number,
+            Held::From(held) => number <= held,
+            Held::To(held) => held <= number,
+            Held::Bits(held) => held & number != 0,
+            Held::Size(held) => held > number,
+        }
     }
 }
 

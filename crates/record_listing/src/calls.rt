@@ -1,28 +1,9 @@
 //! Calls from their openers to their closers.
 
-use crate::content::Item;
-use binder_code::TransactionFlags;
-use bitflags::Flags;
 use capture_frame::{Frame, Thread};
 use event_core::{Bracket, Mark, bracket_of, mark_of};
+use record_fields::{Item, is_oneway, thread_of};
 use record_view::Record;
-use transaction_view::Transaction;
-
-/// The thread that made a frame's call.
-pub(crate) fn thread_of(frame: Frame<'_>) -> Thread {
-    Thread {
-        process: frame.of_process(),
-        number: frame.thread,
-    }
-}
-
-/// Whether a record is a transaction, or a reply, with TF_ONE_WAY.
-pub(crate) fn is_oneway(record: Record<'_>) -> bool {
-    match Transaction::of(record) {
-        Some(transaction) => transaction.flags() & TransactionFlags::TF_ONE_WAY.bits() != 0,
-        None => false,
-    }
-}
 
 /// A call that is followed from its opener on.
 #[derive(Clone, Copy)]

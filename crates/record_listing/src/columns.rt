@@ -1,11 +1,9 @@
 //! The line of a record in columns.
 
-use crate::content::Item;
-use crate::fields::{Field, fields_of};
 use crate::line::{push_counted, push_value};
-use crate::text::{push_decimal, push_digits};
 use crate::whole::direction_name;
 use capture_frame::Frame;
+use record_fields::{Field, Item, fields_of, push_decimal, push_digits};
 use record_view::Record;
 use std::alloc::AllocError;
 
@@ -54,15 +52,27 @@ fn push_record(text: &mut String, record: Record<'_>) -> Result<(), AllocError> 
     let mut rest = fields_of(record.kind);
     for name in FIELDS {
         text.push_str("\t")?;
-        rest = from_listed(rest);
-        if let Some((field, others)) = rest.split_first()
-            && field.0 == name
-        {
-            push_field(text, *field, record.payload)?;
-            rest = others;
-        }
+        rest = push_column(text, name, rest, record.payload)?;
     }
     Ok(())
+}
+
+/// Pushes the field of this name, where it is the next listed one of these, and gives those that are
+/// left.
+fn push_column<'f>(
+    text: &mut String,
+    name: &str,
+    fields: &'f [Field],
+    payload: &[u8],
+) -> Result<&'f [Field], AllocError> {
+    let rest = from_listed(fields);
+    if let Some((field, others)) = rest.split_first()
+        && field.0 == name
+    {
+        push_field(text, *field, payload)?;
+        return Ok(others);
+    }
+    Ok(rest)
 }
 
 /// The fields from the first listed one on.

@@ -1,14 +1,14 @@
 //! The words of the command line, and what they ask for.
 
 use crate::asked::{Asked, Form, Narrowing, Sought, Word};
-use crate::error::ListingError;
 use crate::kinds::kind_named;
 use crate::number::number_of;
-use crate::tables::{Name, name_of};
 use binder_code::TransactionFlags;
 use bitflags::Flags;
 use clap::error::ErrorKind;
 use clap::{Arg, ArgAction, ArgMatches, Command, Error};
+use record_fields::ListingError;
+use record_tables::{Name, name_of};
 use std::alloc::{AllocError, Global};
 
 /// The options that narrow what is listed, each with what it narrows. `code` has a name in place of
@@ -35,6 +35,9 @@ const PLACES: [(&str, Sought); 3] = [
     ("frame", Sought::Frame),
     ("call", Sought::Call),
 ];
+
+/// The other options with a value.
+const OTHERS: [&str; 4] = ["form", "side", "table", "tables"];
 
 /// Why words are not taken.
 #[derive(Clone, Copy)]
@@ -65,19 +68,33 @@ fn objects<'a>(alloc: Global) -> Arg<'a> {
 }
 
 fn command<'a>(alloc: Global) -> Result<Command<'a>, AllocError> {
-    let mut command = Command::new(alloc, "listing").arg(files(alloc))?;
+    let command = Command::new(alloc, "listing").arg(files(alloc))?;
+    let command = with_narrowings(alloc, command.arg(objects(alloc))?)?;
+    with_others(alloc, with_places(alloc, command)?)
+}
+
+fn with_narrowings<'a>(alloc: Global, command: Command<'a>) -> Result<Command<'a>, AllocError> {
+    let mut command = command;
     for (name, _) in NARROWINGS {
         command = command.arg(option(alloc, name))?;
     }
+    Ok(command)
+}
+
+fn with_places<'a>(alloc: Global, command: Command<'a>) -> Result<Command<'a>, AllocError> {
+    let mut command = command;
     for (name, _) in PLACES {
         command = command.arg(option(alloc, name))?;
     }
-    command
-        .arg(objects(alloc))?
-        .arg(option(alloc, "form"))?
-        .arg(option(alloc, "side"))?
-        .arg(option(alloc, "table"))?
-        .arg(option(alloc, "tables"))
+    Ok(command)
+}
+
+fn with_others<'a>(alloc: Global, command: Command<'a>) -> Result<Command<'a>, AllocError> {
+    let mut command = command;
+    for name in OTHERS {
+        command = command.arg(option(alloc, name))?;
+    }
+    Ok(command)
 }
 
 fn refusal(error: &Error) -> WordsError {
@@ -137,14 +154,18 @@ pub(crate) fn asked_of(alloc: Global, matches: &ArgMatches<'_>) -> Result<Asked,
         objects: matches.get_flag("objects"),
         form: Form::Lines,
     };
+    ask(&mut asked, matches)?;
+    Ok(asked)
+}
+
+fn ask(asked: &mut Asked, matches: &ArgMatches<'_>) -> Result<(), ListingError> {
     for (name, narrowing) in NARROWINGS {
-        push_words(&mut asked, matches, name, narrowing)?;
+        push_words(asked, matches, name, narrowing)?;
     }
     for (name, sought) in PLACES {
-        push_places(&mut asked, matches, name, sought)?;
+        push_places(asked, matches, name, sought)?;
     }
-    set_form(&mut asked, matches)?;
-    Ok(asked)
+    set_form(asked, matches)
 }
 
 /// Pushes the words behind an option.

@@ -1,8 +1,8 @@
 //! The flags of a transaction, by name.
 
-use crate::text::push_hexadecimal;
 use binder_code::{TransactionFlags, unknown_bits};
 use bitflags::Flags;
+use record_fields::push_hexadecimal;
 use std::alloc::AllocError;
 
 /// Pushes the flags of a word by name, with `|` between them, and the bits that no flag has as a

@@ -3,29 +3,22 @@
 #![tactic(auto)]
 
 mod asked;
-mod attached;
 mod calls;
 mod columns;
 mod command_line;
-mod content;
-mod error;
-mod fields;
 mod flags;
 mod help;
 mod kinds;
 mod line;
 mod number;
+mod objects;
 mod output;
 mod parts;
 mod side;
 mod status;
-mod stopped;
-mod tables;
-mod text;
 mod whole;
 
 pub use asked::{Asked, Form, Narrowing, Sought, Word};
-pub use content::{Content, Item};
-pub use error::ListingError;
 pub use parts::list_parts;
+pub use record_fields::ListingError;
 pub use status::{ended, program};

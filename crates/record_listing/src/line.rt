@@ -1,11 +1,11 @@
 //! The line of a record.
 
-use crate::content::Item;
-use crate::fields::{Field, Value, fields_of};
 use crate::flags::push_flags;
-use crate::text::{push_decimal, push_digits, push_hexadecimal, push_signed};
 use binder_code::Kind;
 use capture_frame::Frame;
+use record_fields::{
+    Field, Item, Value, fields_of, push_decimal, push_digits, push_hexadecimal, push_signed,
+};
 use record_view::Record;
 use std::alloc::AllocError;
 

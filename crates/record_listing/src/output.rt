@@ -1,8 +1,8 @@
 //! The lines that are written.
 
-use crate::error::ListingError;
+use record_fields::{ListingError, write_error};
 use std::alloc::Global;
-use std::io::{Error, ErrorKind, Write};
+use std::io::Write;
 
 /// How many bytes are written at a time, but for the last line's.
 const PIECE: usize = 65_536;
@@ -42,13 +42,5 @@ impl<'w, W: Write> Output<'w, W> {
         let written = self.writer.write_all(self.text.as_bytes());
         self.text.clear();
         written.map_err(|error| write_error(&error))
-    }
-}
-
-/// What ends a listing that can't be written.
-pub(crate) fn write_error(error: &Error) -> ListingError {
-    match error.kind() {
-        ErrorKind::BrokenPipe => ListingError::Closed,
-        _ => ListingError::Write,
     }
 }

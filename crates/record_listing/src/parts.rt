@@ -5,15 +5,13 @@ ghost use Rattle.std.specs.Prelude.{◌+◌, ◌<◌, ◌^◌, length};
 use crate::asked::{Asked, Form, Sought, covers};
 use crate::calls::Followed;
 use crate::columns::push_columns;
-use crate::content::{Content, Item};
-use crate::error::ListingError;
 use crate::line::{push_counted, push_line};
 use crate::output::Output;
 use crate::side::Side;
-use crate::stopped::Stopped;
 use crate::whole::{write_objects, write_whole};
 use audit_streams::{read_capture, write_text};
 use capture_frame::{FILE_HEADER, Fault, Frame, Frames};
+use record_fields::{Content, Item, ListingError, Stopped};
 use std::alloc::{AllocError, Global};
 use std::io::{Read, Write};
 use transaction_view::check_frame;
@@ -33,15 +31,16 @@ enum Ended {
 
 /// What has come of what is sought, and what is known from beside the capture.
 #[derive(Drop)]
-struct Seen<'s> {
+struct Seen {
     /// The places where nothing is found yet.
     open: Vec<u64>,
     /// The calls whose closers are still ahead.
     followed: Vec<Followed>,
-    side: Option<Side<'s>>,
+    /// What the side list says of the frame.
+    notes: String,
 }
 
-impl Seen<'_> {
+impl Seen {
     /// Whether all is found that is sought.
     fn is_complete(&self, asked: &Asked) -> bool {
         asked.sought != Sought::Nothing && self.open.is_empty() && self.followed.is_empty()
@@ -50,11 +49,11 @@ impl Seen<'_> {
 
 /// Lists what is asked for of the parts that the readers give, in their order, and gives the status:
 /// 0, 1 where nothing is at a place that is asked for, or 2 where a part is malformed. Each reader
-/// is read to its end before the next one.
-pub fn list_parts<R: Read + Drop, W: Write, E: Write>(
+/// is read to its end before the next one. A side list is read beside them, as far as they go.
+pub fn list_parts<S: Read + Drop, R: Read + Drop, W: Write, E: Write>(
     alloc: Global,
     asked: &Asked,
-    side: Option<&[u8]>,
+    side: Option<S>,
     readers: Vec<R>,
     out: &mut W,
     err: &mut E,
@@ -62,18 +61,67 @@ pub fn list_parts<R: Read + Drop, W: Write, E: Write>(
     let mut seen = Seen {
         open: asked.places.clone()?,
         followed: Vec::new(alloc),
-        side: side.map(|list| Side::new(alloc, list)),
+        notes: String::new(alloc),
     };
+    let ended = list_beside(alloc, asked, side, &mut seen, readers, out);
+    tell_end(alloc, asked.sought, &seen.open, ended, err)
+}
+
+/// Lists the parts beside the side list.
+fn list_beside<S: Read + Drop, R: Read + Drop, W: Write>(
+    alloc: Global,
+    asked: &Asked,
+    list: Option<S>,
+    seen: &mut Seen,
+    readers: Vec<R>,
+    out: &mut W,
+) -> Result<Ended, ListingError> {
+    let mut side = side_of(alloc, list)?;
+    list_to(alloc, asked, &mut side, seen, readers, out)
+}
+
+/// Lists the parts to their writer.
+fn list_to<S: Read + Drop, R: Read + Drop, W: Write>(
+    alloc: Global,
+    asked: &Asked,
+    side: &mut Option<Side<S>>,
+    seen: &mut Seen,
+    readers: Vec<R>,
+    out: &mut W,
+) -> Result<Ended, ListingError> {
     let mut output = Output::new(alloc, out);
-    let ended = list_all(alloc, asked, &mut seen, readers, &mut output);
-    output.flush()?;
+    let ended = list_all(alloc, asked, side, seen, readers, &mut output);
+    match output.flush() {
+        Ok(()) => ended,
+        Err(error) => Err(error),
+    }
+}
+
+/// Tells what is left of the places that are asked for, and gives the status.
+fn tell_end<E: Write>(
+    alloc: Global,
+    sought: Sought,
+    open: &Vec<u64>,
+    ended: Result<Ended, ListingError>,
+    err: &mut E,
+) -> Result<u8, ListingError> {
     match ended? {
         Ended::Malformed => Ok(2),
-        Ended::Listed if seen.open.is_empty() => Ok(0),
+        Ended::Listed if open.is_empty() => Ok(0),
         Ended::Listed => {
-            tell_missing(alloc, asked.sought, &seen.open, err)?;
+            tell_missing(alloc, sought, open, err)?;
             Ok(1)
         }
+    }
+}
+
+fn side_of<S: Read + Drop>(
+    alloc: Global,
+    list: Option<S>,
+) -> Result<Option<Side<S>>, ListingError> {
+    match list {
+        Some(list) => Ok(Some(Side::new(alloc, list)?)),
+        None => Ok(None),
     }
 }
 
@@ -100,10 +148,11 @@ fn tell_missing<E: Write>(
 
 /// Lists the parts, up to the first fault. A place in a part is that in its file and the bytes
 /// behind the file headers of the parts before; the place of a fault is the one in its file.
-fn list_all<R: Read + Drop, W: Write>(
+fn list_all<S: Read + Drop, R: Read + Drop, W: Write>(
     alloc: Global,
     asked: &Asked,
-    seen: &mut Seen<'_>,
+    side: &mut Option<Side<S>>,
+    seen: &mut Seen,
     readers: Vec<R>,
     output: &mut Output<'_, W>,
 ) -> Result<Ended, ListingError> {
@@ -117,7 +166,7 @@ fn list_all<R: Read + Drop, W: Write>(
             return Err(ListingError::TooLarge);
         }
         let part = read_capture(alloc, &mut reader, FILE_LIMIT)?;
-        match list_part(asked, seen, part.as_slice(), base, before, output) {
+        match list_part(asked, side, seen, part.as_slice(), base, before, output) {
             Ok(last) => before = last,
             Err(Stopped::Found) => return Ok(Ended::Listed),
             Err(Stopped::Failed(error)) => return Err(error),
@@ -149,9 +198,10 @@ pub(crate) fn push_fault(
 }
 
 /// Lists a part, and gives the sequence of the last frame so far.
-fn list_part<W: Write>(
+fn list_part<S: Read + Drop, W: Write>(
     asked: &Asked,
-    seen: &mut Seen<'_>,
+    side: &mut Option<Side<S>>,
+    seen: &mut Seen,
     part: &[u8],
     base: u64,
     before: Option<u64>,
@@ -160,7 +210,7 @@ fn list_part<W: Write>(
     requires { base + length part.now < 2 ^ 64 }
 {
     let frames = Frames::after(part, base, before)?;
-    match list_frames(asked, seen, frames, before, output) {
+    match list_frames(asked, side, seen, frames, before, output) {
         Err(Stopped::Malformed(fault)) => Err(Stopped::Malformed(Fault {
             kind: fault.kind,
             place: fault.place.saturating_sub(base),
@@ -169,33 +219,39 @@ fn list_part<W: Write>(
     }
 }
 
-fn list_frames<W: Write>(
+fn list_frames<S: Read + Drop, W: Write>(
     asked: &Asked,
-    seen: &mut Seen<'_>,
+    side: &mut Option<Side<S>>,
+    seen: &mut Seen,
     mut frames: Frames<'_>,
     before: Option<u64>,
     output: &mut Output<'_, W>,
 ) -> Result<Option<u64>, Stopped> {
     let mut last = before;
     while let Some(frame) = frames.next_frame()? {
-        list_frame(asked, seen, frame, output)?;
+        list_frame(asked, side, seen, frame, output)?;
         last = Some(frame.sequence);
     }
     Ok(last)
 }
 
 /// Lists what is asked for of a frame, up to its first fault.
-fn list_frame<W: Write>(
+fn list_frame<S: Read + Drop, W: Write>(
     asked: &Asked,
-    seen: &mut Seen<'_>,
+    side: &mut Option<Side<S>>,
+    seen: &mut Seen,
     frame: Frame<'_>,
     output: &mut Output<'_, W>,
 ) -> Result<(), Stopped> {
     let fault = check_frame(frame);
-    if let Some(side) = &mut seen.side {
+    if let Some(side) = side {
         side.go_to(frame.sequence)?;
     }
     if is_listed(asked, seen, frame) {
+        if let Some(side) = side {
+            seen.notes.clear();
+            side.push(&mut seen.notes, frame, marks_of(asked.form))?;
+        }
         list_content(asked, seen, frame, output)?;
     }
     match fault {
@@ -206,7 +262,7 @@ fn list_frame<W: Write>(
 }
 
 /// Whether the records of a frame are looked at.
-fn is_listed(asked: &Asked, seen: &mut Seen<'_>, frame: Frame<'_>) -> bool {
+fn is_listed(asked: &Asked, seen: &mut Seen, frame: Frame<'_>) -> bool {
     match asked.sought {
         Sought::Call => true,
         Sought::Frame => {
@@ -226,7 +282,7 @@ fn is_in_frame(place: u64, frame: Frame<'_>) -> bool {
 
 fn list_content<W: Write>(
     asked: &Asked,
-    seen: &mut Seen<'_>,
+    seen: &mut Seen,
     frame: Frame<'_>,
     output: &mut Output<'_, W>,
 ) -> Result<(), ListingError> {
@@ -247,7 +303,7 @@ fn list_content<W: Write>(
 /// Writes a record in whole, where it has a place that is sought.
 fn list_sought<W: Write>(
     asked: &Asked,
-    seen: &mut Seen<'_>,
+    seen: &mut Seen,
     frame: Frame<'_>,
     item: Item<'_>,
     output: &mut Output<'_, W>,
@@ -255,18 +311,24 @@ fn list_sought<W: Write>(
     if !asked.has_item(item) {
         return Ok(());
     }
-    let count = seen.open.len();
-    seen.open.retain(|place| !covers(*place, item));
-    if seen.open.len() < count {
-        write_whole(output, frame, item)?;
+    if take_covered(&mut seen.open, item) {
+        return write_whole(output, frame, item);
     }
     Ok(())
+}
+
+/// Takes out the places of which a record or its attachment has the byte. Tells whether there are
+/// some.
+fn take_covered(places: &mut Vec<u64>, item: Item<'_>) -> bool {
+    let count = places.len();
+    places.retain(|place| !covers(*place, item));
+    places.len() < count
 }
 
 /// Writes the line of a record, where it is of a call that is sought.
 fn list_called<W: Write>(
     asked: &Asked,
-    seen: &mut Seen<'_>,
+    seen: &mut Seen,
     frame: Frame<'_>,
     item: Item<'_>,
     output: &mut Output<'_, W>,
@@ -279,13 +341,11 @@ fn list_called<W: Write>(
 
 /// Whether a record is of a call that is sought: its opener, its closer, or one of its thread
 /// between them.
-fn is_of_call(seen: &mut Seen<'_>, frame: Frame<'_>, item: Item<'_>) -> Result<bool, AllocError> {
-    if let Some(followed) = Followed::from(frame, item.record) {
-        let count = seen.open.len();
-        seen.open.retain(|place| !covers(*place, item));
-        if seen.open.len() < count {
-            seen.followed.push(followed)?;
-        }
+fn is_of_call(seen: &mut Seen, frame: Frame<'_>, item: Item<'_>) -> Result<bool, AllocError> {
+    if let Some(followed) = Followed::from(frame, item.record)
+        && take_covered(&mut seen.open, item)
+    {
+        seen.followed.push(followed)?;
     }
     let mut is_of_one = false;
     for followed in seen.followed.iter_mut() {
@@ -301,12 +361,13 @@ fn is_of_call(seen: &mut Seen<'_>, frame: Frame<'_>, item: Item<'_>) -> Result<b
 /// Writes the line of a record, and those of its objects where they are asked for.
 fn write_item<W: Write>(
     asked: &Asked,
-    seen: &Seen<'_>,
+    seen: &Seen,
     frame: Frame<'_>,
     item: Item<'_>,
     output: &mut Output<'_, W>,
 ) -> Result<(), ListingError> {
-    push_item(&mut output.text, asked.form, &seen.side, frame, item)?;
+    push_item(&mut output.text, asked.form, frame, item)?;
+    output.text.push_str(seen.notes.as_str())?;
     output.end_line()?;
     if asked.objects
         && let Some(entry) = item.entry
@@ -319,17 +380,12 @@ fn write_item<W: Write>(
 fn push_item(
     text: &mut String,
     form: Form,
-    side: &Option<Side<'_>>,
     frame: Frame<'_>,
     item: Item<'_>,
 ) -> Result<(), AllocError> {
     match form {
-        Form::Lines => push_line(text, frame, item)?,
-        Form::Tab => push_columns(text, frame, item)?,
-    }
-    match side {
-        Some(side) => side.push(text, frame, marks_of(form)),
-        None => Ok(()),
+        Form::Lines => push_line(text, frame, item),
+        Form::Tab => push_columns(text, frame, item),
     }
 }
 

@@ -1,109 +1,90 @@
 //! The side list of `./record`, as docs/RECORDER.md has it: when frames were taken, and what
 //! processes and threads are called.
 
-use crate::calls::thread_of;
 use crate::number::number_of;
 use capture_frame::{Frame, Process, Thread};
 use indexmap::IndexMap;
+use record_fields::{ListingError, read_error, thread_of};
 use std::alloc::{AllocError, Global};
+use std::io::{BufRead, BufReader, Read};
 use std::str;
+
+/// The side list, which is read line by line beside the capture.
+#[derive(Drop)]
+pub(crate) struct Side<S: Read> {
+    reader: BufReader<S>,
+    /// The latest line.
+    line: Vec<u8>,
+    known: Known,
+}
+
+/// What the side list has said so far.
+#[derive(Drop)]
+struct Known {
+    /// The number of the latest frame, and its time.
+    frame: Option<u64>,
+    time: String,
+    /// All ids and names.
+    words: String,
+    processes: IndexMap<Process, Span>,
+    threads: IndexMap<Thread, Person>,
+}
+
+/// Where an id or a name is in `words`.
+#[derive(Clone, Copy)]
+struct Span {
+    start: usize,
+    end: usize,
+}
 
 /// A thread of the system.
 #[derive(Clone, Copy)]
-struct Person<'s> {
+struct Person {
+    pid: Span,
+    tid: Span,
+    name: Span,
+}
+
+/// The same in a line.
+#[derive(Clone, Copy)]
+struct Named<'s> {
     pid: &'s str,
     tid: &'s str,
     name: &'s str,
 }
 
-/// What the side list has said so far.
-#[derive(Drop)]
-pub(crate) struct Side<'s> {
-    /// What is not read yet.
-    rest: &'s [u8],
-    /// The number and the time of the latest frame.
-    frame: Option<(u64, &'s str)>,
-    processes: IndexMap<Process, &'s str>,
-    threads: IndexMap<Thread, Person<'s>>,
-}
-
-impl<'s> Side<'s> {
-    pub(crate) fn new(alloc: Global, list: &'s [u8]) -> Side<'s> {
-        Side {
-            rest: list,
-            frame: None,
-            processes: IndexMap::new(alloc),
-            threads: IndexMap::new(alloc),
-        }
+impl<S: Read + Drop> Side<S> {
+    pub(crate) fn new(alloc: Global, list: S) -> Result<Side<S>, ListingError> {
+        let reader = match BufReader::new(alloc, list) {
+            Ok(reader) => reader,
+            Err(error) => return Err(read_error(&error)),
+        };
+        Ok(Side {
+            reader,
+            line: Vec::new(alloc),
+            known: Known::new(alloc),
+        })
     }
 
     /// Reads on up to the line of the frame with this sequence, or of the first one behind it.
-    pub(crate) fn go_to(&mut self, sequence: u64) -> Result<(), AllocError> {
-        for _ in 0..self.rest.len() {
-            if self.frame.is_some_and(|(number, _)| sequence <= number) || self.rest.is_empty() {
+    pub(crate) fn go_to(&mut self, sequence: u64) -> Result<(), ListingError> {
+        for _ in 0..u64::MAX {
+            if self.known.has_come_to(sequence) || !self.read_line()? {
                 break;
             }
-            let (line, others) = first_line(self.rest);
-            self.rest = others;
-            if let Ok(text) = str::from_utf8(line) {
-                self.take(text)?;
+            if let Ok(line) = str::from_utf8(self.line.as_slice()) {
+                self.known.take(line)?;
             }
         }
         Ok(())
     }
 
-    /// Takes a line. One that is of no use here is passed over.
-    fn take(&mut self, line: &'s str) -> Result<(), AllocError> {
-        let Some((time, rest)) = line.split_once(" ") else {
-            return Ok(());
-        };
-        let Some((word, rest)) = rest.split_once(" ") else {
-            return Ok(());
-        };
-        match word {
-            "frame" => {
-                if let Some(number) = number_of(rest) {
-                    self.frame = Some((number, time));
-                }
-                Ok(())
-            }
-            "process" => self.take_process(rest),
-            "thread" => self.take_thread(rest),
-            "name" => {
-                self.rename(rest);
-                Ok(())
-            }
-            _ => Ok(()),
-        }
-    }
-
-    fn take_process(&mut self, fields: &'s str) -> Result<(), AllocError> {
-        if let Some((process, _)) = process_in(fields)
-            && let Some(name) = after(fields, "name=")
-        {
-            self.processes.insert(process, name)?;
-        }
-        Ok(())
-    }
-
-    fn take_thread(&mut self, fields: &'s str) -> Result<(), AllocError> {
-        if let Some((process, rest)) = process_in(fields)
-            && let Some((number, rest)) = number_in(rest)
-            && let Some(person) = person_in(rest)
-        {
-            self.threads.insert(Thread { process, number }, person)?;
-        }
-        Ok(())
-    }
-
-    fn rename(&mut self, fields: &'s str) {
-        let Some(renamed) = person_in(fields) else {
-            return;
-        };
-        for person in self.threads.values_mut() {
-            if person.pid == renamed.pid && person.tid == renamed.tid {
-                person.name = renamed.name;
-            }
+    /// Reads the next line, if there is one.
+    fn read_line(&mut self) -> Result<bool, ListingError> {
+        self.line.clear();
+        match self.reader.read_until(b'\n', &mut self.line) {
+            Ok(length) => Ok(length > 0),
+            Err(error) => Err(read_error(&error)),
         }
     }
 
@@ -115,41 +96,143 @@ impl<'s> Side<'s> {
         frame: Frame<'_>,
         marks: [&str; 5],
     ) -> Result<(), AllocError> {
-        text.push_str(marks[0])?;
-        if let Some((number, time)) = self.frame
-            && number == frame.sequence
-        {
-            text.push_str(time)?;
-        }
-        let person = self.threads.get(&thread_of(frame)).copied();
-        text.push_str(marks[1])?;
-        text.push_str(person.map_or("", |person| person.pid))?;
-        text.push_str(marks[2])?;
-        text.push_str(person.map_or("", |person| person.tid))?;
-        text.push_str(marks[3])?;
-        text.push_str(person.map_or("", |person| person.name))?;
-        text.push_str(marks[4])?;
-        match self.processes.get(&frame.of_process()) {
-            Some(name) => text.push_str(name),
-            None => Ok(()),
-        }
+        let person = self.known.threads.get(&thread_of(frame)).copied();
+        let process = self.known.processes.get(&frame.of_process()).copied();
+        let (pid, tid, name) = match person {
+            Some(person) => (Some(person.pid), Some(person.tid), Some(person.name)),
+            None => (None, None, None),
+        };
+        push_field(text, marks[0], self.known.time_of(frame.sequence))?;
+        push_field(text, marks[1], self.known.word(pid))?;
+        push_field(text, marks[2], self.known.word(tid))?;
+        push_field(text, marks[3], self.known.word(name))?;
+        push_field(text, marks[4], self.known.word(process))
     }
 }
 
-/// The first line of a list without its line feed, and what is behind it.
-fn first_line(list: &[u8]) -> (&[u8], &[u8]) {
-    match list.iter().position(|byte| *byte == b'\n') {
+impl Known {
+    fn new(alloc: Global) -> Known {
+        Known {
+            frame: None,
+            time: String::new(alloc),
+            words: String::new(alloc),
+            processes: IndexMap::new(alloc),
+            threads: IndexMap::new(alloc),
+        }
+    }
+
+    fn has_come_to(&self, sequence: u64) -> bool {
+        match self.frame {
+            Some(number) => sequence <= number,
+            None => false,
+        }
+    }
+
+    /// The time of the frame with this sequence, if its line has come.
+    fn time_of(&self, sequence: u64) -> &str {
+        match self.frame {
+            Some(number) if number == sequence => self.time.as_str(),
+            _ => "",
+        }
+    }
+
+    fn word(&self, span: Option<Span>) -> &str {
+        match span {
+            Some(span) => word_at(self.words.as_str(), span),
+            None => "",
+        }
+    }
+
+    fn keep(&mut self, word: &str) -> Result<Span, AllocError> {
+        let start = self.words.len();
+        self.words.push_str(word)?;
+        let end = self.words.len();
+        Ok(Span { start, end })
+    }
+
+    /// Takes a line. One that is of no use here is passed over.
+    fn take(&mut self, line: &str) -> Result<(), ListingError> {
+        let line = line.strip_suffix("\n").unwrap_or(line);
+        let (time, rest) = first_word(line);
+        let (word, fields) = first_word(rest);
+        match word {
+            "frame" => self.take_frame(time, fields)?,
+            "process" => self.take_process(fields)?,
+            "thread" => self.take_thread(fields)?,
+            "name" => self.rename(fields)?,
+            _ => {}
+        }
+        Ok(())
+    }
+
+    fn take_frame(&mut self, time: &str, number: &str) -> Result<(), AllocError> {
+        let Some(number) = number_of(number) else {
+            return Ok(());
+        };
+        self.frame = Some(number);
+        self.time.clear();
+        self.time.push_str(time)
+    }
+
+    fn take_process(&mut self, fields: &str) -> Result<(), ListingError> {
+        if let Some((process, rest)) = process_in(fields)
+            && let Some(name) = behind(rest, "name=")
+        {
+            let name = self.keep(name)?;
+            self.processes.insert(process, name)?;
+        }
+        Ok(())
+    }
+
+    fn take_thread(&mut self, fields: &str) -> Result<(), ListingError> {
+        if let Some((process, rest)) = process_in(fields)
+            && let Some((number, rest)) = number_in(rest)
+            && let Some(named) = named_in(rest)
+        {
+            let person = Person {
+                pid: self.keep(named.pid)?,
+                tid: self.keep(named.tid)?,
+                name: self.keep(named.name)?,
+            };
+            self.threads.insert(Thread { process, number }, person)?;
+        }
+        Ok(())
+    }
+
+    fn rename(&mut self, fields: &str) -> Result<(), AllocError> {
+        let Some(named) = named_in(fields) else {
+            return Ok(());
+        };
+        let name = self.keep(named.name)?;
+        let words = self.words.as_str();
+        for person in self.threads.values_mut() {
+            if word_at(words, person.pid) == named.pid && word_at(words, person.tid) == named.tid {
+                person.name = name;
+            }
+        }
+        Ok(())
+    }
+}
+
+fn push_field(text: &mut String, mark: &str, field: &str) -> Result<(), AllocError> {
+    text.push_str(mark)?;
+    text.push_str(field)
+}
+
+/// The word up to the first space, and what is behind that.
+fn first_word(text: &str) -> (&str, &str) {
+    match text.bytes().position(|byte| byte == b' ') {
         Some(length) => (
-            list.get(..length).unwrap_or(list),
-            list.get(length.saturating_add(1)..).unwrap_or(&[]),
+            text.get(..length).unwrap_or(text),
+            text.get(length.saturating_add(1)..).unwrap_or(""),
         ),
-        None => (list, &[]),
+        None => (text, ""),
     }
 }
 
 /// The number that stands first, and the fields behind it.
 fn number_in(fields: &str) -> Option<(u32, &str)> {
-    let (word, rest) = fields.split_once(" ")?;
+    let (word, rest) = first_word(fields);
     Some((u32::try_from(number_of(word)?).ok()?, rest))
 }
 
@@ -160,25 +243,27 @@ fn process_in(fields: &str) -> Option<(Process, &str)> {
     Some((Process { device, number }, rest))
 }
 
-fn person_in(fields: &str) -> Option<Person<'_>> {
-    Some(Person {
-        pid: word_after(fields, "pid=")?,
-        tid: word_after(fields, "tid=")?,
-        name: after(fields, "name=")?,
+/// The ids and the name of a thread, where the fields have all three.
+fn named_in(fields: &str) -> Option<Named<'_>> {
+    Some(Named {
+        pid: first_word(behind(fields, "pid=")?).0,
+        tid: first_word(behind(fields, "tid=")?).0,
+        name: behind(fields, "name=")?,
     })
 }
 
-/// What stands behind a key, to the end.
-fn after<'s>(fields: &'s str, key: &str) -> Option<&'s str> {
-    let (_, rest) = fields.split_once(key)?;
-    Some(rest)
+fn word_at(words: &str, span: Span) -> &str {
+    words.get(span.start..span.end).unwrap_or("")
 }
 
-/// What stands behind a key, up to the next space.
-fn word_after<'s>(fields: &'s str, key: &str) -> Option<&'s str> {
-    let rest = after(fields, key)?;
-    match rest.split_once(" ") {
-        Some((word, _)) => Some(word),
-        None => Some(rest),
+/// What stands behind a key, to the end.
+fn behind<'s>(fields: &'s str, key: &str) -> Option<&'s str> {
+    let mut rest = fields;
+    for _ in 0..fields.len() {
+        if let Some(value) = rest.strip_prefix(key) {
+            return Some(value);
+        }
+        rest = first_word(rest).1;
     }
+    None
 }

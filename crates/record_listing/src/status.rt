@@ -1,13 +1,12 @@
 //! From the words of a command line to two streams and a status.
 
 use crate::command_line::{Tables, WordsError, asked_of, files_of, matches_of, tables_of};
-use crate::error::ListingError;
 use crate::help::HELP;
-use crate::output::write_error;
 use crate::parts::{FILE_LIMIT, list_parts, push_fault};
-use crate::tables::{Book, Ending, NAMES, Name, Rows, write_table};
 use audit_streams::{read_parts, write_text};
 use clap::ArgMatches;
+use record_fields::{ListingError, write_error};
+use record_tables::{Book, Ending, NAMES, Name, Rows, write_table};
 use std::alloc::{AllocError, Global};
 use std::env::Args;
 use std::fs::Files;
@@ -71,10 +70,8 @@ fn answer_listing<T: Files, W: Write, E: Write>(
     err: &mut E,
 ) -> Result<u8, ListingError> {
     let asked = asked_of(alloc, matches)?;
-    let sides = open_side(rt, alloc, matches)?;
+    let side = open_side(rt, matches)?;
     let readers = open_files(rt, alloc, files)?;
-    let lists = read_parts(alloc, sides, FILE_LIMIT)?;
-    let side = lists.as_slice().first().map(|list| list.as_slice());
     list_parts(alloc, &asked, side, readers, out, err)
 }
 
@@ -168,18 +165,16 @@ fn tell_ending<W: Write>(alloc: Global, ending: Ending, out: &mut W) -> Result<u
 }
 
 /// Opens the side list, if one is named.
-fn open_side<T: Files>(
-    rt: &T,
-    alloc: Global,
-    matches: &ArgMatches<'_>,
-) -> Result<Vec<T::File>, ListingError> {
-    let Some(names) = matches.get_strs("side") else {
-        return Ok(Vec::new(alloc));
-    };
-    if names.len() != 1 {
-        return Err(ListingError::Usage);
+fn open_side<T: Files>(rt: &T, matches: &ArgMatches<'_>) -> Result<Option<T::File>, ListingError> {
+    match matches.get_strs("side") {
+        None => Ok(None),
+        Some([name]) => Ok(Some(open_file(rt, name)?)),
+        Some(_) => Err(ListingError::Usage),
     }
-    open_files(rt, alloc, names)
+}
+
+fn open_file<T: Files>(rt: &T, name: &str) -> Result<T::File, ListingError> {
+    fs::open(rt, name).map_err(|_| ListingError::Open)
 }
 
 /// Opens each of these files, in order. Memory for them all is taken first.
@@ -190,7 +185,7 @@ fn open_files<T: Files>(
 ) -> Result<Vec<T::File>, ListingError> {
     let mut opened = Vec::with_capacity(alloc, files.len())?;
     for file in files {
-        let reader = fs::open(rt, file).map_err(|_| ListingError::Open)?;
+        let reader = open_file(rt, file)?;
         opened.push(reader).map_err(|_| ListingError::Memory)?;
     }
     Ok(opened)

@@ -1,13 +1,13 @@
 //! A record in whole: its frame, its fields with their places, its bytes, and its attachment.
 
-use crate::attached::{EachObject, offset_of, push_object};
-use crate::content::Item;
-use crate::error::ListingError;
-use crate::fields::{Field, Value, fields_of};
 use crate::line::{push_counted, push_line, push_value};
+use crate::objects::push_object;
 use crate::output::Output;
-use crate::text::{push_digits, push_place};
 use capture_frame::{Direction, Frame};
+use record_fields::{
+    Attached, EachObject, Field, Item, ListingError, Value, fields_of, offset_of, push_digits,
+    push_place,
+};
 use record_view::Record;
 use std::alloc::AllocError;
 use std::io::Write;
@@ -133,15 +133,24 @@ pub(crate) fn write_objects<W: Write>(
     output: &mut Output<'_, W>,
     entry: Entry<'_>,
 ) -> Result<(), ListingError> {
+    let data = entry.place + ENTRY_HEADER;
     for attached in EachObject::of(entry) {
-        output.text.push_str("  ")?;
-        let data = entry.place + ENTRY_HEADER;
-        push_place(&mut output.text, data, offset_of(attached))?;
-        output.text.push_str("  ")?;
-        push_object(&mut output.text, attached)?;
+        push_object_line(&mut output.text, data, attached)?;
         output.end_line()?;
     }
     Ok(())
+}
+
+/// Pushes an object of the data that begin at this place.
+fn push_object_line(
+    text: &mut String,
+    data: u64,
+    attached: Attached<'_>,
+) -> Result<(), AllocError> {
+    text.push_str("  ")?;
+    push_place(text, data, offset_of(attached))?;
+    text.push_str("  ")?;
+    push_object(text, attached)
 }
 
 /// The bytes from `place` on, so many, of those that begin at `first`.
@@ -161,14 +170,18 @@ fn write_dump<W: Write>(
 ) -> Result<(), ListingError> {
     let mut at = 0u64;
     for row in bytes.chunks(ROW) {
-        output.text.push_str("  ")?;
-        push_place(&mut output.text, place, at)?;
-        output.text.push_str("  ")?;
-        push_row(&mut output.text, row)?;
+        push_row_line(&mut output.text, place, at, row)?;
         output.end_line()?;
         at = at.saturating_add(row.len() as u64);
     }
     Ok(())
+}
+
+fn push_row_line(text: &mut String, place: u64, at: u64, row: &[u8]) -> Result<(), AllocError> {
+    text.push_str("  ")?;
+    push_place(text, place, at)?;
+    text.push_str("  ")?;
+    push_row(text, row)
 }
 
 /// Pushes the bytes of a row in hexadecimal, and as text.

@@ -1,0 +1,104 @@
+//! The objects of an attachment, each with its number and its offset.
+
+ghost use Rattle.std.specs.Prelude.{◌+◌, ◌<◌, ◌^◌, length};
+
+use crate::fields::{has_field, object_fields};
+use capture_frame::u64_at;
+use object_view::{BadObject, Object, Objects};
+use transaction_view::Entry;
+
+/// The length of an offset, in bytes.
+const OFFSET: usize = 8;
+
+/// An object of an attachment, or what is no good object.
+#[derive(Clone, Copy)]
+pub struct Attached<'c> {
+    /// Its number in the list of offsets, from 0.
+    pub index: u64,
+    /// Its offset in the data, in bytes.
+    pub offset: u64,
+    pub found: Result<Object<'c>, BadObject>,
+}
+
+/// Goes through the objects of an attachment in order, up to the first bad one.
+#[derive(Drop)]
+pub struct EachObject<'c> {
+    objects: Objects<'c>,
+    /// The offsets from the next one on.
+    rest: &'c [u8],
+    index: u64,
+    ghost fits: { index + length rest.now < 2 ^ 64 },
+}
+
+impl<'c> EachObject<'c> {
+    pub fn of(entry: Entry<'c>) -> EachObject<'c> {
+        EachObject {
+            objects: Objects::of(entry),
+            rest: entry.offsets,
+            index: 0,
+        }
+    }
+}
+
+impl<'c> Iterator for EachObject<'c> {
+    ghost use Rattle.std.specs.Iterator.{at_most};
+
+    type Item = Attached<'c>;
+
+    ghost remaining = { λ s. at_most (length s.rest.now) };
+
+    fn next(&mut self) -> Option<Attached<'c>> {
+        let rest = self.rest;
+        if rest.is_empty() {
+            return None;
+        }
+        let found = self.objects.next_object()?;
+        let attached = Attached {
+            index: self.index,
+            offset: first_offset(rest),
+            found,
+        };
+        self.index += 1;
+        self.rest = without_first(rest);
+        Some(attached)
+    }
+}
+
+/// The first offset of a list; 0 where the list is no whole one.
+fn first_offset(list: &[u8]) -> u64 {
+    if list.len() < OFFSET {
+        return 0;
+    }
+    u64_at(list, 0)
+}
+
+/// The offsets behind the first one.
+fn without_first(list: &[u8]) -> &[u8]
+    requires { 0 < length list.now }
+    ensures { length result.now < length list.now }
+{
+    if list.len() < OFFSET {
+        return &[];
+    }
+    &list[OFFSET..]
+}
+
+/// Whether an object of the attachment has this number in a field of this name.
+pub fn has_named(entry: Entry<'_>, name: &str, number: u64) -> bool {
+    for attached in EachObject::of(entry) {
+        if let Ok(object) = attached.found
+            && has_field(object_fields(object.sort), object.bytes, name, number)
+        {
+            return true;
+        }
+    }
+    false
+}
+
+/// Where an object begins in the data.
+pub fn offset_of(attached: Attached<'_>) -> u64 {
+    match attached.found {
+        Ok(_) => attached.offset,
+        Err(bad) => bad.offset,
+    }
+}

@@ -1,0 +1,97 @@
+//! What ends a listing before its end.
+
+use audit_streams::RunError;
+use std::alloc::{AllocError, AllocFailed};
+use std::io::{self, ErrorKind};
+use thiserror::Error;
+
+/// What ended a listing. It is displayed as its line, without the line feed.
+#[derive(Clone, Copy, Debug, PartialEq, Eq, Error)]
+#[error("{}", self.line().trim_end())]
+pub enum ListingError {
+    /// The words of the command line ask for nothing.
+    Usage,
+    /// Memory ran out.
+    Memory,
+    /// A file has more bytes than are allowed.
+    TooLarge,
+    /// A read failed.
+    Read,
+    /// A write or the flush failed.
+    Write,
+    /// A file could not be opened.
+    Open,
+    /// Who reads the listing has seen enough.
+    Closed,
+}
+
+impl ListingError {
+    /// The status that the process ends with.
+    pub fn status(self) -> u8 {
+        match self {
+            ListingError::Usage => 64,
+            ListingError::Memory => 3,
+            ListingError::Closed => 0,
+            _ => 4,
+        }
+    }
+
+    /// The line of standard error; none where the reader has seen enough.
+    pub fn line(self) -> &'static str {
+        match self {
+            ListingError::Usage => {
+                "usage: listing FILE... [--at PLACE] [--frame PLACE] [--call PLACE] \
+[--process P] [--thread T] [--device D] [--direction write|read] [--from N] [--to N] \
+[--code NAME] [--handle H] [--cookie X] [--node PTR] [--address A] [--flag NAME] \
+[--larger BYTES] [--objects] [--form tab] [--side FILE]; or --tables FOLDER FILE..., --table \
+NAME FILE..., or --help\n"
+            }
+            ListingError::Memory => "fault Memory\n",
+            ListingError::TooLarge => "fault TooLarge\n",
+            ListingError::Read => "fault Read\n",
+            ListingError::Write => "fault Write\n",
+            ListingError::Open => "fault Open\n",
+            ListingError::Closed => "",
+        }
+    }
+}
+
+impl From<AllocError> for ListingError {
+    fn from(_error: AllocError) -> ListingError {
+        ListingError::Memory
+    }
+}
+
+impl<T: Drop> From<AllocFailed<T>> for ListingError {
+    fn from(_error: AllocFailed<T>) -> ListingError {
+        ListingError::Memory
+    }
+}
+
+impl From<RunError> for ListingError {
+    fn from(error: RunError) -> ListingError {
+        match error {
+            RunError::Memory => ListingError::Memory,
+            RunError::TooLarge => ListingError::TooLarge,
+            RunError::Read => ListingError::Read,
+            RunError::Write => ListingError::Write,
+            RunError::Open => ListingError::Open,
+        }
+    }
+}
+
+/// What ends a listing that can't be written.
+pub fn write_error(error: &io::Error) -> ListingError {
+    match error.kind() {
+        ErrorKind::BrokenPipe => ListingError::Closed,
+        _ => ListingError::Write,
+    }
+}
+
+/// What ends a listing of which something can't be read.
+pub fn read_error(error: &io::Error) -> ListingError {
+    match error.kind() {
+        ErrorKind::OutOfMemory => ListingError::Memory,
+        _ => ListingError::Read,
+    }
+}

@@ -1,0 +1,257 @@
+//! The fields of payloads and of objects: their names and where they are, as
+//! `linux/android/binder.h` has them.
+
+use binder_code::Kind;
+use capture_frame::{u32_at, u64_at};
+use object_view::Sort;
+
+/// How a field is kept, and how it is shown.
+#[derive(Clone, Copy)]
+pub enum Form {
+    /// Four bytes with a sign.
+    Signed,
+    /// Four bytes.
+    Word,
+    /// Eight bytes.
+    Long,
+    /// Eight bytes, shown in hexadecimal.
+    Address,
+    /// Four bytes of `enum transaction_flags`.
+    Flags,
+}
+
+/// Where a field is shown.
+#[derive(Clone, Copy)]
+pub enum Shown {
+    /// In each line of its record.
+    Listed,
+    /// Only where its record is shown in whole.
+    Whole,
+}
+
+use Form::{Address, Flags, Long, Signed, Word};
+use Shown::{Listed, Whole};
+
+/// A field: its name, where it begins in the bytes, its form, and where it is shown.
+#[derive(Clone, Copy)]
+pub struct Field(pub &'static str, pub usize, pub Form, pub Shown);
+
+/// What a field holds.
+#[derive(Clone, Copy)]
+pub enum Value {
+    Signed(i32),
+    Decimal(u64),
+    Hexadecimal(u64),
+    Flags(u32),
+}
+
+impl Field {
+    /// What the field holds in these bytes, where they reach so far.
+    pub fn value_in(self, bytes: &[u8]) -> Option<Value> {
+        let rest = bytes.get(self.1..)?;
+        match self.2 {
+            Form::Signed | Form::Word | Form::Flags => word_value(self.2, rest),
+            Form::Long | Form::Address => long_value(self.2, rest),
+        }
+    }
+
+    /// Whether it is shown in each line of its record.
+    pub fn is_listed(self) -> bool {
+        matches!(self.3, Shown::Listed)
+    }
+}
+
+fn word_value(form: Form, bytes: &[u8]) -> Option<Value> {
+    if bytes.len() < 4 {
+        return None;
+    }
+    let word = u32_at(bytes, 0);
+    match form {
+        Form::Signed => Some(Value::Signed(word.cast_signed())),
+        Form::Flags => Some(Value::Flags(word)),
+        _ => Some(Value::Decimal(u64::from(word))),
+    }
+}
+
+fn long_value(form: Form, bytes: &[u8]) -> Option<Value> {
+    if bytes.len() < 8 {
+        return None;
+    }
+    let long = u64_at(bytes, 0);
+    match form {
+        Form::Address => Some(Value::Hexadecimal(long)),
+        _ => Some(Value::Decimal(long)),
+    }
+}
+
+/// Whether a listed field of this name holds this number.
+pub fn has_field(fields: &[Field], bytes: &[u8], name: &str, number: u64) -> bool {
+    for field in fields {
+        if field.0 == name && holds(*field, bytes, number) {
+            return true;
+        }
+    }
+    false
+}
+
+/// Whether a listed field holds this number.
+fn holds(field: Field, bytes: &[u8], number: u64) -> bool {
+    match field.value_in(bytes) {
+        Some(Value::Decimal(held)) | Some(Value::Hexadecimal(held)) => {
+            field.is_listed() && held == number
+        }
+        _ => false,
+    }
+}
+
+// The fields of `binder_transaction_data`: of a transaction that is sent, of one that is got, and
+// of a reply.
+const SENT: [Field; 11] = [
+    Field("handle", 0, Word, Listed),
+    Field("cookie", 8, Address, Whole),
+    Field("code", 16, Word, Listed),
+    Field("flags", 20, Flags, Listed),
+    Field("sender_pid", 24, Signed, Whole),
+    Field("sender_euid", 28, Word, Whole),
+    Field("data_size", 32, Long, Listed),
+    Field("offsets_size", 40, Long, Listed),
+    Field("buffer", 48, Address, Listed),
+    Field("offsets", 56, Address, Whole),
+    Field("buffers_size", 64, Long, Listed),
+];
+
+const GOT: [Field; 11] = [
+    Field("ptr", 0, Address, Listed),
+    Field("cookie", 8, Address, Listed),
+    Field("code", 16, Word, Listed),
+    Field("flags", 20, Flags, Listed),
+    Field("sender_pid", 24, Signed, Listed),
+    Field("sender_euid", 28, Word, Listed),
+    Field("data_size", 32, Long, Listed),
+    Field("offsets_size", 40, Long, Listed),
+    Field("buffer", 48, Address, Listed),
+    Field("offsets", 56, Address, Whole),
+    Field("secctx", 64, Address, Listed),
+];
+
+const REPLY: [Field; 11] = [
+    Field("ptr", 0, Address, Whole),
+    Field("cookie", 8, Address, Whole),
+    Field("code", 16, Word, Listed),
+    Field("flags", 20, Flags, Listed),
+    Field("sender_pid", 24, Signed, Whole),
+    Field("sender_euid", 28, Word, Whole),
+    Field("data_size", 32, Long, Listed),
+    Field("offsets_size", 40, Long, Listed),
+    Field("buffer", 48, Address, Listed),
+    Field("offsets", 56, Address, Whole),
+    Field("buffers_size", 64, Long, Listed),
+];
+
+const RESULT: [Field; 1] = [Field("result", 0, Signed, Listed)];
+
+const ERROR: [Field; 1] = [Field("error", 0, Signed, Listed)];
+
+const BUFFER: [Field; 1] = [Field("address", 0, Address, Listed)];
+
+const HANDLE: [Field; 1] = [Field("handle", 0, Word, Listed)];
+
+const COOKIE: [Field; 1] = [Field("cookie", 0, Address, Listed)];
+
+// `binder_ptr_cookie`
+const NODE: [Field; 2] = [
+    Field("ptr", 0, Address, Listed),
+    Field("cookie", 8, Address, Listed),
+];
+
+// `binder_handle_cookie`
+const WATCH: [Field; 2] = [
+    Field("handle", 0, Word, Listed),
+    Field("cookie", 4, Address, Listed),
+];
+
+// `binder_pri_desc`
+const ATTEMPT: [Field; 2] = [
+    Field("priority", 0, Signed, Listed),
+    Field("handle", 4, Word, Listed),
+];
+
+// `binder_pri_ptr_cookie`
+const ATTEMPTED: [Field; 3] = [
+    Field("priority", 0, Signed, Listed),
+    Field("ptr", 8, Address, Listed),
+    Field("cookie", 16, Address, Listed),
+];
+
+const NONE: [Field; 0] = [];
+
+/// The fields of the payload of a kind, in their order. The last one of transactions and replies is
+/// there in the longer forms alone.
+pub fn fields_of(kind: Kind) -> &'static [Field] {
+    match kind {
+        Kind::BcTransaction | Kind::BcTransactionSg => &SENT,
+        Kind::BrTransaction | Kind::BrTransactionSecCtx => &GOT,
+        Kind::BcReply | Kind::BcReplySg | Kind::BrReply => &REPLY,
+        Kind::BcAcquireResult | Kind::BrAcquireResult => &RESULT,
+        Kind::BrError => &ERROR,
+        Kind::BcFreeBuffer => &BUFFER,
+        Kind::BcIncrefs | Kind::BcAcquire | Kind::BcRelease | Kind::BcDecrefs => &HANDLE,
+        Kind::BcDeadBinderDone | Kind::BrDeadBinder | Kind::BrClearDeathNotificationDone => &COOKIE,
+        Kind::BcIncrefsDone
+        | Kind::BcAcquireDone
+        | Kind::BrIncrefs
+        | Kind::BrAcquire
+        | Kind::BrRelease
+        | Kind::BrDecrefs => &NODE,
+        Kind::BcRequestDeathNotification | Kind::BcClearDeathNotification => &WATCH,
+        Kind::BcAttemptAcquire => &ATTEMPT,
+        Kind::BrAttemptAcquire => &ATTEMPTED,
+        _ => &NONE,
+    }
+}
+
+// `flat_binder_object` with a node or with a handle
+const BINDER_OBJECT: [Field; 3] = [
+    Field("object_flags", 4, Word, Listed),
+    Field("binder", 8, Address, Listed),
+    Field("cookie", 16, Address, Listed),
+];
+
+const HANDLE_OBJECT: [Field; 3] = [
+    Field("object_flags", 4, Word, Listed),
+    Field("handle", 8, Word, Listed),
+    Field("cookie", 16, Address, Listed),
+];
+
+// `binder_fd_object`
+const FD_OBJECT: [Field; 2] = [
+    Field("fd", 8, Word, Listed),
+    Field("cookie", 16, Address, Listed),
+];
+
+// `binder_fd_array_object`
+const FDA_OBJECT: [Field; 3] = [
+    Field("num_fds", 8, Long, Listed),
+    Field("parent", 16, Long, Listed),
+    Field("parent_offset", 24, Long, Listed),
+];
+
+// `binder_buffer_object`
+const PTR_OBJECT: [Field; 5] = [
+    Field("object_flags", 4, Word, Listed),
+    Field("buffer", 8, Address, Listed),
+    Field("length", 16, Long, Listed),
+    Field("parent", 24, Long, Listed),
+    Field("parent_offset", 32, Long, Listed),
+];
+
+/// The fields of an object of a sort, in their order.
+pub fn object_fields(sort: Sort) -> &'static [Field] {
+    match sort {
+        Sort::Binder | Sort::WeakBinder => &BINDER_OBJECT,
+        Sort::Handle | Sort::WeakHandle => &HANDLE_OBJECT,
+        Sort::Fd => &FD_OBJECT,
+        Sort::Fda => &FDA_OBJECT,
+        Sort::Ptr => &PTR_OBJECT,
+    }
+}

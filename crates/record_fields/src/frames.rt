@@ -1,0 +1,31 @@
+//! What frames and their records say, in other words.
+
+use binder_code::TransactionFlags;
+use bitflags::Flags;
+use capture_frame::{Direction, Frame, Thread};
+use record_view::Record;
+use transaction_view::Transaction;
+
+/// The thread that made a frame's call.
+pub fn thread_of(frame: Frame<'_>) -> Thread {
+    Thread {
+        process: frame.of_process(),
+        number: frame.thread,
+    }
+}
+
+/// Whether a record is a transaction, or a reply, with TF_ONE_WAY.
+pub fn is_oneway(record: Record<'_>) -> bool {
+    match Transaction::of(record) {
+        Some(transaction) => transaction.flags() & TransactionFlags::TF_ONE_WAY.bits() != 0,
+        None => false,
+    }
+}
+
+/// The number of a direction in a frame header.
+pub fn direction_number(direction: Direction) -> u64 {
+    match direction {
+        Direction::Write => 1,
+        Direction::Read => 2,
+    }
+}

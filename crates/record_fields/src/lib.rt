@@ -1,0 +1,19 @@
+//! The records of a frame with their attachments, the objects of these, and the fields of both by name:
+//! what the listing and the raw tables of a capture stand on.
+#![tactic(auto)]
+
+mod attached;
+mod content;
+mod error;
+mod fields;
+mod frames;
+mod stopped;
+mod text;
+
+pub use attached::{Attached, EachObject, has_named, offset_of};
+pub use content::{Content, Item};
+pub use error::{ListingError, read_error, write_error};
+pub use fields::{Field, Form, Shown, Value, fields_of, has_field, object_fields};
+pub use frames::{direction_number, is_oneway, thread_of};
+pub use stopped::Stopped;
+pub use text::{push_decimal, push_digits, push_hexadecimal, push_place, push_signed};

@@ -1,5 +1,0 @@
-use Rattle.capture_frame.proofs.CutLaws.{left_of}
-use Rattle.record_listing.proofs.tables.walk.walk_frames.Given as goal
-
-abbrev pub decreases-loop-frame : goal.decreases-loop-frame
-decreases-loop-frame g l = left_of l.frames
