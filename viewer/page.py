@@ -378,7 +378,7 @@ class Page:
                " end, are what a leak looks like. After its end a process holds nothing, and a call ends with its"
                " thread.</p>" + self.levels())
         yield "<h2>Calls without an answer, and those that took longest</h2>" + self.slow_calls()
-        yield ('<details class="fold"><summary>Normal rows: references in use or let go of, and requests that wait'
+        yield ('<details class="fold"><summary>Normal rows: references that are held or let go of, and requests that wait'
                "</summary>" + self.groups("normal") + "</details>")
         yield "<h2>The heads of the proved report</h2>" + self.heads()
 

@@ -321,7 +321,7 @@ INSERT INTO rule VALUES
   ('H3', 'maybe', 'Still held, though its death was told.'),
   ('H4', 'maybe', 'Taken more than once, and still held.'),
   ('H5', 'maybe', 'Nearly all handles that came this way are kept.'),
-  ('H6', 'normal', 'References in use.'),
+  ('H6', 'normal', 'Still held. Whether it is used is not known.'),
   ('H7', 'normal', 'Taken and let go of.'),
   ('D1', 'explained', 'Nothing of the handle is held any more: the driver has dropped the request.'),
   ('D2', 'maybe', 'A second request of a handle, which the driver does not take.'),
