@@ -65,7 +65,7 @@ impl<'c> PieceSummary<'c> {
         let mut guess = number;
         let ledgers = self.ledgers.processes(&none).ledgers(*process, &mut guess);
         let own = handles_of_process(self.alloc, frames, ledgers, unfreed)?;
-        let mut rows = Vec::new(self.alloc);
+        let mut rows = Vec::with_capacity(self.alloc, own.len())?;
         push_rows_of(&mut rows, *process, own.as_slice())?;
         Ok(rows)
     }

@@ -18,7 +18,7 @@ returns c sums wholes d show unfreed =
     let is = entry_at c.processes.result wholes c.args.number e of
     (ap (λ order. slice_get order.entries.entries c.args.number) c.processes.ensures.order ∙ sym (rw c.unwrap.ensures at c.get_index.ensures.entry)) d in
     let own = subst (λ ledgers. AreLedgersOf ledgers events e.0) (sym c.ledgers-ledgers.ensures) (of.each e.0) in
-    let pushed = c.in_ok-push_rows_of.ensures ∙ ap (λ rows. rows ++ map (process_row e.0) c.as_slice.result.now) c.new-rows.ensures.items
+    let pushed = c.in_ok-push_rows_of.ensures ∙ ap (λ rows. rows ++ map (process_row e.0) c.as_slice.result.now) c.in_ok-rows.ensures.items
     ∙ ap (map (process_row e.0)) c.as_slice.ensures.value in
     subst (λ process. AreRowsOf (AreHandlesOf events) process c.push_rows_of.new.rows.items) (sym is) (
       c.in_ok-own.own.items,
