@@ -1,32 +1,35 @@
 -- The rows of counted code words.
 use Rattle.std.proofs.Common.{◌≡◌, ◌≢◌, ℕ, ◌+◌, ◌<◌, Bool, true, false, inl, inr, cond, eqb, List, [], ◌∷◌, ◌++◌, length, map, filter, get_or, All, AllPairs, IsPermutation, refl, sym, ap, subst, ◌∙◌, arith, eqb-true}
 use Rattle.std.specs.Prelude.{count_by, sum_by, Contains}
-use Rattle.std.specs.List.Sorted.{IsNonDecreasingBy}
+use Rattle.std.specs.List.Sorted.{IsNonDecreasingBy, IsStrictlySortedBy}
 use Rattle.std.specs.Ordering.{nat_cmp, eq_by_cmp}
 use Rattle.std.proofs.lemmas.Bool.{cases_Bool, cases_eq, cases_lt, eq-eqb, ne_eqb, lt-ltb, ltb-true}
-use Rattle.std.proofs.lemmas.List.{get_or_default, get_or_past, map-append, map-id}
-use Rattle.std.proofs.lemmas.List.Elements.{All-append, All-cons, All-contains_itself, All-head, All-nil, All-tail, All-weaker, Contains-get_or, filter_passes}
+use Rattle.std.proofs.lemmas.List.{get_or_default, get_or_past, map-append}
+use Rattle.std.proofs.lemmas.List.Elements.{All-append, All-cons, All-contains, All-contains_itself, All-head, All-nil, All-tail, All-weaker, Contains-get_or, filter_passes}
 use Rattle.std.proofs.lemmas.List.Kept.{AllPairs-filter, AllPairs-from_increasing}
 use Rattle.std.proofs.lemmas.List.Sorted.{All-permutation, Contains-permutation, IsPermutation-map}
 use Rattle.std.proofs.lemmas.List.Sums.{sum_by-append, sum_by-cons}
-use Rattle.std.proofs.lemmas.Map.Keys.{IsStrictlyIncreasing-from_sorted}
-use Rattle.std.proofs.lemmas.Map.Made.{Contains-tail}
-use Rattle.std.proofs.lemmas.Cmp.{nat_cmp_total, eq_by_cmp_equiv}
+use Rattle.std.proofs.lemmas.Map.Keys.{IsDistinct-IsPermutation, IsStrictlyIncreasing-from_sorted}
+use Rattle.std.proofs.lemmas.Map.Made.{AllPairs-from_IsDistinct, Contains-tail, IsDistinct-from_AllPairs}
+use Rattle.std.proofs.lemmas.Bool.Decides.{Decides-eqb}
+use Rattle.std.proofs.lemmas.Cmp.{nat_cmp_total, nat_eq_equiv, eq_by_cmp_equiv}
+use Rattle.std.specs.Cmp.{nat_cmp_is}
+use Rattle.std.specs.List.{AllByRecursion}
+use Rattle.std.specs.declared.cmp.Ordering.TheVariants.{Less}
 use Rattle.std.proofs.lemmas.Map.Lookups.{exact_unsigned}
 use Rattle.std.proofs.lemmas.Map.Views.{Contains-from_any, tells_apart}
 use Rattle.binder_code.specs.declared.record_kind.Kind.{Kind}
-use Rattle.call_stacks.proofs.Members.{In, contained, in_list, map-in}
+use Rattle.summary_law.proofs.Members.{In, Rises, contained, in-map, in_list, map-in, rises-map, rises_sorted}
+use Rattle.summary_law.proofs.SortedLaws.{rows_are}
 use Rattle.summary_law.specs.Tally.{count_of, AreTallyRows, IsTallyRow}
 use Rattle.audit_findings.specs.declared.code_counts.CodeCounts.{CodeCounts}
 use Rattle.audit_findings.specs.declared.codes.CodeRow.{CodeRow}
 use Rattle.audit_findings.specs.CodeCounts.{CountListed, CountWords, IsKindRow, has_records, is_opaque_word, no_record, row_of, word_item}
-use Rattle.audit_findings.specs.Codes.{AreCodeRows}
+use Rattle.audit_findings.specs.Codes.{code_row, code_rows}
 use Rattle.audit_findings.specs.RecordCounts.{is_word_of, times}
 use Rattle.audit_findings.proofs.KindWords.{kind_at, kind_at_place, kind_of_listed_word, not_true, one_place, one_word, place_of, word_is_listed}
-use Rattle.audit_findings.proofs.Listings.{in_back, in_front, in_kept, kept_in}
-use Rattle.audit_findings.proofs.OneCodes.{counted_there}
-use Rattle.audit_findings.proofs.Rising.{increasing_places, pairs_append, pairs_map, pairs_unmap}
-use Rattle.audit_findings.proofs.SortedRows.{rows_rise}
+use Rattle.audit_findings.proofs.Kept.{in_back, in_front, in_kept, kept_count, kept_in}
+use Rattle.audit_findings.proofs.Rising.{pairs_append, pairs_map, pairs_unmap}
 
 -- what stands in a list is counted there
 counted_at_least_once : (words : List ℕ) (word : ℕ) → Contains words word → 0 < count_by (λ w. eqb w word) words
@@ -38,6 +41,29 @@ counted_at_least_once (w ∷ words) word has =
           omega (arith, split, first))
       | inr other ↦ (let more = counted_at_least_once words word (Contains-tail w words word other has) in omega (arith, split, more))
     ]
+
+-- and what is counted there stands there
+counted_there : (word : ℕ) (words : List ℕ) → 0 < count_by (λ w. eqb w word) words → Contains words word
+counted_there word [] more = absurd (omega arith)
+counted_there word (w ∷ words) more =
+    elim (cases_eq w word) [
+      | inl same ↦ (0, omega arith, same)
+      | inr other ↦
+          let split = sum_by-append (λ (x : ℕ). cond (eqb x word) 1 0) (w ∷ []) words in
+          let none : sum_by (λ (x : ℕ). cond (eqb x word) 1 0) (w ∷ []) ≡ 0 = rw (ne_eqb w word other) refl in
+          let there = counted_there word words (omega (arith, more, split, none)) in
+          contained (w ∷ words) word (inr (in_list words word there))
+    ]
+
+-- numbers that rise are sorted
+strictly_rising : (xs : List ℕ) → Rises (λ n. n) xs → IsStrictlySortedBy nat_cmp xs
+unfolding IsStrictlySortedBy
+strictly_rising [] rises = tt
+strictly_rising (x ∷ xs) rises = (below xs rises.0, strictly_rising xs rises.1)
+  where
+    below : (ys : List ℕ) → ((y : ℕ) → In y ys → x < y) → AllByRecursion (λ y. nat_cmp x y ≡ Less) ys
+    below [] all = tt
+    below (y ∷ ys) all = (sym (nat_cmp_is x y Less (all y (inl refl))), below ys (λ z there. all z (inr there)))
 
 -- the order of numbers tells two apart where they are two
 same_key : (key word : ℕ) → eq_by_cmp nat_cmp key word ≡ eqb word key
@@ -64,23 +90,6 @@ one_more key word words false found is others =
 items_of_word : (key : ℕ) (words : List ℕ) → count_of nat_cmp key (map word_item words) ≡ count_by (λ w. eqb w key) words
 items_of_word key [] = refl
 items_of_word key (word ∷ words) = one_more key word words (eqb word key) (same_key key word) refl (items_of_word key words)
-
--- how many pass a test does not change where the others are left out
-kept_one : (p q : ℕ → Bool) (x : ℕ) (xs : List ℕ) (a b : Bool) → p x ≡ a → q x ≡ b → (b ≡ true → a ≡ true) → count_by q (filter p xs) ≡ count_by q xs
-    → count_by q (filter p (x ∷ xs)) ≡ count_by q (x ∷ xs)
-kept_one p q x xs true b keeps counts passes rest =
-    let one : ℕ → ℕ = λ y. cond (q y) 1 0 in
-    rw keeps (sum_by-cons one x (filter p xs) ∙ ap (λ (n : ℕ). one x + n) rest ∙ sym (sum_by-cons one x xs))
-kept_one p q x xs false true keeps counts passes rest = let no = passes refl in absurd cc
-kept_one p q x xs false false keeps counts passes rest =
-    let whole = sum_by-cons (λ (y : ℕ). cond (q y) 1 0) x xs in
-    let count : Bool → ℕ = λ b. cond b 1 0 in
-    let first : count (q x) ≡ 0 = ap count counts in
-    rw keeps (omega (arith, whole, first, rest))
-
-kept_count : (p q : ℕ → Bool) → ((x : ℕ) → q x ≡ true → p x ≡ true) → (xs : List ℕ) → count_by q (filter p xs) ≡ count_by q xs
-kept_count p q passes [] = refl
-kept_count p q passes (x ∷ xs) = kept_one p q x xs (p x) (q x) refl refl (passes x) (kept_count p q passes xs)
 
 -- a row that counts a word that stands there
 abbrev IsRightRow : List ℕ → CodeRow → Type 0
@@ -179,7 +188,7 @@ module _ (words : List ℕ) where
   -- an opaque word is left out nowhere
   opaque_count : (key : ℕ) → is_opaque_word key ≡ true → count_by (λ w. eqb w key) opaque ≡ count_by (λ w. eqb w key) words
   opaque_count key is =
-      kept_count is_opaque_word (λ w. eqb w key) (λ w same. subst (λ (v : ℕ). is_opaque_word v ≡ true) (sym (eqb-true w key same)) is) words
+      kept_count (λ w. eqb w key) is_opaque_word words (λ w there same. subst (λ (v : ℕ). is_opaque_word v ≡ true) (sym (eqb-true w key same)) is)
 
   abbrev IsOpaqueRow : CodeRow → Type 0
   IsOpaqueRow row = IsRightRow words row × (is_opaque_word row.word ≡ true)
@@ -219,7 +228,7 @@ module _ (words : List ℕ) where
 -- ---- all rows
 
 module _ (counts : CodeCounts) (words : List ℕ) (are : CountWords counts words) (tallied : List (ℕ × ℕ × ℕ))
-    (rows_are : AreTallyRows nat_cmp (map word_item (filter is_opaque_word words)) tallied) where
+    (tally_are : AreTallyRows nat_cmp (map word_item (filter is_opaque_word words)) tallied) where
   abbrev front : List CodeRow
   front = filter has_records counts.listed.items
 
@@ -227,7 +236,7 @@ module _ (counts : CodeCounts) (words : List ℕ) (are : CountWords counts words
   back = map row_of tallied
 
   opaque_back : All (IsOpaqueRow words) back
-  opaque_back = opaque_rows words tallied rows_are.keys.came rows_are.right
+  opaque_back = opaque_rows words tallied tally_are.keys.came tally_are.right
 
   both_right : All (IsRightRow words) (front ++ back)
   both_right =
@@ -236,7 +245,7 @@ module _ (counts : CodeCounts) (words : List ℕ) (are : CountWords counts words
 
   both_apart : AllPairs Apart (front ++ back)
   both_apart =
-      pairs_append Apart front back (kept_apart counts.listed.items words are.listed) (tally_apart words tallied rows_are)
+      pairs_append Apart front back (kept_apart counts.listed.items words are.listed) (tally_apart words tallied tally_are)
       (All-weaker (λ row. is_opaque_word row.word ≡ false) (λ row. All (Apart row) back)
       (λ row listed.
       All-weaker (IsOpaqueRow words) (Apart row)
@@ -249,20 +258,30 @@ module _ (counts : CodeCounts) (words : List ℕ) (are : CountWords counts words
       contained (map (λ row. row.word) (front ++ back)) word
       (subst (In word) (sym split)
       (elim (cases_Bool (is_opaque_word word)) [
-        | inl is ↦ in_back word (map (λ row. row.word) front) (map (λ row. row.word) back) (tally_whole words tallied rows_are word has is)
+        | inl is ↦ in_back word (map (λ row. row.word) front) (map (λ row. row.word) back) (tally_whole words tallied tally_are word has is)
         | inr not ↦ in_front word (map (λ row. row.word) front) (map (λ row. row.word) back) (kept_whole counts.listed.items words are.listed word has not)
       ]))
 
+  words_apart : AllPairs (λ (a b : ℕ). a ≢ b) (map (λ row. row.word) (front ++ back))
+  words_apart = pairs_map (λ (a b : ℕ). a ≢ b) (λ (row : CodeRow). row.word) (front ++ back) both_apart
+
   -- sorted by word, the rows of listed kinds and of opaque words are those of all code words
-  pub sorted_code_rows : (rows : List CodeRow) → IsPermutation (front ++ back) rows → IsNonDecreasingBy (λ row. row.word) rows → AreCodeRows words rows
+  pub sorted_code_rows : (rows : List CodeRow) → IsPermutation (front ++ back) rows → IsNonDecreasingBy (λ row. row.word) rows → rows ≡ code_rows words
   sorted_code_rows rows moved sorted =
-      let same : map (λ (row : CodeRow). row) (front ++ back) ≡ front ++ back = map-id (front ++ back) in
-      let rise = rows_rise (λ (row : CodeRow). row) (λ (row : CodeRow). row.word) (front ++ back) both_apart rows
-      (subst (λ (t : List CodeRow). IsPermutation t rows) (sym same) moved) sorted in
-      record {
-        rising = increasing_places (λ (row : CodeRow). row.word) rows rise;
-        counted = All-permutation (IsRightRow words) (front ++ back) rows moved both_right;
-        whole = λ word has.
-            Contains-permutation (map (λ row. row.word) (front ++ back)) (map (λ row. row.word) rows) word
-            (IsPermutation-map (λ (row : CodeRow). row.word) (front ++ back) rows moved) (both_whole word has);
-      }
+      let word : CodeRow → ℕ = λ row. row.word in
+      let words_moved = IsPermutation-map word (front ++ back) rows moved in
+      let distinct = IsDistinct-IsPermutation eqb (λ x y. nat_eq_equiv.symm x y) (map word (front ++ back)) (map word rows) words_moved
+      (IsDistinct-from_AllPairs Decides-eqb (map word (front ++ back)) words_apart) in
+      let right = All-permutation (IsRightRow words) (front ++ back) rows moved both_right in
+      let own : (row : CodeRow) → In row rows → IsRightRow words row = λ row there. All-contains (IsRightRow words) rows row right (contained rows row there) in
+      rows_are nat_cmp nat_cmp_total exact_unsigned word (code_row words) words rows
+      (strictly_rising (map word rows) (rises-map word (λ n. n) rows (rises_sorted word rows (AllPairs-from_IsDistinct Decides-eqb (map word rows) distinct) sorted)))
+      (λ row there i. record { word = row.word; count = (own row there).1 i })
+      (λ key there.
+      let row = in-map word rows key there in
+      let is = own row.0 row.1 in
+      let counted : 0 < count_by (λ w. eqb w row.0.word) words = omega (arith, is.0, is.1) in
+      subst (λ (k : ℕ). In k words) (sym row.2) (in_list words row.0.word (counted_there row.0.word words counted)))
+      (λ key there.
+      in_list (map word rows) key
+      (Contains-permutation (map word (front ++ back)) (map word rows) key words_moved (both_whole key (contained words key there))))

@@ -11,7 +11,7 @@ use Rattle.event_core.proofs.EventsGiven.{Given}
 use Rattle.event_core.specs.Events.{events_of_wholes, process_of}
 use Rattle.event_core.specs.Reading.{Reading, event_text}
 use Rattle.event_core.specs.declared.event.Event.{Event}
-use Rattle.pending_ledger.proofs.GatherLaws.{items_rise}
+use Rattle.summary_law.proofs.ReadLaws.{items_rise}
 use Rattle.process_ledgers.specs.EachProcess.{SumsOrder}
 use Rattle.process_ledgers.specs.Processes.{process_of_whole}
 use Rattle.summary_law.specs.InOrder.{SumsInOrder}

@@ -1,102 +1,84 @@
--- The rows of handles of a process: the deliveries that it never frees, and what they hold.
-use Rattle.std.proofs.Common.{◌≡◌, ◌||◌, ◌<◌, ◌+◌, ℕ, zero, suc, Bool, true, false, eqb, List, [], ◌∷◌, ◌++◌, length, map, take, Contains, Some, None, Vec, Global, inl, inr, ⊎_elim, refl, sym, ap, subst, ◌∙◌, arith, get_or}
+-- The rows of handles of a process: the deliveries that it never frees, chosen from all events; and lists, one after
+-- another.
+use Rattle.std.proofs.Common.{◌≡◌, ◌||◌, ◌<◌, ◌+◌, ℕ, zero, suc, Bool, true, false, cond, eqb, List, [], ◌∷◌, ◌++◌, length, map, take, Some, None, Vec, Global, inl, inr, refl, sym, ap, subst, ◌∙◌, arith, get_or}
 use Rattle.std.proofs.Math.Seq.{take-suc}
 use Rattle.std.specs.Prelude.{filter, slice_get, slice_index_or}
 use Rattle.std.specs.Option.{unwrap_or}
 use Rattle.std.specs.List.{flat_map, list_any}
-use Rattle.std.specs.List.Sorted.{IsStrictlyIncreasing}
-use Rattle.std.proofs.lemmas.Bool.{cases_Bool, eq-eqb, eqb-true}
+use Rattle.std.proofs.lemmas.Bool.{eq-eqb, eqb-true}
 use Rattle.std.proofs.lemmas.Grind.{flat_map-append}
 use Rattle.std.proofs.lemmas.List.{append-nil, map-append}
-use Rattle.std.proofs.lemmas.List.Elements.{All-contains_itself, All-filter}
-use Rattle.std.proofs.lemmas.List.Kept.{AllPairs-from_increasing}
-use Rattle.call_stacks.proofs.Members.{In, contained, in-map, in_list, map-in}
+use Rattle.capture_frame.specs.Process.{same_process}
 use Rattle.capture_frame.specs.declared.process.Process.{Process}
 use Rattle.capture_frame.specs.Units.{Placed}
-use Rattle.event_core.specs.Events.{EventRead}
-use Rattle.process_ledgers.specs.declared.processes.Processes.{Processes}
-use Rattle.summary_law.specs.declared.nothing.Nothing.{Nothing}
-use Rattle.transaction_view.specs.Grammar.{WholeFrame}
+use Rattle.event_core.specs.Events.{EventRead, process_of}
 use Rattle.handle_ledger.specs.declared.held_row.HeldRow.{HeldRow}
-use Rattle.pending_ledger.specs.Pending.{ArePlacesOf}
-use Rattle.process_ledgers.proofs.ItemPlaces.{pending_keeps}
-use Rattle.process_ledgers.specs.Items.{buffer_pending_of}
+use Rattle.process_ledgers.specs.declared.processes.Processes.{Processes}
 use Rattle.process_ledgers.specs.EachProcess.{SumsEach}
-use Rattle.process_ledgers.specs.Processes.{processes_of}
+use Rattle.process_ledgers.specs.Processes.{events_in, processes_of}
+use Rattle.summary_law.specs.Readings.{chosen}
+use Rattle.summary_law.specs.declared.nothing.Nothing.{Nothing}
+use Rattle.summary_law.proofs.GatherLaws.{in_any}
+use Rattle.summary_law.proofs.Members.{In, Rises, in_middle, rises_from_pairs, same_lists}
+use Rattle.summary_law.proofs.ReadingLaws.{chosen-is, read-at, read-rises}
+use Rattle.transaction_view.specs.Grammar.{WholeFrame}
 use Rattle.audit_findings.specs.declared.in_turn.ProcessRow.{ProcessRow}
 use Rattle.audit_findings.specs.Entries.{AreChosen}
-use Rattle.audit_findings.specs.Kept.{places_of}
-use Rattle.audit_findings.specs.Places.{AreEventsAt, IsOpenIn, RiseInPlace}
-use Rattle.audit_findings.proofs.EventsAt.{HasEventAt}
-use Rattle.audit_findings.proofs.Listings.{in_kept, kept_in}
-use Rattle.audit_findings.proofs.Rising.{pairs_map, rising_kept}
-use Rattle.audit_findings.proofs.SameMembers.{same_members}
-use Rattle.audit_findings.proofs.StandLaws.{open_stands}
+use Rattle.audit_findings.specs.Held.{is_among}
+use Rattle.audit_findings.specs.Places.{EventTest, RiseInPlace, listed_in, places_in}
+use Rattle.audit_findings.proofs.EventLists.{place_of_event}
+use Rattle.audit_findings.proofs.Kept.{in_kept, kept_in, one_there}
+use Rattle.audit_findings.proofs.Rising.{rising_kept}
 
--- ---- the events at some places, chosen from all
+-- ---- some of the events, chosen from all by their places
 
--- whether the event is at one of these places
-abbrev pub is_at : List ℕ → EventRead → Bool
-is_at places e = list_any (λ place. eqb place e.place) places
+-- one that is among some by its place is at the place of one of them
+among_at : (some : List EventRead) (e : EventRead) → is_among some e ≡ true → (other : EventRead) × In other some × (other.place ≡ e.place)
+among_at [] e is = let none : ⊥ = cc in absurd none
+among_at (other ∷ some) e is =
+    elim (eqb other.place e.place) as (λ b. (eqb other.place e.place ≡ b) → (b || is_among some e) ≡ true
+    → (x : EventRead) × In x (other ∷ some) × (x.place ≡ e.place)) [
+      | true ↦ λ same is. (other, inl refl, eqb-true other.place e.place same)
+      | false ↦ λ apart is. let found = among_at some e is in (found.0, inr found.1, found.2)
+    ] refl is
 
-is_in : (places : List ℕ) (place : ℕ) → In place places → list_any (λ p. eqb p place) places ≡ true
-is_in [] place here = absurd here
-is_in (p ∷ places) place (inl same) = rw (eq-eqb p place (sym same)) refl
-is_in (p ∷ places) place (inr there) = let rest = is_in places place there in or_second (eqb p place) rest
-  where
-    or_second : (b : Bool) {c : Bool} → c ≡ true → (b || c) ≡ true
-    or_second true is = refl
-    or_second false is = is
+module _ (events : List EventRead) (rise : RiseInPlace events) (some : List EventRead) (rises : Rises place_of_event some)
+    (there : (e : EventRead) → In e some → In e events) where
+  -- chosen by their places, some of the events are these again
+  pub chosen_again : filter (is_among some) events ≡ some
+  chosen_again =
+      same_lists place_of_event (filter (is_among some) events) some
+      (rises_from_pairs place_of_event (filter (is_among some) events) (rising_kept place_of_event (is_among some) events rise)) rises
+      (λ e here.
+      let kept = in_kept (is_among some) events e here in
+      let at = among_at some e kept.1 in
+      subst (λ (x : EventRead). In x some)
+      (one_there place_of_event events (rises_from_pairs place_of_event events rise) at.0 e (there at.0 at.1) kept.0 at.2) at.1)
+      (λ e here.
+      kept_in (is_among some) events e (there e here)
+      (in_any (λ (other : EventRead). eqb other.place e.place) some e here (eq-eqb e.place e.place refl)))
 
-in_is : (places : List ℕ) (place : ℕ) → list_any (λ p. eqb p place) places ≡ true → In place places
-in_is [] place any = let wrong : false ≡ true = any in absurd (cc)
-in_is (p ∷ places) place any =
-    ⊎_elim
-    (λ (same : eqb p place ≡ true). inl (sym (eqb-true p place same)))
-    (λ (other : eqb p place ≡ false). inr (in_is places place (ap (λ b. b || list_any (λ q. eqb q place) places) (sym other) ∙ any)))
-    (cases_Bool (eqb p place))
+module _ (test : EventTest) (process : Process) (events : List EventRead) (rise : RiseInPlace events) where
+  listed_there : (e : EventRead) → In e (listed_in test process events) → In e events
+  listed_there e here =
+      let own = events_in process events in
+      let at = read-at (chosen test) [] own e here in
+      let is : e ≡ at.1 = chosen-is test at.0 at.1 at.2 e at.4 in
+      let among : In at.1 own = subst (In at.1) (sym at.3) (in_middle at.0 at.1 at.2) in
+      let kept = in_kept (λ (x : EventRead). same_process process (process_of x)) events at.1 among in
+      subst (λ (x : EventRead). In x events) (sym is) kept.0
 
-module _ (events : List EventRead) (rise : RiseInPlace events) (places : List ℕ) where
-  chosen_in : (n : ℕ) → ((place : ℕ) → Contains places place → HasEventAt events place) → Contains places n
-      → Contains (places_of (filter (is_at places) events)) n
-  chosen_in n stands there =
-      let e = stands n there in
-      let at = is_in places e.0.place (subst (λ m. In m places) (sym e.2) (in_list places n there)) in
-      contained (places_of (filter (is_at places) events)) n
-      (subst (λ m. In m (places_of (filter (is_at places) events))) e.2
-      (map-in (λ (x : EventRead). x.place) (filter (is_at places) events) e.0 (kept_in (is_at places) events e.0 (in_list events e.0 e.1) at)))
+  own_rises : Rises place_of_event (listed_in test process events)
+  own_rises =
+      read-rises (chosen test) place_of_event place_of_event (λ b e l y is. ap place_of_event (chosen-is test b e l y is)) (events_in process events)
+      (rising_kept place_of_event (λ (x : EventRead). same_process process (process_of x)) events rise)
 
-  in_chosen : (n : ℕ) → Contains (places_of (filter (is_at places) events)) n → Contains places n
-  in_chosen n there =
-      let from = in-map (λ (x : EventRead). x.place) (filter (is_at places) events) n (in_list (places_of (filter (is_at places) events)) n there) in
-      let kept = in_kept (is_at places) events from.0 from.1 in
-      contained places n (subst (λ m. In m places) (sym from.2) (in_is places from.0.place kept.1))
-
-  -- they stand at these places, which rise
-  pub chosen_at : IsStrictlyIncreasing places → ((place : ℕ) → Contains places place → HasEventAt events place) → AreChosen (is_at places) events [] places
-  chosen_at rising stands =
-      same_members places (places_of (filter (is_at places) events)) (AllPairs-from_increasing places rising)
-      (pairs_map (λ a b. a < b) (λ (e : EventRead). e.place) (filter (is_at places) events)
-      (rising_kept (λ (e : EventRead). e.place) (is_at places) events rise))
-      (λ n there. chosen_in n stands there) in_chosen
-      ∙ sym (append-nil (places_of (filter (is_at places) events)))
-
--- they are the events at which something is so, where it is so at these places
-pub events_chosen : (IsHere : ℕ → Type 0) (events : List EventRead) (places : List ℕ) → ArePlacesOf IsHere places → AreChosen (is_at places) events [] places
-    → AreEventsAt IsHere events (filter (is_at places) events)
-events_chosen IsHere events places are chosen = record {
-  stand = All-filter (is_at places) (Contains events) events (All-contains_itself events);
-  places = subst (ArePlacesOf IsHere) (chosen ∙ append-nil (places_of (filter (is_at places) events))) are;
-}
-
--- an event stands at each of these places
-pub chosen_open : (events : List EventRead) → RiseInPlace events → (process : Process) (places : List ℕ)
-    → ArePlacesOf (IsOpenIn buffer_pending_of events process) places → AreChosen (is_at places) events [] places
-chosen_open events rise process places are =
-    chosen_at events rise places are.rising
-    (λ place there.
-    let found = open_stands buffer_pending_of pending_keeps events process place ((are.exact place).0 there) in
-    (found.0, found.1, found.3))
+  -- those of a process that are listed, chosen from all events
+  pub listed_chosen : AreChosen (is_among (listed_in test process events)) events [] (places_in test events process)
+  listed_chosen =
+      let some = listed_in test process events in
+      ap (map place_of_event) (sym (chosen_again events rise some own_rises listed_there))
+      ∙ sym (append-nil (map place_of_event (filter (is_among some) events)))
 
 -- ---- the entry of a process by its number
 

@@ -1,10 +1,12 @@
 -- The references that attachments hold, and tallies of them.
-use Rattle.std.proofs.Common.{◌≡◌, ℕ, suc, drop, ◌+◌, ◌<◌, ◌^◌, ◌≤◌, List, [], ◌∷◌, ◌++◌, length, map, Option, Some, None, refl, sym, ap, subst, ◌∙◌, append_assoc, length-append, arith, get_or, take}
-use Rattle.std.specs.List.{AllZip, filter_map, flat_map}
+use Rattle.std.proofs.Common.{◌≡◌, ℕ, suc, drop, ◌+◌, ◌<◌, ◌^◌, ◌≤◌, Bool, true, false, cond, List, [], ◌∷◌, ◌++◌, length, map, Option, Some, None, refl, sym, ap, subst, ◌∙◌, append_assoc, length-append, arith, get_or, take}
+use Rattle.std.specs.List.{AllZip, cons_option, filter_map, flat_map}
+use Rattle.std.specs.Option.{option_map}
+use Rattle.std.specs.Prelude.{filter}
 use Rattle.std.proofs.lemmas.Grind.{flat_map-append}
 use Rattle.std.proofs.lemmas.List.{append-nil, map-append, take_more}
 use Rattle.std.proofs.lemmas.List.Concat.{flat_map-cons}
-use Rattle.std.proofs.lemmas.List.Elements.{All-cons, All-nil, filter_map-append}
+use Rattle.std.proofs.lemmas.List.Elements.{All-cons, All-filter, All-nil, filter_map-append}
 use Rattle.std.proofs.lemmas.List.Sums.{sum_by-append, sum_by-cons}
 use Rattle.std.proofs.Math.Seq.{split_at}
 use Rattle.indexmap.proofs.SetLemmas.{AllZip-push}
@@ -19,10 +21,12 @@ use Rattle.summary_law.specs.Tally.{AreWeighted, TallySums}
 use Rattle.summary_law.specs.declared.tally.Tally.{Tally}
 use Rattle.transaction_view.specs.declared.entry.Entry.{Entry}
 use Rattle.audit_findings.specs.Entries.{carried_by, list_bytes}
-use Rattle.audit_findings.specs.Held.{AreHeldBy, held_in, unweighed}
+use Rattle.audit_findings.specs.Held.{held_in, unweighed}
 use Rattle.audit_findings.specs.HeldCounts.{AreGoodObjects, CountsEntries, CountsHeld, CountsMore, CountsObjects, HasRoom}
-use Rattle.audit_findings.specs.Objects.{Attached, Outcome, IsOutcome, attachments_of}
+use Rattle.audit_findings.specs.Objects.{AreOutcomes, Attached, Outcome, IsOutcome, attached_to, attachments_of, good_objects}
 use Rattle.audit_findings.proofs.FrameLaws.{first_same}
+use Rattle.audit_findings.proofs.Kept.{kept_map}
+use Rattle.audit_findings.proofs.OneObjects.{one_list_of_outcomes}
 use Rattle.audit_findings.proofs.OutcomeLaws.{gives_none, gives_some}
 
 -- ---- one reference more
@@ -129,12 +133,17 @@ module _ (entries : List Entry) (few : list_bytes entries ≤ 2 ^ 32) (i : ℕ) 
 
 -- ---- whose attachments they are
 
+-- these are the good objects of the attachments of these events
+abbrev HaveHeld : List EventRead → List (List ObjectText) → Type 0
+HaveHeld events objects =
+    (outcomes : List Outcome) × AreOutcomes (attachments_of events) outcomes × (held_among objects ≡ filter_map held_in (good_objects outcomes))
+
 -- the entry that an event has, as an attachment of its own
 first_of : (e : EventRead) (attachment : Option AttachmentText) → e.entry ≡ attachment → (events : List EventRead) (entries : List Entry)
     (objects : List (List ObjectText)) → map entry_attachment entries ≡ carried_by (e ∷ events) → AllZip AreGoodObjects entries objects
     → ((rest : List Entry) (others : List (List ObjectText)) → map entry_attachment rest ≡ carried_by events → AllZip AreGoodObjects rest others
-    → AreHeldBy events (held_among others))
-    → AreHeldBy (e ∷ events) (held_among objects)
+    → HaveHeld events others)
+    → HaveHeld (e ∷ events) objects
 first_of e None is events entries objects show are later =
     let same = gives_none (λ (x : EventRead). x.entry) e events is in
     let rest = later entries objects (show ∙ same) are in
@@ -162,10 +171,53 @@ first_of e (Some a) is events (entry ∷ entries) (own ∷ objects) show are lat
     )
 
 -- what entries hold, events hold whose attachments they show
-pub held_by_events : (events : List EventRead) (entries : List Entry) (objects : List (List ObjectText))
-    → map entry_attachment entries ≡ carried_by events → AllZip AreGoodObjects entries objects → AreHeldBy events (held_among objects)
-held_by_events [] [] [] show are = ([], record { each = refl; are_objects = All-nil IsOutcome }, refl)
-held_by_events [] [] (own ∷ objects) show are = absurd are
-held_by_events [] (e ∷ entries) objects show are = absurd (cc)
-held_by_events (e ∷ events) entries objects show are =
-    first_of e e.entry refl events entries objects show are (held_by_events events)
+have_held : (events : List EventRead) (entries : List Entry) (objects : List (List ObjectText))
+    → map entry_attachment entries ≡ carried_by events → AllZip AreGoodObjects entries objects → HaveHeld events objects
+have_held [] [] [] show are = ([], record { each = refl; are_objects = All-nil IsOutcome }, refl)
+have_held [] [] (own ∷ objects) show are = absurd are
+have_held [] (e ∷ entries) objects show are = absurd (cc)
+have_held (e ∷ events) entries objects show are =
+    first_of e e.entry refl events entries objects show are (have_held events)
+
+-- ---- chosen attachments
+
+module _ (choice : EventRead → Bool) where
+  -- the attachments of chosen events are those whose owner is chosen
+  chosen_attachments : (events : List EventRead) → filter (λ a. choice a.owner) (attachments_of events) ≡ attachments_of (filter choice events)
+  chosen_attachments [] = refl
+  chosen_attachments (e ∷ events) =
+      let all = attachments_of events in
+      let rest = chosen_attachments events in
+      let made : AttachmentText → Attached = λ a. record { owner = e; attachment = a } in
+      elim (choice e) as (λ b. (choice e ≡ b)
+      → filter (λ a. choice a.owner) (cons_option (attached_to e) all) ≡ attachments_of (cond b (e ∷ filter choice events) (filter choice events))) [
+        | true ↦ λ is.
+            elim e.entry as (λ o. filter (λ a. choice a.owner) (cons_option (option_map made o) all) ≡ cons_option (option_map made o) (attachments_of (filter choice events))) [
+              | None ↦ rest
+              | Some a ↦
+                  ap (λ (b : Bool). cond b (made a ∷ filter (λ a. choice a.owner) all) (filter (λ a. choice a.owner) all)) is
+                  ∙ ap (λ (t : List Attached). made a ∷ t) rest
+            ]
+        | false ↦ λ is.
+            elim e.entry as (λ o. filter (λ a. choice a.owner) (cons_option (option_map made o) all) ≡ attachments_of (filter choice events)) [
+              | None ↦ rest
+              | Some a ↦ ap (λ (b : Bool). cond b (made a ∷ filter (λ a. choice a.owner) all) (filter (λ a. choice a.owner) all)) is ∙ rest
+            ]
+      ] refl
+
+  chosen_outcomes : (events : List EventRead) (outcomes : List Outcome) → AreOutcomes (attachments_of events) outcomes
+      → AreOutcomes (attachments_of (filter choice events)) (filter (λ o. choice o.of.owner) outcomes)
+  chosen_outcomes events outcomes are = record {
+    each = sym (kept_map (λ (o : Outcome). o.of) (λ (a : Attached). choice a.owner) outcomes) ∙ ap (filter (λ (a : Attached). choice a.owner)) are.each ∙ chosen_attachments events;
+    are_objects = All-filter (λ (o : Outcome). choice o.of.owner) IsOutcome outcomes are.are_objects;
+  }
+
+  -- what entries hold that show the attachments of chosen events is what the outcomes of those hold
+  pub held_by_chosen : (events : List EventRead) (outcomes : List Outcome) → AreOutcomes (attachments_of events) outcomes
+      → (entries : List Entry) (objects : List (List ObjectText)) → map entry_attachment entries ≡ carried_by (filter choice events)
+      → AllZip AreGoodObjects entries objects → held_among objects ≡ filter_map held_in (good_objects (filter (λ o. choice o.of.owner) outcomes))
+  held_by_chosen events outcomes are entries objects show good =
+      let held = have_held (filter choice events) entries objects show good in
+      held.2
+      ∙ ap (λ (t : List Outcome). filter_map held_in (good_objects t))
+      (one_list_of_outcomes (attachments_of (filter choice events)) held.0 (filter (λ o. choice o.of.owner) outcomes) held.1 (chosen_outcomes events outcomes are))

@@ -11,7 +11,7 @@ use Rattle.summary_law.proofs.ReadLaws.{length-read}
 use Rattle.summary_law.specs.Fits.{IsShort}
 use Rattle.audit_findings.specs.declared.oneway_counts.OnewayCounts.{OnewayCounts}
 use Rattle.process_ledgers.specs.Items.{oneway_item_of}
-use Rattle.audit_findings.specs.Oneway.{CountsOneway, is_sent, is_sent_key}
+use Rattle.audit_findings.specs.Oneway.{is_sent, is_sent_key, oneway_counts, received_count, sent_count}
 
 -- how many oneway transactions of a sort there are
 abbrev count_of : (OnewayItem → Bool) → List EventRead → ℕ
@@ -37,22 +37,30 @@ count_of-one is e item read =
     let one : filter_map oneway_item_of (e ∷ []) ≡ item ∷ [] = ap (λ (o : Option OnewayItem). cons_option o []) (sym read) in
     ap (count_by is) one ∙ (omega arith)
 
+same_counts : (counts : OnewayCounts) (events : List EventRead) → counts.sent ≡ sent_count events → counts.received ≡ received_count events
+    → counts ≡ oneway_counts events
+same_counts counts events sent received = λ i. record { sent = sent i; received = received i }
+
+sent_is : (counts : OnewayCounts) (events : List EventRead) → counts ≡ oneway_counts events → counts.sent ≡ sent_count events
+sent_is counts events is = ap (λ (c : OnewayCounts). c.sent) is
+
+received_is : (counts : OnewayCounts) (events : List EventRead) → counts ≡ oneway_counts events → counts.received ≡ received_count events
+received_is counts events is = ap (λ (c : OnewayCounts). c.received) is
+
 pub counts_one : (counts : OnewayCounts) (e : EventRead) (item : OnewayItem) (key : OnewayKey) → Some item ≡ oneway_item_of e → item.key ≡ key
-    → counts.sent ≡ one_if (is_sent_key key) → counts.received ≡ one_if (not (is_sent_key key)) → CountsOneway counts (e ∷ [])
+    → counts.sent ≡ one_if (is_sent_key key) → counts.received ≡ one_if (not (is_sent_key key)) → counts ≡ oneway_counts (e ∷ [])
 counts_one counts e item key read same sent received =
     let given : (f : OnewayKey → Bool) → one_if (f item.key) ≡ one_if (f key) = λ f. ap (λ (k : OnewayKey). one_if (f k)) same in
-    record {
-      sent = sent ∙ sym (count_of-one is_sent e item read ∙ given is_sent_key);
-      received = received ∙ sym (count_of-one (λ item. not (is_sent item)) e item read ∙ given (λ k. not (is_sent_key k)));
-    }
+    same_counts counts (e ∷ []) (sent ∙ sym (count_of-one is_sent e item read ∙ given is_sent_key))
+    (received ∙ sym (count_of-one (λ item. not (is_sent item)) e item read ∙ given (λ k. not (is_sent_key k))))
 
 -- the counts of some events and of others are together those of both
-pub counts_both : (counts more both : OnewayCounts) (first second : List EventRead) → CountsOneway counts first → CountsOneway more second
-    → both.sent ≡ counts.sent + more.sent → both.received ≡ counts.received + more.received → CountsOneway both (first ++ second)
-counts_both counts more both first second a b sent received = record {
-  sent = sent ∙ ap₂ ◌+◌ a.sent b.sent ∙ sym (count_of-append is_sent first second);
-  received = received ∙ ap₂ ◌+◌ a.received b.received ∙ sym (count_of-append (λ item. not (is_sent item)) first second);
-}
+pub counts_both : (counts more both : OnewayCounts) (first second : List EventRead) → counts ≡ oneway_counts first → more ≡ oneway_counts second
+    → both.sent ≡ counts.sent + more.sent → both.received ≡ counts.received + more.received → both ≡ oneway_counts (first ++ second)
+counts_both counts more both first second a b sent received =
+    same_counts both (first ++ second)
+    (sent ∙ ap₂ ◌+◌ (sent_is counts first a) (sent_is more second b) ∙ sym (count_of-append is_sent first second))
+    (received ∙ ap₂ ◌+◌ (received_is counts first a) (received_is more second b) ∙ sym (count_of-append (λ item. not (is_sent item)) first second))
 
 -- and small where the events are few
 small_sum : (is : OnewayItem → Bool) (a b : ℕ) (first second : List EventRead) → IsShort (first ++ second) → a ≡ count_of is first → b ≡ count_of is second
@@ -63,9 +71,9 @@ small_sum is a b first second short counted more =
     let long = length-append first second in
     omega (arith, short, counted, more, here, there, long)
 
-pub counts_small : (counts more : OnewayCounts) (first second : List EventRead) → IsShort (first ++ second) → CountsOneway counts first
-    → CountsOneway more second → (counts.sent + more.sent < 2 ^ 64) × (counts.received + more.received < 2 ^ 64)
+pub counts_small : (counts more : OnewayCounts) (first second : List EventRead) → IsShort (first ++ second) → counts ≡ oneway_counts first
+    → more ≡ oneway_counts second → (counts.sent + more.sent < 2 ^ 64) × (counts.received + more.received < 2 ^ 64)
 counts_small counts more first second short a b = (
-  small_sum is_sent counts.sent more.sent first second short a.sent b.sent,
-  small_sum (λ item. not (is_sent item)) counts.received more.received first second short a.received b.received,
+  small_sum is_sent counts.sent more.sent first second short (sent_is counts first a) (sent_is more second b),
+  small_sum (λ item. not (is_sent item)) counts.received more.received first second short (received_is counts first a) (received_is more second b),
 )

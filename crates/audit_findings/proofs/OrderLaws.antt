@@ -1,18 +1,17 @@
 -- The order of processes, with one frame more of a process that has ledgers.
-use Rattle.std.proofs.Common.{◌≡◌, ◌≢◌, Bool, true, false, cond, List, [], ◌∷◌, ◌++◌, map, All, Contains, Option, Some, None, is_some, refl, sym, ap, subst, ◌∙◌, ⊎_elim, filter_map}
+use Rattle.std.proofs.Common.{◌≡◌, ◌≢◌, Bool, true, false, cond, List, [], ◌∷◌, ◌++◌, map, All, Option, Some, None, is_some, refl, sym, ap, subst, ◌∙◌, ⊎_elim, filter_map}
 use Rattle.std.proofs.lemmas.Bool.{cases_Bool, true≢false}
 use Rattle.std.proofs.lemmas.List.Elements.{All-head, All-tail}
-use Rattle.std.proofs.lemmas.Map.Views.{list_any-from_Contains}
 use Rattle.std.proofs.lemmas.Simd.{map-map}
 use Rattle.std.specs.List.{cons_option, list_any}
 use Rattle.std.specs.Map.{lookup, keys_of}
 use Rattle.std.specs.Prelude.{⊤}
-use Rattle.capture_frame.proofs.ProcessLaws.{same_process_eq, same_process_equiv}
+use Rattle.capture_frame.proofs.ProcessLaws.{same_process_equiv}
 use Rattle.capture_frame.specs.Process.{same_process}
 use Rattle.capture_frame.specs.Units.{Placed}
 use Rattle.capture_frame.specs.declared.process.Process.{Process}
 use Rattle.transaction_view.specs.Grammar.{WholeFrame}
-use Rattle.event_core.specs.Events.{EventRead, events_of_wholes, process_of}
+use Rattle.event_core.specs.Events.{events_of_wholes, process_of}
 use Rattle.event_core.specs.Reading.{event_text}
 use Rattle.event_core.specs.declared.event.Event.{Event}
 use Rattle.summary_law.proofs.InOrderLaws.{same_keys}
@@ -26,29 +25,27 @@ use Rattle.process_ledgers.specs.ProcessLedgers.{SumsProcess}
 use Rattle.process_ledgers.specs.Processes.{process_of_whole, processes_of}
 use Rattle.process_ledgers.specs.declared.process_ledgers.ProcessLedgers.{ProcessLedgers}
 use Rattle.audit_findings.proofs.GivenLaws.{order_next}
-use Rattle.audit_findings.proofs.PlaceLaws.{each_among}
+use Rattle.audit_findings.proofs.EventLists.{IsKnown, each_known}
 
 -- of events whose processes are all known none is fed under one that is not
 module _ (known : List Process) (process : Process) (unknown : list_any (same_process process) known ≡ false) where
-  another : (other : Process) → Contains known other → same_process process other ≡ false
+  another : (other : Process) → list_any (same_process other) known ≡ true → same_process process other ≡ false
   another other there =
       ⊎_elim
       (λ (same : same_process process other ≡ true).
-      let here : Contains known process = subst (Contains known) (sym (same_process_eq process other same)) there in
-      absurd (true≢false (sym (list_any-from_Contains same_process_equiv process known here) ∙ unknown)))
+      let here : list_any (same_process process) known ≡ true
+      = ap (λ (t : Process → Bool). list_any t known) (λ i k. same_process_equiv.congr process other k same i) ∙ there in
+      absurd (true≢false (sym here ∙ unknown)))
       (λ (apart : same_process process other ≡ false). apart)
       (cases_Bool (same_process process other))
 
-  abbrev IsKnown : EventRead → Type 0
-  IsKnown e = Contains known (process_of e)
-
-  none_fed : (events : List Event) → All IsKnown (map event_text events)
+  none_fed : (events : List Event) → All (IsKnown known) (map event_text events)
       → items_of same_process process (filter_map concerned events) ≡ []
   none_fed [] all = refl
   none_fed (event ∷ events) all =
       let texts = map event_text events in
-      let there = All-head IsKnown (event_text event) texts all in
-      by_kind (another (process_of (event_text event)) there) (none_fed events (All-tail IsKnown (event_text event) texts all)) (concerns event.kind)
+      let there = All-head (IsKnown known) (event_text event) texts all in
+      by_kind (another (process_of (event_text event)) there) (none_fed events (All-tail (IsKnown known) (event_text event) texts all)) (concerns event.kind)
     where
       own : Process
       own = process_of (event_text event)
@@ -74,7 +71,7 @@ among_frames own wholes events process are sums has =
     ⊎_elim
     (λ (there : list_any (same_process process) known ≡ true). there)
     (λ (unknown : list_any (same_process process) known ≡ false).
-    let all = subst (All (λ (e : EventRead). Contains known (process_of e))) (sym are) (each_among wholes) in
+    let all = subst (All (IsKnown known)) (sym are) (each_known wholes) in
     absurd
     (has_items SumsProcess (lookup (same_process process) own) (items_of same_process process (filter_map concerned events)) (sums.parts process) has
     (none_fed known process unknown events all)))

@@ -14,49 +14,38 @@ use Rattle.transaction_view.specs.declared.entry.Entry.{Entry}
 use Rattle.event_core.specs.declared.event.Event.{Event}
 use Rattle.event_core.specs.Events.{AttachmentText, EventRead}
 use Rattle.event_core.specs.Reading.{event_text, entry_attachment}
+use Rattle.audit_findings.specs.declared.objects.BadRow.{BadRow}
 use Rattle.audit_findings.specs.declared.objects.ObjectLedger.{ObjectLedger}
 use Rattle.audit_findings.specs.declared.sort_counts.SortCounts.{SortCounts}
-use Rattle.audit_findings.specs.Kept.{kept_bad}
+use Rattle.audit_findings.specs.Kept.{bad_at_place}
 use Rattle.audit_findings.specs.Ledgers.{SumsObjects, AreFewEvents, offset_bytes_of}
-use Rattle.audit_findings.specs.Objects.{Attached, attached_to, attachments_of, Outcome, IsOutcome, AreOutcomes, count_of, times_of, good_objects, BadOwned, bad_of, bad_objects, AreObjectFindings, owned_by}
+use Rattle.audit_findings.specs.Objects.{Attached, attached_to, attachments_of, Outcome, IsOutcome, AreOutcomes, count_of, times_of, good_objects, bad_of, bad_objects, owned_by}
 use Rattle.audit_findings.proofs.ObjectWalk.{times_of-append, times_of-short}
 
 pub attachments-append : (events more : List EventRead) → attachments_of (events ++ more) ≡ attachments_of events ++ attachments_of more
 attachments-append events more = filter_map-append attached_to events more
 
--- the findings of attachments and of those behind them
-findings_joined : (attachments others : List Attached) (counts new : SortCounts) (bad : List BadOwned) (outcomes : List Outcome)
-    → AreObjectFindings attachments counts bad → AreOutcomes others outcomes
-    → ((sort : Sort) → count_of new sort ≡ count_of counts sort + times_of sort (good_objects outcomes))
-    → AreObjectFindings (attachments ++ others) new (bad ++ bad_objects outcomes)
-findings_joined attachments others counts new bad outcomes found are more =
-    let good : good_objects (found.outcomes ++ outcomes) ≡ good_objects found.outcomes ++ good_objects outcomes =
-    flat_map-append (λ (o : Outcome). o.objects) found.outcomes outcomes in
-    record {
-      outcomes = found.outcomes ++ outcomes;
-      are = record {
-        each = map-append (λ (o : Outcome). o.of) found.outcomes outcomes
-            ∙ ap₂ (λ (first second : List Attached). first ++ second) found.are.each are.each;
-        are_objects = All-append IsOutcome found.outcomes outcomes found.are.are_objects are.are_objects;
-      };
-      counted = λ sort.
-          let added = more sort in
-          let before = found.counted sort in
-          let parts = ap (times_of sort) good ∙ times_of-append sort (good_objects found.outcomes) (good_objects outcomes) in
-          omega (arith, added, before, parts);
-      bad_are = ap (λ (t : List BadOwned). t ++ bad_objects outcomes) found.bad_are ∙ sym (filter_map-append bad_of found.outcomes outcomes);
-    }
-
--- the ledger of events and of those behind them
+-- the ledger of events and of those after them
 pub objects_more : (old new : ObjectLedger) (events more : List EventRead) (outcomes : List Outcome) → SumsObjects old events
     → AreOutcomes (attachments_of more) outcomes
     → ((sort : Sort) → count_of new.counts sort ≡ count_of old.counts sort + times_of sort (good_objects outcomes))
-    → new.bad.items ≡ old.bad.items ++ map kept_bad (bad_objects outcomes) → SumsObjects new (events ++ more)
+    → new.bad.items ≡ old.bad.items ++ map bad_at_place (bad_objects outcomes) → SumsObjects new (events ++ more)
 objects_more old new events more outcomes sums are counts is = record {
-  bad = sums.bad ++ bad_objects outcomes;
-  are = subst (λ (t : List Attached). AreObjectFindings t new.counts (sums.bad ++ bad_objects outcomes)) (sym (attachments-append events more))
-      (findings_joined (attachments_of events) (attachments_of more) old.counts new.counts sums.bad outcomes sums.are are counts);
-  kept = is ∙ ap (λ (t : List _). t ++ map kept_bad (bad_objects outcomes)) sums.kept ∙ sym (map-append kept_bad sums.bad (bad_objects outcomes));
+  outcomes = sums.outcomes ++ outcomes;
+  are = record {
+    each = map-append (λ (o : Outcome). o.of) sums.outcomes outcomes
+        ∙ ap₂ (λ (first second : List Attached). first ++ second) sums.are.each are.each ∙ sym (attachments-append events more);
+    are_objects = All-append IsOutcome sums.outcomes outcomes sums.are.are_objects are.are_objects;
+  };
+  counted = λ sort.
+      let good = flat_map-append (λ (o : Outcome). o.objects) sums.outcomes outcomes in
+      let parts = ap (times_of sort) good ∙ times_of-append sort (good_objects sums.outcomes) (good_objects outcomes) in
+      let added = counts sort in
+      let before = sums.counted sort in
+      omega (arith, added, before, parts);
+  kept = is ∙ ap (λ (t : List _). t ++ map bad_at_place (bad_objects outcomes)) sums.kept
+      ∙ sym (map-append bad_at_place (bad_objects sums.outcomes) (bad_objects outcomes))
+      ∙ ap (map bad_at_place) (sym (filter_map-append bad_of sums.outcomes outcomes));
 }
 
 -- and of two ledgers
@@ -64,9 +53,9 @@ pub objects_joined : (first second new : ObjectLedger) (events more : List Event
     → ((sort : Sort) → count_of new.counts sort ≡ count_of first.counts sort + count_of second.counts sort)
     → new.bad.items ≡ first.bad.items ++ second.bad.items → SumsObjects new (events ++ more)
 objects_joined first second new events more sums others counts is =
-    objects_more first new events more others.are.outcomes sums others.are.are
-    (λ sort. counts sort ∙ ap (λ (n : ℕ). count_of first.counts sort + n) (others.are.counted sort))
-    (is ∙ ap (λ (t : List _). first.bad.items ++ t) (others.kept ∙ ap (map kept_bad) others.are.bad_are))
+    objects_more first new events more others.outcomes sums others.are
+    (λ sort. counts sort ∙ ap (λ (n : ℕ). count_of first.counts sort + n) (others.counted sort))
+    (is ∙ ap (λ (t : List _). first.bad.items ++ t) others.kept)
 
 -- ---- how many objects there are
 
@@ -133,12 +122,12 @@ attachments_few (e ∷ events) all =
 pub counts_short : (ledger : ObjectLedger) (events : List EventRead) → SumsObjects ledger events → AreFewEvents events → (sort : Sort)
     → count_of ledger.counts sort ≤ 2 ^ 61
 counts_short ledger events sums fits sort =
-    let outcomes = sums.are.outcomes in
-    let counted = sums.are.counted sort in
+    let outcomes = sums.outcomes in
+    let counted = sums.counted sort in
     let few = times_of-short sort (good_objects outcomes) in
     let small = attachments_few events fits.1 in
-    let same = sums.are.are.each in
-    let short = outcomes_short outcomes sums.are.are.are_objects (subst (All IsSmall) (sym same) small.0) in
+    let same = sums.are.each in
+    let short = outcomes_short outcomes sums.are.are_objects (subst (All IsSmall) (sym same) small.0) in
     let long = sym (length-map outcomes (λ (o : Outcome). o.of)) ∙ ap length same in
     let less = small.1 in
     let all_short = fits.0.0 in
@@ -170,11 +159,11 @@ pub one_good : (e : Event) (found : Entry) (objects : List ObjectText) (bad : Op
     → times_of sort (good_objects (outcome_of e found objects bad ∷ [])) ≡ times_of sort objects
 one_good e found objects bad sort = ap (times_of sort) (append-nil objects)
 
--- the last event's attachment, behind those before it
+-- the last event's attachment, after those before it
 pub objects_last : (old new : ObjectLedger) (events : List EventRead) (e : EventRead) (bad : Option BadObject) (outcomes : List Outcome)
     → SumsObjects old events → AreOutcomes (attachments_of (e ∷ [])) outcomes
     → ((sort : Sort) → count_of new.counts sort ≡ count_of old.counts sort + times_of sort (good_objects outcomes))
-    → bad_objects outcomes ≡ owned_by e bad → new.bad.items ≡ old.bad.items ++ map kept_bad (owned_by e bad) → SumsObjects new (events ++ e ∷ [])
+    → bad_objects outcomes ≡ owned_by e bad → new.bad.items ≡ old.bad.items ++ map bad_at_place (owned_by e bad) → SumsObjects new (events ++ e ∷ [])
 objects_last old new events e bad outcomes sums are counts owned is =
     objects_more old new events (e ∷ []) outcomes sums are counts
-    (is ∙ ap (λ (t : List BadOwned). old.bad.items ++ map kept_bad t) (sym owned))
+    (is ∙ ap (λ (t : List (BadRow EventRead)). old.bad.items ++ map bad_at_place t) (sym owned))

@@ -17,13 +17,13 @@ use Rattle.record_view.proofs.RecordLaws.{length-record_bytes}
 use Rattle.transaction_view.specs.Grammar.{WholeFrame, whole_format, IsInGrammar}
 use Rattle.event_core.specs.Events.{AttachmentText, EventRead, event_of, events_of_whole, placed_records}
 use Rattle.summary_law.specs.Fits.{PlacesRise}
-use Rattle.audit_findings.specs.Findings.{FindingsSaid, AreFindings}
 use Rattle.audit_findings.specs.Flags.{has_unknown_flags, flagged}
 use Rattle.audit_findings.specs.Frames.{AreViews, IsWhole}
 use Rattle.event_core.specs.Events.{placed_text}
 use Rattle.event_core.specs.Events.{wholes_of, events_of_wholes}
 use Rattle.capture_frame.specs.Lookup.{AreApart, span_of}
-use Rattle.audit_findings.specs.Objects.{Attached, attached_to, Outcome, BadOwned, bad_of, bad_objects}
+use Rattle.audit_findings.specs.Objects.{AreOutcomes, Attached, attached_to, attachments_of, Outcome, bad_of, bad_objects}
+use Rattle.audit_findings.specs.declared.objects.BadRow.{BadRow}
 use Rattle.audit_findings.proofs.Rising.{pairs_nil, pairs_map, pairs_unmap, pairs_flat, rising_made, rising_kept, increasing_places}
 
 -- ---- units, one behind another
@@ -144,13 +144,12 @@ events_rise capture wholes is = wholes_rise (wholes_of wholes) (all_whole 16 (in
 
 -- ---- the rows of a capture
 
-pub flags_rise : (capture : List ℕ) (wholes : List WholeFrame) (said : FindingsSaid) → IsInGrammar capture wholes → AreFindings (wholes_of wholes) said
-    → IsStrictlyIncreasing (map (λ (e : EventRead). e.place) said.events.flags)
-flags_rise capture wholes said is are =
+pub flags_rise : (capture : List ℕ) (wholes : List WholeFrame) → IsInGrammar capture wholes
+    → IsStrictlyIncreasing (map (λ (e : EventRead). e.place) (flagged (events_of_wholes (wholes_of wholes))))
+flags_rise capture wholes is =
     let place : EventRead → ℕ = λ e. e.place in
     let events = events_of_wholes (wholes_of wholes) in
-    subst (λ (es : List EventRead). IsStrictlyIncreasing (map place es)) (sym are.events.flags)
-    (increasing_places place (flagged events) (rising_kept place has_unknown_flags events (events_rise capture wholes is)))
+    increasing_places place (flagged events) (rising_kept place has_unknown_flags events (events_rise capture wholes is))
 
 some_is : {A : Type 0} (x y : A) → Some x ≡ Some y → x ≡ y
 some_is x y same = ap (λ (o : Option _). unwrap_or o x) same
@@ -160,25 +159,24 @@ attached_there : (e : EventRead) (entry : Option AttachmentText) (a : Attached)
 attached_there e None a is = let wrong : None ≡ Some a = is in cc
 attached_there e (Some x) a is = ap (λ (o : Attached). o.owner.place) (sym (some_is (record { owner = e; attachment = x }) a is))
 
-bad_there : (o : Outcome) (bad : Option BadObject) (b : BadOwned)
-    → option_map (λ (x : BadObject). let made : BadOwned = record { owner = o.of.owner; bad = x } in made) bad ≡ Some b → b.owner.place ≡ o.of.owner.place
+bad_there : (o : Outcome) (bad : Option BadObject) (b : BadRow EventRead)
+    → option_map (λ (x : BadObject). let made : BadRow EventRead = record { owner = o.of.owner; bad = x } in made) bad ≡ Some b → b.owner.place ≡ o.of.owner.place
 bad_there o None b is = let wrong : None ≡ Some b = is in cc
-bad_there o (Some x) b is = ap (λ (y : BadOwned). y.owner.place) (sym (some_is (record { owner = o.of.owner; bad = x }) b is))
+bad_there o (Some x) b is = ap (λ (y : BadRow EventRead). y.owner.place) (sym (some_is (record { owner = o.of.owner; bad = x }) b is))
 
-pub objects_rise : (capture : List ℕ) (wholes : List WholeFrame) (said : FindingsSaid) → IsInGrammar capture wholes → AreFindings (wholes_of wholes) said
-    → IsStrictlyIncreasing (map (λ (b : BadOwned). b.owner.place) said.events.bad_objects)
-objects_rise capture wholes said is are =
+pub objects_rise : (capture : List ℕ) (wholes : List WholeFrame) (outcomes : List Outcome) → IsInGrammar capture wholes
+    → AreOutcomes (attachments_of (events_of_wholes (wholes_of wholes))) outcomes
+    → IsStrictlyIncreasing (map (λ (b : BadRow EventRead). b.owner.place) (bad_objects outcomes))
+objects_rise capture wholes outcomes is are =
     let events = events_of_wholes (wholes_of wholes) in
-    let outcomes = are.events.objects.outcomes in
     let owner : Attached → ℕ = λ a. a.owner.place in
-    let place : BadOwned → ℕ = λ b. b.owner.place in
+    let place : BadRow EventRead → ℕ = λ b. b.owner.place in
     let attachments = rising_made (λ (e : EventRead). e.place) owner attached_to (λ e a made. attached_there e e.entry a made) events
     (events_rise capture wholes is) in
     let owners = pairs_unmap (λ (a b : Attached). owner a < owner b) (λ (o : Outcome). o.of) outcomes
-    (subst (PlacesRise owner) (sym are.events.objects.are.each) attachments) in
-    subst (λ (bs : List BadOwned). IsStrictlyIncreasing (map place bs)) (sym are.events.objects.bad_are)
-    (increasing_places place (bad_objects outcomes)
-    (rising_made (λ (o : Outcome). o.of.owner.place) place bad_of (λ o b made. bad_there o o.bad b made) outcomes owners))
+    (subst (PlacesRise owner) (sym are.each) attachments) in
+    increasing_places place (bad_objects outcomes)
+    (rising_made (λ (o : Outcome). o.of.owner.place) place bad_of (λ o b made. bad_there o o.bad b made) outcomes owners)
 
 -- the frames of a capture stand apart
 pub stand_apart : (frames : List PlacedFrame) (done : List WholeFrame) → AreViews frames (wholes_of done) → AllPairs AreApart frames

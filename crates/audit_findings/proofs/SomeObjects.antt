@@ -1,32 +1,22 @@
 -- The attachments of a capture of bytes have their objects.
 use Rattle.std.proofs.Common.{◌≡◌, ℕ, ◌+◌, inl, inr, Bool, true, false, cond, Option, Some, None, refl, sym, ap, subst, ◌∙◌}
 use Rattle.std.proofs.Common.{List, [], ◌∷◌, ◌++◌, length}
-use Rattle.std.specs.List.{find, flat_map}
+use Rattle.std.specs.List.{cons_option, filter_map, find, flat_map}
 use Rattle.std.specs.Option.{option_map}
 use Rattle.std.proofs.lemmas.List.{append-nil, drop_at}
 use Rattle.std.proofs.lemmas.List.Elements.{All-cons, All-nil}
 use Rattle.capture_frame.specs.Envelope.{Before, in_version, attachments_place, file_header, frame_bytes}
 use Rattle.capture_frame.specs.Units.{AllStand, IsBytes, Placed, placed, placed_at}
 use Rattle.capture_frame.proofs.NumberLaws.{IsBytes-drop}
-use Rattle.object_view.specs.declared.sort.Sort.{Sort}
-use Rattle.object_view.specs.declared.sort.Sort.TheVariants.{Binder, WeakBinder, Handle, WeakHandle, Fd, Fda, Ptr}
-use Rattle.object_view.specs.Objects.{ObjectText}
 use Rattle.object_view.proofs.ListLaws.{some_objects}
 use Rattle.transaction_view.specs.Attachments.{EntryText, HasEntries, entry_bytes}
 use Rattle.transaction_view.specs.Grammar.{WholeFrame, IsInGrammar, whole_format}
 use Rattle.transaction_view.proofs.GrammarLaws.{IsBytes-front, IsBytes-attachments}
 use Rattle.event_core.specs.Events.{AttachmentText, EventRead, attachment_of, attachment_text, belongs_to, event_of, events_of_whole, placed_records}
-use Rattle.call_stacks.proofs.Members.{In, in_list, contained, in-map}
-use Rattle.pending_ledger.proofs.ListLaws.{contains_read}
-use Rattle.audit_findings.specs.declared.sort_counts.SortCounts.{SortCounts}
+use Rattle.summary_law.proofs.Members.{In, in-map}
 use Rattle.event_core.specs.Events.{events_of_wholes, wholes_of}
-use Rattle.std.proofs.Common.{All, Contains}
-use Rattle.std.specs.List.{filter_map}
-use Rattle.std.proofs.lemmas.List.Elements.{All-contains}
-use Rattle.handle_ledger.specs.Held.{Held}
-use Rattle.audit_findings.specs.Held.{AreHeldBy, held_in}
-use Rattle.audit_findings.specs.Objects.{Attached, AreObjectFindings, AreOutcomes, BadOwned, IsOutcome, Outcome, attached_to, attachments_of, bad_objects, count_of, good_objects, times_of}
-use Rattle.audit_findings.proofs.Listings.{in_flat}
+use Rattle.audit_findings.proofs.Kept.{in_flat, read_from}
+use Rattle.audit_findings.specs.Objects.{Attached, AreOutcomes, IsOutcome, Outcome, attached_to, attachments_of}
 
 -- ---- bytes of the capture
 
@@ -131,52 +121,11 @@ some_outcomes (a ∷ attachments) bytes =
       },
     )
 
-counts_of : List ObjectText → SortCounts
-counts_of objects = record {
-  binder = times_of Binder objects;
-  weak_binder = times_of WeakBinder objects;
-  handle = times_of Handle objects;
-  weak_handle = times_of WeakHandle objects;
-  fd = times_of Fd objects;
-  fda = times_of Fda objects;
-  ptr = times_of Ptr objects;
-}
-
-counted : (objects : List ObjectText) (sort : Sort) → count_of (counts_of objects) sort ≡ times_of sort objects
-unfolding counts_of
-counted objects Binder = refl
-counted objects WeakBinder = refl
-counted objects Handle = refl
-counted objects WeakHandle = refl
-counted objects Fd = refl
-counted objects Fda = refl
-counted objects Ptr = refl
-
-objects_of : (attachments : List Attached) → ((a : Attached) → In a attachments → IsBytes a.attachment.offset_bytes)
-    → (counts : SortCounts) × (bad : List BadOwned) × AreObjectFindings attachments counts bad
-objects_of attachments bytes =
-    let found = some_outcomes attachments bytes in
-    let good = good_objects found.0 in
-    (counts_of good, bad_objects found.0, record { outcomes = found.0; are = found.1; counted = counted good; bad_are = refl })
-
-pub some_of_objects : (capture : List ℕ) (wholes : List WholeFrame) → IsBytes capture → IsInGrammar capture wholes
-    → (counts : SortCounts) × (bad : List BadOwned) × AreObjectFindings (attachments_of (events_of_wholes (wholes_of wholes))) counts bad
-some_of_objects capture wholes h is =
+pub some_objects_of : (capture : List ℕ) (wholes : List WholeFrame) → IsBytes capture → IsInGrammar capture wholes
+    → (outcomes : List Outcome) × AreOutcomes (attachments_of (events_of_wholes (wholes_of wholes))) outcomes
+some_objects_of capture wholes h is =
     let events = events_of_wholes (wholes_of wholes) in
-    objects_of (attachments_of events)
+    some_outcomes (attachments_of events)
     (λ a here.
-    let from = contains_read attached_to events a (contained (attachments_of events) a here) in
-    event_list (wholes_of wholes) (all_good capture wholes h is) from.0 (in_list events from.0 from.1) a.attachment (attached_made from.0 from.0.entry a from.2))
-
--- ---- what some of the events hold
-
-pub some_held_by : (capture : List ℕ) (wholes : List WholeFrame) → IsBytes capture → IsInGrammar capture wholes → (some : List EventRead)
-    → All (Contains (events_of_wholes (wholes_of wholes))) some → (held : List Held) × AreHeldBy some held
-some_held_by capture wholes h is some there =
-    let events = events_of_wholes (wholes_of wholes) in
-    let found = some_outcomes (attachments_of some)
-    (λ a here.
-    let from = contains_read attached_to some a (contained (attachments_of some) a here) in
-    event_list (wholes_of wholes) (all_good capture wholes h is) from.0 (in_list events from.0 (All-contains (Contains events) some from.0 there from.1))
-    a.attachment (attached_made from.0 from.0.entry a from.2)) in
-    (filter_map held_in (good_objects found.0), (found.0, found.1, refl))
+    let from = read_from attached_to events a here in
+    event_list (wholes_of wholes) (all_good capture wholes h is) from.0 from.1 a.attachment (attached_made from.0 from.0.entry a from.2))

@@ -6,7 +6,7 @@ use Rattle.call_stacks.specs.Calls.{event_place, CallsSum, event_reads}
 use Rattle.call_stacks.specs.declared.call_record.CallEvent.{CallEvent}
 use Rattle.call_stacks.specs.declared.calls.Calls.{Calls}
 use Rattle.event_core.specs.Events.{EventRead}
-use Rattle.pending_ledger.proofs.GatherLaws.{items_rise}
+use Rattle.summary_law.proofs.ReadLaws.{items_rise}
 use Rattle.summary_law.proofs.ReadLaws.{length-read}
 use Rattle.summary_law.specs.ByKey.{EachFits, under}
 use Rattle.summary_law.specs.Fits.{IsPlaced, PlacesRise}

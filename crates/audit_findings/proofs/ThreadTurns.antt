@@ -9,16 +9,17 @@ use Rattle.call_stacks.specs.declared.findings.CallFindings.{CallFindings}
 use Rattle.call_stacks.specs.declared.call_record.CallEvent.{CallEvent}
 use Rattle.call_stacks.specs.declared.calls.Calls.{Calls}
 use Rattle.capture_frame.specs.declared.process.Thread.{Thread}
-use Rattle.audit_findings.specs.declared.opener_row.OpenerRow.{OpenerRow}
-use Rattle.audit_findings.specs.declared.refused.SendRow.{SendRow}
+use Rattle.call_stacks.specs.declared.findings.RefusedSend.{RefusedSend}
+use Rattle.call_stacks.specs.declared.opener.Opener.{Opener}
 use Rattle.audit_findings.specs.declared.thread_rows.ThreadRows.{ThreadRows}
-use Rattle.audit_findings.specs.ThreadRows.{listed_in, strays_in, sends_in, TakesOver, IsCountIfSmall, AreRowsInTurn, AreGatheredRows}
+use Rattle.audit_findings.specs.ThreadRows.{made_in, served_in, strays_of, sends_in, TakesOver, IsCountIfSmall, AreRowsInTurn, AreGatheredRows}
 
-pub no_threads : AreRowsInTurn [] [] 0 0 [] []
+pub no_threads : AreRowsInTurn [] [] [] 0 0 [] []
 no_threads = record {
   founds = [];
   are = tt;
-  listed_are = refl;
+  made_are = refl;
+  served_are = refl;
   answered_is = λ few. refl;
   replied_is = λ few. refl;
   strays_are = refl;
@@ -34,18 +35,19 @@ more_in_front own found founds number holds few =
     omega (arith, both, rest)
 
 -- one thread more, in front
-pub thread_in_front : (e : Thread × Calls CallEvent) (entries : List (Thread × Calls CallEvent)) (found : CallFindings CallEvent) (listed : List OpenerRow)
-    (answered replied : ℕ) (strays : List ℕ) (sends : List SendRow) → GivesFindings event_reads false e.1 found → AreRowsInTurn entries listed answered replied strays sends
-    → AreRowsInTurn (e ∷ entries) (listed_in found ++ listed) (found.answered + answered) (found.replied + replied)
-    (strays_in found ++ strays) (sends_in found ++ sends)
-thread_in_front e entries found listed answered replied strays sends gives rows = record {
+pub thread_in_front : (e : Thread × Calls CallEvent) (entries : List (Thread × Calls CallEvent)) (found : CallFindings CallEvent) (made served : List (Opener ℕ))
+    (answered replied : ℕ) (strays : List ℕ) (sends : List (RefusedSend ℕ)) → GivesFindings event_reads false e.1 found → AreRowsInTurn entries made served answered replied strays sends
+    → AreRowsInTurn (e ∷ entries) (made_in found ++ made) (served_in found ++ served) (found.answered + answered) (found.replied + replied)
+    (strays_of found ++ strays) (sends_in found ++ sends)
+thread_in_front e entries found made served answered replied strays sends gives rows = record {
   founds = found ∷ rows.founds;
   are = (gives, rows.are);
-  listed_are = ap (λ (t : List OpenerRow). listed_in found ++ t) rows.listed_are ∙ sym (flat_map-cons listed_in found rows.founds);
+  made_are = ap (λ (t : List (Opener ℕ)). made_in found ++ t) rows.made_are ∙ sym (flat_map-cons made_in found rows.founds);
+  served_are = ap (λ (t : List (Opener ℕ)). served_in found ++ t) rows.served_are ∙ sym (flat_map-cons served_in found rows.founds);
   answered_is = more_in_front (λ (f : CallFindings CallEvent). f.answered) found rows.founds answered rows.answered_is;
   replied_is = more_in_front (λ (f : CallFindings CallEvent). f.replied) found rows.founds replied rows.replied_is;
-  strays_are = ap (λ (t : List ℕ). strays_in found ++ t) rows.strays_are ∙ sym (flat_map-cons strays_in found rows.founds);
-  sends_are = ap (λ (t : List SendRow). sends_in found ++ t) rows.sends_are ∙ sym (flat_map-cons sends_in found rows.founds);
+  strays_are = ap (λ (t : List ℕ). strays_of found ++ t) rows.strays_are ∙ sym (flat_map-cons strays_of found rows.founds);
+  sends_are = ap (λ (t : List (RefusedSend ℕ)). sends_in found ++ t) rows.sends_are ∙ sym (flat_map-cons sends_in found rows.founds);
 }
 
 -- a number that another was added to
@@ -55,21 +57,22 @@ added old own new more count is holds few =
     omega (arith, is, whole, few)
 
 -- rows that a thread's were taken over into, with those to come
-pub taken_over : (entries : List (Thread × Calls CallEvent)) (old new : ThreadRows) (found : CallFindings CallEvent) (listed : List OpenerRow)
-    (answered replied : ℕ) (strays : List ℕ) (sends : List SendRow) → TakesOver old found new
-    → AreRowsInTurn entries (old.listed.items ++ (listed_in found ++ listed)) (old.answered + (found.answered + answered))
-    (old.replied + (found.replied + replied)) (old.strays.items ++ (strays_in found ++ strays))
+pub taken_over : (entries : List (Thread × Calls CallEvent)) (old new : ThreadRows) (found : CallFindings CallEvent) (made served : List (Opener ℕ))
+    (answered replied : ℕ) (strays : List ℕ) (sends : List (RefusedSend ℕ)) → TakesOver old found new
+    → AreRowsInTurn entries (old.made.items ++ (made_in found ++ made)) (old.served.items ++ (served_in found ++ served)) (old.answered + (found.answered + answered))
+    (old.replied + (found.replied + replied)) (old.strays.items ++ (strays_of found ++ strays))
     (old.sends.items ++ (sends_in found ++ sends))
-    → AreRowsInTurn entries (new.listed.items ++ listed) (new.answered + answered) (new.replied + replied) (new.strays.items ++ strays)
+    → AreRowsInTurn entries (new.made.items ++ made) (new.served.items ++ served) (new.answered + answered) (new.replied + replied) (new.strays.items ++ strays)
     (new.sends.items ++ sends)
-taken_over entries old new found listed answered replied strays sends takes rows = record {
+taken_over entries old new found made served answered replied strays sends takes rows = record {
   founds = rows.founds;
   are = rows.are;
-  listed_are = ap (λ (t : List OpenerRow). t ++ listed) takes.listed ∙ append_assoc old.listed.items (listed_in found) listed ∙ rows.listed_are;
+  made_are = ap (λ (t : List (Opener ℕ)). t ++ made) takes.made ∙ append_assoc old.made.items (made_in found) made ∙ rows.made_are;
+  served_are = ap (λ (t : List (Opener ℕ)). t ++ served) takes.served ∙ append_assoc old.served.items (served_in found) served ∙ rows.served_are;
   answered_is = added old.answered (found.answered) new.answered answered _ takes.answered rows.answered_is;
   replied_is = added old.replied (found.replied) new.replied replied _ takes.replied rows.replied_is;
-  strays_are = ap (λ (t : List ℕ). t ++ strays) takes.strays ∙ append_assoc old.strays.items (strays_in found) strays ∙ rows.strays_are;
-  sends_are = ap (λ (t : List SendRow). t ++ sends) takes.sends ∙ append_assoc old.sends.items (sends_in found) sends ∙ rows.sends_are;
+  strays_are = ap (λ (t : List ℕ). t ++ strays) takes.strays ∙ append_assoc old.strays.items (strays_of found) strays ∙ rows.strays_are;
+  sends_are = ap (λ (t : List (RefusedSend ℕ)). t ++ sends) takes.sends ∙ append_assoc old.sends.items (sends_in found) sends ∙ rows.sends_are;
 }
 
 none_more : (number count : ℕ) → IsCountIfSmall (number + 0) count → IsCountIfSmall number count
@@ -79,12 +82,13 @@ none_more number count holds few =
 
 -- rows with none to come
 pub all_turned : (entries : List (Thread × Calls CallEvent)) (rows : ThreadRows)
-    → AreRowsInTurn entries (rows.listed.items ++ []) (rows.answered + 0) (rows.replied + 0) (rows.strays.items ++ []) (rows.sends.items ++ [])
+    → AreRowsInTurn entries (rows.made.items ++ []) (rows.served.items ++ []) (rows.answered + 0) (rows.replied + 0) (rows.strays.items ++ []) (rows.sends.items ++ [])
     → AreGatheredRows entries rows
 all_turned entries rows are = record {
   founds = are.founds;
   are = are.are;
-  listed_are = sym (append-nil rows.listed.items) ∙ are.listed_are;
+  made_are = sym (append-nil rows.made.items) ∙ are.made_are;
+  served_are = sym (append-nil rows.served.items) ∙ are.served_are;
   answered_is = none_more rows.answered _ are.answered_is;
   replied_is = none_more rows.replied _ are.replied_is;
   strays_are = sym (append-nil rows.strays.items) ∙ are.strays_are;

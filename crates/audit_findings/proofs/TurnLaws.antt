@@ -1,133 +1,104 @@
--- Rows of each process in turn, one behind another.
-use Rattle.std.proofs.Common.{◌≡◌, ℕ, List, [], ◌∷◌, ◌++◌, length, map, All, refl, sym, ap₂, subst, ◌∙◌, append_assoc, arith}
-use Rattle.std.specs.List.{AllZip, flat_map}
+-- What is made of each process in turn.
+use Rattle.std.proofs.Common.{◌≡◌, ℕ, ◌+◌, List, [], ◌∷◌, ◌++◌, length, map, refl, sym, ap, ap₂, subst, ◌∙◌, append_assoc, length-append, arith}
+use Rattle.std.specs.List.{flat_map}
+use Rattle.std.specs.Map.{keys_of}
 use Rattle.std.proofs.lemmas.Grind.{flat_map-append}
-use Rattle.std.proofs.lemmas.List.{append-nil}
-use Rattle.std.proofs.lemmas.List.Elements.{All-head, All-tail}
+use Rattle.std.proofs.lemmas.List.Concat.{flat_map-cons}
+use Rattle.std.proofs.lemmas.List.{append-nil, length-map, map-append}
 use Rattle.capture_frame.specs.declared.process.Process.{Process}
-use Rattle.pending_ledger.specs.Pending.{ArePlacesOf}
 use Rattle.capture_frame.specs.Units.{Placed}
 use Rattle.transaction_view.specs.Grammar.{WholeFrame}
 use Rattle.event_core.specs.Events.{EventRead, events_of_wholes}
 use Rattle.process_ledgers.specs.declared.processes.Processes.{Processes}
 use Rattle.summary_law.specs.declared.nothing.Nothing.{Nothing}
-use Rattle.process_ledgers.specs.EachProcess.{AreLedgersOf, SumsEach, GivesOf, ledgers_in}
+use Rattle.process_ledgers.specs.EachProcess.{AreLedgersOf, SumsEach, ledgers_in}
 use Rattle.process_ledgers.specs.Processes.{processes_of}
+use Rattle.audit_findings.specs.InTurn.{in_turn, process_row, rows_in}
 use Rattle.audit_findings.specs.declared.in_turn.ProcessRow.{ProcessRow}
-use Rattle.audit_findings.specs.InTurn.{AreInTurn, AreRowsOf, process_row}
-use Rattle.audit_findings.specs.Places.{AreListsOf}
 
-zip_append : {X Y : Type 0} (R : X → Y → Type 0) (xs us : List X) (ys vs : List Y) → AllZip R xs ys → AllZip R us vs → AllZip R (xs ++ us) (ys ++ vs)
-zip_append R [] us [] vs first second = second
-zip_append R [] us (y ∷ ys) vs first second = absurd first
-zip_append R (x ∷ xs) us [] vs first second = absurd first
-zip_append R (x ∷ xs) us (y ∷ ys) vs first second = (first.0, zip_append R xs us ys vs first.1 second)
+-- the lists are those of the processes of these entries but the rest
+pub record Listing {R : Type 0} (of : List EventRead → Process → List R) (processes : Processes) (rest : List (Process × Nothing)) (lists : List (List R)) :
+    Type 0 where
+  pub done : List (Process × Nothing)
+  pub whole : done ++ rest ≡ processes.order.now.entries.entries
+  pub count : length lists ≡ length done
+  pub are : (wholes : List (Placed WholeFrame)) → SumsEach processes wholes → lists ≡ map (of (events_of_wholes wholes)) (keys_of done)
 
-zip_long : {X Y : Type 0} (R : X → Y → Type 0) (xs : List X) (ys : List Y) → AllZip R xs ys → length ys ≡ length xs
-zip_long R [] [] zip = refl
-zip_long R [] (y ∷ ys) zip = absurd zip
-zip_long R (x ∷ xs) [] zip = absurd zip
-zip_long R (x ∷ xs) (y ∷ ys) zip = let rest = zip_long R xs ys zip.1 in omega (arith, rest)
+module _ {R : Type 0} (of : List EventRead → Process → List R) (processes : Processes) where
+  abbrev entries : List (Process × Nothing)
+  entries = processes.order.now.entries.entries
 
--- lists, one after another
-abbrev pub joined : {R : Type 0} → List (List R) → List R
-joined lists = flat_map (λ list. list) lists
+  pub listing_starts : (rest : List (Process × Nothing)) → rest ≡ entries → (lists : List (List R)) → lists ≡ [] → Listing of processes rest lists
+  listing_starts rest all lists none = record {
+    done = [];
+    whole = all;
+    count = ap length none;
+    are = λ wholes sums. none;
+  }
 
--- these are the lists of the elements but the rest
-abbrev pub Listing : {E R : Type 0} → (E → List R → Type 0) → (entries rest : List E) → List (List R) → Type 0
-Listing {E} {R} Gives entries rest lists = (done : List E) × (done ++ rest ≡ entries) × AllZip Gives done lists
+  -- the list of the process that an entry names
+  abbrev pub OwnList : Process × Nothing → List R → Type 0
+  OwnList e own = (events : List EventRead) → AreLedgersOf (ledgers_in processes e.0) events e.0 → own ≡ of events e.0
 
--- the rows are these lists one after another
-abbrev pub Turning : {E R : Type 0} → (E → List R → Type 0) → (entries rest : List E) → List R → Type 0
-Turning {E} {R} Gives entries rest rows = (lists : List (List R)) × Listing Gives entries rest lists × (rows ≡ joined lists)
+  pub listing_goes_on : (rest : List (Process × Nothing)) (e : Process × Nothing) (lists : List (List R)) (own : List R) (more : List (List R))
+      → Listing of processes (e ∷ rest) lists → OwnList e own → more ≡ lists ++ own ∷ [] → Listing of processes rest more
+  listing_goes_on rest e lists own more listing gives pushed =
+      let done = listing.done in
+      record {
+        done = done ++ e ∷ [];
+        whole = append_assoc done (e ∷ []) rest ∙ listing.whole;
+        count = ap length pushed ∙ length-append lists (own ∷ []) ∙ ap (λ n. n + 1) listing.count ∙ sym (length-append done (e ∷ []));
+        are = λ wholes sums.
+            let events = events_of_wholes wholes in
+            pushed ∙ ap₂ (λ (a b : List (List R)). a ++ b) (listing.are wholes sums) (ap (λ (l : List R). l ∷ []) (gives events (sums.each e.0)))
+            ∙ sym (map-append (of events) (keys_of done) (e.0 ∷ [])) ∙ ap (map (of events)) (sym (map-append (λ (x : Process × Nothing). x.0) done (e ∷ [])));
+      }
 
-module _ {E R : Type 0} (Gives : E → List R → Type 0) where
-  pub listing_starts : (entries : List E) → Listing Gives entries entries []
-  listing_starts entries = ([], refl, tt)
+  module _ (rest : List (Process × Nothing)) (none : rest ≡ []) (lists : List (List R)) (listing : Listing of processes rest lists) where
+    all_done : listing.done ≡ entries
+    all_done = sym (append-nil listing.done) ∙ ap (λ (t : List (Process × Nothing)). listing.done ++ t) (sym none) ∙ listing.whole
 
-  pub listing_goes_on : (entries rest : List E) (e : E) (lists : List (List R)) (own : List R) → Listing Gives entries (e ∷ rest) lists → Gives e own
-      → Listing Gives entries rest (lists ++ own ∷ [])
-  listing_goes_on entries rest e lists own listing gives = (
-    listing.0 ++ e ∷ [],
-    append_assoc listing.0 (e ∷ []) rest ∙ listing.1,
-    zip_append Gives listing.0 (e ∷ []) lists (own ∷ []) listing.2 (gives, tt),
-  )
+    -- at the end there is one for each entry
+    pub listing_long : length lists ≡ length entries
+    listing_long = listing.count ∙ ap length all_done
 
-  -- at the end each element has its list
-  pub all_listed : (entries : List E) (lists : List (List R)) → Listing Gives entries [] lists → AllZip Gives entries lists
-  all_listed entries lists listing = subst (λ (es : List E). AllZip Gives es lists) (sym (append-nil listing.0) ∙ listing.1) listing.2
+    -- and they are those of all processes
+    pub all_listed : (wholes : List (Placed WholeFrame)) → SumsEach processes wholes → lists ≡ map (of (events_of_wholes wholes)) (processes_of wholes)
+    all_listed wholes sums =
+        listing.are wholes sums ∙ ap (λ (es : List (Process × Nothing)). map (of (events_of_wholes wholes)) (keys_of es)) all_done
+        ∙ ap (map (of (events_of_wholes wholes))) sums.order
 
-  pub turning_starts : (entries : List E) → Turning Gives entries entries []
-  turning_starts entries = ([], listing_starts entries, refl)
+-- ---- lists, one after another
 
-  pub turning_goes_on : (entries rest : List E) (e : E) (rows own : List R) → Turning Gives entries (e ∷ rest) rows → Gives e own
-      → Turning Gives entries rest (rows ++ own)
-  turning_goes_on entries rest e rows own turning gives =
-      let lists = turning.0 in (
-        lists ++ own ∷ [],
-        listing_goes_on entries rest e lists own turning.1 gives,
-        ap₂ (λ (a b : List R). a ++ b) turning.2 (sym (append-nil own)) ∙ sym (flat_map-append (λ (list : List R). list) lists (own ∷ [])),
+pub flat_lists : {K R : Type 0} (of : K → List R) (keys : List K) → flat_map (λ (own : List R). own) (map of keys) ≡ flat_map of keys
+flat_lists of [] = refl
+flat_lists {K} {R} of (k ∷ keys) =
+    flat_map-cons (λ (own : List R). own) (of k) (map of keys) ∙ ap (λ (t : List R). of k ++ t) (flat_lists of keys) ∙ sym (flat_map-cons of k keys)
+
+-- the rows are those of the processes of these entries but the rest, each as one of its process
+abbrev pub Turning : {R : Type 0} → (List EventRead → Process → List R) → Processes → List (Process × Nothing) → List (ProcessRow R) → Type 0
+Turning {R} of processes rest rows =
+    (lists : List (List (ProcessRow R))) × Listing (λ events. rows_in (of events)) processes rest lists × (rows ≡ flat_map (λ (own : List (ProcessRow R)). own) lists)
+
+module _ {R : Type 0} (of : List EventRead → Process → List R) (processes : Processes) where
+  pub turning_starts : (rest : List (Process × Nothing)) → rest ≡ processes.order.now.entries.entries → (rows : List (ProcessRow R)) → rows ≡ []
+      → Turning of processes rest rows
+  turning_starts rest all rows none = ([], listing_starts (λ events. rows_in (of events)) processes rest all [] refl, none)
+
+  pub turning_goes_on : (rest : List (Process × Nothing)) (e : Process × Nothing) (rows more : List (ProcessRow R)) (own : List R)
+      → Turning of processes (e ∷ rest) rows → OwnList of processes e own → more ≡ rows ++ map (process_row e.0) own → Turning of processes rest more
+  turning_goes_on rest e rows more own turning gives pushed =
+      let lists = turning.0 in
+      let last = map (process_row e.0) own in (
+        lists ++ last ∷ [],
+        listing_goes_on (λ events. rows_in (of events)) processes rest e lists last (lists ++ last ∷ []) turning.1
+            (λ events is. ap (map (process_row e.0)) (gives events is)) refl,
+        pushed ∙ ap₂ (λ (a b : List (ProcessRow R)). a ++ b) turning.2 (sym (append-nil last)) ∙ sym (flat_map-append (λ (list : List (ProcessRow R)). list) lists (last ∷ [])),
       )
 
-  -- what the lists are of what the elements stand for
-  pub turned_of : {N : Type 0} (number : E → N) (Of : E → Type 0) (AreOf : N → List R → Type 0)
-      → ((e : E) (list : List R) → Of e → Gives e list → AreOf (number e) list)
-      → (entries : List E) (lists : List (List R)) → All Of entries → AllZip Gives entries lists → AllZip AreOf (map number entries) lists
-  turned_of number Of AreOf step [] [] all zip = tt
-  turned_of number Of AreOf step [] (l ∷ lists) all zip = absurd zip
-  turned_of number Of AreOf step (e ∷ es) [] all zip = absurd zip
-  turned_of number Of AreOf step (e ∷ es) (l ∷ lists) all zip =
-      (step e l (All-head Of e es all) zip.0, turned_of number Of AreOf step es lists (All-tail Of e es all) zip.1)
-
--- ---- the list and the rows of each process
-
--- what is so of all ledgers of these processes that entries name is so of the processes
-each_of : {R : Type 0} (Gives : Process × Nothing → List R → Type 0) (AreOf : Process → List R → Type 0) (processes : Processes) (wholes : List (Placed WholeFrame))
-    → SumsEach processes wholes
-    → ((e : Process × Nothing) (list : List R) → AreLedgersOf (ledgers_in processes e.0) (events_of_wholes wholes) e.0 → Gives e list → AreOf e.0 list)
-    → (lists : List (List R)) → Listing Gives processes.order.now.entries.entries [] lists → AllZip AreOf (processes_of wholes) lists
-each_of Gives AreOf processes wholes of step lists listing =
-    let entries = processes.order.now.entries.entries in
-    let OfIts : Process × Nothing → Type 0 = λ e. AreLedgersOf (ledgers_in processes e.0) (events_of_wholes wholes) e.0 in
-    subst (λ (ps : List Process). AllZip AreOf ps lists) of.order
-    (turned_of Gives (λ (e : Process × Nothing). e.0) OfIts AreOf step entries lists (λ i d within. of.each _) (all_listed Gives entries lists listing))
-
--- how many lists there are
-pub listing_long : {E R : Type 0} (Gives : E → List R → Type 0) (entries : List E) (lists : List (List R)) → Listing Gives entries [] lists
-    → length lists ≡ length entries
-listing_long Gives entries lists listing = zip_long Gives entries lists (all_listed Gives entries lists listing)
-
--- the list of whatever process an entry names
-abbrev pub OwnList : {R : Type 0} → (List EventRead → Process → List R → Type 0) → Processes → Process × Nothing → List R → Type 0
-OwnList AreOf processes e own = GivesOf AreOf (ledgers_in processes e.0) own
-
-pub own_lists : {R : Type 0} (AreOf : List EventRead → Process → List R → Type 0) (processes : Processes) (wholes : List (Placed WholeFrame))
-    (lists : List (List R)) → Listing (OwnList AreOf processes) processes.order.now.entries.entries [] lists → SumsEach processes wholes
-    → AllZip (AreOf (events_of_wholes wholes)) (processes_of wholes) lists
-own_lists AreOf processes wholes lists listing of =
-    each_of (OwnList AreOf processes) (AreOf (events_of_wholes wholes)) processes wholes of
-    (λ e list is gives. gives (events_of_wholes wholes) e.0 is) lists listing
-
--- the places at which something is so of whatever process an entry names
-abbrev pub OwnPlaces : (List EventRead → Process → ℕ → Type 0) → Processes → Process × Nothing → List ℕ → Type 0
-OwnPlaces IsHere processes e own = OwnList (λ events process places. ArePlacesOf (IsHere events process) places) processes e own
-
-pub own_places : (IsHere : List EventRead → Process → ℕ → Type 0) (processes : Processes) (wholes : List (Placed WholeFrame)) (lists : List (List ℕ))
-    → Listing (OwnPlaces IsHere processes) processes.order.now.entries.entries [] lists → SumsEach processes wholes → AreListsOf IsHere wholes lists
-own_places IsHere processes wholes lists listing of =
-    own_lists (λ events process places. ArePlacesOf (IsHere events process) places) processes wholes lists listing of
-
--- the rows of a process, each as one of it
-abbrev pub RowsOf : {R : Type 0} → (List EventRead → Process → List R → Type 0) → Processes → Process × Nothing → List (ProcessRow R) → Type 0
-RowsOf {R} AreOf processes e rows = (own : List R) × GivesOf AreOf (ledgers_in processes e.0) own × (rows ≡ map (process_row e.0) own)
-
--- the rows of all processes are theirs in turn
-pub in_turn : {R : Type 0} (AreOf : List EventRead → Process → List R → Type 0) (processes : Processes) (wholes : List (Placed WholeFrame)) (rows : List (ProcessRow R))
-    → Turning (RowsOf AreOf processes) processes.order.now.entries.entries [] rows → SumsEach processes wholes
-    → AreInTurn (AreOf (events_of_wholes wholes)) (processes_of wholes) rows
-in_turn AreOf processes wholes rows turning of = (
-  turning.0,
-  each_of (RowsOf AreOf processes) (AreRowsOf (AreOf (events_of_wholes wholes))) processes wholes of
-      (λ e list is gives. (gives.0, gives.1 (events_of_wholes wholes) e.0 is, gives.2)) turning.0 turning.1,
-  turning.2,
-)
+  pub all_turned : (rest : List (Process × Nothing)) → rest ≡ [] → (rows : List (ProcessRow R)) → Turning of processes rest rows
+      → (wholes : List (Placed WholeFrame)) → SumsEach processes wholes → rows ≡ in_turn (of (events_of_wholes wholes)) (processes_of wholes)
+  all_turned rest none rows turning wholes sums =
+      turning.2
+      ∙ ap (flat_map (λ (own : List (ProcessRow R)). own)) (all_listed (λ events. rows_in (of events)) processes rest none turning.0 turning.1 wholes sums)
+      ∙ flat_lists (rows_in (of (events_of_wholes wholes))) (processes_of wholes)

@@ -1,38 +1,35 @@
 -- The sections `calls`, `served`, `strays` and `refused`: what became of the calls of each thread (docs/REPORT.md).
-use Rattle.std.specs.Prelude.{◌≡◌, ℕ, ◌&&◌, not, Bool, true, false, List, filter, map, count_by, None}
-use Rattle.event_core.specs.Brackets.{is_oneway}
+use Rattle.std.specs.Prelude.{not, Bool, true, false, List, filter, map, count_by, None}
 use Rattle.event_core.specs.Events.{EventRead}
 use Rattle.event_core.specs.declared.marks.Bracket.{Bracket}
 use Rattle.event_core.specs.declared.marks.Bracket.TheVariants.{Call}
-use Rattle.call_stacks.specs.Calls.{Reads, Bracketed, IsOpener, IsStrayEvent, IsRefusedSend, bracket_read, judged_of}
-use Rattle.call_stacks.specs.declared.opener.Opener.{Opener}
+use Rattle.call_stacks.specs.Calls.{bracket_read, how_many, opener_read, refused_send, stray_read, with_verdict}
+use Rattle.call_stacks.specs.Verdicts.{is_answered, is_crossed, is_failed, is_open, is_replied, lacks_reply}
 use Rattle.call_stacks.specs.declared.findings.RefusedSend.{RefusedSend}
-use Rattle.call_stacks.specs.Matching.{ListsInOrder}
-use Rattle.call_stacks.specs.Verdicts.{is_answered, is_failed, is_replied, is_crossed, is_open}
+use Rattle.call_stacks.specs.declared.opener.Opener.{Opener}
 use Rattle.call_stacks.specs.declared.verdict.Verdict.{Verdict}
 use Rattle.call_stacks.specs.declared.verdict.Verdict.TheVariants.{Crossed, Open}
-use Rattle.audit_findings.specs.Threads.{events_of_thread}
+use Rattle.audit_findings.specs.TextReads.{text_reads}
+use Rattle.audit_findings.specs.Threads.{in_threads}
+use Rattle.audit_findings.specs.declared.call_sections.CallSections.{CallSections}
+use Rattle.audit_findings.specs.declared.calls.Calls.{Calls}
+use Rattle.audit_findings.specs.declared.refused.Refused.{Refused}
+use Rattle.audit_findings.specs.declared.served.Served.{Served}
 
--- what is read of an event for the calls of its thread
-abbrev pub text_reads : Reads EventRead
-text_reads = record { place = λ e. e.place; kind = λ e. e.kind; oneway = λ e. is_oneway e.kind e.payload }
-
--- the events of the thread of this one, each with what it is among the calls of the thread
-abbrev pub judged_in_thread : List EventRead → EventRead → List (Bracketed EventRead)
-judged_in_thread events e = judged_of text_reads (events_of_thread e events)
-
--- the openers of all threads, each with what became of it in its thread, in rising place
-abbrev pub AreOpeners : List EventRead → List (Opener EventRead) → Type 0
-AreOpeners events openers =
-    ListsInOrder (λ o. o.event.place) (λ o. IsOpener text_reads (judged_in_thread events o.event) o) openers
+-- the calls of all threads, those that a thread makes and those that it serves, each with what becomes of it
+abbrev pub openers : List EventRead → List (Opener EventRead)
+openers events = in_threads (opener_read text_reads) events
 
 abbrev pub is_call_bracket : Bracket → Bool
 is_call_bracket Call = true
 is_call_bracket _ = false
 
--- whether an opener is a call that its thread makes; else its thread serves it
-abbrev pub is_call : Opener EventRead → Bool
-is_call o = is_call_bracket (bracket_read text_reads None o.event)
+-- whether the thread of an opener makes the call; else it serves it
+abbrev pub is_made : Opener EventRead → Bool
+is_made o = is_call_bracket (bracket_read text_reads None o.event)
+
+abbrev pub is_served : Opener EventRead → Bool
+is_served o = not (is_made o)
 
 -- crossed and open are the two sorts of unanswered
 abbrev pub is_unanswered : Verdict → Bool
@@ -40,55 +37,41 @@ is_unanswered Crossed = true
 is_unanswered Open = true
 is_unanswered _ = false
 
--- how many calls there are of each sort, and those that are not answered
-pub record CallsSaid : Type 0 where
-  pub answered : ℕ
-  pub failed : ℕ
-  pub unanswered : ℕ
-  pub rows : List (Opener EventRead)
+-- how many of the calls that threads make there are of each sort, and those that lack their reply
+abbrev pub calls_of : List (Opener EventRead) → Calls EventRead
+calls_of made = record {
+  answered = how_many is_answered made;
+  failed = how_many is_failed made;
+  unanswered = how_many is_unanswered made;
+  rows = with_verdict lacks_reply made;
+}
 
--- how many served calls there are of each sort, and those that are not replied
-pub record ServedSaid : Type 0 where
-  pub replied : ℕ
-  pub crossed : ℕ
-  pub left_open : ℕ
-  pub rows : List (Opener EventRead)
+-- how many of the calls that threads serve there are of each sort, and those that lack their reply
+abbrev pub served_of : List (Opener EventRead) → Served EventRead
+served_of served = record {
+  replied = how_many is_replied served;
+  crossed = how_many is_crossed served;
+  left_open = how_many is_open served;
+  rows = with_verdict lacks_reply served;
+}
 
--- the calls among these openers
-pub record AreCalls (openers : List (Opener EventRead)) (said : CallsSaid) : Type 0 where
-  pub answered : said.answered ≡ count_by (λ o. is_call o && is_answered o.verdict) openers
-  pub failed : said.failed ≡ count_by (λ o. is_call o && is_failed o.verdict) openers
-  pub unanswered : said.unanswered ≡ count_by (λ o. is_call o && is_unanswered o.verdict) openers
-  pub rows : said.rows ≡ filter (λ o. is_call o && not (is_answered o.verdict)) openers
+-- the closers of all threads that match no opener of their thread
+abbrev pub stray_closers : List EventRead → List EventRead
+stray_closers events = in_threads stray_read events
 
--- the served calls among these openers
-pub record AreServed (openers : List (Opener EventRead)) (said : ServedSaid) : Type 0 where
-  pub replied : said.replied ≡ count_by (λ o. not (is_call o) && is_replied o.verdict) openers
-  pub crossed : said.crossed ≡ count_by (λ o. not (is_call o) && is_crossed o.verdict) openers
-  pub left_open : said.left_open ≡ count_by (λ o. not (is_call o) && is_open o.verdict) openers
-  pub rows : said.rows ≡ filter (λ o. not (is_call o) && not (is_replied o.verdict)) openers
+-- the refused sends of all threads
+abbrev pub refused_sends : List EventRead → List (RefusedSend EventRead)
+refused_sends events = in_threads (λ before found later. refused_send found) events
 
--- the calls and the served calls of all threads
-abbrev pub AreCallFindings : List EventRead → CallsSaid → ServedSaid → Type 0
-AreCallFindings events calls served =
-    (openers : List (Opener EventRead)) × AreOpeners events openers × AreCalls openers calls
-    × AreServed openers served
+-- the error replies that tell of them, and how many of these sends were oneway ones
+abbrev pub refused_of : List (RefusedSend EventRead) → Refused EventRead
+refused_of sends = record { oneway = count_by (λ s. s.oneway) sends; rows = map (λ s. s.event) sends }
 
--- the closers of all threads that match no opener of their thread, in rising place
-abbrev pub AreStrays : List EventRead → List EventRead → Type 0
-AreStrays events said = ListsInOrder (λ e. e.place) (λ e. IsStrayEvent (judged_in_thread events e) e) said
-
--- the error replies that tell of refused sends, and how many of these sends were oneway ones
-pub record RefusedSaid : Type 0 where
-  pub oneway : ℕ
-  pub rows : List EventRead
-
--- the refused sends of all threads, in rising place
-abbrev pub AreSends : List EventRead → List (RefusedSend EventRead) → Type 0
-AreSends events sends = ListsInOrder (λ s. s.event.place) (λ s. IsRefusedSend (judged_in_thread events s.event) s) sends
-
--- what is said of the refused sends of all threads
-abbrev pub AreRefused : List EventRead → RefusedSaid → Type 0
-AreRefused events said =
-    (sends : List (RefusedSend EventRead)) × AreSends events sends
-    × (said.oneway ≡ count_by (λ s. s.oneway) sends) × (said.rows ≡ map (λ s. s.event) sends)
+-- what the report says of the calls of all threads
+abbrev pub call_sections : List EventRead → CallSections EventRead
+call_sections events = record {
+  calls = calls_of (filter is_made (openers events));
+  served = served_of (filter is_served (openers events));
+  strays = stray_closers events;
+  refused = refused_of (refused_sends events);
+}

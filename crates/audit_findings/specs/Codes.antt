@@ -1,6 +1,7 @@
 -- The section `codes`: how often each code word stands there (docs/REPORT.md).
-use Rattle.std.specs.Prelude.{◌≡◌, ℕ, ◌<◌, ◌==◌, Bool, true, false, List, map, count_by, All, Contains}
-use Rattle.std.specs.List.Sorted.{IsStrictlyIncreasing}
+use Rattle.std.specs.Prelude.{ℕ, ◌==◌, Bool, true, false, List, map, count_by}
+use Rattle.std.specs.Ordering.{nat_cmp}
+use Rattle.summary_law.specs.Sorted.{sorted}
 use Rattle.binder_code.specs.declared.record_kind.Kind.{Kind}
 use Rattle.binder_code.specs.declared.record_kind.Kind.TheVariants.{Opaque}
 use Rattle.event_core.specs.Events.{EventRead}
@@ -19,8 +20,10 @@ is_opaque e = is_opaque_kind e.kind
 abbrev pub code_words : List EventRead → List ℕ
 code_words events = map (λ e. e.code) events
 
--- the rows for these code words: each different word once, rising, with the number of times that it stands there
-pub record AreCodeRows (words : List ℕ) (rows : List CodeRow) : Type 0 where
-  pub rising : IsStrictlyIncreasing (map (λ row. row.word) rows)
-  pub counted : All (λ row. (0 < row.count) × (row.count ≡ count_by (λ word. word == row.word) words)) rows
-  pub whole : (word : ℕ) → Contains words word → Contains (map (λ row. row.word) rows) word
+-- the row of a code word: how often it is among these
+abbrev pub code_row : List ℕ → ℕ → CodeRow
+code_row words word = record { word = word; count = count_by (λ other. other == word) words }
+
+-- a row for each different code word, the words rising
+abbrev pub code_rows : List ℕ → List CodeRow
+code_rows words = map (code_row words) (sorted nat_cmp words)

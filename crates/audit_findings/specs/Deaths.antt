@@ -2,9 +2,10 @@
 use Rattle.std.specs.Prelude.{List}
 use Rattle.event_core.specs.Events.{EventRead}
 use Rattle.process_ledgers.specs.Items.{death_item_of}
-use Rattle.audit_findings.specs.Places.{OpenAndStraySaid, AreOpenAndStray}
+use Rattle.audit_findings.specs.Places.{open_and_stray}
+use Rattle.audit_findings.specs.declared.open_and_stray.OpenAndStray.{OpenAndStray}
 
 -- the deaths that no later acknowledgement of their process has the cookie of, and the acknowledgements of what is not
 -- dead or is acknowledged already
-abbrev pub AreDeathFindings : List EventRead → OpenAndStraySaid → Type 0
-AreDeathFindings events said = AreOpenAndStray death_item_of events said
+abbrev pub death_findings : List EventRead → OpenAndStray EventRead
+death_findings events = open_and_stray death_item_of events

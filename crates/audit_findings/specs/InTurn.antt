@@ -1,6 +1,6 @@
 -- Rows of each process in turn (docs/REPORT.md).
-use Rattle.std.specs.Prelude.{◌≡◌, List, map}
-use Rattle.std.specs.List.{AllZip, flat_map}
+use Rattle.std.specs.Prelude.{List, map}
+use Rattle.std.specs.List.{flat_map}
 use Rattle.capture_frame.specs.declared.process.Process.{Process}
 use Rattle.audit_findings.specs.declared.in_turn.ProcessRow.{ProcessRow}
 
@@ -9,11 +9,9 @@ abbrev pub process_row : {R : Type 0} → Process → R → ProcessRow R
 process_row process row = record { process = process; row = row }
 
 -- the rows of a process, each as one of it
-abbrev pub AreRowsOf : {R : Type 0} → (Process → List R → Type 0) → Process → List (ProcessRow R) → Type 0
-AreRowsOf {R} AreOf process rows = (own : List R) × AreOf process own × (rows ≡ map (process_row process) own)
+abbrev pub rows_in : {R : Type 0} → (Process → List R) → Process → List (ProcessRow R)
+rows_in rows process = map (process_row process) (rows process)
 
--- the rows are those of each process in turn
-abbrev pub AreInTurn : {R : Type 0} → (Process → List R → Type 0) → List Process → List (ProcessRow R) → Type 0
-AreInTurn {R} AreOf processes rows =
-    (lists : List (List (ProcessRow R))) × AllZip (AreRowsOf AreOf) processes lists
-    × (rows ≡ flat_map (λ list. list) lists)
+-- the rows of each process in turn
+abbrev pub in_turn : {R : Type 0} → (Process → List R) → List Process → List (ProcessRow R)
+in_turn rows processes = flat_map (rows_in rows) processes

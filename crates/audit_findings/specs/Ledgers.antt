@@ -16,22 +16,25 @@ use Rattle.audit_findings.specs.declared.objects.ObjectLedger.{ObjectLedger}
 use Rattle.audit_findings.specs.declared.sequences.Sequences.{Sequences}
 use Rattle.audit_findings.specs.CodeCounts.{CountWords}
 use Rattle.audit_findings.specs.Codes.{code_words, is_opaque}
-use Rattle.audit_findings.specs.Findings.{FindingsSaid, AreFindings, last_sequence}
+use Rattle.audit_findings.specs.Findings.{findings_of, last_sequence}
 use Rattle.audit_findings.specs.Flags.{flagged}
 use Rattle.audit_findings.specs.Frames.{AreViews}
-use Rattle.audit_findings.specs.Buffers.{AreUnfreed}
-use Rattle.audit_findings.specs.Handles.{AreListedHandles}
+use Rattle.audit_findings.specs.Buffers.{is_unfreed}
+use Rattle.audit_findings.specs.Handles.{handles_in}
+use Rattle.audit_findings.specs.InTurn.{rows_in}
 use Rattle.audit_findings.specs.declared.in_turn.ProcessRow.{ProcessRow}
 use Rattle.handle_ledger.specs.declared.held_row.HeldRow.{HeldRow}
 use Rattle.event_core.specs.Events.{events_of_wholes}
-use Rattle.audit_findings.specs.Kept.{Keep, kept_bad}
-use Rattle.audit_findings.specs.Objects.{BadOwned, AreObjectFindings, attachments_of}
-use Rattle.audit_findings.specs.Oneway.{CountsOneway}
+use Rattle.audit_findings.specs.Kept.{at_places, bad_at_place}
+use Rattle.audit_findings.specs.Objects.{AreOutcomes, Outcome, attachments_of, bad_objects, count_of, good_objects, times_of}
+use Rattle.audit_findings.specs.Oneway.{oneway_counts}
+use Rattle.audit_findings.specs.Places.{places_in}
+use Rattle.object_view.specs.declared.sort.Sort.{Sort}
 use Rattle.event_core.specs.Reading.{event_text}
 use Rattle.event_core.specs.declared.event.Event.{Event}
 use Rattle.process_ledgers.specs.Concerns.{concerned}
-use Rattle.process_ledgers.specs.EachProcess.{SumsEach, SumsOrder}
-use Rattle.process_ledgers.specs.Processes.{process_of_whole}
+use Rattle.process_ledgers.specs.EachProcess.{AreLedgersOf, SumsEach, SumsOrder}
+use Rattle.process_ledgers.specs.Processes.{process_of_whole, processes_of}
 use Rattle.capture_frame.specs.declared.process.Process.{Process}
 use Rattle.process_ledgers.specs.ProcessLedgers.{SumsProcess}
 use Rattle.process_ledgers.specs.declared.process_ledgers.ProcessLedgers.{ProcessLedgers}
@@ -57,16 +60,17 @@ ListsFlagged ledger events = ledger.places.items ≡ map (λ e. e.place) (flagge
 
 -- the objects are counted, and the bad ones kept
 pub record SumsObjects (ledger : ObjectLedger) (events : List EventRead) : Type 0 where
-  pub bad : List BadOwned
-  pub are : AreObjectFindings (attachments_of events) ledger.counts bad
-  pub kept : ledger.bad.items ≡ map kept_bad bad
+  pub outcomes : List Outcome
+  pub are : AreOutcomes (attachments_of events) outcomes
+  pub counted : (sort : Sort) → count_of ledger.counts sort ≡ times_of sort (good_objects outcomes)
+  pub kept : ledger.bad.items ≡ map bad_at_place (bad_objects outcomes)
 
 -- the ledgers are those of these events
 pub record SumsEvents (ledgers : EventLedgers) (events : List EventRead) : Type 0 where
   pub records : ledgers.records ≡ length events
   pub opaque : ledgers.opaque ≡ count_by is_opaque events
   pub codes : CountWords ledgers.codes (code_words events)
-  pub oneway : CountsOneway ledgers.oneway events
+  pub oneway : ledgers.oneway ≡ oneway_counts events
   pub objects : SumsObjects ledgers.objects events
   pub flags : ListsFlagged ledgers.flags events
 
@@ -133,12 +137,36 @@ Takes old frames new =
 abbrev pub AreOfFew : FrameLedgers → Type 0
 AreOfFew ledgers = (wholes : List (Placed WholeFrame)) × SumsLedgers ledgers wholes × AreFewFrames wholes
 
+-- the attachments of these frames have these outcomes
+abbrev pub AreOutcomesOf : List (Placed WholeFrame) → List Outcome → Type 0
+AreOutcomesOf wholes outcomes = AreOutcomes (attachments_of (events_of_wholes wholes)) outcomes
+
+-- the lists are those of the processes of these frames: of each the places of its deliveries that it never frees
+abbrev pub AreUnfreed : List (Placed WholeFrame) → List (List ℕ) → Type 0
+AreUnfreed wholes lists = lists ≡ map (places_in is_unfreed (events_of_wholes wholes)) (processes_of wholes)
+
+-- the lists are those of the processes of these frames: of each the rows of its handles
+abbrev pub AreListedHandles : List (Placed WholeFrame) → List (List (ProcessRow HeldRow)) → Type 0
+AreListedHandles wholes lists =
+    (outcomes : List Outcome) → AreOutcomesOf wholes outcomes
+    → lists ≡ map (rows_in (handles_in (events_of_wholes wholes) outcomes)) (processes_of wholes)
+
+-- the ledgers may be those of any process of these frames, and the places those of the deliveries that it never frees:
+-- the rows are that process's
+abbrev pub GivesHandles : ProcessLedgers → List PlacedFrame → List ℕ → List HeldRow → Type 0
+GivesHandles ledgers frames unfreed rows =
+    (wholes : List (Placed WholeFrame)) (outcomes : List Outcome) (process : Process) → AreViews frames wholes
+    → AreOutcomesOf wholes outcomes → AreLedgersOf ledgers (events_of_wholes wholes) process
+    → unfreed ≡ places_in is_unfreed (events_of_wholes wholes) process
+    → rows ≡ handles_in (events_of_wholes wholes) outcomes process
+
 -- whatever few frames the ledgers are those of, whose processes have these unfreed deliveries and rows of handles, the
 -- sections keep their findings
-abbrev pub GiveSections : FrameLedgers → List (List ℕ) → List (List (ProcessRow HeldRow)) → Sections → Type 0
+abbrev pub GiveSections : FrameLedgers → List (List ℕ) → List (List (ProcessRow HeldRow)) → Sections ℕ → Type 0
 GiveSections ledgers unfreed handles sections =
     (wholes : List (Placed WholeFrame)) → SumsLedgers ledgers wholes → AreFewFrames wholes
-    → AreUnfreed wholes unfreed → AreListedHandles wholes handles → (said : FindingsSaid) × AreFindings wholes said × Keep sections said
+    → AreUnfreed wholes unfreed → AreListedHandles wholes handles
+    → (outcomes : List Outcome) × AreOutcomesOf wholes outcomes × (sections ≡ at_places (findings_of wholes outcomes))
 
 -- whatever frames the ledgers are those of, these are their processes, with these ledgers where none has an item
 abbrev pub GivesProcesses : FrameLedgers → ProcessLedgers → Processes → Type 0

@@ -1,7 +1,9 @@
 pub mod Frames
 pub mod Places
 pub mod Codes
+pub mod TextReads
 pub mod Threads
+pub mod Verdicts
 pub mod Calls
 pub mod RecordCounts
 pub mod CodeCounts

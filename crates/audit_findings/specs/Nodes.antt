@@ -4,16 +4,18 @@ use Rattle.capture_frame.specs.declared.process.Process.{Process}
 use Rattle.capture_frame.specs.Units.{Placed}
 use Rattle.transaction_view.specs.Grammar.{WholeFrame}
 use Rattle.event_core.specs.Events.{EventRead, events_of_wholes}
-use Rattle.handle_ledger.specs.Nodes.{AreNodeRows}
+use Rattle.handle_ledger.specs.Nodes.{node_rows}
 use Rattle.handle_ledger.specs.declared.node_row.NodeRow.{NodeRow}
 use Rattle.process_ledgers.specs.Items.{node_item_of}
-use Rattle.process_ledgers.specs.Processes.{processes_of, read_of}
+use Rattle.process_ledgers.specs.Processes.{items_of_process, processes_of}
 use Rattle.audit_findings.specs.declared.references.References.{References}
-use Rattle.audit_findings.specs.References.{AreReferences, is_not_zero}
+use Rattle.audit_findings.specs.InTurn.{in_turn}
+use Rattle.audit_findings.specs.References.{is_not_zero, references}
 
--- the rows of this process: one for each node that is named to it or by it, by rising ptr and then by rising cookie
-abbrev pub AreNodesOf : List EventRead → Process → List NodeRow → Type 0
-AreNodesOf events process rows = AreNodeRows (read_of node_item_of process) events rows
+-- the rows of this process: one for each node of which references are asked for, let go or acknowledged, by rising ptr
+-- and then by rising cookie
+abbrev pub nodes_in : List EventRead → Process → List NodeRow
+nodes_in events process = node_rows (items_of_process node_item_of process events)
 
 -- whether of one strength more or fewer references were let go than were taken, or acknowledged than were asked for
 abbrev pub is_unbalanced_node : NodeRow → Bool
@@ -21,6 +23,5 @@ is_unbalanced_node row =
     is_not_zero row.strong.sum || is_not_zero row.weak.sum || is_not_zero row.strong_due || is_not_zero row.weak_due
 
 -- the section: the rows of each process in turn
-abbrev pub AreNodeFindings : List (Placed WholeFrame) → References NodeRow → Type 0
-AreNodeFindings wholes said =
-    AreReferences (AreNodesOf (events_of_wholes wholes)) is_unbalanced_node (processes_of wholes) said
+abbrev pub node_references : List (Placed WholeFrame) → References NodeRow
+node_references wholes = references is_unbalanced_node (in_turn (nodes_in (events_of_wholes wholes)) (processes_of wholes))

@@ -8,6 +8,7 @@ use Rattle.object_view.specs.declared.sort.Sort.TheVariants.{Binder, WeakBinder,
 use Rattle.object_view.specs.Fields.{sort_number}
 use Rattle.object_view.specs.Objects.{ObjectText, AreObjects}
 use Rattle.event_core.specs.Events.{AttachmentText, EventRead}
+use Rattle.audit_findings.specs.declared.objects.BadRow.{BadRow}
 use Rattle.audit_findings.specs.declared.sort_counts.SortCounts.{SortCounts}
 
 -- an attachment, with the event of the record that it belongs to
@@ -59,26 +60,27 @@ times_of sort objects = count_by (λ o. same_sort o.sort sort) objects
 abbrev pub good_objects : List Outcome → List ObjectText
 good_objects outcomes = flat_map (λ o. o.objects) outcomes
 
--- a bad object, with the event of the record that owns it
-pub record BadOwned : Type 0 where
-  pub owner : EventRead
-  pub bad : BadObject
-
-abbrev pub bad_of : Outcome → Option BadOwned
+-- the bad object of an outcome, with the event of the record that owns it
+abbrev pub bad_of : Outcome → Option (BadRow EventRead)
 bad_of o = option_map (λ bad. record { owner = o.of.owner; bad = bad }) o.bad
 
 -- the bad objects of these outcomes
-abbrev pub bad_objects : List Outcome → List BadOwned
+abbrev pub bad_objects : List Outcome → List (BadRow EventRead)
 bad_objects outcomes = filter_map bad_of outcomes
 
--- the objects of these attachments: how many good ones of each sort there are, and the bad ones
-pub record AreObjectFindings (attachments : List Attached) (counts : SortCounts) (bad : List BadOwned) : Type 0 where
-  pub outcomes : List Outcome
-  pub are : AreOutcomes attachments outcomes
-  pub counted : (sort : Sort) → count_of counts sort ≡ times_of sort (good_objects outcomes)
-  pub bad_are : bad ≡ bad_objects outcomes
+-- how many of these objects are of each sort
+abbrev pub sort_counts : List ObjectText → SortCounts
+sort_counts objects = record {
+  binder = times_of Binder objects;
+  weak_binder = times_of WeakBinder objects;
+  handle = times_of Handle objects;
+  weak_handle = times_of WeakHandle objects;
+  fd = times_of Fd objects;
+  fda = times_of Fda objects;
+  ptr = times_of Ptr objects;
+}
 
 -- the bad object of an owner's attachment, if it has one
-abbrev pub owned_by : EventRead → Option BadObject → List BadOwned
+abbrev pub owned_by : EventRead → Option BadObject → List (BadRow EventRead)
 owned_by owner None = []
 owned_by owner (Some bad) = record { owner = owner; bad = bad } ∷ []

@@ -1,21 +1,17 @@
 -- The section `oneway`: the oneway transactions that each process sends to each handle, and those that it receives
 -- (docs/REPORT.md).
-use Rattle.std.specs.Prelude.{◌≡◌, ℕ, not, Bool, true, false, List, map, count_by}
+use Rattle.std.specs.Prelude.{ℕ, not, Bool, true, false, List, map, count_by}
 use Rattle.std.specs.List.{filter_map}
 use Rattle.capture_frame.specs.declared.process.Process.{Process}
-use Rattle.capture_frame.specs.Units.{Placed}
-use Rattle.transaction_view.specs.Grammar.{WholeFrame}
-use Rattle.event_core.specs.Events.{EventRead, events_of_wholes}
+use Rattle.event_core.specs.Events.{EventRead}
 use Rattle.event_core.specs.declared.oneway.OnewayItem.{OnewayItem}
 use Rattle.event_core.specs.declared.oneway.OnewayKey.{OnewayKey}
 use Rattle.event_core.specs.declared.oneway.OnewayKey.TheVariants.{Sent, Received}
-use Rattle.summary_law.specs.Tally.{AreTallyRows}
+use Rattle.summary_law.specs.Tally.{tally_rows}
 use Rattle.process_ledgers.specs.Items.{oneway_item_of}
 use Rattle.process_ledgers.specs.OnewayLedger.{oneway_cmp, oneway_pair}
-use Rattle.process_ledgers.specs.Processes.{processes_of, items_of_process}
-use Rattle.audit_findings.specs.declared.in_turn.ProcessRow.{ProcessRow}
+use Rattle.process_ledgers.specs.Processes.{items_of_process}
 use Rattle.audit_findings.specs.declared.oneway_counts.OnewayCounts.{OnewayCounts}
-use Rattle.audit_findings.specs.InTurn.{AreInTurn}
 
 abbrev pub is_sent_key : OnewayKey → Bool
 is_sent_key (Sent handle) = true
@@ -32,17 +28,11 @@ sent_count events = count_by is_sent (filter_map oneway_item_of events)
 abbrev pub received_count : List EventRead → ℕ
 received_count events = count_by (λ item. not (is_sent item)) (filter_map oneway_item_of events)
 
--- the counts are those of the oneway transactions among these events
-pub record CountsOneway (counts : OnewayCounts) (events : List EventRead) : Type 0 where
-  pub sent : counts.sent ≡ sent_count events
-  pub received : counts.received ≡ received_count events
+-- the counts of the oneway transactions among these events
+abbrev pub oneway_counts : List EventRead → OnewayCounts
+oneway_counts events = record { sent = sent_count events; received = received_count events }
 
 -- the rows of this process: one for each handle that it sends to, handles rising, and one for what it receives; each
 -- has its key, how many there are, and their data sizes added up
-abbrev pub AreOnewayOf : List EventRead → Process → List (OnewayKey × ℕ × ℕ) → Type 0
-AreOnewayOf events process rows =
-    AreTallyRows oneway_cmp (map oneway_pair (items_of_process oneway_item_of process events)) rows
-
--- the rows of the section: those of each process in turn
-abbrev pub AreOnewayRows : List (Placed WholeFrame) → List (ProcessRow (OnewayKey × ℕ × ℕ)) → Type 0
-AreOnewayRows wholes rows = AreInTurn (AreOnewayOf (events_of_wholes wholes)) (processes_of wholes) rows
+abbrev pub oneway_of : List EventRead → Process → List (OnewayKey × ℕ × ℕ)
+oneway_of events process = tally_rows oneway_cmp (map oneway_pair (items_of_process oneway_item_of process events))

@@ -1,71 +1,59 @@
--- Rows that are events, in rising place over all processes; among them the opens of a process that it never closes
--- later, and the closes of what is not open (docs/REPORT.md).
-use Rattle.std.specs.Prelude.{◌≡◌, ℕ, List, length, map, All, Contains, Option, ◌⊎◌}
-use Rattle.std.specs.List.{AllZip}
+-- Rows that are events: of each process those that pass a test, which sees the items of the process before the event's
+-- and after it (docs/REPORT.md).
+use Rattle.std.specs.Prelude.{ℕ, ◌||◌, Bool, false, List, length, map, Option, filter_map}
+use Rattle.std.specs.Option.{option_map_or}
 use Rattle.std.specs.Ordering.{eq_by_cmp, nat_cmp}
+use Rattle.capture_frame.specs.Process.{same_process}
 use Rattle.capture_frame.specs.declared.process.Process.{Process}
-use Rattle.capture_frame.specs.Units.{Placed}
-use Rattle.transaction_view.specs.Grammar.{WholeFrame}
-use Rattle.event_core.specs.Events.{EventRead, events_of_wholes, process_of}
+use Rattle.event_core.specs.Events.{EventRead, process_of}
 use Rattle.event_core.specs.declared.pending.PendingItem.{PendingItem}
-use Rattle.pending_ledger.specs.Pending.{ArePlacesOf, IsOutstanding, IsStray}
+use Rattle.pending_ledger.specs.Pending.{is_left_open, is_stray}
+use Rattle.process_ledgers.specs.Processes.{events_in}
 use Rattle.summary_law.specs.Fits.{PlacesRise}
-use Rattle.process_ledgers.specs.Processes.{items_of_process, processes_of}
+use Rattle.summary_law.specs.Readings.{by_key, chosen, read_all}
+use Rattle.audit_findings.specs.declared.open_and_stray.OpenAndStray.{OpenAndStray}
 
--- what is said are some of the events: those at the places at which something is so, in rising place
-pub record AreEventsAt (IsHere : ℕ → Type 0) (events said : List EventRead) : Type 0 where
-  pub stand : All (λ e. Contains events e) said
-  pub places : ArePlacesOf IsHere (map (λ e. e.place) said)
+-- a test of an event among others
+abbrev pub EventTest : Type 0
+EventTest = List EventRead → EventRead → List EventRead → Bool
 
--- something is so at this many places
-abbrev pub IsCountOfPlaces : (ℕ → Type 0) → ℕ → Type 0
-IsCountOfPlaces IsHere count = (places : List ℕ) × ArePlacesOf IsHere places × (count ≡ length places)
+-- the test that is so of an event where it is so of its item, among the items of the others
+abbrev pub item_is : {I : Type 0} → (EventRead → Option I) → (List I → I → List I → Bool) → EventTest
+item_is read test before e later =
+    option_map_or (λ item. test (filter_map read before) item (filter_map read later)) (read e) false
 
--- something is so of some process at the place
-abbrev pub SomeProcess : (Process → ℕ → Type 0) → ℕ → Type 0
-SomeProcess IsHere place = (process : Process) × IsHere process place
+-- the events of this process that pass the test among those of the process
+abbrev pub listed_in : EventTest → Process → List EventRead → List EventRead
+listed_in test process events = read_all (chosen test) (events_in process events)
 
--- the lists are those of the processes of these frames, each with the places at which something is so of its process
-abbrev pub AreListsOf : (List EventRead → Process → ℕ → Type 0) → List (Placed WholeFrame) → List (List ℕ) → Type 0
-AreListsOf IsHere wholes lists =
-    AllZip (λ process places. ArePlacesOf (IsHere (events_of_wholes wholes) process) places) (processes_of wholes) lists
+-- their places
+abbrev pub places_in : EventTest → List EventRead → Process → List ℕ
+places_in test events process = map (λ e. e.place) (listed_in test process events)
 
--- among the opens and closes of this process the one at the place is an open, and no later close has its key
-abbrev pub IsOpenIn : (EventRead → Option (PendingItem ℕ)) → List EventRead → Process → ℕ → Type 0
-IsOpenIn read events process place = IsOutstanding (eq_by_cmp nat_cmp) (items_of_process read process events) place
+-- the events that pass the test among those of their process
+abbrev pub listed : EventTest → List EventRead → List EventRead
+listed test events = read_all (by_key same_process process_of (chosen test)) events
 
--- among the opens and closes of this process the one at the place is a close, and the latest earlier one of its key, if
--- any, is no open
-abbrev pub IsStrayIn : (EventRead → Option (PendingItem ℕ)) → List EventRead → Process → ℕ → Type 0
-IsStrayIn read events process place = IsStray (eq_by_cmp nat_cmp) (items_of_process read process events) place
+-- whether the event opens what no later one closes
+abbrev pub is_unclosed : (EventRead → Option (PendingItem ℕ)) → EventTest
+is_unclosed read = item_is read (is_left_open (eq_by_cmp nat_cmp))
 
--- the one at the place is an open of some process, which no later close of the process has the key of
-abbrev pub IsOpenStill : (EventRead → Option (PendingItem ℕ)) → List EventRead → ℕ → Type 0
-IsOpenStill read events place = SomeProcess (IsOpenIn read events) place
+-- whether the event closes what is not open
+abbrev pub is_stray_close : (EventRead → Option (PendingItem ℕ)) → EventTest
+is_stray_close read = item_is read (is_stray (eq_by_cmp nat_cmp))
 
--- the one at the place is a stray close of some process
-abbrev pub IsStrayClose : (EventRead → Option (PendingItem ℕ)) → List EventRead → ℕ → Type 0
-IsStrayClose read events place = SomeProcess (IsStrayIn read events) place
+-- whether an event passes the one test or the other
+abbrev pub either : EventTest → EventTest → EventTest
+either test other before e later = test before e later || other before e later
 
--- opens that no later close has the key of, and stray closes: how many there are of each, and all of them in one list
-pub record OpenAndStraySaid : Type 0 where
-  pub unclosed : ℕ
-  pub strays : ℕ
-  pub rows : List EventRead
-
--- each number is that of the places at which the one or the other is so, and the rows are the events at all of them
-pub record AreOpenAndStray (read : EventRead → Option (PendingItem ℕ)) (events : List EventRead)
-    (said : OpenAndStraySaid) : Type 0 where
-  pub unclosed : IsCountOfPlaces (IsOpenStill read events) said.unclosed
-  pub strays : IsCountOfPlaces (IsStrayClose read events) said.strays
-  pub rows : AreEventsAt (λ place. IsOpenStill read events place ⊎ IsStrayClose read events place) events said.rows
+-- how many events open what no later one of their process closes, and how many close what is not open; and all of them
+abbrev pub open_and_stray : (EventRead → Option (PendingItem ℕ)) → List EventRead → OpenAndStray EventRead
+open_and_stray read events = record {
+  unclosed = length (listed (is_unclosed read) events);
+  strays = length (listed (is_stray_close read) events);
+  rows = listed (either (is_unclosed read) (is_stray_close read)) events;
+}
 
 -- the places of these events rise
 abbrev pub RiseInPlace : List EventRead → Type 0
 RiseInPlace events = PlacesRise (λ e. e.place) events
-
--- where something is so of a process at a place, an event of that process stands there
-abbrev pub ComesFromItsProcess : (List EventRead → Process → ℕ → Type 0) → Type 0
-ComesFromItsProcess IsHere =
-    (events : List EventRead) (process : Process) (place : ℕ) → IsHere events process place
-    → (e : EventRead) × Contains events e × (process_of e ≡ process) × (e.place ≡ place)

@@ -1,5 +1,5 @@
 -- How many records of some kinds there are, by their code words (docs/REPORT.md).
-use Rattle.std.specs.Prelude.{◌≡◌, ◌==◌, ◌+◌, ℕ, Bool, false, List, count_by}
+use Rattle.std.specs.Prelude.{◌==◌, ◌+◌, ℕ, Bool, false, List, count_by}
 use Rattle.std.specs.Option.{option_map_or}
 use Rattle.binder_code.specs.Commands.{Row, row_of, word_of}
 use Rattle.binder_code.specs.declared.record_kind.Kind.{Kind}
@@ -15,9 +15,11 @@ abbrev pub times : Kind → List ℕ → ℕ
 times kind words = count_by (is_word_of kind) words
 
 -- the counts of these code words
-pub record AreRecordCounts (words : List ℕ) (counts : RecordCounts) : Type 0 where
-  pub deliveries : counts.deliveries ≡ times BrTransaction words + times BrTransactionSecCtx words + times BrReply words
-  pub frees : counts.frees ≡ times BcFreeBuffer words
-  pub requests : counts.requests ≡ times BcRequestDeathNotification words
-  pub deaths : counts.deaths ≡ times BrDeadBinder words
-  pub clears : counts.clears ≡ times BcClearDeathNotification words
+abbrev pub record_counts : List ℕ → RecordCounts
+record_counts words = record {
+  deliveries = times BrTransaction words + times BrTransactionSecCtx words + times BrReply words;
+  frees = times BcFreeBuffer words;
+  requests = times BcRequestDeathNotification words;
+  deaths = times BrDeadBinder words;
+  clears = times BcClearDeathNotification words;
+}

@@ -1,16 +1,14 @@
--- The section `requests`: requests to be told of a death that still stand (docs/REPORT.md).
-use Rattle.std.specs.Prelude.{ℕ, List}
-use Rattle.capture_frame.specs.declared.process.Process.{Process}
+-- The section `requests`: requests to be told of a death that nothing ended (docs/REPORT.md).
+use Rattle.std.specs.Prelude.{List}
 use Rattle.event_core.specs.Events.{EventRead}
-use Rattle.pending_ledger.specs.Requests.{IsStanding}
+use Rattle.pending_ledger.specs.Requests.{is_standing}
 use Rattle.process_ledgers.specs.Items.{request_item_of}
-use Rattle.process_ledgers.specs.Processes.{items_of_process}
-use Rattle.audit_findings.specs.Places.{AreEventsAt, SomeProcess}
+use Rattle.audit_findings.specs.Places.{EventTest, item_is, listed}
 
--- among the items of this process the one at the place is a request, and no later one ends it
-abbrev pub IsStandingIn : List EventRead → Process → ℕ → Type 0
-IsStandingIn events process place = IsStanding (items_of_process request_item_of process events) place
+-- whether the event is a request that no later one ends
+abbrev pub is_standing_request : EventTest
+is_standing_request = item_is request_item_of is_standing
 
--- the requests that stand
-abbrev pub AreStandingRequests : List EventRead → List EventRead → Type 0
-AreStandingRequests events said = AreEventsAt (SomeProcess (IsStandingIn events)) events said
+-- the requests that nothing later in their process ends
+abbrev pub standing_requests : List EventRead → List EventRead
+standing_requests events = listed is_standing_request events

@@ -1,22 +1,24 @@
 -- What the summary of some frames stands for.
+use Rattle.std.specs.Prelude.{◌≡◌, ℕ, List, length, slice_index_or}
 use Rattle.capture_frame.specs.Envelope.{PlacedFrame}
-use Rattle.std.specs.Prelude.{ℕ, List, length, slice_index_or}
 use Rattle.capture_frame.specs.Units.{Placed}
 use Rattle.capture_frame.specs.declared.process.Process.{Process}
 use Rattle.event_core.specs.Events.{events_of_wholes}
 use Rattle.handle_ledger.specs.declared.held_row.HeldRow.{HeldRow}
 use Rattle.process_ledgers.specs.Processes.{processes_of}
 use Rattle.transaction_view.specs.Grammar.{WholeFrame}
-use Rattle.audit_findings.specs.declared.findings.Sections.{Sections}
-use Rattle.audit_findings.specs.declared.piece_summary.PieceSummary.{PieceSummary}
-use Rattle.audit_findings.specs.Findings.{FindingsSaid, AreFindings}
-use Rattle.audit_findings.specs.Buffers.{AreUnfreed, AreUnfreedIn}
+use Rattle.audit_findings.specs.Buffers.{is_unfreed}
+use Rattle.audit_findings.specs.Findings.{findings_of}
 use Rattle.audit_findings.specs.Frames.{AreViews, AreGoodFrames}
-use Rattle.audit_findings.specs.Handles.{AreHandlesOf, AreListedHandles}
-use Rattle.audit_findings.specs.InTurn.{AreRowsOf}
+use Rattle.audit_findings.specs.Handles.{handles_in}
+use Rattle.audit_findings.specs.InTurn.{rows_in}
+use Rattle.audit_findings.specs.Kept.{at_places}
+use Rattle.audit_findings.specs.Ledgers.{AreListedHandles, AreOutcomesOf, AreUnfreed, SumsLedgers}
+use Rattle.audit_findings.specs.Objects.{Outcome}
+use Rattle.audit_findings.specs.Places.{places_in}
+use Rattle.audit_findings.specs.declared.findings.Sections.{Sections}
 use Rattle.audit_findings.specs.declared.in_turn.ProcessRow.{ProcessRow}
-use Rattle.audit_findings.specs.Kept.{Keep}
-use Rattle.audit_findings.specs.Ledgers.{SumsLedgers}
+use Rattle.audit_findings.specs.declared.piece_summary.PieceSummary.{PieceSummary}
 
 -- its ledgers are those of the whole frames that these frames are
 abbrev pub SumsPiece : PieceSummary → List PlacedFrame → Type 0
@@ -32,18 +34,19 @@ GivesUnfreed summary lists =
     (frames : List PlacedFrame) (wholes : List (Placed WholeFrame)) → SumsPiece summary frames → AreViews frames wholes
     → AreUnfreed wholes lists
 
--- if the summary is that of these frames, and the places are those of the deliveries that the process with this number
+-- if the summary is that of these frames, and the places are those of the deliveries that the process at this index
 -- never frees, the rows are those of the process's handles
 abbrev pub GivesHandlesAt : PieceSummary → List PlacedFrame → ℕ → List ℕ → List (ProcessRow HeldRow) → Type 0
-GivesHandlesAt summary frames number unfreed rows =
-    SumsPiece summary frames → (wholes : List (Placed WholeFrame)) (d : Process) → AreViews frames wholes
-    → AreUnfreedIn (events_of_wholes wholes) (slice_index_or (processes_of wholes) number d) unfreed
-    → AreRowsOf (AreHandlesOf (events_of_wholes wholes)) (slice_index_or (processes_of wholes) number d) rows
+GivesHandlesAt summary frames index unfreed rows =
+    SumsPiece summary frames → (wholes : List (Placed WholeFrame)) (outcomes : List Outcome) (d : Process)
+    → AreViews frames wholes → AreOutcomesOf wholes outcomes
+    → unfreed ≡ places_in is_unfreed (events_of_wholes wholes) (slice_index_or (processes_of wholes) index d)
+    → rows ≡ rows_in (handles_in (events_of_wholes wholes) outcomes) (slice_index_or (processes_of wholes) index d)
 
 -- whatever frames it sums, whose processes have these unfreed deliveries and rows of handles, the sections keep their
 -- findings
-abbrev pub GiveSectionsOf : PieceSummary → List (List ℕ) → List (List (ProcessRow HeldRow)) → Sections → Type 0
+abbrev pub GiveSectionsOf : PieceSummary → List (List ℕ) → List (List (ProcessRow HeldRow)) → Sections ℕ → Type 0
 GiveSectionsOf summary unfreed handles sections =
     (frames : List PlacedFrame) (wholes : List (Placed WholeFrame)) → SumsPiece summary frames → AreGoodFrames frames
     → AreViews frames wholes → AreUnfreed wholes unfreed → AreListedHandles wholes handles
-    → (said : FindingsSaid) × AreFindings wholes said × Keep sections said
+    → (outcomes : List Outcome) × AreOutcomesOf wholes outcomes × (sections ≡ at_places (findings_of wholes outcomes))

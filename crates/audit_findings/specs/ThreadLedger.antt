@@ -9,7 +9,7 @@ use Rattle.call_stacks.specs.declared.call_record.CallEvent.{CallEvent}
 use Rattle.call_stacks.specs.declared.calls.Calls.{Calls}
 use Rattle.summary_law.specs.Fits.{IsPlaced}
 use Rattle.summary_law.specs.InOrder.{SumsInOrder}
-use Rattle.audit_findings.specs.Calls.{text_reads}
+use Rattle.audit_findings.specs.TextReads.{text_reads}
 use Rattle.audit_findings.specs.declared.thread_ledger.ThreadLedger.{ThreadLedger}
 
 -- what the calls of a thread go by of an event; nothing is kept of it beside

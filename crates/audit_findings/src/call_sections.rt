@@ -1,8 +1,9 @@
 //! The sections of what became of calls.
 
-ghost use Rattle.std.specs.Prelude.{List, IfOk};
+ghost use Rattle.std.specs.Prelude.{◌≡◌, List, IfOk};
 ghost use Rattle.event_core.specs.Events.{EventRead};
-ghost use Rattle.audit_findings.specs.Findings.{CallSectionsSaid, AreCallSections};
+ghost use Rattle.audit_findings.specs.Calls.{call_sections};
+ghost use Rattle.audit_findings.specs.Kept.{calls_at_places};
 ghost use Rattle.audit_findings.specs.Places.{RiseInPlace};
 ghost use Rattle.audit_findings.specs.ThreadLedger.{SumsThreadCalls};
 
@@ -14,40 +15,40 @@ use crate::thread_ledger::ThreadLedger;
 use crate::thread_rows::ThreadRows;
 use std::alloc::{AllocError, Global};
 
-/// What the sections `calls`, `served`, `strays` and `refused` keep.
+/// What the sections `calls`, `served`, `strays` and `refused` say.
 #[derive(Drop)]
-pub struct CallSections {
+pub struct CallSections<E> {
     /// The calls that threads make.
-    pub calls: Calls,
+    pub calls: Calls<E>,
     /// The calls that threads get to serve.
-    pub served: Served,
-    /// The places of the closers that match no opener, rising.
-    pub strays: Rows<u64>,
+    pub served: Served<E>,
+    /// The closers that match no opener, in rising place.
+    pub strays: Rows<E>,
     /// Refused sends.
-    pub refused: Refused,
+    pub refused: Refused<E>,
 }
 
-impl CallSections {
-    ghost use Rattle.audit_findings.specs.Kept.{KeepCallSections};
-
-    /// Those of the calls of all threads.
+impl CallSections<u64> {
+    /// What is kept of the calls of all threads.
     pub(crate) fn of(alloc: Global, ledger: ThreadLedger) -> Result<Self, AllocError>
         ensures { IfOk result (λ kept. (events : List EventRead) →
             SumsThreadCalls ledger events → RiseInPlace events →
-            (said : CallSectionsSaid) × AreCallSections events said × KeepCallSections kept said) }
+            kept ≡ calls_at_places (call_sections events)) }
     {
         let ThreadRows {
-            listed,
+            made,
+            served,
             answered,
             replied,
             strays,
             sends,
         } = ThreadRows::of(alloc, ledger)?;
+        let refused = Refused::of(alloc, sends.as_slice())?;
         Ok(CallSections {
-            calls: Calls::of(alloc, answered, listed.as_slice())?,
-            served: Served::of(alloc, replied, listed.as_slice())?,
+            calls: Calls::of(answered, made),
+            served: Served::of(replied, served),
             strays: Rows::of(strays),
-            refused: Refused::of(alloc, sends.as_slice())?,
+            refused,
         })
     }
 }

@@ -9,8 +9,11 @@ pub(crate) struct ClearPairs;
 
 impl OpensAndCloses for ClearPairs {
     ghost use Rattle.process_ledgers.specs.Items.{clear_item_of};
+    ghost use Rattle.process_ledgers.proofs.ItemPlaces.{clear_keeps};
 
     ghost read = { clear_item_of };
+
+    ghost keeps = { clear_keeps };
 
     fn ledger<'l>(ledgers: &'l ProcessLedgers<'_>) -> &'l Pending<u64> {
         &ledgers.clears.own

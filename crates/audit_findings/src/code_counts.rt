@@ -5,7 +5,7 @@ ghost use Rattle.binder_code.specs.Commands.{kind_of, listed, protocol_of_word};
 ghost use Rattle.summary_law.specs.Fits.{IsShort};
 ghost use Rattle.summary_law.specs.Summary.{CanAdd, Adds, CanJoin, Joins};
 ghost use Rattle.audit_findings.specs.CodeCounts.{CountWords, CountListed, has_records, no_record, row_of, row_plus};
-ghost use Rattle.audit_findings.specs.Codes.{AreCodeRows};
+ghost use Rattle.audit_findings.specs.Codes.{code_rows};
 ghost use Rattle.audit_findings.specs.RecordCounts.{is_word_of, times};
 
 use crate::codes::CodeRow;
@@ -75,7 +75,7 @@ impl CodeCounts {
     /// The rows of all words, rising.
     pub fn rows(&self, alloc: Global) -> Result<Vec<CodeRow>, AllocError>
         ensures { IfOk result (λ rows. (words : List ℕ) → CountWords self.now words →
-            AreCodeRows words rows.items) }
+            rows.items ≡ code_rows words) }
     {
         let tallied = self.opaque.rows()?;
         let mut rows = Vec::new(alloc);

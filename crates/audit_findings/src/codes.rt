@@ -3,7 +3,7 @@
 ghost use Rattle.std.specs.Prelude.{◌≡◌, if◌then◌else◌, List, IfOk};
 ghost use Rattle.event_core.specs.Events.{EventRead};
 ghost use Rattle.audit_findings.specs.CodeCounts.{CountWords};
-ghost use Rattle.audit_findings.specs.Codes.{AreCodeRows, code_words, is_opaque_kind};
+ghost use Rattle.audit_findings.specs.Codes.{code_rows, code_words, is_opaque_kind};
 
 use crate::code_counts::CodeCounts;
 use crate::rows::Rows;
@@ -21,7 +21,7 @@ pub struct CodeRow {
 pub(crate) fn code_rows(alloc: Global, codes: &CodeCounts) -> Result<Rows<CodeRow>, AllocError>
     ensures { IfOk result (λ rows. (events : List EventRead) →
         CountWords codes.now (code_words events) →
-        AreCodeRows (code_words events) rows) }
+        rows ≡ code_rows (code_words events)) }
 {
     let rows = codes.rows(alloc)?;
     Ok(Rows::of(rows))

@@ -9,8 +9,11 @@ pub(crate) struct DeathPairs;
 
 impl OpensAndCloses for DeathPairs {
     ghost use Rattle.process_ledgers.specs.Items.{death_item_of};
+    ghost use Rattle.process_ledgers.proofs.ItemPlaces.{death_keeps};
 
     ghost read = { death_item_of };
+
+    ghost keeps = { death_keeps };
 
     fn ledger<'l>(ledgers: &'l ProcessLedgers<'_>) -> &'l Pending<u64> {
         &ledgers.deaths.own

@@ -1,8 +1,10 @@
 //! The sections of what is counted and listed of all events.
 
-ghost use Rattle.std.specs.Prelude.{List, IfOk};
+ghost use Rattle.std.specs.Prelude.{◌≡◌, List, IfOk};
 ghost use Rattle.event_core.specs.Events.{EventRead};
-ghost use Rattle.audit_findings.specs.Findings.{EventSectionsSaid, AreEventSections};
+ghost use Rattle.audit_findings.specs.Findings.{event_sections};
+ghost use Rattle.audit_findings.specs.Kept.{events_at_places};
+ghost use Rattle.audit_findings.specs.Objects.{AreOutcomes, Outcome, attachments_of};
 ghost use Rattle.audit_findings.specs.Ledgers.{SumsEvents, AreFewEvents};
 
 use crate::codes::{CodeRow, code_rows};
@@ -14,9 +16,9 @@ use crate::rows::Rows;
 use crate::sort_counts::SortCounts;
 use std::alloc::{AllocError, Global};
 
-/// What is kept of all events, whatever their process and thread.
+/// What is said of all events, whatever their process and thread.
 #[derive(Drop)]
-pub struct EventSections {
+pub struct EventSections<E> {
     /// How many records there are, opaque ones included.
     pub records: u64,
     /// How many of them are opaque.
@@ -30,20 +32,18 @@ pub struct EventSections {
     /// How many good objects of each sort there are.
     pub objects: SortCounts,
     /// The bad objects, in rising place of their records.
-    pub bad_objects: Rows<BadRow>,
-    /// The places of the records with flag bits that the header does not name, rising.
-    pub flags: Rows<u64>,
+    pub bad_objects: Rows<BadRow<E>>,
+    /// The records with flag bits that the header does not name, in rising place.
+    pub flags: Rows<E>,
 }
 
-impl EventSections {
-    ghost use Rattle.audit_findings.specs.Kept.{KeepEventSections};
-
-    /// Those of the ledgers of some events.
+impl EventSections<u64> {
+    /// What is kept of the ledgers of some events.
     pub(crate) fn of(alloc: Global, ledgers: EventLedgers) -> Result<Self, AllocError>
         requires { (events : List EventRead) × SumsEvents ledgers events × AreFewEvents events }
         ensures { IfOk result (λ kept. (events : List EventRead) → SumsEvents ledgers events →
-            (said : EventSectionsSaid) × AreEventSections events said
-            × KeepEventSections kept said) }
+            (outcomes : List Outcome) × AreOutcomes (attachments_of events) outcomes
+            × (kept ≡ events_at_places (event_sections events outcomes))) }
     {
         let codes = code_rows(alloc, &ledgers.codes)?;
         Ok(EventSections {

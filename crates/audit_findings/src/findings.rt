@@ -9,18 +9,19 @@ use capture_frame::{Frame, FrameList, FrameSlice};
 use event_core::{Event, event_without_attachment_at};
 use std::marker::Model;
 
-/// The numbers and the rows of the report, apart from the number of frames, as their makers give
-/// them.
+/// The numbers and the rows of the report, by what stands for a listed record.
 #[derive(Drop)]
-pub struct Sections {
+pub struct Sections<E> {
+    /// How many frames there are.
+    pub frames: u64,
     /// How many sequences between the first and the last frame's have no frame.
     pub missing: u64,
     /// What is counted and listed of all events.
-    pub events: EventSections,
+    pub events: EventSections<E>,
     /// What became of the calls of each thread.
-    pub calls: CallSections,
+    pub calls: CallSections<E>,
     /// What is counted and paired in each process.
-    pub processes: ProcessSections,
+    pub processes: ProcessSections<E>,
 }
 
 /// What the report says of a capture: its frames, numbers, and rows. A listed record is kept by its
@@ -28,7 +29,7 @@ pub struct Sections {
 #[derive(Drop)]
 pub struct Findings<'c> {
     frames: FrameList<'c>,
-    sections: Sections,
+    sections: Sections<u64>,
 }
 
 impl<'c> Model for Findings<'c> {
@@ -48,7 +49,7 @@ impl<'c> Findings<'c> {
     ghost use Rattle.audit_findings.specs.Lookup.{HasRecordIn, SaysEventAt};
 
     /// The findings of frames and what is kept of them.
-    pub fn new(frames: FrameList<'c>, sections: Sections) -> Findings<'c>
+    pub fn new(frames: FrameList<'c>, sections: Sections<u64>) -> Findings<'c>
         requires { AreOfFrames frames sections }
         ensures { result ≡ kept_findings frames.entry sections }
     {
@@ -63,7 +64,7 @@ impl<'c> Findings<'c> {
     }
 
     /// The numbers and the rows of the sections.
-    pub fn sections(&self) -> &Sections
+    pub fn sections(&self) -> &Sections<u64>
         ensures value { result.now ≡ self.now.sections }
         ensures told { AreOfFrames self.now.frames self.now.sections }
     {

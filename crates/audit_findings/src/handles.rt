@@ -1,10 +1,12 @@
 //! The section `handles`.
 
-ghost use Rattle.std.specs.Prelude.{List, map, IfOk};
+ghost use Rattle.std.specs.Prelude.{◌≡◌, List, map, IfOk};
 ghost use Rattle.capture_frame.specs.Units.{Placed};
 ghost use Rattle.transaction_view.specs.Grammar.{WholeFrame};
 ghost use Rattle.audit_findings.specs.Frames.{AreGoodFrames};
-ghost use Rattle.audit_findings.specs.Handles.{AreHandleFindings, AreListedHandles, GivesHandles};
+ghost use Rattle.audit_findings.specs.Handles.{handle_references};
+ghost use Rattle.audit_findings.specs.Ledgers.{AreListedHandles, AreOutcomesOf, GivesHandles};
+ghost use Rattle.audit_findings.specs.Objects.{Outcome};
 
 use crate::entries::entries_at;
 use crate::held::held_by;
@@ -39,7 +41,8 @@ pub(crate) fn handles_of(
 ) -> Result<References<HeldRow>, AllocError>
     ensures { IfOk result (λ found. (wholes : List (Placed WholeFrame)) →
         AreListedHandles wholes (map (λ list. list.items) lists.now) →
-        AreHandleFindings wholes found) }
+        (outcomes : List Outcome) → AreOutcomesOf wholes outcomes →
+        found ≡ handle_references wholes outcomes) }
 {
     let mut rows = Vec::new(alloc);
     for list in lists {

@@ -6,7 +6,7 @@ ghost use Rattle.transaction_view.specs.Grammar.{WholeFrame};
 ghost use Rattle.event_core.specs.Events.{events_of_wholes};
 ghost use Rattle.process_ledgers.specs.EachProcess.{SumsEach};
 ghost use Rattle.process_ledgers.specs.Processes.{processes_of};
-ghost use Rattle.audit_findings.specs.InTurn.{AreInTurn, process_row};
+ghost use Rattle.audit_findings.specs.InTurn.{in_turn, process_row};
 
 use capture_frame::Process;
 use process_ledgers::{ProcessLedgers, Processes};
@@ -21,20 +21,20 @@ pub struct ProcessRow<R> {
 
 /// What the ledgers of a process list as rows.
 pub(crate) trait ByProcess {
-    ghost use Rattle.std.specs.Prelude.{List, IfOk};
+    ghost use Rattle.std.specs.Prelude.{◌≡◌, List, IfOk};
     ghost use Rattle.capture_frame.specs.declared.process.Process.{Process};
     ghost use Rattle.event_core.specs.Events.{EventRead};
     ghost use Rattle.process_ledgers.specs.EachProcess.{AreLedgersOf};
 
     type Row: Copy;
 
-    /// Among these events the rows of this process are these.
-    ghost are_of: { List EventRead → Process → List Self.Row → Type 0 };
+    /// The rows of a process among these events.
+    ghost rows_of: { List EventRead → Process → List Self.Row };
 
     /// The rows of the process that the ledgers are of.
     fn rows(ledgers: &ProcessLedgers<'_>) -> Result<Vec<Self::Row>, AllocError>
         ensures { IfOk result (λ rows. (events : List EventRead) (process : Process) →
-            AreLedgersOf ledgers.now events process → are_of events process rows.items) };
+            AreLedgersOf ledgers.now events process → rows.items ≡ rows_of events process) };
 }
 
 /// The rows of each process in turn.
@@ -44,7 +44,7 @@ pub(crate) fn rows_in_turn<S: ByProcess>(
 ) -> Result<Vec<ProcessRow<S::Row>>, AllocError>
     ensures { IfOk result (λ rows. (wholes : List (Placed WholeFrame)) →
         SumsEach processes.entry wholes →
-        AreInTurn (S.are_of (events_of_wholes wholes)) (processes_of wholes) rows.items) }
+        rows.items ≡ in_turn (S.rows_of (events_of_wholes wholes)) (processes_of wholes)) }
 {
     let mut rows = Vec::new(alloc);
     let mut guess = 0;

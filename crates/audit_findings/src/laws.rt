@@ -1,6 +1,6 @@
 //! Laws of the definitions, as contracts of functions that do nothing.
 
-ghost use Rattle.audit_findings.specs.Laws.{BadObjectsRise, FlagsRise, HaveFindings};
+ghost use Rattle.audit_findings.specs.Laws.{BadObjectsRise, FlagsRise, HaveObjects};
 
 /// The rows of the sections `objects` and `flags` rise strictly in place, so no two of a section
 /// have one place.
@@ -9,8 +9,8 @@ pub fn rows_rise()
     ensures flags { FlagsRise }
 {}
 
-/// Every list of bytes that is a capture in the grammar has findings: no definition of a section
-/// asks for what some capture cannot have.
-pub fn some_findings()
-    ensures { HaveFindings }
+/// The attachments of every list of bytes that is a capture in the grammar have objects, and so it
+/// has findings.
+pub fn some_objects()
+    ensures { HaveObjects }
 {}

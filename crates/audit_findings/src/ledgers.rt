@@ -96,18 +96,20 @@ impl<'c> FrameLedgers<'c> {
         alloc: Global,
         unfreed: &[Vec<u64>],
         handles: &[Vec<ProcessRow<HeldRow>>],
-    ) -> Result<Sections, AllocError>
+    ) -> Result<Sections<u64>, AllocError>
         requires { AreOfFew self }
         ensures { IfOk result (GiveSections self.entry (map (λ list. list.items) unfreed.now)
             (map (λ list. list.items) handles.now)) }
     {
         let none = ProcessLedgers::empty(alloc);
         let processes = ProcessSections::of(alloc, self.processes(&none), unfreed, handles)?;
+        let frames = self.sequences.frames;
         let missing = self.sequences.missing();
         let of_events = self.of_events;
         let calls = CallSections::of(alloc, of_events.threads)?;
         let events = EventSections::of(alloc, of_events.all)?;
         Ok(Sections {
+            frames,
             missing,
             events,
             calls,

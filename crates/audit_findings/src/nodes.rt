@@ -1,10 +1,10 @@
 //! The section `nodes`.
 
-ghost use Rattle.std.specs.Prelude.{List, IfOk};
+ghost use Rattle.std.specs.Prelude.{◌≡◌, List, IfOk};
 ghost use Rattle.capture_frame.specs.Units.{Placed};
 ghost use Rattle.transaction_view.specs.Grammar.{WholeFrame};
 ghost use Rattle.process_ledgers.specs.EachProcess.{SumsEach};
-ghost use Rattle.audit_findings.specs.Nodes.{AreNodeFindings};
+ghost use Rattle.audit_findings.specs.Nodes.{node_references};
 
 use crate::in_turn::{ByProcess, rows_in_turn};
 use crate::references::{Balance, References, references_of};
@@ -16,11 +16,11 @@ use std::alloc::{AllocError, Global};
 struct Nodes;
 
 impl ByProcess for Nodes {
-    ghost use Rattle.audit_findings.specs.Nodes.{AreNodesOf};
+    ghost use Rattle.audit_findings.specs.Nodes.{nodes_in};
 
     type Row = NodeRow;
 
-    ghost are_of = { AreNodesOf };
+    ghost rows_of = { nodes_in };
 
     fn rows(ledgers: &ProcessLedgers<'_>) -> Result<Vec<NodeRow>, AllocError> {
         ledgers.nodes.own.rows()
@@ -33,7 +33,7 @@ pub(crate) fn nodes_of(
     processes: Processes<'_, '_>,
 ) -> Result<References<NodeRow>, AllocError>
     ensures { IfOk result (λ found. (wholes : List (Placed WholeFrame)) →
-        SumsEach processes.entry wholes → AreNodeFindings wholes found) }
+        SumsEach processes.entry wholes → found ≡ node_references wholes) }
 {
     let rows = rows_in_turn::<Nodes>(alloc, processes)?;
     Ok(references_of(rows))

@@ -16,9 +16,9 @@ use transaction_view::Entry;
 
 /// A bad object, and whose it is.
 #[derive(Clone, Copy, Debug, PartialEq, Eq)]
-pub struct BadRow {
-    /// Where the record that its attachment belongs to begins in the capture.
-    pub owner: u64,
+pub struct BadRow<E> {
+    /// What stands for the record that its attachment belongs to.
+    pub owner: E,
     /// The object.
     pub bad: BadObject,
 }
@@ -27,7 +27,7 @@ pub struct BadRow {
 #[derive(Drop)]
 pub(crate) struct ObjectLedger {
     pub counts: SortCounts,
-    pub bad: Vec<BadRow>,
+    pub bad: Vec<BadRow<u64>>,
 }
 
 impl ObjectLedger {

@@ -1,10 +1,13 @@
 //! The rows of the section `oneway`.
 
-ghost use Rattle.std.specs.Prelude.{List, IfOk};
+ghost use Rattle.std.specs.Prelude.{◌≡◌, List, IfOk};
 ghost use Rattle.capture_frame.specs.Units.{Placed};
 ghost use Rattle.transaction_view.specs.Grammar.{WholeFrame};
 ghost use Rattle.process_ledgers.specs.EachProcess.{SumsEach};
-ghost use Rattle.audit_findings.specs.Oneway.{AreOnewayRows};
+ghost use Rattle.event_core.specs.Events.{events_of_wholes};
+ghost use Rattle.process_ledgers.specs.Processes.{processes_of};
+ghost use Rattle.audit_findings.specs.InTurn.{in_turn};
+ghost use Rattle.audit_findings.specs.Oneway.{oneway_of};
 
 use crate::in_turn::{ByProcess, ProcessRow, rows_in_turn};
 use crate::rows::Rows;
@@ -20,11 +23,11 @@ pub type OnewayRow = (OnewayKey, u64, u128);
 struct Oneway;
 
 impl ByProcess for Oneway {
-    ghost use Rattle.audit_findings.specs.Oneway.{AreOnewayOf};
+    ghost use Rattle.audit_findings.specs.Oneway.{oneway_of};
 
     type Row = OnewayRow;
 
-    ghost are_of = { AreOnewayOf };
+    ghost rows_of = { oneway_of };
 
     fn rows(ledgers: &ProcessLedgers<'_>) -> Result<Vec<OnewayRow>, AllocError> {
         ledgers.oneway.own.rows()
@@ -37,7 +40,8 @@ pub(crate) fn oneway_rows(
     processes: Processes<'_, '_>,
 ) -> Result<Rows<ProcessRow<OnewayRow>>, AllocError>
     ensures { IfOk result (λ rows. (wholes : List (Placed WholeFrame)) →
-        SumsEach processes.entry wholes → AreOnewayRows wholes rows) }
+        SumsEach processes.entry wholes →
+        rows ≡ in_turn (oneway_of (events_of_wholes wholes)) (processes_of wholes)) }
 {
     Ok(Rows::of(rows_in_turn::<Oneway>(alloc, processes)?))
 }

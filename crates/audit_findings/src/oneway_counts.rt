@@ -2,7 +2,7 @@
 
 ghost use Rattle.std.specs.Prelude.{◌≡◌, ◌+◌, ◌∷◌, ◌<◌, ◌^◌, []};
 ghost use Rattle.event_core.specs.Reading.{event_text};
-ghost use Rattle.audit_findings.specs.Oneway.{CountsOneway};
+ghost use Rattle.audit_findings.specs.Oneway.{oneway_counts};
 
 use event_core::{Event, OnewayKey, oneway_step};
 
@@ -33,7 +33,7 @@ impl OnewayCounts {
 
     /// Those of one event.
     pub(crate) fn of(event: Event<'_>) -> Self
-        ensures { CountsOneway result (event_text event.entry ∷ []) }
+        ensures { result ≡ oneway_counts (event_text event.entry ∷ []) }
     {
         let Some(item) = oneway_step(event) else {
             return OnewayCounts::NONE;

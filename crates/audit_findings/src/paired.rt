@@ -1,14 +1,12 @@
 //! Opens and closes that the ledgers of processes pair by their keys, and what has no partner.
 
-ghost use Rattle.std.specs.Prelude.{List, IfOk};
+ghost use Rattle.std.specs.Prelude.{◌≡◌, List, IfOk};
 ghost use Rattle.capture_frame.specs.Units.{Placed};
 ghost use Rattle.transaction_view.specs.Grammar.{WholeFrame};
 ghost use Rattle.event_core.specs.Events.{events_of_wholes};
-ghost use Rattle.pending_ledger.specs.Pending.{place_of};
-ghost use Rattle.process_ledgers.specs.Items.{KeepsPlace};
 ghost use Rattle.process_ledgers.specs.EachProcess.{SumsEach};
-ghost use Rattle.audit_findings.specs.Kept.{KeepsOpenAndStray};
-ghost use Rattle.audit_findings.specs.Places.{RiseInPlace, OpenAndStraySaid, AreOpenAndStray};
+ghost use Rattle.audit_findings.specs.Kept.{pairs_at_places};
+ghost use Rattle.audit_findings.specs.Places.{RiseInPlace, open_and_stray};
 
 use crate::open_and_stray::OpenAndStray;
 use crate::places::{ListsPlaces, places_of};
@@ -25,12 +23,17 @@ pub(crate) trait OpensAndCloses {
     ghost use Rattle.capture_frame.specs.declared.process.Process.{Process};
     ghost use Rattle.event_core.specs.Events.{EventRead};
     ghost use Rattle.event_core.specs.declared.pending.PendingItem.{PendingItem};
+    ghost use Rattle.pending_ledger.specs.Pending.{place_of};
     ghost use Rattle.pending_ledger.specs.Sums.{PendingSums};
     ghost use Rattle.process_ledgers.specs.EachProcess.{AreLedgersOf};
+    ghost use Rattle.process_ledgers.specs.Items.{KeepsPlace};
     ghost use Rattle.process_ledgers.specs.Processes.{items_of_process};
 
     /// The open or the close that an event is.
     ghost read: { EventRead → Option (PendingItem ℕ) };
+
+    /// It is at the event's place.
+    ghost keeps: { KeepsPlace place_of read };
 
     /// The ledger.
     fn ledger<'l>(ledgers: &'l ProcessLedgers<'_>) -> &'l Pending<u64>
@@ -45,9 +48,9 @@ pub(crate) struct Unclosed<P> {
 }
 
 impl<P: OpensAndCloses> ListsPlaces for Unclosed<P> {
-    ghost use Rattle.audit_findings.specs.Places.{IsOpenIn};
+    ghost use Rattle.audit_findings.specs.Places.{is_unclosed};
 
-    ghost is_here = { IsOpenIn P.read };
+    ghost test = { is_unclosed P.read };
 
     fn places(ledgers: &ProcessLedgers<'_>) -> Result<Vec<u64>, AllocError> {
         P::ledger(ledgers).outstanding()
@@ -60,9 +63,9 @@ pub(crate) struct Strays<P> {
 }
 
 impl<P: OpensAndCloses> ListsPlaces for Strays<P> {
-    ghost use Rattle.audit_findings.specs.Places.{IsStrayIn};
+    ghost use Rattle.audit_findings.specs.Places.{is_stray_close};
 
-    ghost is_here = { IsStrayIn P.read };
+    ghost test = { is_stray_close P.read };
 
     fn places(ledgers: &ProcessLedgers<'_>) -> Result<Vec<u64>, AllocError> {
         P::ledger(ledgers).strays()
@@ -73,13 +76,11 @@ impl<P: OpensAndCloses> ListsPlaces for Strays<P> {
 pub(crate) fn open_and_stray_of<P: OpensAndCloses>(
     alloc: Global,
     processes: Processes<'_, '_>,
-) -> Result<OpenAndStray, AllocError>
-    ensures { IfOk result (λ found. KeepsPlace place_of P.read →
-        (wholes : List (Placed WholeFrame)) →
+) -> Result<OpenAndStray<u64>, AllocError>
+    ensures { IfOk result (λ found. (wholes : List (Placed WholeFrame)) →
         SumsEach processes.entry wholes →
         RiseInPlace (events_of_wholes wholes) →
-        (said : OpenAndStraySaid) × KeepsOpenAndStray found said
-        × AreOpenAndStray P.read (events_of_wholes wholes) said) }
+        found ≡ pairs_at_places (open_and_stray P.read (events_of_wholes wholes))) }
 {
     let mut places = places_of::<Unclosed<P>>(alloc, processes)?;
     let closes = places_of::<Strays<P>>(alloc, processes)?;

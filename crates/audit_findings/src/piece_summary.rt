@@ -76,7 +76,7 @@ impl<'c> PieceSummary<'c> {
         self,
         unfreed: &[Vec<u64>],
         handles: &[Vec<ProcessRow<HeldRow>>],
-    ) -> Result<Sections, AllocError>
+    ) -> Result<Sections<u64>, AllocError>
         requires { (frames : List PlacedFrame) × SumsPiece self frames × AreGoodFrames frames }
         ensures { IfOk result
             (GiveSectionsOf self.entry (map (λ list. list.items) unfreed.now)

@@ -4,29 +4,30 @@ ghost use Rattle.std.specs.Prelude.{◌≡◌, List, length, map, IfOk};
 ghost use Rattle.capture_frame.specs.Units.{Placed};
 ghost use Rattle.transaction_view.specs.Grammar.{WholeFrame};
 ghost use Rattle.event_core.specs.Events.{events_of_wholes};
-ghost use Rattle.pending_ledger.specs.Pending.{ArePlacesOf};
 ghost use Rattle.process_ledgers.specs.EachProcess.{SumsEach};
-ghost use Rattle.audit_findings.specs.Places.{AreListsOf, RiseInPlace, SomeProcess, ComesFromItsProcess};
+ghost use Rattle.process_ledgers.specs.Processes.{processes_of};
+ghost use Rattle.audit_findings.specs.Kept.{places_of};
+ghost use Rattle.audit_findings.specs.Places.{RiseInPlace, listed, places_in};
 
 use process_ledgers::{ProcessLedgers, Processes};
 use std::alloc::{AllocError, Global};
 
 /// A list of places that the ledgers of a process have.
 pub(crate) trait ListsPlaces {
-    ghost use Rattle.std.specs.Prelude.{ℕ, List, IfOk};
+    ghost use Rattle.std.specs.Prelude.{◌≡◌, List, IfOk};
     ghost use Rattle.capture_frame.specs.declared.process.Process.{Process};
     ghost use Rattle.event_core.specs.Events.{EventRead};
-    ghost use Rattle.pending_ledger.specs.Pending.{ArePlacesOf};
     ghost use Rattle.process_ledgers.specs.EachProcess.{AreLedgersOf};
+    ghost use Rattle.audit_findings.specs.Places.{EventTest, places_in};
 
-    /// Among these events, the list of this process has this place.
-    ghost is_here: { List EventRead → Process → ℕ → Type 0 };
+    /// Which events of a process are listed.
+    ghost test: { EventTest };
 
     /// The list, the places rising.
     fn places(ledgers: &ProcessLedgers<'_>) -> Result<Vec<u64>, AllocError>
         ensures { IfOk result (λ places. (events : List EventRead) (process : Process) →
             AreLedgersOf ledgers.now events process →
-            ArePlacesOf (is_here events process) places.items) };
+            places.items ≡ places_in test events process) };
 }
 
 /// The list of each process, in the order of first frames.
@@ -38,7 +39,8 @@ pub(crate) fn lists_of<L: ListsPlaces>(
         length lists.items ≡ length processes.entry.order.now.entries.entries) }
     ensures lists { IfOk result (λ lists. (wholes : List (Placed WholeFrame)) →
         SumsEach processes.entry wholes →
-        AreListsOf L.is_here wholes (map (λ list. list.items) lists.items)) }
+        map (λ list. list.items) lists.items
+        ≡ map (places_in L.test (events_of_wholes wholes)) (processes_of wholes)) }
 {
     let mut lists = Vec::new(alloc);
     let mut guess = 0;
@@ -54,10 +56,11 @@ pub(crate) fn gathered<L: ListsPlaces>(
     alloc: Global,
     lists: &[Vec<u64>],
 ) -> Result<Vec<u64>, AllocError>
-    ensures { IfOk result (λ places. ComesFromItsProcess L.is_here →
-        (wholes : List (Placed WholeFrame)) → RiseInPlace (events_of_wholes wholes) →
-        AreListsOf L.is_here wholes (map (λ list. list.items) lists.now) →
-        ArePlacesOf (SomeProcess (L.is_here (events_of_wholes wholes))) places.items) }
+    ensures { IfOk result (λ places. (wholes : List (Placed WholeFrame)) →
+        RiseInPlace (events_of_wholes wholes) →
+        map (λ list. list.items) lists.now
+        ≡ map (places_in L.test (events_of_wholes wholes)) (processes_of wholes) →
+        places.items ≡ places_of (listed L.test (events_of_wholes wholes))) }
 {
     let mut places = Vec::new(alloc);
     for list in lists {
@@ -72,10 +75,9 @@ pub(crate) fn places_of<L: ListsPlaces>(
     alloc: Global,
     processes: Processes<'_, '_>,
 ) -> Result<Vec<u64>, AllocError>
-    ensures { IfOk result (λ places. ComesFromItsProcess L.is_here →
-        (wholes : List (Placed WholeFrame)) → SumsEach processes.entry wholes →
-        RiseInPlace (events_of_wholes wholes) →
-        ArePlacesOf (SomeProcess (L.is_here (events_of_wholes wholes))) places.items) }
+    ensures { IfOk result (λ places. (wholes : List (Placed WholeFrame)) →
+        SumsEach processes.entry wholes → RiseInPlace (events_of_wholes wholes) →
+        places.items ≡ places_of (listed L.test (events_of_wholes wholes))) }
 {
     let lists = lists_of::<L>(alloc, processes)?;
     gathered::<L>(alloc, lists.as_slice())

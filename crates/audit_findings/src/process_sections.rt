@@ -1,13 +1,14 @@
 //! The sections of what is counted and paired in each process.
 
-ghost use Rattle.std.specs.Prelude.{List, map, IfOk};
+ghost use Rattle.std.specs.Prelude.{◌≡◌, List, map, IfOk};
 ghost use Rattle.capture_frame.specs.Units.{Placed};
 ghost use Rattle.transaction_view.specs.Grammar.{WholeFrame};
 ghost use Rattle.event_core.specs.Events.{events_of_wholes};
 ghost use Rattle.process_ledgers.specs.EachProcess.{SumsEach};
-ghost use Rattle.audit_findings.specs.Buffers.{AreUnfreed};
-ghost use Rattle.audit_findings.specs.Findings.{ProcessSectionsSaid, AreProcessSections};
-ghost use Rattle.audit_findings.specs.Handles.{AreListedHandles};
+ghost use Rattle.audit_findings.specs.Findings.{process_sections};
+ghost use Rattle.audit_findings.specs.Kept.{processes_at_places};
+ghost use Rattle.audit_findings.specs.Ledgers.{AreListedHandles, AreOutcomesOf, AreUnfreed};
+ghost use Rattle.audit_findings.specs.Objects.{Outcome};
 ghost use Rattle.audit_findings.specs.Places.{RiseInPlace};
 
 use crate::buffers::BufferPairs;
@@ -27,32 +28,30 @@ use handle_ledger::{HeldRow, NodeRow};
 use process_ledgers::Processes;
 use std::alloc::{AllocError, Global};
 
-/// What the sections keep that count and pair in each process.
+/// What the sections say that count and pair in each process.
 #[derive(Drop)]
-pub struct ProcessSections {
+pub struct ProcessSections<E> {
     /// The references that processes hold by handle, and those that their deliveries hold.
     pub handles: References<HeldRow>,
     /// The references to the nodes of processes.
     pub nodes: References<NodeRow>,
-    /// The places of the deliveries that are never freed, rising.
-    pub leaked: Rows<u64>,
-    /// The places of the frees of what is not delivered or is freed already, rising.
-    pub stray_frees: Rows<u64>,
-    /// The places of the requests that still stand, rising.
-    pub standing: Rows<u64>,
+    /// The deliveries that are never freed, in rising place.
+    pub leaked: Rows<E>,
+    /// The frees of what is not delivered or is freed already, in rising place.
+    pub stray_frees: Rows<E>,
+    /// The requests that nothing ended, in rising place.
+    pub standing: Rows<E>,
     /// Deaths that nobody acknowledges, and stray acknowledgements.
-    pub deaths: OpenAndStray,
+    pub deaths: OpenAndStray<E>,
     /// Clears that nobody confirms, and stray confirmations.
-    pub clears: OpenAndStray,
+    pub clears: OpenAndStray<E>,
     /// Oneway transactions of each process in the order of first frames: by rising handle what it
     /// sends, then what it receives.
     pub oneway: Rows<ProcessRow<OnewayRow>>,
 }
 
-impl ProcessSections {
-    ghost use Rattle.audit_findings.specs.Kept.{KeepProcessSections};
-
-    /// Those of all processes, whose unfreed deliveries and rows of handles are these lists.
+impl ProcessSections<u64> {
+    /// What is kept of all processes, whose unfreed deliveries and rows of handles are these lists.
     pub(crate) fn of(
         alloc: Global,
         processes: Processes<'_, '_>,
@@ -64,8 +63,8 @@ impl ProcessSections {
             AreUnfreed wholes (map (λ list. list.items) unfreed.now) →
             AreListedHandles wholes (map (λ list. list.items) handles.now) →
             RiseInPlace (events_of_wholes wholes) →
-            (said : ProcessSectionsSaid) × AreProcessSections wholes said
-            × KeepProcessSections kept said) }
+            (outcomes : List Outcome) → AreOutcomesOf wholes outcomes →
+            kept ≡ processes_at_places (process_sections wholes outcomes)) }
     {
         Ok(ProcessSections {
             handles: handles_of(alloc, handles)?,

@@ -1,10 +1,10 @@
 //! The first numbers of the heads of the sections `buffers` to `clears`.
 
-ghost use Rattle.std.specs.Prelude.{◌<◌, ◌^◌, List, length};
+ghost use Rattle.std.specs.Prelude.{◌≡◌, ◌<◌, ◌^◌, List, length};
 ghost use Rattle.event_core.specs.Events.{EventRead};
 ghost use Rattle.audit_findings.specs.CodeCounts.{CountWords};
 ghost use Rattle.audit_findings.specs.Codes.{code_words};
-ghost use Rattle.audit_findings.specs.RecordCounts.{AreRecordCounts};
+ghost use Rattle.audit_findings.specs.RecordCounts.{record_counts};
 
 use crate::code_counts::CodeCounts;
 use binder_code::Kind;
@@ -29,7 +29,7 @@ pub(crate) fn record_counts(codes: &CodeCounts) -> RecordCounts
     requires { (events : List EventRead) × CountWords codes.now (code_words events)
         × (length events < 2 ^ 64) }
     ensures { (events : List EventRead) → CountWords codes.now (code_words events) →
-        AreRecordCounts (code_words events) result }
+        result ≡ record_counts (code_words events) }
 {
     RecordCounts {
         deliveries: codes.count(Kind::BrTransaction)

@@ -1,7 +1,7 @@
 //! What the sections `handles` and `nodes` have alike.
 
-ghost use Rattle.std.specs.Prelude.{◌≡◌, List, count_by};
-ghost use Rattle.audit_findings.specs.declared.in_turn.ProcessRow.{ProcessRow};
+ghost use Rattle.std.specs.Prelude.{◌≡◌};
+ghost use Rattle.audit_findings.specs.References.{references};
 
 use crate::in_turn::ProcessRow;
 use crate::rows::Rows;
@@ -29,9 +29,7 @@ pub(crate) trait Balance {
 
 /// The section of these rows.
 pub(crate) fn references_of<R: Balance + Drop>(rows: Vec<ProcessRow<R>>) -> References<R>
-    ensures rows { result.rows ≡ rows.items }
-    ensures unbalanced { result.unbalanced
-        ≡ count_by (λ (row : ProcessRow R). R.unbalanced row.row) result.rows }
+    ensures { result ≡ references R.unbalanced rows.items }
 {
     let unbalanced = rows.iter().filter(|row| row.row.is_unbalanced()).count() as u64;
     References {

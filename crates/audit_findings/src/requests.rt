@@ -8,9 +8,9 @@ use std::alloc::AllocError;
 pub(crate) struct Standing;
 
 impl ListsPlaces for Standing {
-    ghost use Rattle.audit_findings.specs.Requests.{IsStandingIn};
+    ghost use Rattle.audit_findings.specs.Requests.{is_standing_request};
 
-    ghost is_here = { IsStandingIn };
+    ghost test = { is_standing_request };
 
     fn places(ledgers: &ProcessLedgers<'_>) -> Result<Vec<u64>, AllocError> {
         ledgers.requests.own.outstanding()

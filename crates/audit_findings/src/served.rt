@@ -1,47 +1,43 @@
 //! The section `served`.
 
-ghost use Rattle.std.specs.Prelude.{List, IfOk};
+ghost use Rattle.std.specs.Prelude.{◌≡◌, List, map};
+ghost use Rattle.call_stacks.specs.Calls.{how_many, with_verdict};
+ghost use Rattle.call_stacks.specs.Verdicts.{is_replied, lacks_reply};
 ghost use Rattle.event_core.specs.Events.{EventRead};
-ghost use Rattle.call_stacks.specs.declared.opener.Opener.{Opener};
-ghost use Rattle.audit_findings.specs.Calls.{AreServed, ServedSaid};
-ghost use Rattle.audit_findings.specs.Kept.{KeepsServed};
-ghost use Rattle.audit_findings.specs.ThreadRows.{AreListedOf, IsCallCount};
-ghost use Rattle.audit_findings.specs.declared.opener_row.End.TheVariants.{Server};
-ghost use Rattle.call_stacks.specs.declared.verdict.Verdict.TheVariants.{Replied};
+ghost use Rattle.audit_findings.specs.Calls.{served_of};
+ghost use Rattle.audit_findings.specs.Kept.{call_at_place, served_at_places};
 
-use crate::calls::CallRow;
-use crate::opener_row::{End, OpenerRow, count_of, rows_but};
 use crate::rows::Rows;
-use call_stacks::Verdict;
-use std::alloc::{AllocError, Global};
+use crate::verdicts::count_of;
+use call_stacks::{Opener, Verdict};
 
-/// The calls that threads get to serve.
+/// The calls that threads get to serve. A listed call is told by what stands for its event.
 #[derive(Drop)]
-pub struct Served {
+pub struct Served<E> {
     /// How many the thread replied to.
     pub replied: u64,
     /// How many something else closed.
     pub crossed: u64,
     /// How many nothing closed.
     pub left_open: u64,
-    /// Those that are not replied, in rising place.
-    pub rows: Rows<CallRow>,
+    /// Those that are not replied to, in rising place.
+    pub rows: Rows<Opener<E>>,
 }
 
-impl Served {
-    /// What is kept of the calls that threads serve: of these many replied ones, and of those among
-    /// the listed ones.
-    pub(crate) fn of(alloc: Global, replied: u64, listed: &[OpenerRow]) -> Result<Self, AllocError>
-        ensures { IfOk result (λ served. (told : List (Opener EventRead)) →
-            IsCallCount Server Replied told replied → AreListedOf told listed.entry.now →
-            (said : ServedSaid) × AreServed told said × KeepsServed served said) }
+impl Served<u64> {
+    /// What is kept of the calls that threads serve: of these many replied ones, and of those that
+    /// lack their reply.
+    pub(crate) fn of(replied: u64, served: Vec<Opener<u64>>) -> Self
+        ensures { (told : List (Opener EventRead)) → replied ≡ how_many is_replied told →
+            served.items ≡ map call_at_place (with_verdict lacks_reply told) →
+            result ≡ served_at_places (served_of told) }
     {
-        let rows = rows_but(alloc, listed, End::Server, Verdict::Replied)?;
-        Ok(Served {
+        let calls = served.as_slice();
+        Served {
             replied,
-            crossed: count_of(listed, End::Server, Verdict::Crossed),
-            left_open: count_of(listed, End::Server, Verdict::Open),
-            rows: Rows::of(rows),
-        })
+            crossed: count_of(calls, Verdict::Crossed),
+            left_open: count_of(calls, Verdict::Open),
+            rows: Rows::of(served),
+        }
     }
 }

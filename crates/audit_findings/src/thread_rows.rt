@@ -1,26 +1,27 @@
-//! The rows of the calls of all threads.
+//! What is kept of the calls of all threads.
 
 ghost use Rattle.std.specs.Prelude.{◌≡◌, ◌++◌, List, map, IfOk, OnOk};
 ghost use Rattle.event_core.specs.Events.{EventRead};
 ghost use Rattle.call_stacks.specs.Calls.{event_place};
 ghost use Rattle.audit_findings.specs.Places.{RiseInPlace};
 ghost use Rattle.audit_findings.specs.ThreadLedger.{SumsThreadCalls};
-ghost use Rattle.audit_findings.specs.ThreadRows.{found_opener, found_send};
+ghost use Rattle.audit_findings.specs.ThreadRows.{kept_call, kept_send, made_of, served_by, makes};
 ghost use Rattle.audit_findings.specs.ThreadRows.{TakesOver, AreGatheredRows, AreSortedRows, KeepRows};
 
-use crate::opener_row::OpenerRow;
-use crate::refused::SendRow;
 use crate::thread_ledger::ThreadLedger;
-use call_stacks::{CallEvent, CallFindings, Opener, RefusedSend};
+use call_stacks::{CallEvent, CallFindings, CallRecord, Opener, RefusedSend};
+use event_core::Bracket;
 use std::alloc::{AllocError, Global};
 use summary_law::InOrder;
 
-/// The rows of the calls of all threads, each list in rising place once it is sorted. Of the calls
-/// that no section lists, which most are, there is only a count.
+/// What is kept of the calls of all threads, each list in rising place once it is sorted. Of the
+/// calls that have their reply, which most have, there is only a count.
 #[derive(Drop)]
 pub(crate) struct ThreadRows {
-    /// The calls that a section lists, made and served ones.
-    pub listed: Vec<OpenerRow>,
+    /// The calls that threads make and that lack their reply.
+    pub made: Vec<Opener<u64>>,
+    /// The calls that threads serve and that lack their reply.
+    pub served: Vec<Opener<u64>>,
     /// How many calls that threads make are answered.
     pub answered: u64,
     /// How many calls that threads serve are replied to.
@@ -28,11 +29,11 @@ pub(crate) struct ThreadRows {
     /// The places of the closers that match no opener.
     pub strays: Vec<u64>,
     /// The refused sends.
-    pub sends: Vec<SendRow>,
+    pub sends: Vec<RefusedSend<u64>>,
 }
 
 impl ThreadRows {
-    /// The rows of all threads, each list in rising place.
+    /// Those of all threads, each list in rising place.
     pub fn of(alloc: Global, ledger: ThreadLedger) -> Result<Self, AllocError>
         ensures { IfOk result (λ rows. (events : List EventRead) →
             SumsThreadCalls ledger events → RiseInPlace events → KeepRows rows events) }
@@ -42,13 +43,14 @@ impl ThreadRows {
         Ok(rows)
     }
 
-    /// The rows of each thread in turn. What a thread has is dropped once its rows are taken.
+    /// Those of each thread in turn. What a thread has is dropped once its rows are taken.
     fn in_turn(alloc: Global, ledger: ThreadLedger) -> Result<Self, AllocError>
         ensures { IfOk result (λ rows.
             AreGatheredRows ledger.threads.entries.entries rows) }
     {
         let mut rows = ThreadRows {
-            listed: Vec::new(alloc),
+            made: Vec::new(alloc),
+            served: Vec::new(alloc),
             answered: 0,
             replied: 0,
             strays: Vec::new(alloc),
@@ -69,7 +71,9 @@ impl ThreadRows {
     {
         self.answered = self.answered.saturating_add(found.answered);
         self.replied = self.replied.saturating_add(found.replied);
-        push_listed(&mut self.listed, found.openers.as_slice())?;
+        let openers = found.openers.as_slice();
+        push_made(&mut self.made, openers)?;
+        push_served(&mut self.served, openers)?;
         push_places(&mut self.strays, found.strays.as_slice())?;
         push_sends(&mut self.sends, found.refused.as_slice())
     }
@@ -78,20 +82,57 @@ impl ThreadRows {
     fn sort(&mut self)
         ensures { AreSortedRows self.old self.new }
     {
-        self.listed.sort_unstable_by_key(|opener| opener.row.place);
+        self.made.sort_unstable_by_key(|call| call.event);
+        self.served.sort_unstable_by_key(|call| call.event);
         self.strays.sort_unstable();
-        self.sends.sort_unstable_by_key(|sent| sent.place);
+        self.sends.sort_unstable_by_key(|sent| sent.event);
     }
 }
 
-fn push_listed(rows: &mut Vec<OpenerRow>, openers: &[Opener<CallEvent>]) -> Result<(), AllocError>
-    ensures { OnOk result (rows.new.items ≡
-        rows.old.items ++ map found_opener openers.now) }
+/// Whether its thread makes the call; else it serves it.
+fn makes(opener: &Opener<CallEvent>) -> bool
+    ensures { result ≡ makes opener.now }
+{
+    matches!(opener.event.bracket(None), Bracket::Call)
+}
+
+fn push_made(
+    rows: &mut Vec<Opener<u64>>,
+    openers: &[Opener<CallEvent>],
+) -> Result<(), AllocError>
+    ensures { OnOk result (rows.new.items ≡ rows.old.items ++ made_of openers.now) }
 {
     for opener in openers {
-        rows.push(OpenerRow::of(opener))?;
+        if makes(opener) {
+            rows.push(kept_call(opener))?;
+        }
     }
     Ok(())
+}
+
+fn push_served(
+    rows: &mut Vec<Opener<u64>>,
+    openers: &[Opener<CallEvent>],
+) -> Result<(), AllocError>
+    ensures { OnOk result (rows.new.items ≡ rows.old.items ++ served_by openers.now) }
+{
+    for opener in openers {
+        if !makes(opener) {
+            rows.push(kept_call(opener))?;
+        }
+    }
+    Ok(())
+}
+
+/// A call with its event as its place.
+fn kept_call(opener: &Opener<CallEvent>) -> Opener<u64>
+    ensures { result ≡ kept_call opener.now }
+{
+    Opener {
+        event: opener.event.place,
+        verdict: opener.verdict,
+        closer: opener.closer,
+    }
 }
 
 fn push_places(places: &mut Vec<u64>, events: &[CallEvent]) -> Result<(), AllocError>
@@ -104,12 +145,17 @@ fn push_places(places: &mut Vec<u64>, events: &[CallEvent]) -> Result<(), AllocE
     Ok(())
 }
 
-fn push_sends(rows: &mut Vec<SendRow>, sends: &[RefusedSend<CallEvent>]) -> Result<(), AllocError>
-    ensures { OnOk result (rows.new.items ≡
-        rows.old.items ++ map found_send sends.now) }
+fn push_sends(
+    rows: &mut Vec<RefusedSend<u64>>,
+    sends: &[RefusedSend<CallEvent>],
+) -> Result<(), AllocError>
+    ensures { OnOk result (rows.new.items ≡ rows.old.items ++ map kept_send sends.now) }
 {
     for sent in sends {
-        rows.push(SendRow::of(sent))?;
+        rows.push(RefusedSend {
+            event: sent.event.place,
+            oneway: sent.oneway,
+        })?;
     }
     Ok(())
 }

@@ -14,13 +14,13 @@ use Rattle.audit_join.specs.Parts.{AreAudited, AreMalformed, error_of_capture}
 
 -- the findings of its joined capture are its own
 pub capture_found : (capture : List ℕ) (found : KeptFindings) → AreAudited (capture ∷ []) found → IsAudited capture found
-capture_found capture found (readable, (wholes, said, is, tell)) =
+capture_found capture found (readable, (wholes, outcomes, is, are)) =
     let same = capture_one_reading whole_format whole_decided (joined (capture ∷ [])) wholes readable.0 is
     (parts_joined whole_format whole_wide (capture ∷ []) readable.0 readable.1) in (
       readable.0,
-      said,
+      outcomes,
       of_one_part whole_format capture readable.0 readable.1,
-      subst (λ (them : List WholeFrame). AreSectionsOf them said found.frames found.sections) same tell,
+      subst (λ (them : List WholeFrame). AreSectionsOf them outcomes found.frames found.sections) same are,
     )
 
 -- and so is the first fault

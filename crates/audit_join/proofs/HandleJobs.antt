@@ -1,8 +1,8 @@
 -- The jobs that processes are, and what they give together.
-use Rattle.std.proofs.Common.{◌≡◌, ℕ, zero, suc, ◌+◌, ◌^◌, ◌<◌, ◌≤◌, Bool, not, List, [], ◌∷◌, length, map, Option, Some, None, Vec, Global, refl, sym, ap, ◌∙◌, arith, get_or}
+use Rattle.std.proofs.Common.{◌≡◌, ℕ, zero, suc, ◌+◌, ◌^◌, ◌<◌, ◌≤◌, Bool, not, List, [], ◌∷◌, length, map, Option, Some, None, Vec, Global, refl, sym, ap, ap₂, ◌∙◌, arith, get_or}
 use Rattle.std.specs.Option.{unwrap_or}
 use Rattle.std.specs.Prelude.{All, IfSome, slice_get, slice_index_or}
-use Rattle.std.specs.List.{AllZip, range_with_len}
+use Rattle.std.specs.List.{range_with_len}
 use Rattle.std.proofs.Math.Logic.{∥∥₁_elim, ∥∥₁_map}
 use Rattle.std.specs.Coded.{le_prop}
 use Rattle.std.proofs.lemmas.List.{length-map}
@@ -18,7 +18,6 @@ use Rattle.claim_board.specs.Results.{AreInOrder}
 use Rattle.claim_board.specs.Running.{AreWorkJobs, job_at, no_place}
 use Rattle.claim_board.specs.declared.job.Job.{Job}
 use Rattle.event_core.specs.Events.{events_of_wholes}
-use Rattle.handle_ledger.specs.declared.held_row.HeldRow.{HeldRow}
 use Rattle.std.proofs.lemmas.Simd.{map-map}
 use Rattle.std.specs.Prelude.{⊤}
 use Rattle.process_ledgers.specs.Processes.{process_of_whole, processes_of}
@@ -26,12 +25,14 @@ use Rattle.summary_law.specs.declared.nothing.Nothing.{Nothing}
 use Rattle.summary_law.specs.InOrder.{firsts}
 use Rattle.transaction_view.specs.Grammar.{WholeFrame}
 use Rattle.audit_findings.proofs.EventSizes.{few_frames}
-use Rattle.audit_findings.proofs.FrameLaws.{good_shown}
+use Rattle.audit_findings.proofs.FrameLaws.{first_same, good_shown}
 use Rattle.audit_findings.proofs.HandleRows.{ListOfRows, lists_of}
-use Rattle.audit_findings.specs.Buffers.{AreUnfreed, AreUnfreedIn}
+use Rattle.audit_findings.specs.Buffers.{is_unfreed}
 use Rattle.audit_findings.specs.Frames.{AreGoodFrames, AreViews}
-use Rattle.audit_findings.specs.Handles.{AreHandlesOf, AreListedHandles}
-use Rattle.audit_findings.specs.InTurn.{AreRowsOf}
+use Rattle.audit_findings.specs.Handles.{handles_in}
+use Rattle.audit_findings.specs.InTurn.{rows_in}
+use Rattle.audit_findings.specs.Ledgers.{AreListedHandles, AreUnfreed}
+use Rattle.audit_findings.specs.Places.{places_in}
 use Rattle.audit_findings.specs.Summary.{GivesHandlesAt, SumsPiece, process_count}
 use Rattle.audit_findings.specs.declared.piece_summary.PieceSummary.{PieceSummary}
 use Rattle.capture_frame.specs.Envelope.{frame_text, PlacedFrame}
@@ -140,28 +141,29 @@ got [] n x d is = let wrong : None ≡ Some x = is in absurd (cc)
 got (y ∷ xs) zero x d is = ap (λ o. unwrap_or o y) is
 got (y ∷ xs) (suc n) x d is = got xs n x d is
 
-listed : (AreOf : Process → List HeldRow → Type 0) (AreUnfreedOf : Process → List ℕ → Type 0) (processes : List Process) (unfreed : List (Vec ℕ Global))
-    (lists : List ListOfRows) → length lists ≡ length processes → AllZip AreUnfreedOf processes (lists_of unfreed)
-    → ((i : ℕ) (list : ListOfRows) → slice_get lists i ≡ Some list → (own : Vec ℕ Global) → slice_get unfreed i ≡ Some own → (d : Process)
-    → AreUnfreedOf (slice_index_or processes i d) own.items → AreRowsOf AreOf (slice_index_or processes i d) list.items)
-    → AllZip (AreRowsOf AreOf) processes (lists_of lists)
-listed AreOf AreUnfreedOf [] unfreed [] long zip each = tt
-listed AreOf AreUnfreedOf [] unfreed (l ∷ lists) long zip each = absurd (omega (arith, long))
-listed AreOf AreUnfreedOf (p ∷ processes) unfreed [] long zip each = absurd (omega (arith, long))
-listed AreOf AreUnfreedOf (p ∷ processes) [] (l ∷ lists) long zip each = absurd zip
-listed AreOf AreUnfreedOf (p ∷ processes) (own ∷ unfreed) (l ∷ lists) long zip each = (
-  each zero l refl own refl p zip.0,
-  listed AreOf AreUnfreedOf processes unfreed lists (omega (arith, long)) zip.1 (λ i list is own there d mine. each (suc i) list is own there d mine),
-)
+-- the lists of all processes, where each is that of its own
+listed : {R : Type 0} (places : Process → List ℕ) (rows : Process → List R) (processes : List Process) (unfreed : List (Vec ℕ Global)) (lists : List (Vec R Global))
+    → length lists ≡ length processes → lists_of unfreed ≡ map places processes
+    → ((i : ℕ) (list : Vec R Global) → slice_get lists i ≡ Some list → (own : Vec ℕ Global) → slice_get unfreed i ≡ Some own → (d : Process)
+    → own.items ≡ places (slice_index_or processes i d) → list.items ≡ rows (slice_index_or processes i d))
+    → lists_of lists ≡ map rows processes
+listed places rows [] unfreed [] long same each = refl
+listed places rows [] unfreed (l ∷ lists) long same each = absurd (omega (arith, long))
+listed places rows (p ∷ processes) unfreed [] long same each = absurd (omega (arith, long))
+listed places rows (p ∷ processes) [] (l ∷ lists) long same each = let wrong = ap length same in absurd (omega (arith, wrong))
+listed {R} places rows (p ∷ processes) (own ∷ unfreed) (l ∷ lists) long same each =
+    let heads = first_same own.items (places p) (lists_of unfreed) (map places processes) same in
+    ap₂ (λ (x : List R) (xs : List (List R)). x ∷ xs) (each zero l refl own refl p heads.0)
+    (listed places rows processes unfreed lists (omega (arith, long)) heads.1 (λ i list is own there d mine. each (suc i) list is own there d mine))
 
--- the lists of all processes
 pub all_listed : (summary : PieceSummary) (frames : List PlacedFrame) (unfreed : List (Vec ℕ Global)) (lists : List ListOfRows) → SumsPiece summary frames
     → AreInOrder (λ i (list : ListOfRows). (own : Vec ℕ Global) → slice_get unfreed i ≡ Some own → GivesHandlesAt summary frames i own.items list.items)
     (length (process_jobs (process_count summary))) lists
     → (wholes : List (Placed WholeFrame)) → AreViews frames wholes → AreUnfreed wholes (lists_of unfreed) → AreListedHandles wholes (lists_of lists)
-all_listed summary frames unfreed lists sums are wholes show zip =
+all_listed summary frames unfreed lists sums are wholes show same outcomes objects =
+    let events = events_of_wholes wholes in
     let number = process_number summary frames wholes sums show in
     let count = are.count in
     let long = jobs_long (process_count summary) in
-    listed (AreHandlesOf (events_of_wholes wholes)) (AreUnfreedIn (events_of_wholes wholes)) (processes_of wholes) unfreed lists
-    (omega (arith, number, count, long)) zip (λ i list is own there d mine. are.each i list is own there sums wholes d show mine)
+    listed (places_in is_unfreed events) (rows_in (handles_in events outcomes)) (processes_of wholes) unfreed lists
+    (omega (arith, number, count, long)) same (λ i list is own there d mine. are.each i list is own there sums wholes outcomes d show objects mine)

@@ -4,14 +4,14 @@ use Rattle.capture_frame.specs.declared.fault.Fault.{Fault}
 use Rattle.transaction_view.specs.Grammar.{WholeFrame, IsInGrammar, HasFirstFault}
 use Rattle.audit_join.specs.declared.audit_error.AuditError.{AuditError}
 use Rattle.audit_join.specs.declared.audit_error.AuditError.TheVariants.{Memory, Malformed}
-use Rattle.audit_findings.specs.Findings.{FindingsSaid}
+use Rattle.audit_findings.specs.Objects.{Outcome}
 use Rattle.audit_findings.specs.Kept.{KeptFindings, AreSectionsOf}
 
 -- the capture is in the grammar, and the findings are those of its frames
 abbrev pub IsAudited : List ℕ → KeptFindings → Type 0
 IsAudited capture found =
-    (wholes : List WholeFrame) × (said : FindingsSaid) × IsInGrammar capture wholes
-    × AreSectionsOf wholes said found.frames found.sections
+    (wholes : List WholeFrame) × (outcomes : List Outcome) × IsInGrammar capture wholes
+    × AreSectionsOf wholes outcomes found.frames found.sections
 
 -- a fault is one that is first; of want of memory nothing is said
 abbrev pub NamesFirst : {F : Type 0} → (F → Type 0) → AuditError F → Type 0

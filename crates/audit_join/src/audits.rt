@@ -5,12 +5,11 @@ ghost use Rattle.std.specs.List.{sum_by};
 ghost use Rattle.capture_frame.specs.declared.fault.Fault.{Fault};
 ghost use Rattle.transaction_view.specs.Grammar.{WholeFrame};
 ghost use Rattle.capture_frame.specs.Units.{Placed};
-ghost use Rattle.audit_findings.specs.Buffers.{AreUnfreed};
 ghost use Rattle.audit_findings.specs.Frames.{AreViews};
 ghost use Rattle.event_core.specs.Events.{wholes_of};
-ghost use Rattle.audit_findings.specs.Findings.{FindingsSaid};
-ghost use Rattle.audit_findings.specs.Handles.{AreListedHandles};
 ghost use Rattle.audit_findings.specs.Kept.{AreSectionsOf};
+ghost use Rattle.audit_findings.specs.Ledgers.{AreListedHandles, AreUnfreed};
+ghost use Rattle.audit_findings.specs.Objects.{Outcome};
 ghost use Rattle.audit_findings.specs.Summary.{SumsPiece, process_count};
 ghost use Rattle.audit_join.specs.Audit.{IsAudited, IsMalformed};
 ghost use Rattle.audit_join.specs.Jobs.{AreCut, AreSound, IsFirstIn};
@@ -130,7 +129,8 @@ fn findings_of<'c, T: Threads + Sync>(
     requires shown { (wholes : List WholeFrame) × AreViews frames (wholes_of wholes) }
     ensures { IfOk result (λ found. (wholes : List WholeFrame) →
         AreViews frames.entry (wholes_of wholes) →
-        (said : FindingsSaid) × AreSectionsOf wholes said found.frames found.sections) }
+        (outcomes : List Outcome)
+        × AreSectionsOf wholes outcomes found.frames found.sections) }
 {
     let whole: PieceSummary<'c> = sum_shares(rt, alloc, &frames.as_slice(), workers.get())?;
     let unfreed = whole.unfreed()?;

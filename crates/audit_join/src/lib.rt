@@ -17,9 +17,9 @@ mod shares;
 
 pub use audit_error::{AuditError, PartsError};
 pub use audit_findings::{
-    BadRow, CallRow, CallSections, Calls, CodeRow, EventSections, Findings, OnewayCounts,
-    OnewayRow, OpenAndStray, PieceSummary, ProcessRow, ProcessSections, RecordCounts, References,
-    Refused, Rows, Sections, Served, SortCounts,
+    BadRow, CallSections, Calls, CodeRow, EventSections, Findings, OnewayCounts, OnewayRow,
+    OpenAndStray, PieceSummary, ProcessRow, ProcessSections, RecordCounts, References, Refused,
+    Rows, Sections, Served, SortCounts,
 };
 pub use audits::{audit, audit_one, audit_parts};
 pub use limits::CAPTURE_LIMIT;

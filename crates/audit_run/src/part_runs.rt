@@ -4,14 +4,12 @@ ghost use Rattle.std.specs.Prelude.{◌≡◌, ◌<◌, ◌≤◌, ◌^◌, List
 ghost use Rattle.std.specs.Io.KnownBytes.{Appends};
 ghost use Rattle.capture_frame.specs.Parts.{joined};
 ghost use Rattle.capture_frame.specs.Units.{IsBytes};
-ghost use Rattle.transaction_view.specs.Grammar.{WholeFrame, AreReadable, HasFirstPartFault};
-ghost use Rattle.audit_findings.specs.Findings.{FindingsSaid};
-ghost use Rattle.audit_findings.specs.Kept.{AreSectionsOf};
+ghost use Rattle.transaction_view.specs.Grammar.{AreReadable, HasFirstPartFault};
 ghost use Rattle.audit_join.specs.Parts.{AreMalformed};
 ghost use Rattle.audit_join.specs.declared.limits.TheConstants.{CAPTURE_LIMIT};
 ghost use Rattle.report_text.specs.Fault.{part_fault_line};
 ghost use Rattle.report_text.specs.Answers.{IsTextOfParts, IsLineOnParts};
-ghost use Rattle.report_text.specs.Text.{IsReportOn, report_text};
+ghost use Rattle.report_text.specs.Text.{IsReportOf, IsReportOn};
 ghost use Rattle.audit_streams.specs.KnownBytes.{AppendsPrefix};
 ghost use Rattle.audit_streams.specs.Parts.{AreRead, bytes_of};
 ghost use Rattle.audit_run.specs.PartRuns.{ReadersGive};
@@ -173,9 +171,7 @@ fn report_of<T: Threads + Sync>(
     alloc: Global,
     found: Findings<'_>,
 ) -> Result<String, AllocError>
-    ensures { IfOk result (λ text. (wholes : List WholeFrame) (said : FindingsSaid)
-        → AreSectionsOf wholes said found.entry.frames found.entry.sections
-        → string_bytes text ≡ report_text said) }
+    ensures { IfOk result (λ text. IsReportOf found.entry (string_bytes text)) }
 {
     text(rt, alloc, &found)
 }

@@ -104,7 +104,7 @@ const OBJECTS: SortCounts = SortCounts {
 };
 
 /// Their bad objects.
-const BAD_OBJECTS: &[BadRow] = &[
+const BAD_OBJECTS: &[BadRow<u64>] = &[
     BadRow {
         owner: 272,
         bad: BadObject {
@@ -127,14 +127,14 @@ const BAD_OBJECTS: &[BadRow] = &[
 const FLAGS: &[u64] = &[92, 272, 720];
 
 /// The sections are those of the eight frames.
-fn expect_sections(rt: &impl Abort, sections: &Sections) {
+fn expect_sections(rt: &impl Abort, sections: &Sections<u64>) {
     expect_records(rt, sections);
     expect_references(rt, sections);
     expect_places(rt, sections);
     expect_objects(rt, sections);
 }
 
-fn expect_records(rt: &impl Abort, sections: &Sections) {
+fn expect_records(rt: &impl Abort, sections: &Sections<u64>) {
     assert_eq!(rt; sections.events.records, 13);
     assert_eq!(rt; sections.events.opaque, 2);
     assert_eq!(rt; sections.missing, 9);
@@ -142,12 +142,12 @@ fn expect_records(rt: &impl Abort, sections: &Sections) {
     assert_eq!(rt; sections.events.counts, COUNTS);
 }
 
-fn expect_references(rt: &impl Abort, sections: &Sections) {
+fn expect_references(rt: &impl Abort, sections: &Sections<u64>) {
     assert_eq!(rt; sections.processes.handles.rows.as_slice(), HANDLES);
     assert_eq!(rt; sections.processes.nodes.rows.len(), 0);
 }
 
-fn expect_places(rt: &impl Abort, sections: &Sections) {
+fn expect_places(rt: &impl Abort, sections: &Sections<u64>) {
     assert_eq!(rt; sections.processes.leaked.as_slice(), LEAKED);
     assert_eq!(rt; sections.processes.stray_frees.len(), 0);
     assert_eq!(rt; sections.processes.standing.len(), 0);
@@ -155,7 +155,7 @@ fn expect_places(rt: &impl Abort, sections: &Sections) {
     assert_eq!(rt; sections.processes.clears.rows.len(), 0);
 }
 
-fn expect_objects(rt: &impl Abort, sections: &Sections) {
+fn expect_objects(rt: &impl Abort, sections: &Sections<u64>) {
     assert_eq!(rt; sections.events.objects, OBJECTS);
     assert_eq!(rt; sections.events.bad_objects.as_slice(), BAD_OBJECTS);
     assert_eq!(rt; sections.events.flags.as_slice(), FLAGS);

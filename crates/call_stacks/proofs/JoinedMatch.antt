@@ -4,10 +4,11 @@ use Rattle.std.proofs.Common.{List, [], ◌∷◌, ◌++◌, map, drop, length, 
 use Rattle.std.proofs.lemmas.List.{drop-drop, map-id, map-append, reverse-append, length-reverse}
 use Rattle.std.specs.List.{enumerate_from}
 use Rattle.std.specs.Prelude.{slice_get}
-use Rattle.call_stacks.specs.Matching.{Side, opener, closer, neither, Match, IsUnmatched, IsStray, ListsInOrder, IsJoinedMatch, in_first, in_second, across, JoinedMatches}
+use Rattle.call_stacks.specs.Matching.{Side, opener, closer, neither, Match, IsUnmatched, IsStray, IsJoinedMatch, in_first, in_second, across, JoinedMatches}
+use Rattle.summary_law.specs.Ranked.{ListsInOrder}
 use Rattle.call_stacks.proofs.Counting.{get-drop}
 use Rattle.call_stacks.proofs.Lists.{strays_rise, openers_rise}
-use Rattle.call_stacks.proofs.Members.{In, in-map, map-in, Rises, rises-map, listed}
+use Rattle.summary_law.proofs.Members.{In, in-map, map-in, Rises, rises-map, listed}
 use Rattle.call_stacks.proofs.Model.{same_some, some_is_some, first_of, put, entry, strays, openers}
 use Rattle.call_stacks.proofs.Numbered.{numbered, in_rest, match_of, has_match, unmatched_of, has_unmatched, stray_at, stray_of, stray_in, has_stray}
 

@@ -17,14 +17,15 @@ use Rattle.summary_law.specs.Summary.{Adds}
 use Rattle.call_stacks.specs.declared.findings.CallFindings.{CallFindings}
 use Rattle.call_stacks.specs.declared.findings.RefusedSend.{RefusedSend}
 use Rattle.call_stacks.specs.declared.calls.Calls.{Calls}
-use Rattle.call_stacks.specs.Calls.{Reads, bracketed_with, judged_of, bracketed_part, opener_place, bracket_read, bracket_in_part, mark_behind_by, last_mark, is_error, is_refused, if_error_reply, undecided_of, refused_of, IsOpener, IsStrayEvent, CallsSum, AreFindings, open_call}
+use Rattle.call_stacks.specs.Calls.{Reads, bracketed_with, judged_of, bracketed_part, opener_place, bracket_read, bracket_in_part, mark_behind_by, last_mark, is_error, is_refused, if_error_reply, undecided_of, refused_of, openers_of, strays_in, CallsSum, AreFindings, how_many, kept_of, open_call}
 use Rattle.call_stacks.specs.Content.{Content, content_of, sum_64, ClosesAll, appended}
-use Rattle.call_stacks.specs.Matching.{Side, ListsInOrder}
+use Rattle.call_stacks.specs.Matching.{Side}
 use Rattle.call_stacks.specs.Verdicts.{side_of, is_answered, is_replied}
 use Rattle.call_stacks.proofs.MarkLaws.{error_bracket, none_refused}
 use Rattle.call_stacks.proofs.Judging.{pair, side, paired, same_judging, decided, error_openers, decided_pairs, decided_refused}
-use Rattle.call_stacks.proofs.Lists.{found, event_of, openers_found, strays_found, strays_listed, openers_listed}
-use Rattle.call_stacks.proofs.Members.{In, contained, rises_from_pairs}
+use Rattle.call_stacks.proofs.Found.{openers-found, strays-found}
+use Rattle.call_stacks.proofs.Lists.{found, event_of, openers_found, openers_listed}
+use Rattle.summary_law.proofs.Members.{In, Rises, contained, rises_from_pairs}
 use Rattle.call_stacks.proofs.Model.{same_some, some_is_some, strays, openers, put, entry, strays-append, openers-append, strays-strays, AllClosers, strays_closers, strays_of_closers, openers_of_closers}
 use Rattle.call_stacks.proofs.Kept.{kept_in_place}
 use Rattle.call_stacks.proofs.Steps.{all_found, HoldsCalls, holds_both, holds_same, Models, closes_all_models, as_closers}
@@ -305,26 +306,26 @@ module _ {E : Type 0} (reads : Reads E) (all_kept : Bool) where
       let rises = rises_from_pairs reads.place events held.placed.1 in
       let settled = decided reads None events in
       let part = paired reads (bracket_in_part reads) None events in
-      let openers_are : all_found reads part ≡ openers_found reads (judged_of reads events) = ap (map (found reads)) (sym settled.openers_are) in
-      let listed = subst (ListsInOrder (opener_place reads) (IsOpener reads (judged_of reads events))) (sym openers_are)
-      (openers_listed reads (bracket_read reads) None events rises) in
-      let strays_are : findings.strays.items ≡ strays_found (judged_of reads events)
+      let openers_are : all_found reads part ≡ openers_of reads events
+      = ap (map (found reads)) (sym settled.openers_are) ∙ sym (openers-found reads (judged_of reads events)) in
+      let listed = openers_listed reads (bracket_read reads) None events rises in
+      let rising = rises_from_pairs (opener_place reads) (openers_found reads (judged_of reads events)) listed.rising in
+      let strays_are : findings.strays.items ≡ strays_in (judged_of reads events)
       = strays_same
       ∙ ap (λ o. option_to_list o ++ calls.strays.items) held.undecided
       ∙ ap (λ l. option_to_list (undecided_of reads events) ++ l) held.models.strays_are
       ∙ sym (whole_strays reads (undecided_of reads events) (strays side part) (strays_closers side part) (is_error_of reads events))
       ∙ ap (map event_of) (sym settled.strays_are)
+      ∙ sym (strays-found (judged_of reads events))
       in
       record {
-        openers = all_found reads part;
-        are_openers = listed;
         kept = kept_in_place (opener_place reads) all_kept (all_found reads part) calls.closed.items (map open_call calls.unmatched.items) findings.openers.items
-            (rises_from_pairs (opener_place reads) (all_found reads part) listed.rising)
-            held.models.calls.closed_are held.models.calls.unmatched_are moved sorted;
-        answered = answered ∙ held.models.calls.answered_are ∙ exact_count reads events is_answered held.placed;
-        replied = replied ∙ held.models.calls.replied_are ∙ exact_count reads events is_replied held.placed;
-        strays = subst (λ (l : List E). ListsInOrder reads.place (IsStrayEvent (judged_of reads events)) l) (sym strays_are)
-            (strays_listed reads (bracket_read reads) None events rises);
+            (subst (Rises (opener_place reads)) (ap (map (found reads)) settled.openers_are) rising)
+            held.models.calls.closed_are held.models.calls.unmatched_are moved sorted
+            ∙ ap (kept_of all_kept) openers_are;
+        answered = answered ∙ held.models.calls.answered_are ∙ exact_count reads events is_answered held.placed ∙ ap (how_many is_answered) openers_are;
+        replied = replied ∙ held.models.calls.replied_are ∙ exact_count reads events is_replied held.placed ∙ ap (how_many is_replied) openers_are;
+        strays = strays_are;
         refused = refused_same ∙ held.refused
             ∙ ap (λ l. l ++ refused_of (bracketed_part reads events)) (sym (whole_refused reads (undecided_of reads events) (is_error_of reads events)))
             ∙ sym settled.refused_are;

@@ -9,7 +9,7 @@ use Rattle.call_stacks.specs.declared.verdict.Verdict.{Verdict}
 use Rattle.call_stacks.specs.declared.verdict.Verdict.TheVariants.{Answered, Failed, Replied, Crossed, Open}
 use Rattle.call_stacks.specs.Calls.{with_verdict, kept_of}
 use Rattle.call_stacks.specs.Verdicts.{is_open, is_closed, lacks_reply}
-use Rattle.call_stacks.proofs.Members.{In, Rises, in_place}
+use Rattle.summary_law.proofs.Members.{In, Rises, in_place}
 
 -- ---- of rising things
 

@@ -1,11 +1,11 @@
 pub mod Model
-pub mod Members
 pub mod Counting
 pub mod Numbered
 pub mod MarkLaws
 pub mod Judging
 pub mod Kept
 pub mod Lists
+pub mod Found
 pub mod Steps
 pub mod Sums
 pub mod Joins

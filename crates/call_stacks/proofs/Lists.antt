@@ -8,11 +8,13 @@ use Rattle.event_core.specs.declared.marks.Mark.{Mark}
 use Rattle.call_stacks.specs.declared.opener.Opener.{Opener}
 use Rattle.call_stacks.specs.declared.verdict.Verdict.{Verdict}
 use Rattle.call_stacks.specs.declared.verdict.Verdict.TheVariants.{Open}
-use Rattle.call_stacks.specs.Calls.{Reads, Bracketed, bracketed_with, opener_place, mark_behind_by, sides_of, verdict_read, IsOpener, IsStrayEvent, HasVerdict, closed_by, left_open}
-use Rattle.call_stacks.specs.Matching.{Side, opener, closer, neither, ListsInOrder}
+use Rattle.call_stacks.specs.Calls.{Reads, Bracketed, bracketed_with, opener_place, mark_behind_by, sides_of, verdict_read}
+use Rattle.call_stacks.specs.Matched.{IsOpener, IsStrayEvent, HasVerdict, closed_by, left_open}
+use Rattle.call_stacks.specs.Matching.{Side, opener, closer, neither}
+use Rattle.summary_law.specs.Ranked.{ListsInOrder}
 use Rattle.call_stacks.specs.Verdicts.{side_of}
 use Rattle.call_stacks.proofs.Judging.{pair, side}
-use Rattle.call_stacks.proofs.Members.{In, in-map, map-in, Rises, rises-map, map-rises, listed}
+use Rattle.summary_law.proofs.Members.{In, in-map, map-in, Rises, rises-map, map-rises, listed}
 use Rattle.call_stacks.proofs.Model.{strays, openers, put, entry, both, strays-map, openers-map}
 use Rattle.call_stacks.proofs.Numbered.{numbered, match_of, has_match, unmatched_of, has_unmatched, stray_in, has_stray, side_there}
 

@@ -6,7 +6,7 @@ use Rattle.std.specs.Prelude.{slice_get}
 use Rattle.std.proofs.lemmas.List.{drop-map}
 use Rattle.call_stacks.specs.Matching.{Side, opener, closer, neither, Match, IsStray, IsUnmatched}
 use Rattle.call_stacks.proofs.Counting.{Reaches, reaches_later, reaches_back, reaches_here, opens, closes, match_reaches, reaches_match, reached_strays, get-drop}
-use Rattle.call_stacks.proofs.Members.{In, in_get}
+use Rattle.summary_law.proofs.Members.{In, in_get}
 use Rattle.call_stacks.proofs.Model.{strays, openers, put, entry, first_of, some_is_some}
 
 -- a numbered item's side

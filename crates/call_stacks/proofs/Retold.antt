@@ -1,29 +1,25 @@
 -- The calls of events that are told in another form, in which what their calls go by reads the same.
-use Rattle.std.proofs.Common.{◌≡◌, ℕ, ◌+◌, ◌<◌, Bool, true, false, cond, Option, Some, None, refl, sym, ap, ap₂, subst, ◌∙◌, inl, inr}
-use Rattle.std.proofs.Common.{List, [], ◌∷◌, map, filter_map}
+use Rattle.std.proofs.Common.{◌≡◌, ℕ, ◌+◌, Bool, true, false, cond, Option, Some, None, refl, sym, ap, ap₂, ◌∙◌}
+use Rattle.std.proofs.Common.{List, [], ◌∷◌, map}
 use Rattle.std.proofs.lemmas.Simd.{map-map}
 use Rattle.std.proofs.lemmas.List.Sums.{sum_by-cons}
 use Rattle.std.specs.List.{cons_option}
 use Rattle.std.specs.Option.{option_or}
-use Rattle.std.specs.Prelude.{Contains, slice_get}
 use Rattle.event_core.specs.Brackets.{mark_of, bracket_of}
 use Rattle.event_core.specs.declared.marks.Bracket.{Bracket}
 use Rattle.event_core.specs.declared.marks.Mark.{Mark}
-use Rattle.summary_law.proofs.ReadLaws.{rising_read}
-use Rattle.summary_law.specs.Fits.{PlacesRise}
 use Rattle.call_stacks.specs.declared.findings.CallFindings.{CallFindings}
 use Rattle.call_stacks.specs.declared.findings.RefusedSend.{RefusedSend}
 use Rattle.call_stacks.specs.declared.opener.Opener.{Opener}
-use Rattle.call_stacks.specs.Calls.{Reads, Bracketed, bracket_read, mark_behind_by, bracketed_with, judged_of, verdict_read}
-use Rattle.call_stacks.specs.Calls.{opener_place, IsOpener, IsStrayEvent, IsRefusedSend, is_refused, is_oneway_mark}
-use Rattle.call_stacks.specs.Calls.{refused_send, refused_of, AreFindings, with_verdict, how_many, kept_of}
-use Rattle.call_stacks.specs.Matching.{Side, ListsInOrder}
+use Rattle.call_stacks.specs.Calls.{Reads, Bracketed, bracket_read, mark_behind_by, bracketed_with, judged_of, openers_of, strays_in, verdict_read}
+use Rattle.call_stacks.specs.Calls.{is_refused, is_oneway_mark, refused_of, AreFindings, with_verdict, how_many, kept_of}
+use Rattle.call_stacks.specs.Matching.{Side}
 use Rattle.call_stacks.specs.Verdicts.{side_of, verdict_of, is_answered, is_replied, lacks_reply}
 use Rattle.call_stacks.specs.declared.verdict.Verdict.{Verdict}
+use Rattle.call_stacks.proofs.Found.{openers-found, strays-found}
 use Rattle.call_stacks.proofs.Judging.{pair, side}
-use Rattle.call_stacks.proofs.Lists.{found, event_of, openers_found, strays_found, openers_listed, strays_listed, judged_events}
+use Rattle.call_stacks.proofs.Lists.{found, event_of, openers_found, strays_found}
 use Rattle.call_stacks.proofs.Model.{both, openers, strays, openers-map, strays-map}
-use Rattle.call_stacks.proofs.Members.{In, contained, map-in, in_get, get_in, Rises, rises_from_pairs, pairs_from_rises, rises-map, map-rises, listed, only_list}
 
 -- ---- judged events
 
@@ -41,15 +37,6 @@ told_opener tell call = record { event = tell call.event; verdict = call.verdict
 
 abbrev pub told_send : {E F : Type 0} → (E → F) → RefusedSend E → RefusedSend F
 told_send tell sent = record { event = tell sent.event; oneway = sent.oneway }
-
--- an event of a thread, by what stands at a position of its judged ones
-pub stands_judged : {E : Type 0} (reads : Reads E) (events : List E) (position : ℕ) (there : Bracketed E) (e : E)
-    → slice_get (judged_of reads events) position ≡ Some there → e ≡ there.event → Contains events e
-stands_judged {E} reads events position there e stands same =
-    let items = judged_of reads events in
-    let here : In there.event (map (λ (j : Bracketed E). j.event) items)
-    = map-in (λ (j : Bracketed E). j.event) items there (get_in items position there stands) in
-    contained events e (subst (λ (x : E). In x events) (sym same) (subst (In there.event) (judged_events reads (bracket_read reads) None events) here))
 
 module _ {E F : Type 0} (from : Reads E) (into : Reads F) (tell : E → F) (alike : ReadAlike from into tell) where
   bracket_told : (before : Option Mark) (e : E) → bracket_read into before (tell e) ≡ bracket_read from before e
@@ -105,76 +92,7 @@ module _ {E F : Type 0} (from : Reads E) (into : Reads F) (tell : E → F) (alik
       ∙ map-map event_of told_pair (strays side (map pair items))
       ∙ sym (map-map tell event_of (strays side (map pair items)))
 
-  rises_told : (events : List E) → Rises from.place events → Rises (λ e. into.place (tell e)) events
-  rises_told [] rises = tt
-  rises_told (e ∷ events) rises = (
-    λ x there. subst (λ (n : ℕ). n < into.place (tell x)) (sym (alike.place e)) (subst (λ (n : ℕ). from.place e < n) (sym (alike.place x)) (rises.0 x there)),
-    rises_told events rises.1,
-  )
-
 -- ---- refused sends
-
-refused_at : {E : Type 0} (found : Bracketed E) (sent : RefusedSend E) → refused_send found ≡ Some sent
-    → (is_refused found.bracket ≡ true) × (sent.event ≡ found.event) × (sent.oneway ≡ is_oneway_mark found.before)
-refused_at {E} found sent is =
-    let made : RefusedSend E = record { event = found.event; oneway = is_oneway_mark found.before } in
-    elim (is_refused found.bracket) as (λ b. cond b (Some made) None ≡ Some sent
-    → (b ≡ true) × (sent.event ≡ found.event) × (sent.oneway ≡ is_oneway_mark found.before)) [
-      | true ↦ λ is. let same : sent ≡ made = cc in (refl, ap (λ (s : RefusedSend E). s.event) same, ap (λ (s : RefusedSend E). s.oneway) same)
-      | false ↦ λ is. let no : ⊥ = cc in absurd no
-    ] is
-
--- what is read of a list comes from one of its things
-read_from : {X Y : Type 0} (read : X → Option Y) (xs : List X) (y : Y) → In y (filter_map read xs) → (x : X) × In x xs × (read x ≡ Some y)
-read_from read [] y here = absurd here
-read_from read (x ∷ xs) y here =
-    elim (read x) as (λ o. (read x ≡ o) → In y (cons_option o (filter_map read xs)) → (z : _) × In z (x ∷ xs) × (read z ≡ Some y)) [
-      | None ↦ λ is there. let found = read_from read xs y there in (found.0, inr found.1, found.2)
-      | Some z ↦ λ is there. elim there [
-        | inl same ↦ (x, inl refl, is ∙ ap (λ t. Some t) (sym same))
-        | inr later ↦ let found = read_from read xs y later in (found.0, inr found.1, found.2)
-      ]
-    ] refl here
-
-read_in : {X Y : Type 0} (read : X → Option Y) (xs : List X) (x : X) (y : Y) → In x xs → read x ≡ Some y → In y (filter_map read xs)
-read_in read [] x y here is = absurd here
-read_in read (z ∷ xs) x y (inl same) is = rw (ap read (sym same) ∙ is) (inl refl)
-read_in read (z ∷ xs) x y (inr there) is =
-    let rest = read_in read xs x y there is in
-    elim (read z) as (λ o. In y (cons_option o (filter_map read xs))) [ None ↦ rest | Some w ↦ inr rest ]
-
--- the refused sends of a thread are those that their definition tells of, in the order of their places
-pub sends_listed : {E : Type 0} (reads : Reads E) (events : List E) → PlacesRise reads.place events
-    → ListsInOrder (λ s. reads.place s.event) (IsRefusedSend (judged_of reads events)) (refused_of (judged_of reads events))
-sends_listed {E} reads events rise = listed (λ (s : RefusedSend E). reads.place s.event) (IsRefusedSend items) (refused_of items) rises sound whole
-  where
-    items : List (Bracketed E)
-    items = judged_of reads events
-
-    rises : Rises (λ (s : RefusedSend E). reads.place s.event) (refused_of items)
-    rises =
-        let event : Bracketed E → E = λ j. j.event in
-        let own : Rises (λ (j : Bracketed E). reads.place j.event) items
-        = map-rises event reads.place items
-        (subst (Rises reads.place) (sym (judged_events reads (bracket_read reads) None events)) (rises_from_pairs reads.place events rise)) in
-        rises_from_pairs (λ (s : RefusedSend E). reads.place s.event) (refused_of items)
-        (rising_read refused_send (λ (s : RefusedSend E). reads.place s.event) (λ (j : Bracketed E). reads.place j.event)
-        (λ j s is. ap reads.place (refused_at j s is).1) items (pairs_from_rises (λ (j : Bracketed E). reads.place j.event) items own))
-
-    sound : (sent : RefusedSend E) → In sent (refused_of items) → IsRefusedSend items sent
-    sound sent here =
-        let found = read_from refused_send items sent here in
-        let position = in_get items found.0 found.1 in
-        let is = refused_at found.0 sent found.2 in
-        record { position = position.0; there = found.0; stands = position.1; refused = is.0; event = is.1; oneway = is.2 }
-
-    whole : (sent : RefusedSend E) → IsRefusedSend items sent → In sent (refused_of items)
-    whole sent is =
-        let made : RefusedSend E = record { event = is.there.event; oneway = is_oneway_mark is.there.before } in
-        let read : refused_send is.there ≡ Some made = rw is.refused refl in
-        let same : sent ≡ made = ap₂ (λ (e : E) (b : Bool). let one : RefusedSend E = record { event = e; oneway = b } in one) is.event is.oneway in
-        subst (λ (s : RefusedSend E). In s (refused_of items)) (sym same)
-        (read_in refused_send items is.there made (get_in items is.position is.there is.stands) read)
 
 refused_told : {E F : Type 0} (tell : E → F) (items : List (Bracketed E)) → refused_of (map (told_judged tell) items) ≡ map (told_send tell) (refused_of items)
 refused_told tell [] = refl
@@ -214,53 +132,34 @@ counted_told {E} {F} tell test (call ∷ calls) =
 
 -- ---- the findings of a thread whose events are told in another form, as those of the events themselves
 
-module _ {E F : Type 0} (from : Reads E) (into : Reads F) (tell : E → F) (alike : ReadAlike from into tell) (events : List E)
-    (rise : PlacesRise from.place events) (all_kept : Bool) (findings : CallFindings F) (are : AreFindings into all_kept (map tell events) findings) where
-  own_rise : Rises from.place events
-  own_rise = rises_from_pairs from.place events rise
-
-  rise_told : Rises into.place (map tell events)
-  rise_told = rises-map tell into.place events (rises_told from into tell alike events own_rise)
-
-  abbrev items : List (Bracketed E)
-  items = judged_of from events
-
-  abbrev told_items : List (Bracketed F)
-  told_items = judged_of into (map tell events)
-
-  -- all openers, of which the kept ones are told and those with a reply counted
-  pub record ToldOpeners (told : List (Opener E)) : Type 0 where
-    pub listed : ListsInOrder (opener_place from) (IsOpener from items) told
-    pub kept : findings.openers.items ≡ map (told_opener tell) (kept_of all_kept told)
-    pub answered : findings.answered ≡ how_many is_answered told
-    pub replied : findings.replied ≡ how_many is_replied told
-
-  pub openers_of : (openers : List (Opener E)) × ToldOpeners openers
-  openers_of =
-      let own = openers_found from items in
-      let same : are.openers ≡ map (told_opener tell) own
-      = only_list (opener_place into) (IsOpener into told_items) are.openers (openers_found into told_items) are.are_openers
-      (openers_listed into (bracket_read into) None (map tell events) rise_told)
+module _ {E F : Type 0} (from : Reads E) (into : Reads F) (tell : E → F) (alike : ReadAlike from into tell) (events : List E) where
+  all_openers : openers_of into (map tell events) ≡ map (told_opener tell) (openers_of from events)
+  all_openers =
+      openers-found into (judged_of into (map tell events))
       ∙ ap (openers_found into) (judged_told from into tell alike events)
-      ∙ openers_told from into tell alike items in (
-        own,
-        record {
-          listed = openers_listed from (bracket_read from) None events own_rise;
-          kept = are.kept ∙ ap (kept_of all_kept) same ∙ kept_told tell all_kept own;
-          answered = are.answered ∙ ap (how_many is_answered) same ∙ counted_told tell is_answered own;
-          replied = are.replied ∙ ap (how_many is_replied) same ∙ counted_told tell is_replied own;
-        },
-      )
+      ∙ openers_told from into tell alike (judged_of from events)
+      ∙ ap (map (told_opener tell)) (sym (openers-found from (judged_of from events)))
 
-  pub strays_of : (strays : List E) × ListsInOrder from.place (IsStrayEvent items) strays × (findings.strays.items ≡ map tell strays)
-  strays_of = (
-    strays_found items,
-    strays_listed from (bracket_read from) None events own_rise,
-    only_list into.place (IsStrayEvent told_items) findings.strays.items (strays_found told_items) are.strays
-        (strays_listed into (bracket_read into) None (map tell events) rise_told)
-        ∙ ap (λ (found : List (Bracketed F)). strays_found found) (judged_told from into tell alike events)
-        ∙ strays_told from into tell alike items,
-  )
+  all_strays : strays_in (judged_of into (map tell events)) ≡ map tell (strays_in (judged_of from events))
+  all_strays =
+      ap (λ (items : List (Bracketed F)). strays_in items) (judged_told from into tell alike events)
+      ∙ strays-found (map (told_judged tell) (judged_of from events))
+      ∙ strays_told from into tell alike (judged_of from events)
+      ∙ ap (map tell) (sym (strays-found (judged_of from events)))
 
-  pub sends_of : findings.refused.items ≡ map (told_send tell) (refused_of items)
-  sends_of = are.refused ∙ ap refused_of (judged_told from into tell alike events) ∙ refused_told tell items
+  module _ (all_kept : Bool) (findings : CallFindings F) (are : AreFindings into all_kept (map tell events) findings) where
+    pub record Retold : Type 0 where
+      pub kept : findings.openers.items ≡ map (told_opener tell) (kept_of all_kept (openers_of from events))
+      pub answered : findings.answered ≡ how_many is_answered (openers_of from events)
+      pub replied : findings.replied ≡ how_many is_replied (openers_of from events)
+      pub strays : findings.strays.items ≡ map tell (strays_in (judged_of from events))
+      pub refused : findings.refused.items ≡ map (told_send tell) (refused_of (judged_of from events))
+
+    pub retold : Retold
+    retold = record {
+      kept = are.kept ∙ ap (kept_of all_kept) all_openers ∙ kept_told tell all_kept (openers_of from events);
+      answered = are.answered ∙ ap (how_many is_answered) all_openers ∙ counted_told tell is_answered (openers_of from events);
+      replied = are.replied ∙ ap (how_many is_replied) all_openers ∙ counted_told tell is_replied (openers_of from events);
+      strays = are.strays ∙ all_strays;
+      refused = are.refused ∙ ap refused_of (judged_told from into tell alike events) ∙ refused_told tell (judged_of from events);
+    }

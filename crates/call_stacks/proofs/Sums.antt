@@ -16,14 +16,14 @@ use Rattle.call_stacks.specs.declared.opener.Opener.{Opener}
 use Rattle.call_stacks.specs.declared.calls.Calls.{Calls}
 use Rattle.call_stacks.specs.declared.verdict.Verdict.{Verdict}
 use Rattle.std.specs.List.Sorted.{IsPermutation}
-use Rattle.call_stacks.specs.Calls.{Reads, Bracketed, bracketed_with, bracketed_part, opener_place, mark_read, bracket_read, bracket_in_part, mark_behind_by, last_mark, is_error, is_refused, if_error_reply, undecided_of, refused_of, refused_send, IsOpener, IsStrayEvent, CallsSum, with_verdict, how_many, kept_of}
+use Rattle.call_stacks.specs.Calls.{Reads, Bracketed, bracketed_with, bracketed_part, mark_read, bracket_read, bracket_in_part, mark_behind_by, last_mark, is_error, is_refused, if_error_reply, undecided_of, refused_of, refused_send, openers_part, CallsSum, with_verdict, how_many, kept_of}
 use Rattle.call_stacks.specs.Content.{Content, content_of, sum_64, Closes, closes_last, closes_none, Enters}
-use Rattle.call_stacks.specs.Matching.{Side, opener, closer, neither, ListsInOrder}
+use Rattle.call_stacks.specs.Matching.{Side, opener, closer, neither}
 use Rattle.call_stacks.specs.Verdicts.{side_of, is_answered, is_replied, is_open, is_closed}
 use Rattle.call_stacks.proofs.MarkLaws.{error_marks}
 use Rattle.call_stacks.proofs.Judging.{pair, side, paired, judged-append, not_sent}
-use Rattle.call_stacks.proofs.Lists.{found, openers_found, strays_found, strays_listed, openers_listed}
-use Rattle.call_stacks.proofs.Members.{rises_from_pairs, only_list}
+use Rattle.call_stacks.proofs.Found.{openers-found, strays-found}
+use Rattle.call_stacks.proofs.Lists.{found}
 use Rattle.call_stacks.proofs.Model.{some_is_some, openers, strays, entry}
 use Rattle.call_stacks.proofs.Steps.{all_found, Models, models_same, passes_models, enters_models}
 
@@ -162,12 +162,9 @@ module _ {E : Type 0} (reads : Reads E) (all_kept : Bool) where
 
   pub holds : (calls : Calls E) (events : List E) → CallsSum reads all_kept calls events → Holds (content_of calls) events
   holds calls events sums =
-      let rises = rises_from_pairs reads.place events sums.placed.1 in
       let pairs = paired reads (bracket_in_part reads) None events in
-      let same : sums.openers ≡ all_found reads pairs
-      = only_list (opener_place reads) (IsOpener reads (bracketed_part reads events)) sums.openers (openers_found reads (bracketed_part reads events)) sums.are_openers
-      (openers_listed reads (bracket_in_part reads) None events rises) in
-      let number : (test : Verdict → Bool) (n : ℕ) → n ≡ how_many test sums.openers → n ≡ sum_64 (how_many test (all_found reads pairs)) 0
+      let same : openers_part reads events ≡ all_found reads pairs = openers-found reads (bracketed_part reads events) in
+      let number : (test : Verdict → Bool) (n : ℕ) → n ≡ how_many test (openers_part reads events) → n ≡ sum_64 (how_many test (all_found reads pairs)) 0
       = λ test n is. is ∙ ap (how_many test) same ∙ sym (exact_count reads events test sums.placed) in
       record {
         placed = sums.placed;
@@ -180,29 +177,25 @@ module _ {E : Type 0} (reads : Reads E) (all_kept : Bool) where
             answered_are = number is_answered calls.answered sums.answered;
             replied_are = number is_replied calls.replied sums.replied;
           };
-          strays_are = only_list reads.place (IsStrayEvent (bracketed_part reads events)) calls.strays.items (strays_found (bracketed_part reads events)) sums.strays
-              (strays_listed reads (bracket_in_part reads) None events rises);
+          strays_are = sums.strays ∙ strays-found (bracketed_part reads events);
         };
         refused = sums.refused;
       }
 
   pub sums : (calls : Calls E) (events : List E) → Holds (content_of calls) events → CallsSum reads all_kept calls events
   sums calls events holds =
-      let rises = rises_from_pairs reads.place events holds.placed.1 in
       let pairs = paired reads (bracket_in_part reads) None events in
       let held = holds.models.calls in
+      let same : all_found reads pairs ≡ openers_part reads events = sym (openers-found reads (bracketed_part reads events)) in
       record {
         placed = holds.placed;
         last = holds.last;
         undecided = holds.undecided;
-        openers = all_found reads pairs;
-        are_openers = openers_listed reads (bracket_in_part reads) None events rises;
-        unmatched = held.unmatched_are;
-        closed = held.closed_are;
-        answered = held.answered_are ∙ exact_count reads events is_answered holds.placed;
-        replied = held.replied_are ∙ exact_count reads events is_replied holds.placed;
-        strays = subst (λ (l : List E). ListsInOrder reads.place (IsStrayEvent (bracketed_part reads events)) l) (sym holds.models.strays_are)
-            (strays_listed reads (bracket_in_part reads) None events rises);
+        unmatched = held.unmatched_are ∙ ap (with_verdict is_open) same;
+        closed = subst (λ (l : List (Opener E)). IsPermutation (kept_of all_kept (with_verdict is_closed l)) calls.closed.items) same held.closed_are;
+        answered = held.answered_are ∙ exact_count reads events is_answered holds.placed ∙ ap (how_many is_answered) same;
+        replied = held.replied_are ∙ exact_count reads events is_replied holds.placed ∙ ap (how_many is_replied) same;
+        strays = holds.models.strays_are ∙ sym (strays-found (bracketed_part reads events));
         refused = holds.refused;
       }
 

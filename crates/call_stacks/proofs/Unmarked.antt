@@ -12,7 +12,7 @@ use Rattle.summary_law.specs.Fits.{IsPlaced}
 use Rattle.call_stacks.specs.declared.calls.Calls.{Calls}
 use Rattle.call_stacks.specs.declared.findings.RefusedSend.{RefusedSend}
 use Rattle.call_stacks.specs.declared.opener.Opener.{Opener}
-use Rattle.call_stacks.specs.Calls.{Reads, Bracketed, IsOpener, IsStrayEvent, IsRefusedSend, bracket_read, judged_of, bracketed_with, mark_read, mark_behind_by}
+use Rattle.call_stacks.specs.Calls.{Reads, bracketed_with, mark_read, mark_behind_by}
 use Rattle.call_stacks.specs.Calls.{CallsSum, bracket_in_part, if_error_reply, is_error, is_refused, refused_of, refused_send}
 use Rattle.call_stacks.specs.Content.{content_of}
 use Rattle.call_stacks.specs.Matching.{opener, closer, neither}
@@ -22,7 +22,7 @@ use Rattle.call_stacks.proofs.Lists.{event_of}
 use Rattle.call_stacks.proofs.MarkLaws.{no_mark}
 use Rattle.call_stacks.proofs.Model.{strays, openers, put, entry}
 use Rattle.call_stacks.proofs.Steps.{holds_same}
-use Rattle.call_stacks.proofs.Members.{In, get_in}
+use Rattle.summary_law.proofs.Members.{In, get_in}
 use Rattle.call_stacks.proofs.Sums.{holds, sums, marked}
 
 module _ {E : Type 0} (reads : Reads E) where
@@ -112,49 +112,3 @@ module _ {E : Type 0} (reads : Reads E) where
         };
         refused = held.refused ∙ same.refused_are;
       })
-
--- ---- what is found is of events that leave a mark
-
-module _ {E : Type 0} (reads : Reads E) where
-  judged_is : (before : Option Mark) (events : List E) (there : Bracketed E) → In there (bracketed_with reads (bracket_read reads) before events)
-      → there.bracket ≡ bracket_read reads there.before there.event
-  judged_is before [] there here = absurd here
-  judged_is before (e ∷ events) there (inl same) =
-      ap (λ (j : Bracketed E). j.bracket) same ∙ sym (ap (λ (j : Bracketed E). bracket_read reads j.before j.event) same)
-  judged_is before (e ∷ events) there (inr later) = judged_is (mark_behind_by reads before e) events there later
-
-  -- what stands there as a bracket leaves a mark
-  pub bracket_marks : (events : List E) (position : ℕ) (there : Bracketed E) → slice_get (judged_of reads events) position ≡ Some there
-      → (there.bracket ≡ Neither → ⊥) → is_some (mark_read reads there.event) ≡ true
-  bracket_marks events position there stands bracket =
-      let is = judged_is None events there (get_in (judged_of reads events) position there stands) in
-      elim (mark_read reads there.event) as (λ o. (mark_read reads there.event ≡ o) → is_some o ≡ true) [
-        | None ↦ λ none. absurd (bracket (is ∙ no_mark there.before (reads.kind there.event) (reads.oneway there.event) none))
-        | Some mark ↦ λ some. refl
-      ] refl
-
-  pub opener_marks : (events : List E) (call : Opener E) → IsOpener reads (judged_of reads events) call → is_some (mark_read reads call.event) ≡ true
-  opener_marks events call is =
-      ap (λ (e : E). is_some (mark_read reads e)) is.event
-      ∙ bracket_marks events is.position is.there is.stands (λ neither. no_opener (ap side_of (sym neither) ∙ is.opens))
-    where
-      no_opener : neither ≡ opener → ⊥
-      no_opener same = cc
-
-  pub stray_marks : (events : List E) (e : E) → IsStrayEvent (judged_of reads events) e → is_some (mark_read reads e) ≡ true
-  stray_marks events e is =
-      let side : Some (side_of is.there.bracket) ≡ Some closer
-      = sym (slice_get-map (λ (j : Bracketed E). side_of j.bracket) (judged_of reads events) is.position
-      ∙ ap (option_map (λ (j : Bracketed E). side_of j.bracket)) is.stands) ∙ is.stray.0 in
-      ap (λ (x : E). is_some (mark_read reads x)) is.event
-      ∙ bracket_marks events is.position is.there is.stands
-      (λ neither. no_closer (ap (λ (b : Bracket). Some (side_of b)) (sym neither) ∙ side))
-    where
-      no_closer : Some neither ≡ Some closer → ⊥
-      no_closer same = cc
-
-  pub send_marks : (events : List E) (sent : RefusedSend E) → IsRefusedSend (judged_of reads events) sent
-      → is_some (mark_read reads sent.event) ≡ true
-  send_marks events sent is =
-      ap (λ (e : E). is_some (mark_read reads e)) is.event
-      ∙ bracket_marks events is.position is.there is.stands (λ neither. true≢false (sym is.refused ∙ ap is_refused neither))

@@ -1,5 +1,5 @@
 -- The calls of a thread, and the calls of a part of a thread's events (docs/REPORT.md).
-use Rattle.std.specs.Prelude.{◌≡◌, ℕ, if◌then◌else◌, Bool, true, false, Option, Some, None, option_and_then, is_some}
+use Rattle.std.specs.Prelude.{◌≡◌, ℕ, ◌+◌, ◌-◌, ◌==◌, ◌&&◌, if◌then◌else◌, Bool, true, false, Option, Some, None, option_and_then, is_some}
 use Rattle.std.specs.Prelude.{List, [], ◌∷◌, map, filter, count_by, fold, find, filter_map, slice_get}
 use Rattle.std.specs.List.Sorted.{IsPermutation}
 use Rattle.std.specs.Option.{option_or}
@@ -18,7 +18,8 @@ use Rattle.call_stacks.specs.declared.findings.RefusedSend.{RefusedSend}
 use Rattle.call_stacks.specs.declared.opener.Opener.{Opener}
 use Rattle.call_stacks.specs.declared.verdict.Verdict.{Verdict}
 use Rattle.call_stacks.specs.declared.verdict.Verdict.TheVariants.{Open}
-use Rattle.call_stacks.specs.Matching.{Side, opener, Match, IsStray, ListsInOrder}
+use Rattle.call_stacks.specs.Matching.{Side, opener, closer, neither, is_closer, is_opener}
+use Rattle.summary_law.specs.Readings.{read_all, chosen}
 use Rattle.call_stacks.specs.Verdicts.{side_of, verdict_of, is_answered, is_replied, is_open, is_closed, lacks_reply}
 
 -- what is read of an event for the calls of its thread: its place, what its code stands for, and whether it is a
@@ -57,6 +58,15 @@ bracketed_with reads judge before (event ∷ later) =
 abbrev pub judged_of : {E : Type 0} → Reads E → List E → List (Bracketed E)
 judged_of reads events = bracketed_with reads (bracket_read reads) None events
 
+-- a reading of judged events, as one of the events of a whole thread
+abbrev pub as_judged : {E Y : Type 0} → Reads E → (List (Bracketed E) → Bracketed E → List (Bracketed E) → Option Y)
+    → List E → E → List E → Option Y
+as_judged reads read before event later =
+    let mark = fold (mark_behind_by reads) None before in
+    read (judged_of reads before)
+    (record { event = event; before = mark; bracket = bracket_read reads mark event })
+    (bracketed_with reads (bracket_read reads) (mark_behind_by reads mark event) later)
+
 -- what the events are to the matching of calls
 abbrev pub sides_of : {E : Type 0} → List (Bracketed E) → List Side
 sides_of judged = map (λ found. side_of found.bracket) judged
@@ -65,31 +75,55 @@ sides_of judged = map (λ found. side_of found.bracket) judged
 abbrev pub verdict_read : {E : Type 0} → Reads E → E → E → Verdict
 verdict_read reads call answer = verdict_of (bracket_read reads None call) (bracket_read reads None answer)
 
--- what becomes of the opener at a position: the closer that matches it says so, or there is none
-pub data HasVerdict {E : Type 0} (reads : Reads E) (judged : List (Bracketed E)) (i : ℕ)
-    (call : Opener E) : Type 0 where
-  closed_by : (j : ℕ) (answer : Bracketed E) → Match (sides_of judged) i j → slice_get judged j ≡ Some answer
-      → call.verdict ≡ verdict_read reads call.event answer.event → call.closer ≡ Some (reads.place answer.event)
-      → HasVerdict reads judged i call
-  left_open : ((j : ℕ) → ¬ (Match (sides_of judged) i j)) → call.verdict ≡ Open → call.closer ≡ None
-      → HasVerdict reads judged i call
+-- the call that an event opens, where nothing closes it
+abbrev pub open_call : {E : Type 0} → E → Opener E
+open_call event = record { event = event; verdict = Open; closer = None }
 
--- one of the openers, with what becomes of it
-pub record IsOpener {E : Type 0} (reads : Reads E) (judged : List (Bracketed E)) (call : Opener E) : Type 0 where
-  pub position : ℕ
-  pub there : Bracketed E
-  pub stands : slice_get judged position ≡ Some there
-  pub opens : side_of there.bracket ≡ opener
-  pub event : call.event ≡ there.event
-  pub verdict : HasVerdict reads judged position call
+-- the call that an event opens, by its closer, if it has one
+abbrev pub opener_by : {E : Type 0} → Reads E → E → Option (Bracketed E) → Opener E
+opener_by reads call None = open_call call
+opener_by reads call (Some answer) = record {
+  event = call;
+  verdict = verdict_read reads call answer.event;
+  closer = Some (reads.place answer.event);
+}
 
--- one of the closers that match no opener
-pub record IsStrayEvent {E : Type 0} (judged : List (Bracketed E)) (answer : E) : Type 0 where
-  pub position : ℕ
-  pub there : Bracketed E
-  pub stands : slice_get judged position ≡ Some there
-  pub stray : IsStray (sides_of judged) position
-  pub event : answer ≡ there.event
+-- how many calls are open after this, where so many were open before
+abbrev pub open_after : ℕ → Side → ℕ
+open_after n opener = n + 1
+open_after n closer = n - 1
+open_after n neither = n
+
+-- how many of the calls that these events open are open after them
+abbrev pub open_count : {E : Type 0} → List (Bracketed E) → ℕ
+open_count judged = fold open_after 0 (sides_of judged)
+
+-- whether an event closes, and no call that the events before it open is open then
+abbrev pub is_unmatched : {E : Type 0} → List (Bracketed E) → Bracketed E → List (Bracketed E) → Bool
+is_unmatched before found later = is_closer (side_of found.bracket) && (open_count before == 0)
+
+-- the closers that close none of the calls that these events open
+abbrev pub unmatched_closers : {E : Type 0} → List (Bracketed E) → List (Bracketed E)
+unmatched_closers judged = read_all (chosen is_unmatched) judged
+
+-- the call that an event opens: its closer is the first one after it that closes none of the calls that come between
+abbrev pub opener_read : {E : Type 0} → Reads E → List (Bracketed E) → Bracketed E → List (Bracketed E) → Option (Opener E)
+opener_read reads before found later =
+    if is_opener (side_of found.bracket)
+    then Some (opener_by reads found.event (slice_get (unmatched_closers later) 0))
+    else None
+
+-- the calls that these events open, in their order
+abbrev pub openers_in : {E : Type 0} → Reads E → List (Bracketed E) → List (Opener E)
+openers_in reads judged = read_all (opener_read reads) judged
+
+-- a closer that closes none of the calls that come before it
+abbrev pub stray_read : {E : Type 0} → List (Bracketed E) → Bracketed E → List (Bracketed E) → Option E
+stray_read before found later = if is_unmatched before found later then Some found.event else None
+
+-- the closers that match no opener, in their order
+abbrev pub strays_in : {E : Type 0} → List (Bracketed E) → List E
+strays_in judged = read_all stray_read judged
 
 abbrev pub is_refused : Bracket → Bool
 is_refused Refused = true
@@ -99,15 +133,6 @@ is_refused _ = false
 abbrev pub is_oneway_mark : Option Mark → Bool
 is_oneway_mark (Some Oneway) = true
 is_oneway_mark _ = false
-
--- one of the refused sends
-pub record IsRefusedSend {E : Type 0} (judged : List (Bracketed E)) (sent : RefusedSend E) : Type 0 where
-  pub position : ℕ
-  pub there : Bracketed E
-  pub stands : slice_get judged position ≡ Some there
-  pub refused : is_refused there.bracket ≡ true
-  pub event : sent.event ≡ there.event
-  pub oneway : sent.oneway ≡ is_oneway_mark there.before
 
 -- the refused send that an event tells of
 abbrev pub refused_send : {E : Type 0} → Bracketed E → Option (RefusedSend E)
@@ -136,14 +161,17 @@ abbrev pub kept_of : {E : Type 0} → Bool → List (Opener E) → List (Opener 
 kept_of true calls = calls
 kept_of false calls = with_verdict lacks_reply calls
 
--- the calls of a whole thread: of its openers those that are kept, and how many have their reply
+-- the calls of a whole thread
+abbrev pub openers_of : {E : Type 0} → Reads E → List E → List (Opener E)
+openers_of reads events = openers_in reads (judged_of reads events)
+
+-- what is found of a whole thread: of its openers those that are kept, how many have their reply, its strays and its
+-- refused sends
 pub record AreFindings {E : Type 0} (reads : Reads E) (all_kept : Bool) (events : List E) (findings : CallFindings E) : Type 0 where
-  pub openers : List (Opener E)
-  pub are_openers : ListsInOrder (opener_place reads) (IsOpener reads (judged_of reads events)) openers
-  pub kept : findings.openers.items ≡ kept_of all_kept openers
-  pub answered : findings.answered ≡ how_many is_answered openers
-  pub replied : findings.replied ≡ how_many is_replied openers
-  pub strays : ListsInOrder reads.place (IsStrayEvent (judged_of reads events)) findings.strays.items
+  pub kept : findings.openers.items ≡ kept_of all_kept (openers_of reads events)
+  pub answered : findings.answered ≡ how_many is_answered (openers_of reads events)
+  pub replied : findings.replied ≡ how_many is_replied (openers_of reads events)
+  pub strays : findings.strays.items ≡ strays_in (judged_of reads events)
   pub refused : findings.refused.items ≡ refused_of (judged_of reads events)
 
 -- ---- of an event itself, and of what is read of it alone
@@ -192,9 +220,9 @@ if_error_reply reads event = if is_error (bracket_read reads None event) then So
 abbrev pub undecided_of : {E : Type 0} → Reads E → List E → Option E
 undecided_of reads events = option_and_then (if_error_reply reads) (find (λ event. is_some (mark_read reads event)) events)
 
--- the call that an event opens, where nothing closes it
-abbrev pub open_call : {E : Type 0} → E → Opener E
-open_call event = record { event = event; verdict = Open; closer = None }
+-- the calls of a part of a thread
+abbrev pub openers_part : {E : Type 0} → Reads E → List E → List (Opener E)
+openers_part reads events = openers_in reads (bracketed_part reads events)
 
 -- The value sums the events of a part of a thread. Of its openers it has those that nothing closes, in their order, and
 -- of the closed ones those that are kept, in any order.
@@ -202,13 +230,11 @@ pub record CallsSum {E : Type 0} (reads : Reads E) (all_kept : Bool) (calls : Ca
   pub placed : IsPlaced reads.place events
   pub last : calls.last ≡ last_mark reads events
   pub undecided : calls.undecided ≡ undecided_of reads events
-  pub openers : List (Opener E)
-  pub are_openers : ListsInOrder (opener_place reads) (IsOpener reads (bracketed_part reads events)) openers
-  pub unmatched : map open_call calls.unmatched.items ≡ with_verdict is_open openers
-  pub closed : IsPermutation (kept_of all_kept (with_verdict is_closed openers)) calls.closed.items
-  pub answered : calls.answered ≡ how_many is_answered openers
-  pub replied : calls.replied ≡ how_many is_replied openers
-  pub strays : ListsInOrder reads.place (IsStrayEvent (bracketed_part reads events)) calls.strays.items
+  pub unmatched : map open_call calls.unmatched.items ≡ with_verdict is_open (openers_part reads events)
+  pub closed : IsPermutation (kept_of all_kept (with_verdict is_closed (openers_part reads events))) calls.closed.items
+  pub answered : calls.answered ≡ how_many is_answered (openers_part reads events)
+  pub replied : calls.replied ≡ how_many is_replied (openers_part reads events)
+  pub strays : calls.strays.items ≡ strays_in (bracketed_part reads events)
   pub refused : calls.refused.items ≡ refused_of (bracketed_part reads events)
 
 -- the calls of whatever events the value sums

@@ -1,4 +1,5 @@
 pub mod Matching
 pub mod Verdicts
 pub mod Calls
+pub mod Matched
 pub mod Content

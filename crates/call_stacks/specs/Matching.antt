@@ -1,6 +1,7 @@
 -- Which closer of a thread matches which opener, by counting (docs/REPORT.md).
 use Rattle.std.specs.Prelude.{◌≡◌, ◌↔◌, ℕ, ◌+◌, ◌<◌, ◌≤◌, Bool, true, false, Some}
-use Rattle.std.specs.Prelude.{List, ◌++◌, length, reverse, count_by, slice_get, slice_range, Contains, AllPairs}
+use Rattle.std.specs.Prelude.{List, ◌++◌, length, reverse, count_by, slice_get, slice_range}
+use Rattle.summary_law.specs.Ranked.{ListsInOrder}
 
 -- what a record is to the matching of its thread's calls: it opens one, closes one, or does neither
 pub data Side : Type 0 where
@@ -42,11 +43,6 @@ IsUnmatched sides i = (slice_get sides i ≡ Some opener) × ((j : ℕ) → ¬ (
 -- a closer that matches no opener
 abbrev pub IsStray : List Side → ℕ → Type 0
 IsStray sides j = (slice_get sides j ≡ Some closer) × ((i : ℕ) → ¬ (Match sides i j))
-
--- the list has everything of which something holds, and nothing else, in rising order of its ranks
-pub record ListsInOrder {X : Type 0} (rank : X → ℕ) (Is : X → Type 0) (things : List X) : Type 0 where
-  pub rising : AllPairs (λ earlier later. rank earlier < rank later) things
-  pub exact : (x : X) → Contains things x ↔ Is x
 
 -- A match of a list followed by another, by the unmatched openers of the first and the unmatched closers of the second:
 -- one of the first list, one of the second, or the k-th of those openers from the end with the k-th of those closers.

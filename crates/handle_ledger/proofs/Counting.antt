@@ -1,5 +1,5 @@
 -- What items do to a count, and to a sum: of one item more, and of one list followed by another.
-use Rattle.std.proofs.Common.{◌≡◌, ◌-◌, ◌^◌, ℤ, pos, negsuc, List, [], ◌∷◌, ◌++◌, length, map, sym, ap, ap₂, ◌∙◌, length-append, arith}
+use Rattle.std.proofs.Common.{◌≡◌, ◌-◌, ◌^◌, ℤ, pos, negsuc, List, [], ◌∷◌, ◌++◌, length, map, sym, ap, ◌∙◌, length-append, arith}
 use Rattle.std.proofs.lemmas.Int.{ints}
 use Rattle.std.proofs.lemmas.List.{length-map, map-append}
 use Rattle.std.specs.Prelude.{◌+ℤ◌, ◌≤ℤ◌, ◌<ℤ◌}
@@ -22,17 +22,6 @@ pub record CanJoin (earlier later : Count) : Type 0 where
 pub record IsSmall (sum : ℤ) : Type 0 where
   pub above : pos 0 ≤ℤ (sum +ℤ pos (2 ^ 32))
   pub below : sum ≤ℤ pos (2 ^ 32)
-
--- changes have one count
-pub one_count : (count other : Count) (changes : List Change) → IsCount count changes → IsCount other changes → count ≡ other
-one_count count other changes a b =
-    let reached = a.reached.2 in
-    let other_reached = b.reached.2 in
-    let above = b.least a.reached.0 a.reached.1 in
-    let below = a.least b.reached.0 b.reached.1 in
-    let low : count.low ≡ other.low = omega (arith, ints) in
-    let make : ℤ → ℤ → Count = λ sum low. record { sum = sum; low = low } in
-    ap₂ make (a.sum ∙ sym b.sum) low
 
 -- the sum of two small numbers of 64 bits, as it is computed
 wrapped_sum : (a b : ℤ) → IsSmall a → IsSmall b → to_z w64 (of_z w64 (to_z w64 (of_z w64 a) +ℤ to_z w64 (of_z w64 b))) ≡ a +ℤ b

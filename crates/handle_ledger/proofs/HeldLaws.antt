@@ -1,38 +1,43 @@
 -- The handles that have a row, and their rows, where references are held beside those that were taken.
-use Rattle.std.proofs.Common.{◌≡◌, ◌||◌, ◌<◌, ◌+◌, ℕ, suc, Bool, true, false, cond, List, [], ◌∷◌, length, take, map, Option, Some, None, is_some, refl, sym, ap, ap₂, subst, ◌∙◌, ⊎_elim, arith}
+use Rattle.std.proofs.Common.{◌≡◌, ◌||◌, ◌<◌, ◌+◌, ℕ, suc, Bool, true, false, cond, inl, inr, List, [], ◌∷◌, length, take, map, refl, sym, ap, subst, ◌∙◌, ⊎_elim, arith}
 use Rattle.std.proofs.Math.ListN.{get_or}
 use Rattle.std.proofs.Math.Seq.{take-suc}
-use Rattle.std.proofs.lemmas.Bool.{cases_Bool, lt-ltb, ltb-true}
-use Rattle.std.proofs.lemmas.Cmp.{eq_by_cmp_equiv, nat_cmp_total}
-use Rattle.std.proofs.lemmas.List.Elements.{All-cons, All-head, All-nil, All-tail, All-weaker}
+use Rattle.std.proofs.lemmas.Bool.{cases_Bool}
+use Rattle.std.proofs.lemmas.Cmp.{eq_by_cmp_equiv, nat_cmp_total, on_total, then_total}
+use Rattle.std.proofs.lemmas.List.Elements.{All-head, All-tail}
 use Rattle.std.proofs.lemmas.List.Folds.{list_any-append}
-use Rattle.std.proofs.lemmas.Map.Lookups.{exact_unsigned}
-use Rattle.std.proofs.lemmas.Map.Made.{is_some-lookup}
-use Rattle.std.proofs.lemmas.Map.Views.{All-set_contains, tells_apart}
-use Rattle.std.specs.BTreeMap.{BTreeMap, get}
-use Rattle.std.specs.BTreeSet.{BTreeSet, contains, IsOrdered, Updates}
-use Rattle.std.specs.Cmp.{both_ways}
-use Rattle.std.specs.List.{filter_map, list_any}
-use Rattle.std.specs.List.Sorted.{IsStrictlySortedBy}
+use Rattle.std.proofs.lemmas.Map.Lookups.{CmpEqualImpliesEq, exact_pairs, exact_unsigned}
+use Rattle.std.proofs.lemmas.Simd.{map-map}
+use Rattle.std.specs.BTreeMap.{BTreeMap, IsOrdered}
+use Rattle.std.specs.BTreeSet.{BTreeSet, contains, Updates}
+use Rattle.std.specs.Cmp.{IsTotalOrder, bool_cmp_total, both_ways}
+use Rattle.std.specs.List.{list_any}
 use Rattle.std.specs.Map.{keys_of}
 use Rattle.std.specs.Ordering.{eq_by_cmp, nat_cmp, bool_cmp, is_eq, ordering_then}
 use Rattle.std.specs.declared.cmp.Ordering.TheVariants.{Less, Equal, Greater}
-use Rattle.std.specs.Prelude.{All, ltb}
+use Rattle.std.specs.Prelude.{All}
 use Rattle.event_core.specs.declared.handle.HandleItem.{HandleItem}
-use Rattle.event_core.specs.declared.strength.Strength.TheVariants.{Strong, Weak}
-use Rattle.handle_ledger.proofs.HandleLaws.{one_row, read_handle_row}
-use Rattle.handle_ledger.proofs.KeyLaws.{itself, own, count_at, named_read, named_some, some_named}
-use Rattle.handle_ledger.proofs.RowLaws.{one_list}
-use Rattle.handle_ledger.specs.Handles.{handle_of, handle_change, by_handle, HandleCountsSum, IsHandleRow}
-use Rattle.handle_ledger.specs.Held.{Held, held_cmp, held_count, is_held, is_named_or_held, IsHeldRow, AreHeldRows}
-use Rattle.handle_ledger.specs.Rows.{is_named}
+use Rattle.handle_ledger.specs.Handles.{handle_of, by_handle, HandleCountsSum}
+use Rattle.handle_ledger.specs.Held.{Held, held_cmp}
 use Rattle.handle_ledger.specs.declared.handle_counts.HandleCounts.{HandleCounts}
-use Rattle.handle_ledger.specs.declared.handle_row.HandleRow.{HandleRow}
 use Rattle.handle_ledger.specs.declared.held_row.HeldRow.{HeldRow}
-use Rattle.summary_law.specs.ByKey.{IsOwn, SumsByKey}
-use Rattle.summary_law.specs.Count.{IsCount, IsCountOf}
+use Rattle.summary_law.proofs.GatherLaws.{has_own, in_any}
+use Rattle.summary_law.proofs.Members.{In, in-map, map-in}
+use Rattle.summary_law.proofs.SortedLaws.{found_in, has_pair, keys_are, sorted_any}
+use Rattle.summary_law.specs.ByKey.{SumsByKey, items_of}
 use Rattle.summary_law.specs.Tally.{AreTallyRows, count_of}
-use Rattle.summary_law.specs.declared.count.Count.{Count}
+
+held_cmp_total : IsTotalOrder held_cmp
+held_cmp_total = then_total (on_total (λ (held : Held). held.0) nat_cmp_total) (on_total (λ (held : Held). held.1) bool_cmp_total)
+
+exact_bool : CmpEqualImpliesEq bool_cmp
+exact_bool false false same = refl
+exact_bool false true same = let no : ⊥ = cc in absurd no
+exact_bool true false same = let no : ⊥ = cc in absurd no
+exact_bool true true same = refl
+
+held_cmp_exact : CmpEqualImpliesEq held_cmp
+held_cmp_exact x y same = exact_pairs nat_cmp bool_cmp exact_unsigned exact_bool x y same
 
 pub or_false : (b : Bool) → b ≡ (b || false)
 or_false true = refl
@@ -83,36 +88,14 @@ next_inserted old new first q rows i d in' updates before =
     (updates.0 q ∙ ap (λ b. cond b true (contains nat_cmp old q)) (turned (get_or rows i d).0.0 q)) before
     ∙ ap (λ b. first || b) (sym more)
 
-named_part : (part : Option HandleCounts) (items : List HandleItem) (q : ℕ) → IsOwn HandleCountsSum part (own nat_cmp handle_of q items)
-    → is_some part ≡ is_named nat_cmp handle_of itself items q
-named_part None items q nil =
-    both_ways false (is_named nat_cmp handle_of itself items q) (λ h. absurd (cc)) (λ named. absurd (some_named nat_cmp handle_of q items named nil))
-named_part (Some part) items q sums = sym (named_some nat_cmp handle_of q items sums.0)
-
 -- the keys of a ledger's map are the handles that its items name
-pub named_entries : (m : BTreeMap ℕ HandleCounts) (items : List HandleItem) → SumsByKey nat_cmp HandleCountsSum m (by_handle items) → (q : ℕ)
-    → list_any (eq_by_cmp nat_cmp q) (keys_of m.entries) ≡ is_named nat_cmp handle_of itself items q
-named_entries m items sums q = sym (is_some-lookup (eq_by_cmp nat_cmp q) m.entries) ∙ named_part (get nat_cmp m q) items q (sums q)
-
--- the row of a handle of which there are counts
-pub row_of_counts : (handle : ℕ) (items : List HandleItem) (counts : HandleCounts)
-    → IsOwn HandleCountsSum (Some counts) (own nat_cmp handle_of handle items)
-    → IsHandleRow itself items (record { handle = handle; strong = counts.strong; weak = counts.weak })
-row_of_counts handle items counts part = record {
-  strong = count_at nat_cmp handle_of (handle_change Strong) counts.strong handle items part.1.strong;
-  weak = count_at nat_cmp handle_of (handle_change Weak) counts.weak handle items part.1.weak;
-}
-
--- the row of a handle that no item names
-pub row_of_none : (handle : ℕ) (items : List HandleItem) (strong weak : Count) → IsCount strong [] → IsCount weak []
-    → IsOwn HandleCountsSum None (own nat_cmp handle_of handle items)
-    → IsHandleRow itself items (record { handle = handle; strong = strong; weak = weak })
-row_of_none handle items strong weak no_strong no_weak nil = record {
-  strong = count_at nat_cmp handle_of (handle_change Strong) strong handle items
-      (subst (λ is. IsCountOf (handle_change Strong) strong is) (sym nil) no_strong);
-  weak = count_at nat_cmp handle_of (handle_change Weak) weak handle items
-      (subst (λ is. IsCountOf (handle_change Weak) weak is) (sym nil) no_weak);
-}
+pub named_entries : (m : BTreeMap ℕ HandleCounts) → IsOrdered nat_cmp m → (items : List HandleItem)
+    → SumsByKey nat_cmp HandleCountsSum m (by_handle items) → (q : ℕ)
+    → list_any (eq_by_cmp nat_cmp q) (keys_of m.entries) ≡ list_any (eq_by_cmp nat_cmp q) (map handle_of items)
+named_entries m ordered items sums q =
+    ap (list_any (eq_by_cmp nat_cmp q)) (keys_are nat_cmp nat_cmp_total exact_unsigned HandleCountsSum m ordered (by_handle items) sums)
+    ∙ sorted_any nat_cmp exact_unsigned nat_cmp_total q (keys_of (by_handle items))
+    ∙ ap (list_any (eq_by_cmp nat_cmp q)) (map-map (λ (e : ℕ × HandleItem). e.0) (λ (item : HandleItem). (handle_of item, item)) items)
 
 or_true : (b : Bool) → (b || true) ≡ true
 or_true true = refl
@@ -139,94 +122,38 @@ found_among key (r ∷ rs) any =
     ap (λ b. is_of key.0 r || b) rest ∙ or_true (is_of key.0 r))
     (cases_Bool (eq_by_cmp held_cmp key r.0))
 
-module _ (held : List (Held × ℕ)) where
-  held_at : (key : Held) → 0 < count_of held_cmp key held → is_held held key.0 ≡ true
-  held_at (handle, false) some = ap (λ b. b || ltb 0 (held_count held handle true)) (lt-ltb 0 (held_count held handle false) some)
-  held_at (handle, true) some =
-      ap (λ b. ltb 0 (held_count held handle false) || b) (lt-ltb 0 (held_count held handle true) some) ∙ or_true (ltb 0 (held_count held handle false))
+-- the handles of the rows of a tally are those that are held
+pub held_handles : (held : List (Held × ℕ)) (rows : List HeldTallyRow) → AreTallyRows held_cmp held rows → (q : ℕ)
+    → list_any (is_of q) rows ≡ list_any (eq_by_cmp nat_cmp q) (map (λ reference. reference.0.0) held)
+held_handles held rows are q =
+    both_ways (list_any (is_of q) rows) (list_any (eq_by_cmp nat_cmp q) (map (λ reference. reference.0.0) held))
+    (held_among q rows are.keys.came)
+    (λ found.
+    let reference = in-map (λ (reference : Held × ℕ). reference.0.0) held q (found_in nat_cmp exact_unsigned q (map (λ reference. reference.0.0) held) found) in
+    let some = has_own (eq_by_cmp_equiv held_cmp_total) held reference.0 reference.1 in
+    ap (λ (h : ℕ). list_any (is_of h) rows) reference.2
+    ∙ found_among reference.0.0 rows (are.keys.whole reference.0.0 (some_length (items_of (eq_by_cmp held_cmp) reference.0.0 held) some)))
+  where
+    some_length : (items : List ℕ) → (items ≡ [] → ⊥) → 0 < length items
+    some_length [] some = absurd (some refl)
+    some_length (i ∷ is) some = omega arith
 
-  held_among : (q : ℕ) (rows : List HeldTallyRow) → All (λ key. 0 < count_of held_cmp key held) (map (λ (r : HeldTallyRow). r.0) rows)
-      → list_any (is_of q) rows ≡ true → is_held held q ≡ true
-  held_among q [] came any = absurd (cc)
-  held_among q (r ∷ rs) came any =
-      ⊎_elim
-      (λ (same : is_of q r ≡ true).
-      subst (λ h. is_held held h ≡ true) (sym (tells_apart exact_unsigned q r.0.0 same))
-      (held_at r.0 (All-head (λ key. 0 < count_of held_cmp key held) r.0 (map (λ (r : HeldTallyRow). r.0) rs) came)))
-      (λ (other : is_of q r ≡ false).
-      held_among q rs (All-tail (λ key. 0 < count_of held_cmp key held) r.0 (map (λ (r : HeldTallyRow). r.0) rs) came)
-      (ap (λ b. b || list_any (is_of q) rs) (sym other) ∙ any))
-      (cases_Bool (is_of q r))
-
-  -- the handles of the rows of a tally are those that are held
-  pub held_handles : (rows : List HeldTallyRow) → AreTallyRows held_cmp held rows → (q : ℕ) → list_any (is_of q) rows ≡ is_held held q
-  held_handles rows are q =
-      let strong = held_count held q false in
-      let weak = held_count held q true in
-      both_ways (list_any (is_of q) rows) (is_held held q) (held_among q rows are.keys.came)
-      (λ some.
-      ⊎_elim (λ (is : ltb 0 strong ≡ true). found_among (q, false) rows (are.keys.whole (q, false) (ltb-true 0 strong is)))
-      (λ (no : ltb 0 strong ≡ false).
-      found_among (q, true) rows (are.keys.whole (q, true) (ltb-true 0 weak (ap (λ b. b || ltb 0 weak) (sym no) ∙ some))))
-      (cases_Bool (ltb 0 strong)))
-
-unmapped : {X Y : Type 0} (P : Y → Type 0) (f : X → Y) (xs : List X) → All P (map f xs) → All (λ x. P (f x)) xs
-unmapped P f [] all = All-nil (λ x. P (f x))
-unmapped P f (x ∷ xs) all =
-    All-cons (λ x. P (f x)) x xs (All-head P (f x) (map f xs) all) (unmapped P f xs (All-tail P (f x) (map f xs) all))
-
-any_mapped : {X Y : Type 0} (p : Y → Bool) (f : X → Y) (xs : List X) → list_any p (map f xs) ≡ list_any (λ x. p (f x)) xs
-any_mapped p f [] = refl
-any_mapped p f (x ∷ xs) = ap (λ b. p (f x) || b) (any_mapped p f xs)
+    held_among : (q : ℕ) (rows : List HeldTallyRow) → All (λ key. 0 < count_of held_cmp key held) (map (λ (r : HeldTallyRow). r.0) rows)
+        → list_any (is_of q) rows ≡ true → list_any (eq_by_cmp nat_cmp q) (map (λ reference. reference.0.0) held) ≡ true
+    held_among q [] came any = let none : ⊥ = cc in absurd none
+    held_among q (r ∷ rs) came any =
+        let Came : Held → Type 0 = λ key. 0 < count_of held_cmp key held in
+        ⊎_elim
+        (λ (same : is_of q r ≡ true).
+        let here = All-head Came r.0 (map (λ (r : HeldTallyRow). r.0) rs) came in
+        let there = has_pair held_cmp held_cmp_exact r.0 held (λ none. let empty = ap length none in absurd (omega (arith, here, empty))) in
+        let reference = in-map (λ (e : Held × ℕ). e.0) held r.0 there in
+        in_any (eq_by_cmp nat_cmp q) (map (λ reference. reference.0.0) held) r.0.0
+        (subst (λ (h : Held). In h.0 (map (λ reference. reference.0.0) held)) (sym reference.2)
+        (map-in (λ (reference : Held × ℕ). reference.0.0) held reference.0 reference.1)) same)
+        (λ (other : is_of q r ≡ false).
+        held_among q rs (All-tail Came r.0 (map (λ (r : HeldTallyRow). r.0) rs) came) (ap (λ b. b || list_any (is_of q) rs) (sym other) ∙ any))
+        (cases_Bool (is_of q r))
 
 abbrev pub handle_of_row : HeldRow → ℕ
 handle_of_row row = row.taken.handle
-
--- a row for each handle of a set of those that have one
-pub held_rows : (handles : BTreeSet ℕ) → IsOrdered nat_cmp handles → (items : List HandleItem) (held : List (Held × ℕ)) (rows : List HeldRow)
-    → map handle_of_row rows ≡ handles.keys → ((q : ℕ) → contains nat_cmp handles q ≡ is_named_or_held itself items held q)
-    → All (IsHeldRow itself items held) rows → AreHeldRows itself items held rows
-held_rows handles ordered items held rows keys has right =
-    let is_key = is_named_or_held itself items held in
-    record {
-      rising = subst (IsStrictlySortedBy nat_cmp) (sym keys) ordered;
-      named = unmapped (λ q. is_key q ≡ true) handle_of_row rows
-          (subst (All (λ q. is_key q ≡ true)) (sym keys)
-          (All-weaker (λ q. contains nat_cmp handles q ≡ true) (λ q. is_key q ≡ true) (λ q there. sym (has q) ∙ there) handles.keys
-          (All-set_contains nat_cmp_total handles)));
-      whole = λ q named.
-          sym (any_mapped (eq_by_cmp nat_cmp q) handle_of_row rows) ∙ ap (list_any (eq_by_cmp nat_cmp q)) keys ∙ has q ∙ named;
-      right = right;
-    }
-
--- the rows of the items that are read from things are those of the things
-pub read_held_rows : {E : Type 0} (read : E → Option HandleItem) (things : List E) (held : List (Held × ℕ)) (rows : List HeldRow)
-    → AreHeldRows itself (filter_map read things) held rows → AreHeldRows read things held rows
-read_held_rows read things held rows are =
-    let items = filter_map read things in
-    let same : (q : ℕ) → is_named_or_held itself items held q ≡ is_named_or_held read things held q
-    = λ q. ap (λ b. b || is_held held q) (named_read nat_cmp handle_of read q things) in
-    record {
-      rising = are.rising;
-      named = All-weaker (λ row. is_named_or_held itself items held (handle_of_row row) ≡ true)
-          (λ row. is_named_or_held read things held (handle_of_row row) ≡ true) (λ row there. sym (same (handle_of_row row)) ∙ there) rows are.named;
-      whole = λ q there. are.whole q (same q ∙ there);
-      right = All-weaker (IsHeldRow itself items held) (IsHeldRow read things held)
-          (λ row is. record { taken = read_handle_row read things row.taken is.taken; strong = is.strong; weak = is.weak }) rows are.right;
-    }
-
-one_held_row : {E : Type 0} (read : E → Option HandleItem) (things : List E) (held : List (Held × ℕ)) (row other : HeldRow)
-    → handle_of_row row ≡ handle_of_row other → IsHeldRow read things held row → IsHeldRow read things held other → row ≡ other
-one_held_row read things held row other same a b =
-    let taken = one_row read things row.taken other.taken same a.taken b.taken in
-    let strong = a.strong ∙ ap (λ h. held_count held h false) same ∙ sym b.strong in
-    let weak = a.weak ∙ ap (λ h. held_count held h true) same ∙ sym b.weak in
-    let make : HandleRow → ℕ → ℕ → HeldRow = λ taken strong weak. record { taken = taken; held_strong = strong; held_weak = weak } in
-    ap₂ (λ (f : ℕ → HeldRow) (n : ℕ). f n) (ap₂ make taken strong) weak
-
--- things and held references have one list of rows
-pub one_list_of_held_rows : {E : Type 0} (read : E → Option HandleItem) (things : List E) (held : List (Held × ℕ)) (rows others : List HeldRow)
-    → AreHeldRows read things held rows → AreHeldRows read things held others → rows ≡ others
-one_list_of_held_rows read things held =
-    one_list nat_cmp nat_cmp_total exact_unsigned handle_of_row (is_named_or_held read things held) (IsHeldRow read things held)
-    (one_held_row read things held)

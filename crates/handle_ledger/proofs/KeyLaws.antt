@@ -7,20 +7,13 @@ use Rattle.std.specs.Option.{option_map_or}
 use Rattle.std.specs.Ordering.{eq_by_cmp}
 use Rattle.std.specs.declared.cmp.Ordering.{Ordering}
 use Rattle.handle_ledger.specs.Nodes.{IsSumOf}
-use Rattle.handle_ledger.specs.Rows.{change_at, is_named}
-use Rattle.summary_law.proofs.CountLaws.{read_counts, same_total}
+use Rattle.handle_ledger.specs.Rows.{change_at}
+use Rattle.summary_law.proofs.CountLaws.{counted, read_counts, same_total}
 use Rattle.summary_law.proofs.ReadLaws.{each_short}
 use Rattle.summary_law.specs.ByKey.{under, items_of, EachFits}
-use Rattle.summary_law.specs.Count.{Change, keeps, total, IsCount, IsCountOf, change_read}
+use Rattle.summary_law.specs.Count.{Change, count_of, keeps, total, IsCount, IsCountOf, change_read}
 use Rattle.summary_law.specs.Fits.{IsShort}
 use Rattle.summary_law.specs.declared.count.Count.{Count}
-
-cons_not_nil : {I : Type 0} (item : I) (items : List I) → item ∷ items ≢ []
-cons_not_nil item items e = cc
-
--- an item as a thing that it is read from
-abbrev pub itself : {I : Type 0} → I → Option I
-itself item = Some item
 
 module _ {K I : Type 0} (cmp : K → K → Ordering) (key_of : I → K) where
   -- the items, each with its key
@@ -50,52 +43,30 @@ module _ {K I : Type 0} (cmp : K → K → Ordering) (key_of : I → K) where
   own_read key (i ∷ is) = ap (λ (rest : List I). cons_option (under_key key i) rest) (own_read key is)
 
   same_changes : (change : I → Change) (key : K) (items : List I)
-      → map (change_read (under_key key) change) items ≡ map (change_at cmp key_of itself change key) items
+      → map (change_read (under_key key) change) items ≡ map (change_at cmp key_of change key) items
   same_changes change key [] = refl
   same_changes change key (i ∷ is) =
       elim (eq_by_cmp cmp key (key_of i))
       as (λ b. option_map_or change (cond b (Some i) None) keeps ∷ map (change_read (under_key key) change) is
-      ≡ cond b (change i) keeps ∷ map (change_at cmp key_of itself change key) is) [
+      ≡ cond b (change i) keeps ∷ map (change_at cmp key_of change key) is) [
         | true ↦ ap (λ (rest : List Change). change i ∷ rest) (same_changes change key is)
         | false ↦ ap (λ (rest : List Change). keeps ∷ rest) (same_changes change key is)
       ]
 
   -- the count of the items of a key, and their sum, are those of all items
   pub count_at : (change : I → Change) (count : Count) (key : K) (items : List I) → IsCountOf change count (own key items)
-      → IsCountOf (change_at cmp key_of itself change key) count items
+      → IsCountOf (change_at cmp key_of change key) count items
   count_at change count key items counts =
       subst (λ (changes : List Change). IsCount count changes) (same_changes change key items)
       (read_counts (under_key key) change count items (subst (λ (is : List I). IsCountOf change count is) (own_read key items) counts))
 
   pub sum_at : (change : I → Change) (sum : ℤ) (key : K) (items : List I) → IsSumOf change sum (own key items)
-      → IsSumOf (change_at cmp key_of itself change key) sum items
+      → IsSumOf (change_at cmp key_of change key) sum items
   sum_at change sum key items sums =
       sums ∙ ap (λ (is : List I). total (map change is)) (own_read key items) ∙ sym (same_total (under_key key) change items)
       ∙ ap total (same_changes change key items)
 
-  -- a key is named exactly where it has items
-  pub named_some : (key : K) (items : List I) → own key items ≢ [] → is_named cmp key_of itself items key ≡ true
-  named_some key [] some = absurd (some refl)
-  named_some key (i ∷ is) some =
-      elim (eq_by_cmp cmp key (key_of i))
-      as (λ b. cons_option (cond b (Some i) None) (own key is) ≢ [] → b || is_named cmp key_of itself is key ≡ true)
-      [ true ↦ λ h. refl | false ↦ λ h. named_some key is h ] some
-
-  pub some_named : (key : K) (items : List I) → is_named cmp key_of itself items key ≡ true → own key items ≢ []
-  some_named key [] named = absurd (cc)
-  some_named key (i ∷ is) named =
-      elim (eq_by_cmp cmp key (key_of i))
-      as (λ b. b || is_named cmp key_of itself is key ≡ true → cons_option (cond b (Some i) None) (own key is) ≢ [])
-      [ true ↦ λ h. cons_not_nil i (own key is) | false ↦ λ h. some_named key is h ] named
-
-  -- a key is named by the items that are read from things where it is by the things
-  pub named_read : {E : Type 0} (read : E → Option I) (key : K) (things : List E)
-      → is_named cmp key_of itself (filter_map read things) key ≡ is_named cmp key_of read things key
-  named_read read key [] = refl
-  named_read read key (e ∷ es) =
-      elim (read e)
-      as (λ o. is_named cmp key_of itself (cons_option o (filter_map read es)) key
-      ≡ option_map_or (λ item. eq_by_cmp cmp key (key_of item)) o false || is_named cmp key_of read es key) [
-        | None ↦ named_read read key es
-        | Some i ↦ ap (λ b. eq_by_cmp cmp key (key_of i) || b) (named_read read key es)
-      ]
+  -- the count of the items of a key is the one count of what all items do to it
+  pub counted_at : (change : I → Change) (count : Count) (key : K) (items : List I) → IsCountOf change count (own key items)
+      → count ≡ count_of (map (change_at cmp key_of change key) items)
+  counted_at change count key items counts = counted count (map (change_at cmp key_of change key) items) (count_at change count key items counts)

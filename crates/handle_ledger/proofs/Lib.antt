@@ -1,6 +1,5 @@
 pub mod Counting
 pub mod KeyLaws
-pub mod RowLaws
 pub mod HandleLaws
 pub mod HeldLaws
 pub mod NodeLaws

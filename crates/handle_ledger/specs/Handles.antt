@@ -1,5 +1,5 @@
 -- The references that a process holds by handle: the counts of each handle, and a row for each (docs/REPORT.md).
-use Rattle.std.specs.Prelude.{ℕ, List, map, Option, Some}
+use Rattle.std.specs.Prelude.{◌≡◌, ℕ, List, map}
 use Rattle.std.specs.Ordering.{nat_cmp}
 use Rattle.event_core.specs.declared.handle.HandleChange.{HandleChange}
 use Rattle.event_core.specs.declared.handle.HandleChange.TheVariants.{Raise, Lower}
@@ -9,10 +9,12 @@ use Rattle.event_core.specs.declared.strength.Strength.TheVariants.{Strong, Weak
 use Rattle.handle_ledger.specs.declared.handle_counts.HandleCounts.{HandleCounts}
 use Rattle.handle_ledger.specs.declared.handle_row.HandleRow.{HandleRow}
 use Rattle.handle_ledger.specs.declared.handles.HandleLedger.{HandleLedger}
-use Rattle.handle_ledger.specs.Rows.{change_at, is_named, AreRows}
+use Rattle.handle_ledger.specs.Rows.{change_at}
 use Rattle.handle_ledger.specs.Strengths.{change_of}
 use Rattle.summary_law.specs.ByKey.{SumsByKey}
-use Rattle.summary_law.specs.Count.{Change, raises, lowers, IsCountOf}
+use Rattle.summary_law.specs.Count.{Change, count_of, raises, lowers, IsCountOf}
+use Rattle.summary_law.specs.Sorted.{sorted}
+use Rattle.summary_law.specs.declared.count.Count.{Count}
 
 -- what a change does to the count of its strength
 abbrev pub handle_count_change : HandleChange → Change
@@ -27,20 +29,18 @@ handle_change strength item = change_of strength item.strength (handle_count_cha
 abbrev pub handle_of : HandleItem → ℕ
 handle_of item = item.handle
 
--- what a thing does to the count of this strength of this handle
-abbrev pub change_at_handle : {E : Type 0} → (E → Option HandleItem) → ℕ → Strength → E → Change
-change_at_handle read handle strength = change_at nat_cmp handle_of read (handle_change strength) handle
+-- the count of this strength of this handle
+abbrev pub handle_count : List HandleItem → ℕ → Strength → Count
+handle_count items handle strength = count_of (map (change_at nat_cmp handle_of (handle_change strength) handle) items)
 
--- the row has the counts of its handle, over all things
-pub record IsHandleRow {E : Type 0} (read : E → Option HandleItem) (things : List E) (row : HandleRow) : Type 0 where
-  pub strong : IsCountOf (change_at_handle read row.handle Strong) row.strong things
-  pub weak : IsCountOf (change_at_handle read row.handle Weak) row.weak things
+-- the row of a handle
+abbrev pub handle_row : List HandleItem → ℕ → HandleRow
+handle_row items handle =
+    record { handle = handle; strong = handle_count items handle Strong; weak = handle_count items handle Weak }
 
 -- a row for each handle that an item names, handles rising
-abbrev pub AreHandleRows : {E : Type 0} → (E → Option HandleItem) → List E → List HandleRow → Type 0
-AreHandleRows read things rows =
-    AreRows nat_cmp (λ (row : HandleRow). row.handle) (is_named nat_cmp handle_of read things)
-    (IsHandleRow read things) rows
+abbrev pub handle_rows : List HandleItem → List HandleRow
+handle_rows items = map (handle_row items) (sorted nat_cmp (map handle_of items))
 
 -- the counts of these items, which all name one handle
 pub record HandleCountsSum (counts : HandleCounts) (items : List HandleItem) : Type 0 where
@@ -58,4 +58,4 @@ HandleLedgerSums ledger items = SumsByKey nat_cmp HandleCountsSum ledger.handles
 -- the rows of whatever items the ledger sums
 abbrev pub GivesHandleRows : HandleLedger → List HandleRow → Type 0
 GivesHandleRows ledger rows =
-    (items : List HandleItem) → HandleLedgerSums ledger items → AreHandleRows (λ item. Some item) items rows
+    (items : List HandleItem) → HandleLedgerSums ledger items → rows ≡ handle_rows items

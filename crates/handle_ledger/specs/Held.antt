@@ -1,15 +1,16 @@
 -- The references that a process holds by handle, and beside them those that its deliveries hold for it
 -- (docs/REPORT.md).
-use Rattle.std.specs.Prelude.{◌≡◌, ◌||◌, ℕ, ltb, Bool, true, false, List, Option, Some}
+use Rattle.std.specs.Prelude.{◌≡◌, ℕ, Bool, true, false, List, ◌++◌, map}
 use Rattle.std.specs.BTreeSet.{BTreeSet, contains}
-use Rattle.std.specs.Ordering.{nat_cmp, bool_cmp, ordering_then}
+use Rattle.std.specs.List.{list_any}
+use Rattle.std.specs.Ordering.{eq_by_cmp, nat_cmp, bool_cmp, ordering_then}
 use Rattle.std.specs.declared.cmp.Ordering.{Ordering}
 use Rattle.event_core.specs.declared.handle.HandleItem.{HandleItem}
 use Rattle.handle_ledger.specs.declared.handle_row.HandleRow.{HandleRow}
 use Rattle.handle_ledger.specs.declared.handles.HandleLedger.{HandleLedger}
 use Rattle.handle_ledger.specs.declared.held_row.HeldRow.{HeldRow}
-use Rattle.handle_ledger.specs.Handles.{handle_of, IsHandleRow, HandleLedgerSums}
-use Rattle.handle_ledger.specs.Rows.{is_named, AreRows}
+use Rattle.handle_ledger.specs.Handles.{handle_of, handle_row, HandleLedgerSums}
+use Rattle.summary_law.specs.Sorted.{sorted}
 use Rattle.summary_law.specs.Tally.{count_of, TallySums}
 use Rattle.summary_law.specs.declared.tally.Tally.{Tally}
 
@@ -25,26 +26,21 @@ held_cmp one other = ordering_then (nat_cmp one.0 other.0) (bool_cmp one.1 other
 abbrev pub held_count : List (Held × ℕ) → ℕ → Bool → ℕ
 held_count held handle weak = count_of held_cmp (handle, weak) held
 
--- whether some reference to the handle is held
-abbrev pub is_held : List (Held × ℕ) → ℕ → Bool
-is_held held handle = ltb 0 (held_count held handle false) || ltb 0 (held_count held handle true)
+-- the row of a handle, with how many references to it are held
+abbrev pub held_row : List HandleItem → List (Held × ℕ) → ℕ → HeldRow
+held_row items held handle = record {
+  taken = handle_row items handle;
+  held_strong = held_count held handle false;
+  held_weak = held_count held handle true;
+}
 
--- whether an item that is read from a thing names the handle, or a reference to it is held
-abbrev pub is_named_or_held : {E : Type 0} → (E → Option HandleItem) → List E → List (Held × ℕ) → ℕ → Bool
-is_named_or_held read things held handle = is_named nat_cmp handle_of read things handle || is_held held handle
+-- the handles that an item names or to which a reference is held
+abbrev pub handles_of : List HandleItem → List (Held × ℕ) → List ℕ
+handles_of items held = map handle_of items ++ map (λ reference. reference.0.0) held
 
--- the row has the counts of its handle, over all things, and how many references to it are held
-pub record IsHeldRow {E : Type 0} (read : E → Option HandleItem) (things : List E) (held : List (Held × ℕ))
-    (row : HeldRow) : Type 0 where
-  pub taken : IsHandleRow read things row.taken
-  pub strong : row.held_strong ≡ held_count held row.taken.handle false
-  pub weak : row.held_weak ≡ held_count held row.taken.handle true
-
--- a row for each handle that an item names or to which a reference is held, handles rising
-abbrev pub AreHeldRows : {E : Type 0} → (E → Option HandleItem) → List E → List (Held × ℕ) → List HeldRow → Type 0
-AreHeldRows read things held rows =
-    AreRows nat_cmp (λ (row : HeldRow). row.taken.handle) (is_named_or_held read things held)
-    (IsHeldRow read things held) rows
+-- a row for each of these handles, handles rising
+abbrev pub held_rows : List HandleItem → List (Held × ℕ) → List HeldRow
+held_rows items held = map (held_row items held) (sorted nat_cmp (handles_of items held))
 
 -- it is so of all items that the ledger may have summed and all held references that the tally may have summed
 abbrev pub OfSums : HandleLedger → Tally Held → (List HandleItem → List (Held × ℕ) → Type 0) → Type 0
@@ -54,21 +50,20 @@ OfSums ledger tally IsHere =
 
 -- these are the rows of the items and the held references that were summed
 abbrev pub GivesHeldRows : HandleLedger → Tally Held → List HeldRow → Type 0
-GivesHeldRows ledger tally rows =
-    OfSums ledger tally (λ items held. AreHeldRows (λ item. Some item) items held rows)
+GivesHeldRows ledger tally rows = OfSums ledger tally (λ items held. rows ≡ held_rows items held)
 
--- the row has the counts of its handle over the items that were summed
-abbrev pub GivesHandleRow : HandleLedger → HandleRow → Type 0
-GivesHandleRow ledger row =
-    (items : List HandleItem) → HandleLedgerSums ledger items → IsHandleRow (λ item. Some item) items row
+-- the row is that of the handle over the items that were summed
+abbrev pub GivesHandleRow : HandleLedger → ℕ → HandleRow → Type 0
+GivesHandleRow ledger handle row =
+    (items : List HandleItem) → HandleLedgerSums ledger items → row ≡ handle_row items handle
 
--- the row has besides how many of the held references that were summed are to its handle
-abbrev pub GivesHeldRow : HandleLedger → Tally Held → HeldRow → Type 0
-GivesHeldRow ledger tally row = OfSums ledger tally (λ items held. IsHeldRow (λ item. Some item) items held row)
+-- and it has besides how many of the held references that were summed are to its handle
+abbrev pub GivesHeldRow : HandleLedger → Tally Held → ℕ → HeldRow → Type 0
+GivesHeldRow ledger tally handle row = OfSums ledger tally (λ items held. row ≡ held_row items held handle)
 
 -- the set has the handles that an item names or to which a reference is held, and no other
 abbrev pub HasHandles : HandleLedger → Tally Held → BTreeSet ℕ → Type 0
 HasHandles ledger tally handles =
     OfSums ledger tally
     (λ items held. (handle : ℕ) →
-    contains nat_cmp handles handle ≡ is_named_or_held (λ item. Some item) items held handle)
+    contains nat_cmp handles handle ≡ list_any (eq_by_cmp nat_cmp handle) (handles_of items held))

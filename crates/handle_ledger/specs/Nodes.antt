@@ -1,6 +1,6 @@
 -- The references that the driver holds to the nodes of a process: the counts of each node, and a row for each
 -- (docs/REPORT.md).
-use Rattle.std.specs.Prelude.{◌≡◌, ℤ, List, map, Option, Some}
+use Rattle.std.specs.Prelude.{◌≡◌, ℤ, List, map}
 use Rattle.std.specs.Ordering.{nat_cmp, on, then_cmp}
 use Rattle.std.specs.declared.cmp.Ordering.{Ordering}
 use Rattle.event_core.specs.declared.node.NodeChange.{NodeChange}
@@ -12,10 +12,12 @@ use Rattle.event_core.specs.declared.strength.Strength.TheVariants.{Strong, Weak
 use Rattle.handle_ledger.specs.declared.node_counts.NodeCounts.{NodeCounts}
 use Rattle.handle_ledger.specs.declared.node_row.NodeRow.{NodeRow}
 use Rattle.handle_ledger.specs.declared.nodes.NodeLedger.{NodeLedger}
-use Rattle.handle_ledger.specs.Rows.{change_at, is_named, AreRows}
+use Rattle.handle_ledger.specs.Rows.{change_at}
 use Rattle.handle_ledger.specs.Strengths.{change_of}
 use Rattle.summary_law.specs.ByKey.{SumsByKey}
-use Rattle.summary_law.specs.Count.{Change, raises, lowers, keeps, total, IsCountOf}
+use Rattle.summary_law.specs.Count.{Change, count_of, raises, lowers, keeps, total, IsCountOf}
+use Rattle.summary_law.specs.Sorted.{sorted}
+use Rattle.summary_law.specs.declared.count.Count.{Count}
 
 -- nodes are ordered by ptr, and those of one ptr by cookie
 abbrev pub node_cmp : NodeKey → NodeKey → Ordering
@@ -49,26 +51,27 @@ node_of item = item.node
 abbrev pub IsSumOf : {I : Type 0} → (I → Change) → ℤ → List I → Type 0
 IsSumOf change sum items = sum ≡ total (map change items)
 
--- what a thing does to the count of this strength of this node
-abbrev pub change_at_node : {E : Type 0} → (E → Option NodeItem) → NodeKey → Strength → E → Change
-change_at_node read key strength = change_at node_cmp node_of read (node_change strength) key
+-- the count of this strength of this node
+abbrev pub node_count : List NodeItem → NodeKey → Strength → Count
+node_count items key strength = count_of (map (change_at node_cmp node_of (node_change strength) key) items)
 
--- what a thing does to the references of this strength that are due to this node
-abbrev pub due_at_node : {E : Type 0} → (E → Option NodeItem) → NodeKey → Strength → E → Change
-due_at_node read key strength = change_at node_cmp node_of read (node_due_change strength) key
+-- how many references of this strength are due to this node
+abbrev pub due_count : List NodeItem → NodeKey → Strength → ℤ
+due_count items key strength = total (map (change_at node_cmp node_of (node_due_change strength) key) items)
 
--- the row has the counts of its node, and what is due, over all things
-pub record IsNodeRow {E : Type 0} (read : E → Option NodeItem) (things : List E) (row : NodeRow) : Type 0 where
-  pub strong : IsCountOf (change_at_node read row.key Strong) row.strong things
-  pub weak : IsCountOf (change_at_node read row.key Weak) row.weak things
-  pub strong_due : IsSumOf (due_at_node read row.key Strong) row.strong_due things
-  pub weak_due : IsSumOf (due_at_node read row.key Weak) row.weak_due things
+-- the row of a node
+abbrev pub node_row : List NodeItem → NodeKey → NodeRow
+node_row items key = record {
+  key = key;
+  strong = node_count items key Strong;
+  weak = node_count items key Weak;
+  strong_due = due_count items key Strong;
+  weak_due = due_count items key Weak;
+}
 
--- a row for each node that an item names, nodes rising
-abbrev pub AreNodeRows : {E : Type 0} → (E → Option NodeItem) → List E → List NodeRow → Type 0
-AreNodeRows read things rows =
-    AreRows node_cmp (λ (row : NodeRow). row.key) (is_named node_cmp node_of read things)
-    (IsNodeRow read things) rows
+-- a row for each node that an item names, by rising ptr and then by rising cookie
+abbrev pub node_rows : List NodeItem → List NodeRow
+node_rows items = map (node_row items) (sorted node_cmp (map node_of items))
 
 -- the counts of these items, which all name one node
 pub record NodeCountsSum (counts : NodeCounts) (items : List NodeItem) : Type 0 where
@@ -88,4 +91,4 @@ NodeLedgerSums ledger items = SumsByKey node_cmp NodeCountsSum ledger.nodes.entr
 -- the rows of whatever items the ledger sums
 abbrev pub GivesNodeRows : NodeLedger → List NodeRow → Type 0
 GivesNodeRows ledger rows =
-    (items : List NodeItem) → NodeLedgerSums ledger items → AreNodeRows (λ item. Some item) items rows
+    (items : List NodeItem) → NodeLedgerSums ledger items → rows ≡ node_rows items

@@ -1,6 +1,7 @@
 //! The rows of handles, with the references that deliveries hold.
 
 ghost use Rattle.handle_ledger.specs.Held.{GivesHandleRow, HasHandles, GivesHeldRow, GivesHeldRows};
+ghost use Rattle.std.specs.BTreeMap.{IsOrdered};
 ghost use Rattle.std.specs.BTreeSet.{contains};
 ghost use Rattle.std.specs.List.{list_any};
 ghost use Rattle.std.specs.Map.{keys_of};
@@ -43,8 +44,9 @@ impl HandleLedger {
 
     /// The handles that an item names.
     fn named(&self) -> Result<BTreeSet<u32>, AllocError>
-        ensures { IfOk result (λ handles. (handle : ℕ) → contains nat_cmp handles handle ≡
+        ensures named { IfOk result (λ handles. (handle : ℕ) → contains nat_cmp handles handle ≡
             list_any (eq_by_cmp nat_cmp handle) (keys_of self.now.handles.entries.entries)) }
+        ensures ordered { IfOk result (λ handles. IsOrdered nat_cmp self.now.handles.entries) }
     {
         let mut handles = BTreeSet::new(self.handles.allocator());
         for (handle, _) in &self.handles.entries {
@@ -55,8 +57,7 @@ impl HandleLedger {
 
     /// The row of a handle, whether or not it has one.
     fn held_row(&self, handle: u32, held: &Tally<(u32, bool)>) -> HeldRow
-        ensures handle { result.taken.handle ≡ handle }
-        ensures counted { GivesHeldRow self.now held.now result }
+        ensures { GivesHeldRow self.now held.now handle result }
     {
         HeldRow {
             taken: self.row(handle),
@@ -67,8 +68,7 @@ impl HandleLedger {
 
     /// What the process took of a handle itself: nothing where no item names it.
     fn row(&self, handle: u32) -> HandleRow
-        ensures handle { result.handle ≡ handle }
-        ensures counted { GivesHandleRow self.now result }
+        ensures { GivesHandleRow self.now handle result }
     {
         match self.handles.entries.get(&handle) {
             Some(counts) => HandleRow {

@@ -6,7 +6,6 @@ mod handle_row;
 mod handles;
 mod held_row;
 mod held_rows;
-pub mod laws;
 mod node_counts;
 mod node_row;
 mod nodes;

@@ -1,16 +1,15 @@
--- The opens and closes of one key: one list followed by another, and what stands at a place.
-use Rattle.std.proofs.Common.{◌≡◌, ◌≢◌, ℕ, ⊎_elim, Bool, true, false, cond, List, [], ◌∷◌, ◌++◌, map, drop, append_assoc}
-use Rattle.std.proofs.Common.{Option, Some, None, Contains, refl, sym, ap, subst, ◌∙◌}
-use Rattle.std.proofs.lemmas.Bool.{or_parts, or_from}
+-- The opens and closes of one key: one list followed by another, and as they are read.
+use Rattle.std.proofs.Common.{◌≡◌, ℕ, ◌&&◌, ◌||◌, not, Bool, true, false, cond, List, [], ◌∷◌, ◌++◌, map, drop}
+use Rattle.std.proofs.Common.{Option, Some, None, refl, sym, ap, ◌∙◌}
 use Rattle.std.proofs.lemmas.List.{map-append}
-use Rattle.std.proofs.lemmas.List.Folds.{list_any-append}
-use Rattle.std.specs.List.{last_or, list_any}
+use Rattle.std.specs.List.{cons_option, last_or, list_any}
 use Rattle.event_core.specs.declared.pending.PendingChange.{PendingChange}
 use Rattle.event_core.specs.declared.pending.PendingChange.TheVariants.{Open, Close}
-use Rattle.pending_ledger.proofs.LastLaws.{behind_last-append, behind_last-anew, behind_last-none, behind_last-suffix, behind_last-clear}
-use Rattle.pending_ledger.proofs.ListLaws.{contains_none, contains_here, contains_there, contains_cases, contains_middle, split_mapped}
+use Rattle.pending_ledger.proofs.LastLaws.{behind_last-append, behind_last-anew, behind_last-none}
 use Rattle.pending_ledger.specs.declared.key_event.KeyEvent.{KeyEvent}
 use Rattle.pending_ledger.specs.KeyEvents.{event_place, event_change, is_closing, behind_last, open_places, is_unmet, unmet_places, first_change, met_count}
+use Rattle.pending_ledger.specs.Pending.{is_close, is_open}
+use Rattle.summary_law.specs.Readings.{chosen, read_each}
 
 -- opens followed by events without a close
 pub open_places-append : (first second : List KeyEvent) → list_any is_closing second ≡ false
@@ -23,50 +22,6 @@ open_places-append first second none =
 -- and by events with one
 pub open_places-anew : (first second : List KeyEvent) → list_any is_closing second ≡ true → open_places (first ++ second) ≡ open_places second
 open_places-anew first second some = ap (map event_place) (behind_last-anew is_closing first second some)
-
--- an event at a place, with what stands before it and behind it
-pub record StandsAt (events : List KeyEvent) (place : ℕ) : Type 0 where
-  pub front : List KeyEvent
-  pub event : KeyEvent
-  pub back : List KeyEvent
-  pub split : events ≡ front ++ event ∷ back
-  pub here : event_place event ≡ place
-
--- of an outstanding place: an open stands there, and no close behind it
-pub record OpenAt (events : List KeyEvent) (place : ℕ) : Type 0 where
-  pub at : StandsAt events place
-  pub is_open : is_closing at.event ≡ false
-  pub never_closed : list_any is_closing at.back ≡ false
-
-pub open_at : (events : List KeyEvent) (place : ℕ) → Contains (open_places events) place → OpenAt events place
-open_at events place c =
-    let last = behind_last is_closing events in
-    let found = split_mapped event_place last place c in
-    let suffix = behind_last-suffix is_closing events in
-    let clear : list_any is_closing (found.0 ++ found.1 ∷ found.2) ≡ false
-    = subst (λ (t : List KeyEvent). list_any is_closing t ≡ false) found.3 (behind_last-clear is_closing events) in
-    let parts
-    = or_parts (list_any is_closing found.0) (list_any is_closing (found.1 ∷ found.2)) (sym (list_any-append is_closing found.0 (found.1 ∷ found.2)) ∙ clear) in
-    let behind = or_parts (is_closing found.1) (list_any is_closing found.2) parts.1 in
-    record {
-      at = record {
-        front = suffix.0 ++ found.0;
-        event = found.1;
-        back = found.2;
-        split = suffix.1 ∙ ap (λ t. suffix.0 ++ t) found.3 ∙ sym (append_assoc suffix.0 found.0 (found.1 ∷ found.2));
-        here = found.4;
-      };
-      is_open = behind.0;
-      never_closed = behind.1;
-    }
-
-pub open_from : (front : List KeyEvent) (event : KeyEvent) (back : List KeyEvent)
-    → is_closing event ≡ false → list_any is_closing back ≡ false → Contains (open_places (front ++ event ∷ back)) (event_place event)
-open_from front event back is_open never =
-    let none : list_any is_closing (event ∷ back) ≡ false = or_from (is_closing event) (list_any is_closing back) is_open never in
-    let whole : open_places (front ++ event ∷ back) ≡ open_places front ++ event_place event ∷ map event_place back
-    = ap (map event_place) (behind_last-append is_closing front (event ∷ back) none) ∙ map-append event_place (behind_last is_closing front) (event ∷ back) in
-    subst (λ (t : List ℕ). Contains t (event_place event)) (sym whole) (contains_middle (open_places front) (event_place event) (map event_place back))
 
 -- the last change of one list followed by another
 pub last_or-append : {X : Type 0} (o : Option X) (first second : List X) → last_or o (first ++ second) ≡ last_or (last_or o first) second
@@ -105,62 +60,64 @@ pub unmet_behind : (before : Option PendingChange) (events : List KeyEvent)
 unmet_behind before [] = ap (λ (n : ℕ). drop {A = ℕ} n []) (sym (met_none before))
 unmet_behind before (event ∷ events) = unmet_at before event.place event.change (unmet_places (Some event.change) events)
 
-pub unmet_is_close : (before : Option PendingChange) (change : PendingChange) → is_unmet before change ≡ true → change ≡ Close
-unmet_is_close before Open e = let no : ⊥ = cc in absurd no
-unmet_is_close before Close e = refl
+unmet_is : (before : Option PendingChange) (change : PendingChange) → is_unmet before change ≡ (is_close change && not (is_open before))
+unmet_is (Some Open) Open = refl
+unmet_is (Some Open) Close = refl
+unmet_is (Some Close) Open = refl
+unmet_is (Some Close) Close = refl
+unmet_is None Open = refl
+unmet_is None Close = refl
 
-pub unmet_not_open : (before : Option PendingChange) (change : PendingChange) → is_unmet before change ≡ true → before ≢ Some Open
-unmet_not_open (Some Open) Open e = let no : ⊥ = cc in absurd no
-unmet_not_open (Some Open) Close e = let no : ⊥ = cc in absurd no
-unmet_not_open (Some Close) change e = λ same. cc
-unmet_not_open None change e = λ same. cc
+-- ---- things that are events of one key
 
-pub unmet_from : (before : Option PendingChange) (change : PendingChange) → change ≡ Close → before ≢ Some Open → is_unmet before change ≡ true
-unmet_from before Open closing other = let no : ⊥ = cc in absurd no
-unmet_from (Some Open) Close closing other = absurd (other refl)
-unmet_from (Some Close) Close closing other = refl
-unmet_from None Close closing other = refl
+module _ {X : Type 0} (event : X → KeyEvent) where
+  -- whether it is an open, and nothing later is a close
+  abbrev pub is_last_open : List X → X → List X → Bool
+  is_last_open before x later = not (is_closing (event x)) && not (list_any (λ y. is_closing (event y)) later)
 
--- of an unmet place: a close stands there, right behind no open
-pub record UnmetAt (before : Option PendingChange) (events : List KeyEvent) (place : ℕ) : Type 0 where
-  pub at : StandsAt events place
-  pub unmet : is_unmet (last_or before (map event_change at.front)) at.event.change ≡ true
+  -- whether it is a close, and no open comes right before it
+  abbrev pub is_unmet_close : List X → X → List X → Bool
+  is_unmet_close before x later = is_closing (event x) && not (is_open (last_or None (map (λ y. event_change (event y)) before)))
 
-later_unmet : (before : Option PendingChange) (event : KeyEvent) (events : List KeyEvent) (place : ℕ) → UnmetAt (Some event.change) events place
-    → UnmetAt before (event ∷ events) place
-later_unmet before event events place found = record {
-  at = record {
-    front = event ∷ found.at.front;
-    event = found.at.event;
-    back = found.at.back;
-    split = ap (λ t. event ∷ t) found.at.split;
-    here = found.at.here;
-  };
-  unmet = found.unmet;
-}
+  any_closing : (xs : List X) → list_any is_closing (map event xs) ≡ list_any (λ y. is_closing (event y)) xs
+  any_closing [] = refl
+  any_closing (x ∷ xs) = ap (λ (b : Bool). is_closing (event x) || b) (any_closing xs)
 
-pub unmet_at_place : (before : Option PendingChange) (events : List KeyEvent) (place : ℕ) → Contains (unmet_places before events) place
-    → UnmetAt before events place
-unmet_at_place before [] place c = absurd (contains_none place c)
-unmet_at_place before (event ∷ events) place c =
-    let rest = unmet_places (Some event.change) events in
-    elim (is_unmet before event.change)
-    as (λ b. (is_unmet before event.change ≡ b) → Contains (cond b (event.place ∷ rest) rest) place → UnmetAt before (event ∷ events) place) [
-      | true ↦ λ is c.
-          ⊎_elim
-          (λ (same : event.place ≡ place). record { at = record { front = []; event = event; back = events; split = refl; here = same }; unmet = is })
-          (λ (there : Contains rest place). later_unmet before event events place (unmet_at_place (Some event.change) events place there))
-          (contains_cases event.place rest place c)
-      | false ↦ λ is c. later_unmet before event events place (unmet_at_place (Some event.change) events place c)
-    ] refl c
+  pub opens_read : (before xs : List X) → open_places (map event xs) ≡ map (λ x. event_place (event x)) (read_each (chosen is_last_open) before xs)
+  opens_read before [] = refl
+  opens_read before (x ∷ xs) =
+      let rest = opens_read (before ++ x ∷ []) xs in
+      let later = read_each (chosen is_last_open) (before ++ x ∷ []) xs in
+      let events = map event xs in
+      let place : X → ℕ = λ x. event_place (event x) in
+      elim (is_closing (event x)) as (λ c. map event_place (cond (c || list_any is_closing events) (behind_last is_closing events) (event x ∷ events))
+      ≡ map place (cons_option (cond (not c && not (list_any (λ y. is_closing (event y)) xs)) (Some x) None) later)) [
+        | true ↦ rest
+        | false ↦
+            ap (λ (b : Bool). map event_place (cond b (behind_last is_closing events) (event x ∷ events))) (any_closing xs)
+            ∙ elim (list_any (λ y. is_closing (event y)) xs) as (λ d. (list_any (λ y. is_closing (event y)) xs ≡ d)
+            → map event_place (cond d (behind_last is_closing events) (event x ∷ events)) ≡ map place (cons_option (cond (not d) (Some x) None) later)) [
+              | true ↦ λ is. rest
+              | false ↦ λ is.
+                  ap (λ (t : List ℕ). place x ∷ t) (ap (map event_place) (sym (behind_last-none is_closing events (any_closing xs ∙ is))) ∙ rest)
+            ] refl
+      ]
 
-pub unmet_from_split : (before : Option PendingChange) (front : List KeyEvent) (event : KeyEvent) (back : List KeyEvent)
-    → is_unmet (last_or before (map event_change front)) event.change ≡ true → Contains (unmet_places before (front ++ event ∷ back)) (event_place event)
-unmet_from_split before [] event back unmet =
-    let rest = unmet_places (Some event.change) back in
-    subst (λ (b : Bool). Contains (cond b (event.place ∷ rest) rest) (event_place event)) (sym unmet) (contains_here event.place rest)
-unmet_from_split before (f ∷ front) event back unmet =
-    let rest = unmet_places (Some f.change) (front ++ event ∷ back) in
-    let there : Contains rest (event_place event) = unmet_from_split (Some f.change) front event back unmet in
-    elim (is_unmet before f.change) as (λ b. Contains (cond b (f.place ∷ rest) rest) (event_place event))
-    [ true ↦ contains_there f.place rest (event_place event) there | false ↦ there ]
+  pub unmet_read : (before xs : List X) → unmet_places (last_or None (map (λ y. event_change (event y)) before)) (map event xs)
+      ≡ map (λ x. event_place (event x)) (read_each (chosen is_unmet_close) before xs)
+  unmet_read before [] = refl
+  unmet_read before (x ∷ xs) =
+      let change : X → PendingChange = λ y. event_change (event y) in
+      let last = last_or None (map change before) in
+      let later = read_each (chosen is_unmet_close) (before ++ x ∷ []) xs in
+      let behind = unmet_places (Some (change x)) (map event xs) in
+      let place : X → ℕ = λ x. event_place (event x) in
+      let next : last_or None (map change (before ++ x ∷ [])) ≡ Some (change x)
+      = ap (last_or None) (map-append change before (x ∷ [])) ∙ last_or-append None (map change before) (change x ∷ []) in
+      let rest : behind ≡ map place later = ap (λ (o : Option PendingChange). unmet_places o (map event xs)) (sym next) ∙ unmet_read (before ++ x ∷ []) xs in
+      ap (λ (b : Bool). cond b (place x ∷ behind) behind) (unmet_is last (change x))
+      ∙ elim (is_closing (event x) && not (is_open last))
+      as (λ b. cond b (place x ∷ behind) behind ≡ map place (cons_option (cond b (Some x) None) later)) [
+        | true ↦ ap (λ (t : List ℕ). place x ∷ t) rest
+        | false ↦ rest
+      ]

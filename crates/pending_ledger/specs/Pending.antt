@@ -1,21 +1,22 @@
 -- What was opened and never closed, and what was closed while it was not open, in a list of opens and closes with keys
 -- (docs/REPORT.md).
-use Rattle.std.specs.Prelude.{◌≡◌, ◌≢◌, ◌↔◌, ◌&&◌, ℕ, Bool, true, false, List, ◌∷◌, ◌++◌, Contains, Some, None, filter_map, if◌then◌else◌}
+use Rattle.std.specs.Prelude.{◌&&◌, not, ℕ, Bool, true, false, List, map, Option, Some, None, filter_map, if◌then◌else◌}
 use Rattle.std.specs.List.{last_or, list_any}
-use Rattle.std.specs.List.Sorted.{IsStrictlyIncreasing}
 use Rattle.event_core.specs.declared.pending.PendingChange.{PendingChange}
 use Rattle.event_core.specs.declared.pending.PendingChange.TheVariants.{Open, Close}
 use Rattle.event_core.specs.declared.pending.PendingItem.{PendingItem}
-
--- the places at which something is so, each once and rising
-pub record ArePlacesOf (Is : ℕ → Type 0) (places : List ℕ) : Type 0 where
-  pub rising : IsStrictlyIncreasing places
-  pub exact : (place : ℕ) → Contains places place ↔ Is place
+use Rattle.summary_law.specs.Readings.{read_all, chosen}
 
 -- whether a change is a close
 abbrev pub is_close : PendingChange → Bool
 is_close Open = false
 is_close Close = true
+
+-- whether there is a change, and it is an open
+abbrev pub is_open : Option PendingChange → Bool
+is_open (Some Open) = true
+is_open (Some Close) = false
+is_open None = false
 
 -- whether an item closes the key
 abbrev pub closes : {K : Type 0} → (K → K → Bool) → K → PendingItem K → Bool
@@ -25,34 +26,19 @@ closes eq key item = eq key item.key && is_close item.change
 abbrev pub changes_of : {K : Type 0} → (K → K → Bool) → K → List (PendingItem K) → List PendingChange
 changes_of eq key items = filter_map (λ item. if eq key item.key then Some item.change else None) items
 
--- the item at the place is an open, and no later close has its key
-pub record IsOutstanding {K : Type 0} (eq : K → K → Bool) (items : List (PendingItem K)) (place : ℕ) : Type 0 where
-  pub earlier : List (PendingItem K)
-  pub item : PendingItem K
-  pub later : List (PendingItem K)
-  pub split : items ≡ earlier ++ item ∷ later
-  pub at_place : item.place ≡ place
-  pub is_open : item.change ≡ Open
-  pub never_closed : list_any (closes eq item.key) later ≡ false
+-- whether the item is an open, and no later close has its key
+abbrev pub is_left_open : {K : Type 0} → (K → K → Bool) → List (PendingItem K) → PendingItem K → List (PendingItem K) → Bool
+is_left_open eq before item later = not (is_close item.change) && not (list_any (closes eq item.key) later)
 
--- the item at the place is a close, and the latest earlier item of its key, if any, is no open
-pub record IsStray {K : Type 0} (eq : K → K → Bool) (items : List (PendingItem K)) (place : ℕ) : Type 0 where
-  pub earlier : List (PendingItem K)
-  pub item : PendingItem K
-  pub later : List (PendingItem K)
-  pub split : items ≡ earlier ++ item ∷ later
-  pub at_place : item.place ≡ place
-  pub is_a_close : item.change ≡ Close
-  pub not_open : last_or None (changes_of eq item.key earlier) ≢ Some Open
+-- whether the item is a close, and the latest earlier item of its key, if there is one, is no open
+abbrev pub is_stray : {K : Type 0} → (K → K → Bool) → List (PendingItem K) → PendingItem K → List (PendingItem K) → Bool
+is_stray eq before item later = is_close item.change && not (is_open (last_or None (changes_of eq item.key before)))
 
--- the places of all outstanding opens, rising
-abbrev pub AreOutstanding : {K : Type 0} → (K → K → Bool) → List (PendingItem K) → List ℕ → Type 0
-AreOutstanding eq items places = ArePlacesOf (IsOutstanding eq items) places
-
--- the places of all stray closes, rising
-abbrev pub AreStrays : {K : Type 0} → (K → K → Bool) → List (PendingItem K) → List ℕ → Type 0
-AreStrays eq items places = ArePlacesOf (IsStray eq items) places
-
--- where an item stands
+-- where an item is
 abbrev pub place_of : {K : Type 0} → PendingItem K → ℕ
 place_of item = item.place
+
+-- the places of the items that pass a test
+abbrev pub places_if : {K : Type 0} → (List (PendingItem K) → PendingItem K → List (PendingItem K) → Bool)
+    → List (PendingItem K) → List ℕ
+places_if test items = map place_of (read_all (chosen test) items)

@@ -1,11 +1,11 @@
 -- Requests to be told of a death that still stand (docs/REPORT.md).
-use Rattle.std.specs.Prelude.{◌≡◌, ◌==◌, ◌&&◌, ℕ, Bool, false, List, ◌∷◌, ◌++◌}
+use Rattle.std.specs.Prelude.{◌==◌, ◌&&◌, not, ℕ, Bool, false, List, map}
 use Rattle.std.specs.List.{list_any}
 use Rattle.event_core.specs.declared.request.RequestKey.{RequestKey}
 use Rattle.event_core.specs.declared.request.RequestItem.{RequestItem}
 use Rattle.event_core.specs.declared.request.RequestChange.{RequestChange}
 use Rattle.event_core.specs.declared.request.RequestChange.TheVariants.{Request, Clear, Dead}
-use Rattle.pending_ledger.specs.Pending.{ArePlacesOf}
+use Rattle.summary_law.specs.Readings.{read_all, chosen}
 
 -- whether a change ends the requests of a handle and cookie: a clear of both, or the death of the cookie
 abbrev pub change_ends : RequestKey → RequestChange → Bool
@@ -17,21 +17,20 @@ change_ends key (Dead cookie) = key.cookie == cookie
 abbrev pub ends : RequestKey → RequestItem → Bool
 ends key item = change_ends key item.change
 
--- the item at the place is a request, and no later item ends it
-pub record IsStanding (items : List RequestItem) (place : ℕ) : Type 0 where
-  pub earlier : List RequestItem
-  pub item : RequestItem
-  pub later : List RequestItem
-  pub key : RequestKey
-  pub split : items ≡ earlier ++ item ∷ later
-  pub at_place : item.place ≡ place
-  pub is_request : item.change ≡ Request key
-  pub never_ended : list_any (ends key) later ≡ false
+-- whether a change is a request that none of these items ends
+abbrev pub change_stands : RequestChange → List RequestItem → Bool
+change_stands (Request key) later = not (list_any (ends key) later)
+change_stands (Clear key) later = false
+change_stands (Dead cookie) later = false
 
--- the places of all standing requests, rising
-abbrev pub AreOutstandingRequests : List RequestItem → List ℕ → Type 0
-AreOutstandingRequests items places = ArePlacesOf (IsStanding items) places
+-- whether the item is a request, and no later item ends it
+abbrev pub is_standing : List RequestItem → RequestItem → List RequestItem → Bool
+is_standing before item later = change_stands item.change later
 
 -- where an item stands
 abbrev pub request_place : RequestItem → ℕ
 request_place item = item.place
+
+-- the places of the requests that no later item ends
+abbrev pub standing_request_places : List RequestItem → List ℕ
+standing_request_places items = map request_place (read_all (chosen is_standing) items)

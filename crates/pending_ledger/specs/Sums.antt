@@ -19,9 +19,9 @@ use Rattle.pending_ledger.specs.declared.pending.Pending.{Pending}
 use Rattle.pending_ledger.specs.declared.requests.Requests.{Requests}
 use Rattle.pending_ledger.specs.declared.strays.Strays.{Strays}
 use Rattle.pending_ledger.specs.KeyEvents.{event_change, is_closing, behind_last, open_places, unmet_places, first_change}
-use Rattle.pending_ledger.specs.Ledgers.{AreLeaked, AreStrayFrees}
-use Rattle.pending_ledger.specs.Pending.{AreOutstanding, AreStrays, place_of}
-use Rattle.pending_ledger.specs.Requests.{AreOutstandingRequests, request_place}
+use Rattle.pending_ledger.specs.Ledgers.{leaked_places, stray_free_places}
+use Rattle.pending_ledger.specs.Pending.{is_left_open, is_stray, place_of, places_if}
+use Rattle.pending_ledger.specs.Requests.{request_place, standing_request_places}
 use Rattle.summary_law.specs.ByKey.{SumsByKey}
 use Rattle.summary_law.specs.Fits.{IsPlaced}
 
@@ -51,12 +51,12 @@ PendingSums cmp pending items = SumsByKey cmp KeySums pending.keys.entries (map 
 -- the outstanding opens of whatever items the value sums
 abbrev pub GivesOutstanding : {K : Type 0} → (K → K → Ordering) → Pending K → List ℕ → Type 0
 GivesOutstanding {K} cmp pending places =
-    (items : List (PendingItem K)) → PendingSums cmp pending items → AreOutstanding (eq_by_cmp cmp) items places
+    (items : List (PendingItem K)) → PendingSums cmp pending items → places ≡ places_if (is_left_open (eq_by_cmp cmp)) items
 
 -- the strays of whatever items the value sums
 abbrev pub GivesStrays : {K : Type 0} → (K → K → Ordering) → Pending K → List ℕ → Type 0
 GivesStrays {K} cmp pending places =
-    (items : List (PendingItem K)) → PendingSums cmp pending items → AreStrays (eq_by_cmp cmp) items places
+    (items : List (PendingItem K)) → PendingSums cmp pending items → places ≡ places_if (is_stray (eq_by_cmp cmp)) items
 
 -- the sums of the opens and closes that the items are
 abbrev pub BuffersSums : Buffers → List BufferItem → Type 0
@@ -64,11 +64,12 @@ BuffersSums buffers items = PendingSums nat_cmp buffers.pending (map buffer_pend
 
 -- the leaked deliveries of whatever items the value sums
 abbrev pub GivesLeaked : Buffers → List ℕ → Type 0
-GivesLeaked buffers places = (items : List BufferItem) → BuffersSums buffers items → AreLeaked items places
+GivesLeaked buffers places = (items : List BufferItem) → BuffersSums buffers items → places ≡ leaked_places items
 
 -- the stray frees of whatever items the value sums
 abbrev pub GivesStrayFrees : Buffers → List ℕ → Type 0
-GivesStrayFrees buffers places = (items : List BufferItem) → BuffersSums buffers items → AreStrayFrees items places
+GivesStrayFrees buffers places =
+    (items : List BufferItem) → BuffersSums buffers items → places ≡ stray_free_places items
 
 -- the cookie that a change is about
 abbrev pub change_cookie : RequestChange → ℕ
@@ -128,4 +129,5 @@ RequestsSums requests items =
 
 -- the standing requests of whatever items the value sums
 abbrev pub GivesStanding : Requests → List ℕ → Type 0
-GivesStanding requests places = (items : List RequestItem) → RequestsSums requests items → AreOutstandingRequests items places
+GivesStanding requests places =
+    (items : List RequestItem) → RequestsSums requests items → places ≡ standing_request_places items

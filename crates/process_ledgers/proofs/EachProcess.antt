@@ -28,7 +28,7 @@ use Rattle.process_ledgers.specs.Items.{buffer_item_of, clear_item_of, death_ite
 use Rattle.process_ledgers.specs.EachProcess.{AreLedgersOf, SumsEach, SumsOrder, ledgers_in}
 use Rattle.process_ledgers.specs.OnewayLedger.{OnewayLedgerSums}
 use Rattle.process_ledgers.specs.ProcessLedgers.{SumsProcess, picked_by}
-use Rattle.process_ledgers.specs.Processes.{items_of_process, process_of_whole}
+use Rattle.process_ledgers.specs.Processes.{events_in, items_of_process, process_of_whole}
 
 -- no ledger picks an item from the event
 record PickNone (e : EventRead) : Type 0 where
@@ -80,20 +80,21 @@ module _ {I : Type 0} (read : EventRead → Option I) (none : (e : EventRead) �
       rest : List (Process × Event)
       rest = filter_map concerned events
 
-      others : List I
-      others = items_of_process read q (map event_text events)
+      own : List EventRead
+      own = events_in q (map event_text events)
 
-      one : filter_map (picked_by read) (items_of same_process q rest) ≡ others → (own : Bool) → filter_map (picked_by read) (cons_option (cond own (Some event) None) (items_of same_process q rest)) ≡ cons_option (cond own (read text) None) others
+      one : filter_map (picked_by read) (items_of same_process q rest) ≡ filter_map read own → (b : Bool)
+          → filter_map (picked_by read) (cons_option (cond b (Some event) None) (items_of same_process q rest)) ≡ filter_map read (cond b (text ∷ own) own)
       one same true = ap (cons_option (read text)) same
       one same false = same
 
-      left_out : (own : Bool) → read text ≡ None → others ≡ cons_option (cond own (read text) None) others
-      left_out true is = ap (λ (o : Option I). cons_option o others) (sym is)
+      left_out : (b : Bool) → read text ≡ None → filter_map read own ≡ filter_map read (cond b (text ∷ own) own)
+      left_out true is = ap (λ (o : Option I). cons_option o (filter_map read own)) (sym is)
       left_out false is = refl
 
-      by_kind : filter_map (picked_by read) (items_of same_process q rest) ≡ others → (b : Bool) → concerns event.kind ≡ b
+      by_kind : filter_map (picked_by read) (items_of same_process q rest) ≡ filter_map read own → (b : Bool) → concerns event.kind ≡ b
           → filter_map (picked_by read) (items_of same_process q (cons_option (cond b (Some (process_of text, event)) None) rest))
-          ≡ cons_option (cond (same_process q (process_of text)) (read text) None) others
+          ≡ filter_map read (cond (same_process q (process_of text)) (text ∷ own) own)
       by_kind same true is = one same (same_process q (process_of text))
       by_kind same false is = same ∙ left_out (same_process q (process_of text)) (none text is)
 

@@ -1,30 +1,19 @@
 -- The item that a ledger reads from an event stands where the event does.
-use Rattle.std.proofs.Common.{◌≡◌, ℕ, true, false, cond, List, Option, Some, None, refl, sym, ap, ◌∙◌}
+use Rattle.std.proofs.Common.{◌≡◌, ℕ, List, Option, Some, None, refl, sym, ap, ◌∙◌}
 use Rattle.std.specs.Option.{option_map, unwrap_or}
 use Rattle.binder_code.specs.declared.record_kind.Kind.{Kind}
 use Rattle.binder_code.specs.declared.record_kind.Kind.TheVariants.{BcFreeBuffer, BcClearDeathNotification, BrTransaction, BrTransactionSecCtx, BrReply, BrClearDeathNotificationDone}
 use Rattle.event_core.specs.Buffers.{buffer_item, buffer_pending}
 use Rattle.event_core.specs.Clears.{clear_item}
 use Rattle.event_core.specs.Deaths.{death_change}
-use Rattle.event_core.specs.Events.{EventRead, process_of}
+use Rattle.event_core.specs.Events.{EventRead}
 use Rattle.event_core.specs.Requests.{request_change}
 use Rattle.event_core.specs.declared.buffer.BufferItem.{BufferItem}
 use Rattle.event_core.specs.declared.pending.PendingItem.{PendingItem}
 use Rattle.pending_ledger.specs.Ledgers.{buffer_place}
 use Rattle.pending_ledger.specs.Pending.{place_of}
 use Rattle.pending_ledger.specs.Requests.{request_place}
-use Rattle.capture_frame.specs.declared.process.Process.{Process}
 use Rattle.process_ledgers.specs.Items.{KeepsPlace, buffer_item_of, buffer_pending_of, clear_item_of, death_item_of, request_item_of}
-use Rattle.process_ledgers.specs.Processes.{read_of}
-use Rattle.capture_frame.specs.Process.{same_process}
-
--- what keeps its event's place does so among those of one process
-pub read_keeps : {I : Type 0} (place : I → ℕ) (read : EventRead → Option I) (process : Process) → KeepsPlace place read → KeepsPlace place (read_of read process)
-read_keeps place read process keeps e i is =
-    elim (same_process process (process_of e)) as (λ b. cond b (read e) None ≡ Some i → place i ≡ e.place) [
-      | true ↦ λ found. keeps e i found
-      | false ↦ λ found. let no : ⊥ = cc in absurd no
-    ] is
 
 made_there : {A I : Type 0} (place : I → ℕ) (make : A → I) (at : ℕ) → ((a : A) → place (make a) ≡ at) → (o : Option A) (i : I) → option_map make o ≡ Some i
     → place i ≡ at

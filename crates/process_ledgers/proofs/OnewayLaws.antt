@@ -10,6 +10,7 @@ use Rattle.event_core.specs.contracts.oneway.OnewayKeyOrd.TheImpl.Laws.{total-la
 use Rattle.event_core.specs.declared.oneway.OnewayItem.{OnewayItem}
 use Rattle.event_core.specs.declared.oneway.OnewayKey.{OnewayKey}
 use Rattle.event_core.specs.declared.oneway.OnewayKey.TheVariants.{Sent, Received}
+use Rattle.summary_law.proofs.TallyLaws.{tally_is}
 use Rattle.summary_law.specs.Fits.{IsShort}
 use Rattle.summary_law.specs.Summary.{CanAdd, Adds, CanJoin, Joins}
 use Rattle.summary_law.specs.Tally.{TallySums, AreTallyRows, AreWeighted, GivesRows}
@@ -33,10 +34,10 @@ same_order Received Received = refl
 pub order_is : key_cmp ≡ oneway_cmp
 order_is i a b = same_order a b i
 
-pub oneway_cmp_total : IsTotalOrder oneway_cmp
+oneway_cmp_total : IsTotalOrder oneway_cmp
 oneway_cmp_total = subst IsTotalOrder order_is total-law
 
-pub oneway_cmp_exact : CmpEqualImpliesEq oneway_cmp
+oneway_cmp_exact : CmpEqualImpliesEq oneway_cmp
 oneway_cmp_exact (Sent a) (Sent b) is = ap Sent (exact_unsigned a b is)
 oneway_cmp_exact (Sent a) Received is = let no : ⊥ = cc in absurd no
 oneway_cmp_exact Received (Sent b) is = let no : ⊥ = cc in absurd no
@@ -105,5 +106,6 @@ pairs_joined ledger later joined joins first second sums others short = record {
 
 pub rows_said : (ledger : OnewayLedger) (rows : List (OnewayKey × ℕ × ℕ)) → GivesRows key_cmp ledger.tally rows → GivesTallyRows ledger rows
 rows_said ledger rows gives items sums =
-    subst (λ (cmp : OnewayKey → OnewayKey → Ordering). AreTallyRows cmp (map oneway_pair items) rows) order_is
-    (gives (map oneway_pair items) (by_derived ledger.tally items sums.tally))
+    tally_is oneway_cmp oneway_cmp_total oneway_cmp_exact (map oneway_pair items) rows
+    (subst (λ (cmp : OnewayKey → OnewayKey → Ordering). AreTallyRows cmp (map oneway_pair items) rows) order_is
+    (gives (map oneway_pair items) (by_derived ledger.tally items sums.tally)))

@@ -41,8 +41,3 @@ SumsOrder entries wholes = SumsInOrder same_process (λ (v : Nothing) (items : L
 pub record SumsEach (processes : Processes) (wholes : List (Placed WholeFrame)) : Type 0 where
   pub order : keys_of processes.order.now.entries.entries ≡ processes_of wholes
   pub each : (process : Process) → AreLedgersOf (ledgers_in processes process) (events_of_wholes wholes) process
-
--- what is listed of whatever process the ledgers are of
-abbrev pub GivesOf : {R : Type 0} → (List EventRead → Process → List R → Type 0) → ProcessLedgers → List R → Type 0
-GivesOf AreOf ledgers rows =
-    (events : List EventRead) (process : Process) → AreLedgersOf ledgers events process → AreOf events process rows

@@ -1,12 +1,12 @@
 -- What the ledger of a process's oneway transactions comes to while it is made.
-use Rattle.std.specs.Prelude.{ℕ, ◌<◌, ◌^◌, List, map, All}
+use Rattle.std.specs.Prelude.{◌≡◌, ℕ, ◌<◌, ◌^◌, List, map, All}
 use Rattle.event_core.specs.declared.oneway.OnewayItem.{OnewayItem}
 use Rattle.event_core.specs.declared.oneway.OnewayKey.{OnewayKey}
 use Rattle.event_core.specs.declared.oneway.OnewayKey.TheVariants.{Sent, Received}
 use Rattle.std.specs.Ordering.{nat_cmp}
 use Rattle.std.specs.declared.cmp.Ordering.{Ordering}
 use Rattle.std.specs.declared.cmp.Ordering.TheVariants.{Less, Equal, Greater}
-use Rattle.summary_law.specs.Tally.{TallySums, AreTallyRows}
+use Rattle.summary_law.specs.Tally.{TallySums, tally_rows}
 use Rattle.process_ledgers.specs.declared.oneway_ledger.OnewayLedger.{OnewayLedger}
 
 -- sends are ordered by their handles, and what is received comes behind them
@@ -32,4 +32,4 @@ pub record OnewayLedgerSums (ledger : OnewayLedger) (items : List OnewayItem) : 
 -- the rows of whatever items the ledger sums
 abbrev pub GivesTallyRows : OnewayLedger → List (OnewayKey × ℕ × ℕ) → Type 0
 GivesTallyRows ledger rows =
-    (items : List OnewayItem) → OnewayLedgerSums ledger items → AreTallyRows oneway_cmp (map oneway_pair items) rows
+    (items : List OnewayItem) → OnewayLedgerSums ledger items → rows ≡ tally_rows oneway_cmp (map oneway_pair items)

@@ -1,5 +1,5 @@
 -- The processes of a capture, and what each of them does (docs/REPORT.md).
-use Rattle.std.specs.Prelude.{List, map, if◌then◌else◌, Option, None}
+use Rattle.std.specs.Prelude.{List, map, Option}
 use Rattle.std.specs.List.{filter_map}
 use Rattle.capture_frame.specs.declared.process.Process.{Process}
 use Rattle.capture_frame.specs.Process.{same_process, process_of_frame}
@@ -7,6 +7,7 @@ use Rattle.capture_frame.specs.Units.{Placed}
 use Rattle.transaction_view.specs.Grammar.{WholeFrame}
 use Rattle.event_core.specs.Events.{EventRead, process_of}
 use Rattle.summary_law.specs.InOrder.{firsts}
+use Rattle.summary_law.specs.Readings.{with_key}
 
 -- the process of a whole frame
 abbrev pub process_of_whole : Placed WholeFrame → Process
@@ -16,10 +17,10 @@ process_of_whole there = process_of_frame there.unit.frame
 abbrev pub processes_of : List (Placed WholeFrame) → List Process
 processes_of wholes = firsts same_process (map process_of_whole wholes)
 
--- what is read from an event of this process, and nothing from one of another
-abbrev pub read_of : {I : Type 0} → (EventRead → Option I) → Process → EventRead → Option I
-read_of read process e = if same_process process (process_of e) then read e else None
+-- the events of this process, in their order
+abbrev pub events_in : Process → List EventRead → List EventRead
+events_in process events = with_key same_process process_of process events
 
 -- what is read from the events of this process, in their order
 abbrev pub items_of_process : {I : Type 0} → (EventRead → Option I) → Process → List EventRead → List I
-items_of_process read process events = filter_map (read_of read process) events
+items_of_process read process events = filter_map read (events_in process events)

@@ -52,7 +52,7 @@ pub(crate) fn findings<W: Write>(found: &Findings<'_>, out: &mut W) -> Printed {
 }
 
 /// Prints the numbers and the rows of the sections.
-pub(crate) fn sections<W: Write>(found: &Sections, out: &mut W) -> Printed {
+pub(crate) fn sections<W: Write>(found: &Sections<u64>, out: &mut W) -> Printed {
     let (events, calls, processes) = (&found.events, &found.calls, &found.processes);
     value(&(found.missing, events.records, events.opaque), out)?;
     value(&(events.counts, events.oneway, events.objects), out)?;

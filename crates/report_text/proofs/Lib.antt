@@ -2,8 +2,6 @@ pub mod Hexadecimal
 pub mod Pushes
 pub mod Sections
 pub mod Listed
-pub mod ObjectOwners
-pub mod CallEvents
 pub mod AnswerLaws
 pub mod OneText
 mod SomeText

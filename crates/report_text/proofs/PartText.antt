@@ -17,9 +17,10 @@ use Rattle.capture_frame.proofs.NumberLaws.{IsBytes-drop}
 use Rattle.capture_frame.proofs.PartLaws.{parts_outcome, parts_one_fault, parts_never_both, parts_joined, one_part, of_one_part, one_part_fails, fault_of_one_part}
 use Rattle.transaction_view.specs.Grammar.{WholeFrame, AreReadable, HasFirstPartFault, IsReadable, HasFirstFault, whole_format}
 use Rattle.transaction_view.proofs.GrammarLaws.{whole_decided, whole_wide}
-use Rattle.event_core.specs.Events.{wholes_of}
-use Rattle.audit_findings.specs.Findings.{AreFindings}
-use Rattle.audit_findings.proofs.SomeFindings.{some_findings}
+use Rattle.event_core.specs.Events.{events_of_wholes, wholes_of}
+use Rattle.audit_findings.specs.Findings.{findings_of}
+use Rattle.audit_findings.specs.Objects.{AreOutcomes, attachments_of}
+use Rattle.audit_findings.proofs.SomeObjects.{some_objects_of}
 use Rattle.report_text.specs.Answers.{Answers, IsLineOn, IsLineOnParts, IsReportOnParts, IsTextOf, IsTextOfParts, SaysSound, line_of_fault_in, named, right}
 use Rattle.report_text.specs.Fault.{fault_line, fault_words, part_fault_line, no_fault_line}
 use Rattle.report_text.specs.Text.{IsReportOn, report_text}
@@ -84,8 +85,8 @@ some_text : (parts : List (List ℕ)) → All IsBytes parts → (text : List ℕ
 some_text parts bytes = elim (parts_outcome whole_format whole_wide whole_decided None parts bytes) [
   | inl readable ↦
       let whole = parts_joined whole_format whole_wide parts readable.0 readable.1 in
-      let found = some_findings (joined parts) readable.0 (joined_bytes parts bytes) whole in
-      (report_text found.0, right (readable, (readable.0, found.0, whole, found.1, refl)))
+      let found = some_objects_of (joined parts) readable.0 (joined_bytes parts bytes) whole in
+      (report_text (findings_of (wholes_of readable.0) found.0), right (readable, (readable.0, found.0, whole, found.1, refl)))
   | inr faulty ↦ (part_fault_line (length parts) faulty.0, named faulty.0 faulty.1 refl)
 ]
 
@@ -131,7 +132,10 @@ joined_frames capture readable = parts_joined whole_format whole_wide (capture �
 report_of_capture : (capture text : List ℕ) → IsReadable capture → IsReportOn (joined (capture ∷ [])) text → IsReportOn capture text
 report_of_capture capture text readable a =
     let same = capture_one_reading whole_format whole_decided (joined (capture ∷ [])) a.0 readable.0 a.2 (joined_frames capture readable) in
-    (readable.0, a.1, readable.1, subst (λ (wholes : List WholeFrame). AreFindings (wholes_of wholes) a.1) same a.3, a.4)
+    let both = subst
+    (λ (wholes : List WholeFrame). AreOutcomes (attachments_of (events_of_wholes (wholes_of wholes))) a.1 × (text ≡ report_text (findings_of (wholes_of wholes) a.1)))
+    same (a.3, a.4) in
+    (readable.0, a.1, readable.1, both.0, both.1)
 
 report_of_part : (capture text : List ℕ) → IsReportOn capture text → IsReportOn (joined (capture ∷ [])) text
 report_of_part capture text a = (a.0, a.1, joined_frames capture (a.0, a.2), a.3, a.4)

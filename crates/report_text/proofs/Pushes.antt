@@ -1,8 +1,11 @@
--- Lines that are pushed one behind another.
+-- Lines that are pushed one after another.
 use Rattle.std.proofs.Common.{◌≡◌, ℕ, List, [], ◌∷◌, ◌++◌, map, refl, sym, ap, ap₂, subst}
 use Rattle.std.specs.List.{AllZip, FoldsTo}
 use Rattle.transaction_view.specs.Grammar.{WholeFrame}
-use Rattle.audit_findings.specs.Findings.{FindingsSaid}
+use Rattle.event_core.specs.Events.{EventRead, wholes_of}
+use Rattle.audit_findings.specs.Findings.{findings_of}
+use Rattle.audit_findings.specs.Objects.{Outcome}
+use Rattle.audit_findings.specs.declared.findings.Sections.{Sections}
 use Rattle.audit_findings.specs.Kept.{KeptFindings, AreSectionsOf}
 use Rattle.report_text.specs.Pushed.{TakesLines}
 
@@ -21,25 +24,27 @@ AllZip-mapped R f (x ∷ xs) [] all = absurd all
 AllZip-mapped R f (x ∷ xs) (y ∷ ys) all = (all.0, AllZip-mapped R f xs ys all.1)
 
 -- one line that is pushed
-pub one_pushed : {L : Type 0} {takes : L → List ℕ → L → Type 0} {found : KeptFindings} {old new : L} (line : List ℕ) (line_of : FindingsSaid → List ℕ)
-    → takes old line new → ((wholes : List WholeFrame) (said : FindingsSaid) → AreSectionsOf wholes said found.frames found.sections → line ≡ line_of said)
-    → TakesLines takes (λ said. line_of said ∷ []) found old new
+pub one_pushed : {L : Type 0} {takes : L → List ℕ → L → Type 0} {kept : KeptFindings} {old new : L} (line : List ℕ) (line_of : Sections EventRead → List ℕ)
+    → takes old line new
+    → ((wholes : List WholeFrame) (outcomes : List Outcome) → AreSectionsOf wholes outcomes kept.frames kept.sections
+    → line ≡ line_of (findings_of (wholes_of wholes) outcomes))
+    → TakesLines takes (λ found. line_of found ∷ []) kept old new
 one_pushed {new = new} line line_of takes told = record {
   lines = line ∷ [];
   taken = (new, takes, refl);
-  told = λ wholes said tell. ap (λ (l : List ℕ). l ∷ []) (told wholes said tell);
+  told = λ wholes outcomes are. ap (λ (l : List ℕ). l ∷ []) (told wholes outcomes are);
 }
 
--- no line behind them
-pub none_pushed : {L : Type 0} {takes : L → List ℕ → L → Type 0} {found : KeptFindings} {at : L} → TakesLines takes (λ said. []) found at at
-none_pushed = record { lines = []; taken = refl; told = λ wholes said tell. refl }
+-- no line after them
+pub none_pushed : {L : Type 0} {takes : L → List ℕ → L → Type 0} {kept : KeptFindings} {at : L} → TakesLines takes (λ found. []) kept at at
+none_pushed = record { lines = []; taken = refl; told = λ wholes outcomes are. refl }
 
 infixr 20 ◌⨾◌
 -- lines that are pushed, and then others
-pub ◌⨾◌ : {L : Type 0} {takes : L → List ℕ → L → Type 0} {found : KeptFindings} {p q : FindingsSaid → List (List ℕ)} {a b c : L}
-    → TakesLines takes p found a b → TakesLines takes q found b c → TakesLines takes (λ said. p said ++ q said) found a c
+pub ◌⨾◌ : {L : Type 0} {takes : L → List ℕ → L → Type 0} {kept : KeptFindings} {p q : Sections EventRead → List (List ℕ)} {a b c : L}
+    → TakesLines takes p kept a b → TakesLines takes q kept b c → TakesLines takes (λ found. p found ++ q found) kept a c
 ◌⨾◌ {takes = takes} {a = a} {b = b} {c = c} first others = record {
   lines = first.lines ++ others.lines;
   taken = FoldsTo-append takes a b c first.lines others.lines first.taken others.taken;
-  told = λ wholes said tell. ap₂ (λ (x y : List (List ℕ)). x ++ y) (first.told wholes said tell) (others.told wholes said tell);
+  told = λ wholes outcomes are. ap₂ (λ (x y : List (List ℕ)). x ++ y) (first.told wholes outcomes are) (others.told wholes outcomes are);
 }

@@ -13,7 +13,7 @@ use Rattle.event_core.specs.declared.oneway.OnewayKey.TheVariants.{Sent, Receive
 use Rattle.event_core.specs.Events.{EventRead}
 use Rattle.call_stacks.specs.declared.verdict.Verdict.TheVariants.{Failed, Crossed, Open}
 use Rattle.capture_frame.specs.declared.process.Process.{Process}
-use Rattle.audit_findings.specs.Findings.{FindingsSaid}
+use Rattle.audit_findings.specs.declared.findings.Sections.{Sections}
 use Rattle.audit_findings.specs.InTurn.{process_row}
 use Rattle.report_text.specs.Calls.{calls_row}
 use Rattle.report_text.specs.Codes.{codes_row}
@@ -33,7 +33,7 @@ use Rattle.report_text.specs.Text.{report_text}
 abbrev numbered : ℕ → Process
 numbered number = record { device = 1; number = number }
 
-nothing : FindingsSaid
+nothing : Sections EventRead
 nothing = record {
   frames = 0;
   missing = 0;

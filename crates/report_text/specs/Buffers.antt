@@ -27,7 +27,7 @@ buffers_row e = row_start e ++ delivery_fields (buffer_item_of e)
 -- the section
 abbrev pub buffers_section : SectionText EventRead
 buffers_section = record {
-  head = λ said rows. buffers_head said.events.counts.deliveries rows;
-  rows = λ said. said.processes.leaked;
+  head = λ found rows. buffers_head found.events.counts.deliveries rows;
+  rows = λ found. found.processes.leaked;
   line = buffers_row;
 }

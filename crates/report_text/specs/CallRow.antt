@@ -4,7 +4,6 @@ use Rattle.std.specs.Prelude.{ℕ, if◌then◌else◌, List, [], ◌++◌, code
 use Rattle.std.specs.Fmt.{decimal}
 use Rattle.transaction_view.specs.Transaction.{has_transaction_data, code}
 use Rattle.event_core.specs.Events.{EventRead}
-use Rattle.audit_findings.specs.declared.calls.CallRow.{CallRow}
 use Rattle.call_stacks.specs.declared.opener.Opener.{Opener}
 use Rattle.call_stacks.specs.declared.verdict.Verdict.{Verdict}
 use Rattle.call_stacks.specs.declared.verdict.Verdict.TheVariants.{Answered, Failed, Replied, Crossed, Open}
@@ -37,5 +36,5 @@ call_row other_side call =
     ++ codes " " ++ verdict_name call.verdict ++ codes " " ++ closer_field call.closer
 
 -- the row of a call that is kept so, by its event
-abbrev pub row_of_kept : (List ℕ → List ℕ) → CallRow → EventRead → List ℕ
+abbrev pub row_of_kept : (List ℕ → List ℕ) → Opener ℕ → EventRead → List ℕ
 row_of_kept other_side call e = call_row other_side (record { event = e; verdict = call.verdict; closer = call.closer })

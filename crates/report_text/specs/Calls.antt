@@ -24,7 +24,7 @@ calls_row call = call_row target_field call
 -- the section
 abbrev pub calls_section : SectionText (Opener EventRead)
 calls_section = record {
-  head = λ said rows. calls_head said.calls.calls.answered said.calls.calls.failed said.calls.calls.unanswered;
-  rows = λ said. said.calls.calls.rows;
+  head = λ found rows. calls_head found.calls.calls.answered found.calls.calls.failed found.calls.calls.unanswered;
+  rows = λ found. found.calls.calls.rows;
   line = calls_row;
 }

@@ -17,7 +17,7 @@ clears_row e = open_and_stray_row (codes "unconfirmed") clear_item_of e
 -- the section
 abbrev pub clears_section : SectionText EventRead
 clears_section = record {
-  head = λ said rows. clears_head said.events.counts.clears said.processes.clears.unclosed said.processes.clears.strays;
-  rows = λ said. said.processes.clears.rows;
+  head = λ found rows. clears_head found.events.counts.clears found.processes.clears.unclosed found.processes.clears.strays;
+  rows = λ found. found.processes.clears.rows;
   line = clears_row;
 }

@@ -27,4 +27,4 @@ codes_row row = codes "  " ++ hex_word row.word ++ codes " " ++ name_of_word row
 
 -- the section
 abbrev pub codes_section : SectionText CodeRow
-codes_section = record { head = λ said rows. codes_head rows; rows = λ said. said.events.codes; line = codes_row }
+codes_section = record { head = λ found rows. codes_head rows; rows = λ found. found.events.codes; line = codes_row }

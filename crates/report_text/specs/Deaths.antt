@@ -16,7 +16,7 @@ deaths_row e = open_and_stray_row (codes "unacknowledged") death_item_of e
 -- the section
 abbrev pub deaths_section : SectionText EventRead
 deaths_section = record {
-  head = λ said rows. deaths_head said.events.counts.deaths said.processes.deaths.unclosed said.processes.deaths.strays;
-  rows = λ said. said.processes.deaths.rows;
+  head = λ found rows. deaths_head found.events.counts.deaths found.processes.deaths.unclosed found.processes.deaths.strays;
+  rows = λ found. found.processes.deaths.rows;
   line = deaths_row;
 }

@@ -17,4 +17,4 @@ flags_row e = row_start e ++ codes " " ++ hex_word (unknown_flags e)
 
 -- the section
 abbrev pub flags_section : SectionText EventRead
-flags_section = record { head = λ said. flags_head; rows = λ said. said.events.flags; line = flags_row }
+flags_section = record { head = λ found. flags_head; rows = λ found. found.events.flags; line = flags_row }

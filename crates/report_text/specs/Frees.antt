@@ -25,7 +25,7 @@ frees_row e = row_start e ++ free_fields (buffer_item_of e)
 -- the section
 abbrev pub frees_section : SectionText EventRead
 frees_section = record {
-  head = λ said rows. frees_head said.events.counts.frees rows;
-  rows = λ said. said.processes.stray_frees;
+  head = λ found rows. frees_head found.events.counts.frees rows;
+  rows = λ found. found.processes.stray_frees;
   line = frees_row;
 }

@@ -18,7 +18,7 @@ handles_row of =
 -- the section
 abbrev pub handles_section : SectionText (ProcessRow HeldRow)
 handles_section = record {
-  head = λ said rows. unbalanced_head (codes "handles") rows said.processes.handles.unbalanced;
-  rows = λ said. said.processes.handles.rows;
+  head = λ found rows. unbalanced_head (codes "handles") rows found.processes.handles.unbalanced;
+  rows = λ found. found.processes.handles.rows;
   line = handles_row;
 }

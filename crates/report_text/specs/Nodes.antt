@@ -18,7 +18,7 @@ nodes_row of =
 -- the section
 abbrev pub nodes_section : SectionText (ProcessRow NodeRow)
 nodes_section = record {
-  head = λ said rows. unbalanced_head (codes "nodes") rows said.processes.nodes.unbalanced;
-  rows = λ said. said.processes.nodes.rows;
+  head = λ found rows. unbalanced_head (codes "nodes") rows found.processes.nodes.unbalanced;
+  rows = λ found. found.processes.nodes.rows;
   line = nodes_row;
 }

@@ -4,7 +4,8 @@ use Rattle.std.specs.Fmt.{decimal}
 use Rattle.object_view.specs.declared.bad_object.Cause.{Cause}
 use Rattle.object_view.specs.declared.bad_object.Cause.TheVariants.{ListLength, Misaligned, Overlap, Short, UnknownSort}
 use Rattle.audit_findings.specs.declared.sort_counts.SortCounts.{SortCounts}
-use Rattle.audit_findings.specs.Objects.{BadOwned}
+use Rattle.event_core.specs.Events.{EventRead}
+use Rattle.audit_findings.specs.declared.objects.BadRow.{BadRow}
 use Rattle.report_text.specs.EventRow.{row_start}
 use Rattle.report_text.specs.Section.{SectionText}
 
@@ -25,15 +26,15 @@ cause_name Short = codes "Short"
 cause_name UnknownSort = codes "UnknownSort"
 
 -- a row: place and process of the owning record, index, offset, cause
-abbrev pub objects_row : BadOwned → List ℕ
+abbrev pub objects_row : BadRow EventRead → List ℕ
 objects_row row =
     row_start row.owner ++ codes " " ++ decimal row.bad.index ++ codes " " ++ decimal row.bad.offset
     ++ codes " " ++ cause_name row.bad.cause
 
 -- the section
-abbrev pub objects_section : SectionText BadOwned
+abbrev pub objects_section : SectionText (BadRow EventRead)
 objects_section = record {
-  head = λ said rows. objects_head said.events.objects rows;
-  rows = λ said. said.events.bad_objects;
+  head = λ found rows. objects_head found.events.objects rows;
+  rows = λ found. found.events.bad_objects;
   line = objects_row;
 }

@@ -27,7 +27,7 @@ oneway_row of =
 -- the section
 abbrev pub oneway_section : SectionText (ProcessRow (OnewayKey × ℕ × ℕ))
 oneway_section = record {
-  head = λ said rows. oneway_head said.events.oneway.sent said.events.oneway.received said.calls.refused.oneway;
-  rows = λ said. said.processes.oneway;
+  head = λ found rows. oneway_head found.events.oneway.sent found.events.oneway.received found.calls.refused.oneway;
+  rows = λ found. found.processes.oneway;
   line = oneway_row;
 }

@@ -11,4 +11,4 @@ refused_head rows = codes "refused " ++ decimal rows
 
 -- the section; a row has place, process, thread, kind of the error reply
 abbrev pub refused_section : SectionText EventRead
-refused_section = record { head = λ said. refused_head; rows = λ said. said.calls.refused.rows; line = kind_row }
+refused_section = record { head = λ found. refused_head; rows = λ found. found.calls.refused.rows; line = kind_row }

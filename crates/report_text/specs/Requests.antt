@@ -31,7 +31,7 @@ requests_row e = row_start e ++ request_fields (request_item_of e)
 -- the section
 abbrev pub requests_section : SectionText EventRead
 requests_section = record {
-  head = λ said rows. requests_head said.events.counts.requests rows;
-  rows = λ said. said.processes.standing;
+  head = λ found rows. requests_head found.events.counts.requests rows;
+  rows = λ found. found.processes.standing;
   line = requests_row;
 }

@@ -1,13 +1,24 @@
 -- A section of the report: a head, and then a line for each of its rows (docs/REPORT.md).
-use Rattle.std.specs.Prelude.{ℕ, List, ◌∷◌, length, map}
-use Rattle.audit_findings.specs.Findings.{FindingsSaid}
+use Rattle.std.specs.Prelude.{◌≡◌, ℕ, List, ◌∷◌, length, map}
+use Rattle.transaction_view.specs.Grammar.{WholeFrame}
+use Rattle.event_core.specs.Events.{EventRead, wholes_of}
+use Rattle.audit_findings.specs.Findings.{findings_of}
+use Rattle.audit_findings.specs.Kept.{AreSectionsOf, KeptFindings}
+use Rattle.audit_findings.specs.Objects.{Outcome}
+use Rattle.audit_findings.specs.declared.findings.Sections.{Sections}
 
 -- its head, where it has so many rows; its rows; and the line of a row
-pub record SectionText (Said : Type 0) : Type 0 where
-  pub head : FindingsSaid → ℕ → List ℕ
-  pub rows : FindingsSaid → List Said
-  pub line : Said → List ℕ
+pub record SectionText (Row : Type 0) : Type 0 where
+  pub head : Sections EventRead → ℕ → List ℕ
+  pub rows : Sections EventRead → List Row
+  pub line : Row → List ℕ
 
 -- its lines
-abbrev pub lines_of : {Said : Type 0} → SectionText Said → FindingsSaid → List (List ℕ)
-lines_of section said = section.head said (length (section.rows said)) ∷ map section.line (section.rows said)
+abbrev pub lines_of : {Row : Type 0} → SectionText Row → Sections EventRead → List (List ℕ)
+lines_of section found = section.head found (length (section.rows found)) ∷ map section.line (section.rows found)
+
+-- the lines are these lines of the findings that are kept, whatever frames they are of
+abbrev pub AreLinesOf : (Sections EventRead → List (List ℕ)) → KeptFindings → List (List ℕ) → Type 0
+AreLinesOf lines_of kept lines =
+    (wholes : List WholeFrame) (outcomes : List Outcome) → AreSectionsOf wholes outcomes kept.frames kept.sections
+    → lines ≡ lines_of (findings_of (wholes_of wholes) outcomes)

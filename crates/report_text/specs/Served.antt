@@ -24,7 +24,7 @@ served_row call = call_row sender_field call
 -- the section
 abbrev pub served_section : SectionText (Opener EventRead)
 served_section = record {
-  head = λ said rows. served_head said.calls.served.replied said.calls.served.crossed said.calls.served.left_open;
-  rows = λ said. said.calls.served.rows;
+  head = λ found rows. served_head found.calls.served.replied found.calls.served.crossed found.calls.served.left_open;
+  rows = λ found. found.calls.served.rows;
   line = served_row;
 }

@@ -11,4 +11,4 @@ strays_head rows = codes "strays " ++ decimal rows
 
 -- the section; a row has place, process, thread, kind
 abbrev pub strays_section : SectionText EventRead
-strays_section = record { head = λ said. strays_head; rows = λ said. said.calls.strays; line = kind_row }
+strays_section = record { head = λ found. strays_head; rows = λ found. found.calls.strays; line = kind_row }

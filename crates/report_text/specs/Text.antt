@@ -3,8 +3,11 @@ use Rattle.std.specs.Prelude.{◌≡◌, ℕ, List, [], ◌∷◌, ◌++◌, cod
 use Rattle.std.specs.List.{flat_map}
 use Rattle.std.specs.Fmt.{decimal}
 use Rattle.transaction_view.specs.Grammar.{WholeFrame, IsInGrammar}
-use Rattle.audit_findings.specs.Findings.{FindingsSaid, AreFindings}
-use Rattle.event_core.specs.Events.{wholes_of}
+use Rattle.event_core.specs.Events.{EventRead, events_of_wholes, wholes_of}
+use Rattle.audit_findings.specs.Findings.{findings_of}
+use Rattle.audit_findings.specs.Kept.{AreSectionsOf, KeptFindings}
+use Rattle.audit_findings.specs.Objects.{AreOutcomes, Outcome, attachments_of}
+use Rattle.audit_findings.specs.declared.findings.Sections.{Sections}
 use Rattle.report_text.specs.Line.{ended}
 use Rattle.report_text.specs.Section.{lines_of}
 use Rattle.report_text.specs.Codes.{codes_section}
@@ -27,8 +30,8 @@ use Rattle.report_text.specs.Flags.{flags_section}
 abbrev pub title : List ℕ
 title = codes "BINDER AUDIT 2"
 
-abbrev pub title_lines : FindingsSaid → List (List ℕ)
-title_lines said = title ∷ []
+abbrev pub title_lines : Sections EventRead → List (List ℕ)
+title_lines found = title ∷ []
 
 -- the line of totals: frames, records, opaque ones among them, missing frames
 abbrev pub totals : ℕ → ℕ → ℕ → ℕ → List ℕ
@@ -36,11 +39,11 @@ totals frames records opaque missing =
     codes "frames " ++ decimal frames ++ codes " records " ++ decimal records
     ++ codes " opaque " ++ decimal opaque ++ codes " missing " ++ decimal missing
 
-abbrev pub totals_lines : FindingsSaid → List (List ℕ)
-totals_lines said = totals said.frames said.events.records said.events.opaque said.missing ∷ []
+abbrev pub totals_lines : Sections EventRead → List (List ℕ)
+totals_lines found = totals found.frames found.events.records found.events.opaque found.missing ∷ []
 
 -- what gives the lines of the report, in their order: the first two lines, and the sections
-abbrev pub lines_in_order : List (FindingsSaid → List (List ℕ))
+abbrev pub lines_in_order : List (Sections EventRead → List (List ℕ))
 lines_in_order =
     title_lines ∷ totals_lines ∷ lines_of codes_section ∷ lines_of calls_section ∷ lines_of served_section
     ∷ lines_of strays_section ∷ lines_of refused_section ∷ lines_of handles_section ∷ lines_of nodes_section
@@ -48,15 +51,23 @@ lines_in_order =
     ∷ lines_of clears_section ∷ lines_of oneway_section ∷ lines_of objects_section ∷ lines_of flags_section ∷ []
 
 -- the lines of the report, without their line feeds
-abbrev pub report_lines : FindingsSaid → List (List ℕ)
-report_lines said = flat_map (λ lines. lines said) lines_in_order
+abbrev pub report_lines : Sections EventRead → List (List ℕ)
+report_lines found = flat_map (λ lines. lines found) lines_in_order
 
 -- the report
-unfoldable pub report_text : FindingsSaid → List ℕ
-report_text said = flat_map ended (report_lines said)
+unfoldable pub report_text : Sections EventRead → List ℕ
+report_text found = flat_map ended (report_lines found)
 
--- the text is the report on a capture in the grammar
+-- the text is the report on the findings that are kept, whatever frames they are of
+abbrev pub IsReportOf : KeptFindings → List ℕ → Type 0
+IsReportOf kept text =
+    (wholes : List WholeFrame) (outcomes : List Outcome) → AreSectionsOf wholes outcomes kept.frames kept.sections
+    → text ≡ report_text (findings_of (wholes_of wholes) outcomes)
+
+-- The text is the report on a capture: this is in the grammar, its attachments have these outcomes, and the text is that
+-- of the findings.
 abbrev pub IsReportOn : List ℕ → List ℕ → Type 0
 IsReportOn capture text =
-    (wholes : List WholeFrame) × (said : FindingsSaid) × IsInGrammar capture wholes
-    × AreFindings (wholes_of wholes) said × (text ≡ report_text said)
+    (wholes : List WholeFrame) × (outcomes : List Outcome) × IsInGrammar capture wholes
+    × AreOutcomes (attachments_of (events_of_wholes (wholes_of wholes))) outcomes
+    × (text ≡ report_text (findings_of (wholes_of wholes) outcomes))

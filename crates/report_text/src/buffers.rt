@@ -11,15 +11,24 @@ pub(crate) struct Buffers;
 
 impl EventSection for Buffers {
     ghost use Rattle.std.specs.Prelude.{refl};
+    ghost use Rattle.event_core.specs.Events.{events_of_wholes};
+    ghost use Rattle.audit_findings.specs.Buffers.{is_unfreed};
+    ghost use Rattle.audit_findings.proofs.RowsThere.{listed_there};
     ghost use Rattle.report_text.specs.Buffers.{buffers_head, buffers_section};
 
     ghost section = { buffers_section };
 
     ghost head_of = { λ kept. buffers_head kept.events.counts.deliveries };
 
+    ghost rows_of = { λ kept. kept.processes.leaked };
+
+    ghost keeps = { record { head = λ found rows. refl; rows = λ found. refl } };
+
+    ghost events = { λ wholes outcomes are. listed_there is_unfreed (events_of_wholes wholes) };
+
     ghost bare = { λ e. refl };
 
-    fn head(&self, sections: &Sections, rows: usize) -> Row {
+    fn head(&self, sections: &Sections<u64>, rows: usize) -> Row {
         let mut line = Row::new();
         push_counted(&mut line, "buffers ", sections.events.counts.deliveries);
         push_counted(&mut line, " leaked ", rows as u64);

@@ -8,8 +8,8 @@ ghost use Rattle.report_text.specs.CallRow.{verdict_name, closer_field, record_f
 use crate::events::thread_start;
 use crate::line::{Row, push_counted, push_decimal};
 use crate::section::Section;
-use audit_findings::{CallRow, Findings, Sections};
-use call_stacks::Verdict;
+use audit_findings::{Findings, Sections};
+use call_stacks::{Opener, Verdict};
 use event_core::Event;
 use transaction_view::Transaction;
 
@@ -21,16 +21,25 @@ pub(crate) trait CallSection {
     ghost use Rattle.event_core.specs.Events.{EventRead};
     ghost use Rattle.call_stacks.specs.declared.opener.Opener.{Opener};
     ghost use Rattle.audit_findings.specs.declared.findings.Sections.{Sections};
-    ghost use Rattle.audit_findings.specs.Kept.{kept_call};
+    ghost use Rattle.audit_findings.specs.Kept.{call_at_place};
     ghost use Rattle.report_text.specs.CallRow.{call_row};
-    ghost use Rattle.report_text.specs.Pushed.{KeepsRows, HaveEvents};
+    ghost use Rattle.report_text.specs.Pushed.{HaveEvents, Keeps};
     ghost use Rattle.report_text.specs.Section.{SectionText};
 
     /// The section.
     ghost section: { SectionText (Opener EventRead) };
 
     /// Its head, of what findings keep, where it has so many rows.
-    ghost head_of: { Sections → ℕ → List ℕ };
+    ghost head_of: { Sections ℕ → ℕ → List ℕ };
+
+    /// Its rows, of what findings keep.
+    ghost rows_of: { Sections ℕ → List (Opener ℕ) };
+
+    /// They are the section's.
+    ghost keeps: { Keeps section call_at_place head_of rows_of };
+
+    /// Its calls are of events of the frames.
+    ghost events: { HaveEvents section (λ call. call.event) };
 
     /// What it tells of the other side of a call, by the payload of the call's record.
     ghost field: { List ℕ → List ℕ };
@@ -39,14 +48,12 @@ pub(crate) trait CallSection {
     ghost tells: { (call : Opener EventRead) → call_row field call ≡ section.line call };
 
     /// The head, without its line feed.
-    fn head(&self, sections: &Sections, rows: usize) -> Row
+    fn head(&self, sections: &Sections<u64>, rows: usize) -> Row
         ensures { result.bytes ≡ head_of sections.now rows };
 
     /// What is kept of the calls.
-    fn calls<'f>(&self, found: &'f Findings<'_>) -> &'f [CallRow]
-        ensures kept { KeepsRows section kept_call (head_of found.now.sections) found.now
-            result.now }
-        ensures events { HaveEvents section (λ call. call.event) found.now };
+    fn calls<'f>(&self, found: &'f Findings<'_>) -> &'f [Opener<u64>]
+        ensures { result.now ≡ rows_of found.now.sections };
 
     /// Pushes the field.
     fn push_field(&self, line: &mut Row, transaction: Transaction<'_>)
@@ -66,31 +73,31 @@ impl<S: CallSection> Section for OfCalls<S> {
     ghost use Rattle.report_text.specs.Pushed.{ShowsEvent};
     ghost use Rattle.report_text.specs.Section.{lines_of};
 
-    type Kept = CallRow;
+    type Kept = Opener<u64>;
 
     ghost lines = { lines_of S.section };
 
     ghost head_of = { S.head_of };
 
-    ghost can_show = { λ frames call. HasRecordIn frames call.place };
+    ghost can_show = { λ frames call. HasRecordIn frames call.event };
 
     ghost shows = { λ frames call line.
-        ShowsEvent (row_of_kept S.field call) frames call.place line };
+        ShowsEvent (row_of_kept S.field call) frames call.event line };
 
-    fn head(&self, sections: &Sections, rows: usize) -> Row {
+    fn head(&self, sections: &Sections<u64>, rows: usize) -> Row {
         self.0.head(sections, rows)
     }
 
-    fn rows<'f>(&self, found: &'f Findings<'_>) -> &'f [CallRow] {
+    fn rows<'f>(&self, found: &'f Findings<'_>) -> &'f [Opener<u64>] {
         self.0.calls(found)
     }
 
-    fn line(&self, found: &Findings<'_>, kept: &CallRow) -> Row {
-        call_row(&self.0, found.record_at(kept.place), *kept)
+    fn line(&self, found: &Findings<'_>, kept: &Opener<u64>) -> Row {
+        call_row(&self.0, found.record_at(kept.event), *kept)
     }
 }
 
-fn call_row<S: CallSection>(section: &S, event: Event<'_>, call: CallRow) -> Row
+fn call_row<S: CallSection>(section: &S, event: Event<'_>, call: Opener<u64>) -> Row
     ensures { result.bytes ≡ row_of_kept S.field call (event_text event.entry) }
 {
     let mut line = thread_start(event);

@@ -2,7 +2,8 @@
 
 use crate::call_row::CallSection;
 use crate::line::{Row, push_counted, push_decimal, push_sum};
-use audit_findings::{CallRow, Findings, Sections};
+use audit_findings::{Findings, Sections};
+use call_stacks::Opener;
 use transaction_view::Transaction;
 
 /// The section.
@@ -11,6 +12,9 @@ pub(crate) struct Calls;
 
 impl CallSection for Calls {
     ghost use Rattle.std.specs.Prelude.{refl};
+    ghost use Rattle.event_core.specs.Events.{events_of_wholes};
+    ghost use Rattle.audit_findings.specs.Calls.{is_made};
+    ghost use Rattle.audit_findings.proofs.RowsThere.{lacking_there};
     ghost use Rattle.report_text.specs.Calls.{calls_head, calls_section, target_field};
 
     ghost section = { calls_section };
@@ -18,11 +22,17 @@ impl CallSection for Calls {
     ghost head_of = { λ kept _.
         calls_head kept.calls.calls.answered kept.calls.calls.failed kept.calls.calls.unanswered };
 
+    ghost rows_of = { λ kept. kept.calls.calls.rows };
+
+    ghost keeps = { record { head = λ found rows. refl; rows = λ found. refl } };
+
+    ghost events = { λ wholes outcomes are. lacking_there is_made (events_of_wholes wholes) };
+
     ghost field = { target_field };
 
     ghost tells = { λ call. refl };
 
-    fn head(&self, sections: &Sections, _rows: usize) -> Row {
+    fn head(&self, sections: &Sections<u64>, _rows: usize) -> Row {
         let calls = &sections.calls.calls;
         let mut line = Row::new();
         line.push_str("calls ");
@@ -33,7 +43,7 @@ impl CallSection for Calls {
         line
     }
 
-    fn calls<'f>(&self, found: &'f Findings<'_>) -> &'f [CallRow] {
+    fn calls<'f>(&self, found: &'f Findings<'_>) -> &'f [Opener<u64>] {
         found.sections().calls.calls.rows.as_slice()
     }
 

@@ -12,6 +12,9 @@ pub(crate) struct Clears;
 
 impl EventSection for Clears {
     ghost use Rattle.std.specs.Prelude.{refl};
+    ghost use Rattle.event_core.specs.Events.{events_of_wholes};
+    ghost use Rattle.process_ledgers.specs.Items.{clear_item_of};
+    ghost use Rattle.audit_findings.proofs.RowsThere.{both_there};
     ghost use Rattle.report_text.specs.Clears.{clears_head, clears_section};
 
     ghost section = { clears_section };
@@ -20,9 +23,15 @@ impl EventSection for Clears {
         clears_head kept.events.counts.clears kept.processes.clears.unclosed
         kept.processes.clears.strays };
 
+    ghost rows_of = { λ kept. kept.processes.clears.rows };
+
+    ghost keeps = { record { head = λ found rows. refl; rows = λ found. refl } };
+
+    ghost events = { λ wholes outcomes are. both_there clear_item_of (events_of_wholes wholes) };
+
     ghost bare = { λ e. refl };
 
-    fn head(&self, sections: &Sections, _rows: usize) -> Row {
+    fn head(&self, sections: &Sections<u64>, _rows: usize) -> Row {
         open_and_stray_head(
             "clears",
             "unconfirmed",

@@ -13,6 +13,8 @@ use binder_code::{Code, Protocol, kind};
 pub(crate) struct Codes;
 
 impl WholeSection for Codes {
+    ghost use Rattle.std.proofs.Common.{refl, sym};
+    ghost use Rattle.std.proofs.lemmas.List.{map-id};
     ghost use Rattle.report_text.specs.Codes.{codes_head, codes_section};
 
     type Kept = CodeRow;
@@ -21,7 +23,11 @@ impl WholeSection for Codes {
 
     ghost head_of = { λ _. codes_head };
 
-    fn head(&self, _sections: &Sections, rows: usize) -> Row {
+    ghost rows_of = { λ kept. kept.events.codes };
+
+    ghost keeps = { record { head = λ found rows. refl; rows = λ found. sym (map-id (found.events.codes)) } };
+
+    fn head(&self, _sections: &Sections<u64>, rows: usize) -> Row {
         let mut line = Row::new();
         push_counted(&mut line, "codes ", rows as u64);
         line

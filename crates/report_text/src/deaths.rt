@@ -12,6 +12,9 @@ pub(crate) struct Deaths;
 
 impl EventSection for Deaths {
     ghost use Rattle.std.specs.Prelude.{refl};
+    ghost use Rattle.event_core.specs.Events.{events_of_wholes};
+    ghost use Rattle.process_ledgers.specs.Items.{death_item_of};
+    ghost use Rattle.audit_findings.proofs.RowsThere.{both_there};
     ghost use Rattle.report_text.specs.Deaths.{deaths_head, deaths_section};
 
     ghost section = { deaths_section };
@@ -20,9 +23,15 @@ impl EventSection for Deaths {
         deaths_head kept.events.counts.deaths kept.processes.deaths.unclosed
         kept.processes.deaths.strays };
 
+    ghost rows_of = { λ kept. kept.processes.deaths.rows };
+
+    ghost keeps = { record { head = λ found rows. refl; rows = λ found. refl } };
+
+    ghost events = { λ wholes outcomes are. both_there death_item_of (events_of_wholes wholes) };
+
     ghost bare = { λ e. refl };
 
-    fn head(&self, sections: &Sections, _rows: usize) -> Row {
+    fn head(&self, sections: &Sections<u64>, _rows: usize) -> Row {
         open_and_stray_head(
             "deaths",
             "unacknowledged",

@@ -17,27 +17,34 @@ pub(crate) trait EventSection {
     ghost use Rattle.event_core.specs.Events.{EventRead};
     ghost use Rattle.event_core.specs.Reading.{event_text};
     ghost use Rattle.audit_findings.specs.declared.findings.Sections.{Sections};
-    ghost use Rattle.report_text.specs.Pushed.{KeepsRows, HaveEvents};
+    ghost use Rattle.report_text.specs.Pushed.{HaveEvents, Keeps};
     ghost use Rattle.report_text.specs.Section.{SectionText};
 
     /// The section.
     ghost section: { SectionText EventRead };
 
     /// Its head, of what findings keep, where it has so many rows.
-    ghost head_of: { Sections → ℕ → List ℕ };
+    ghost head_of: { Sections ℕ → ℕ → List ℕ };
+
+    /// The places of its rows, of what findings keep.
+    ghost rows_of: { Sections ℕ → List ℕ };
+
+    /// They are the section's.
+    ghost keeps: { Keeps section (λ e. e.place) head_of rows_of };
+
+    /// Its rows are events of the frames.
+    ghost events: { HaveEvents section (λ e. e) };
 
     /// A row says nothing of an attachment.
     ghost bare: { (e : EventRead) → section.line (record e { entry = None }) ≡ section.line e };
 
     /// The head, without its line feed.
-    fn head(&self, sections: &Sections, rows: usize) -> Row
+    fn head(&self, sections: &Sections<u64>, rows: usize) -> Row
         ensures { result.bytes ≡ head_of sections.now rows };
 
     /// The places of the rows' records.
     fn places<'f>(&self, found: &'f Findings<'_>) -> &'f [u64]
-        ensures kept { KeepsRows section (λ e. e.place) (head_of found.now.sections)
-            found.now result.now }
-        ensures events { HaveEvents section (λ e. e) found.now };
+        ensures { result.now ≡ rows_of found.now.sections };
 
     /// The row of an event, without its line feed.
     fn line(&self, event: Event<'_>) -> Row
@@ -63,7 +70,7 @@ impl<S: EventSection> Section for OfEvents<S> {
 
     ghost shows = { ShowsEvent S.section.line };
 
-    fn head(&self, sections: &Sections, rows: usize) -> Row {
+    fn head(&self, sections: &Sections<u64>, rows: usize) -> Row {
         self.0.head(sections, rows)
     }
 

@@ -16,15 +16,23 @@ pub(crate) struct Flags;
 
 impl EventSection for Flags {
     ghost use Rattle.std.specs.Prelude.{refl};
+    ghost use Rattle.event_core.specs.Events.{events_of_wholes};
+    ghost use Rattle.audit_findings.proofs.RowsThere.{flagged_there};
     ghost use Rattle.report_text.specs.Flags.{flags_head, flags_section};
 
     ghost section = { flags_section };
 
     ghost head_of = { λ _. flags_head };
 
+    ghost rows_of = { λ kept. kept.events.flags };
+
+    ghost keeps = { record { head = λ found rows. refl; rows = λ found. refl } };
+
+    ghost events = { λ wholes outcomes are. flagged_there (events_of_wholes wholes) };
+
     ghost bare = { λ e. refl };
 
-    fn head(&self, _sections: &Sections, rows: usize) -> Row {
+    fn head(&self, _sections: &Sections<u64>, rows: usize) -> Row {
         let mut line = Row::new();
         push_counted(&mut line, "flags ", rows as u64);
         line

@@ -11,15 +11,25 @@ pub(crate) struct Frees;
 
 impl EventSection for Frees {
     ghost use Rattle.std.specs.Prelude.{refl};
+    ghost use Rattle.event_core.specs.Events.{events_of_wholes};
+    ghost use Rattle.audit_findings.specs.Places.{is_stray_close};
+    ghost use Rattle.process_ledgers.specs.Items.{buffer_pending_of};
+    ghost use Rattle.audit_findings.proofs.RowsThere.{listed_there};
     ghost use Rattle.report_text.specs.Frees.{frees_head, frees_section};
 
     ghost section = { frees_section };
 
     ghost head_of = { λ kept. frees_head kept.events.counts.frees };
 
+    ghost rows_of = { λ kept. kept.processes.stray_frees };
+
+    ghost keeps = { record { head = λ found rows. refl; rows = λ found. refl } };
+
+    ghost events = { λ wholes outcomes are. listed_there (is_stray_close buffer_pending_of) (events_of_wholes wholes) };
+
     ghost bare = { λ e. refl };
 
-    fn head(&self, sections: &Sections, rows: usize) -> Row {
+    fn head(&self, sections: &Sections<u64>, rows: usize) -> Row {
         let mut line = Row::new();
         push_counted(&mut line, "frees ", sections.events.counts.frees);
         push_counted(&mut line, " stray ", rows as u64);

@@ -11,6 +11,8 @@ use handle_ledger::HeldRow;
 pub(crate) struct Handles;
 
 impl WholeSection for Handles {
+    ghost use Rattle.std.proofs.Common.{refl, sym};
+    ghost use Rattle.std.proofs.lemmas.List.{map-id};
     ghost use Rattle.std.specs.Prelude.{codes};
     ghost use Rattle.report_text.specs.Handles.{handles_section};
     ghost use Rattle.report_text.specs.ProcessRow.{unbalanced_head};
@@ -22,7 +24,11 @@ impl WholeSection for Handles {
     ghost head_of = { λ kept rows.
         unbalanced_head (codes "handles") rows kept.processes.handles.unbalanced };
 
-    fn head(&self, sections: &Sections, rows: usize) -> Row {
+    ghost rows_of = { λ kept. kept.processes.handles.rows };
+
+    ghost keeps = { record { head = λ found rows. refl; rows = λ found. sym (map-id (found.processes.handles.rows)) } };
+
+    fn head(&self, sections: &Sections<u64>, rows: usize) -> Row {
         unbalanced_head("handles", rows, sections.processes.handles.unbalanced)
     }
 

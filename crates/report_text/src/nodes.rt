@@ -11,6 +11,8 @@ use handle_ledger::NodeRow;
 pub(crate) struct Nodes;
 
 impl WholeSection for Nodes {
+    ghost use Rattle.std.proofs.Common.{refl, sym};
+    ghost use Rattle.std.proofs.lemmas.List.{map-id};
     ghost use Rattle.std.specs.Prelude.{codes};
     ghost use Rattle.report_text.specs.Nodes.{nodes_section};
     ghost use Rattle.report_text.specs.ProcessRow.{unbalanced_head};
@@ -22,7 +24,11 @@ impl WholeSection for Nodes {
     ghost head_of = { λ kept rows.
         unbalanced_head (codes "nodes") rows kept.processes.nodes.unbalanced };
 
-    fn head(&self, sections: &Sections, rows: usize) -> Row {
+    ghost rows_of = { λ kept. kept.processes.nodes.rows };
+
+    ghost keeps = { record { head = λ found rows. refl; rows = λ found. sym (map-id (found.processes.nodes.rows)) } };
+
+    fn head(&self, sections: &Sections<u64>, rows: usize) -> Row {
         unbalanced_head("nodes", rows, sections.processes.nodes.unbalanced)
     }
 

@@ -21,7 +21,7 @@ impl Section for Objects {
     ghost use Rattle.report_text.specs.Pushed.{ShowsEvent};
     ghost use Rattle.report_text.specs.Section.{lines_of};
 
-    type Kept = BadRow;
+    type Kept = BadRow<u64>;
 
     ghost lines = { lines_of objects_section };
 
@@ -32,7 +32,7 @@ impl Section for Objects {
     ghost shows = { λ frames row line.
         ShowsEvent (λ e. objects_row (record { owner = e; bad = row.bad })) frames row.owner line };
 
-    fn head(&self, sections: &Sections, rows: usize) -> Row {
+    fn head(&self, sections: &Sections<u64>, rows: usize) -> Row {
         let counts = sections.events.objects;
         let mut line = Row::new();
         push_counted(&mut line, "objects binder ", counts.binder);
@@ -46,11 +46,11 @@ impl Section for Objects {
         line
     }
 
-    fn rows<'f>(&self, found: &'f Findings<'_>) -> &'f [BadRow] {
+    fn rows<'f>(&self, found: &'f Findings<'_>) -> &'f [BadRow<u64>] {
         found.sections().events.bad_objects.as_slice()
     }
 
-    fn line(&self, found: &Findings<'_>, kept: &BadRow) -> Row {
+    fn line(&self, found: &Findings<'_>, kept: &BadRow<u64>) -> Row {
         objects_row(found.record_at(kept.owner), kept.bad)
     }
 }

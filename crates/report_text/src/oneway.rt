@@ -15,6 +15,8 @@ use event_core::OnewayKey;
 pub(crate) struct Oneway;
 
 impl WholeSection for Oneway {
+    ghost use Rattle.std.proofs.Common.{refl, sym};
+    ghost use Rattle.std.proofs.lemmas.List.{map-id};
     ghost use Rattle.report_text.specs.Oneway.{oneway_head, oneway_section};
 
     type Kept = ProcessRow<OnewayRow>;
@@ -24,7 +26,11 @@ impl WholeSection for Oneway {
     ghost head_of = { λ kept _.
         oneway_head kept.events.oneway.sent kept.events.oneway.received kept.calls.refused.oneway };
 
-    fn head(&self, sections: &Sections, _rows: usize) -> Row {
+    ghost rows_of = { λ kept. kept.processes.oneway };
+
+    ghost keeps = { record { head = λ found rows. refl; rows = λ found. sym (map-id (found.processes.oneway)) } };
+
+    fn head(&self, sections: &Sections<u64>, _rows: usize) -> Row {
         let mut line = Row::new();
         push_counted(&mut line, "oneway sent ", sections.events.oneway.sent);
         push_counted(&mut line, " received ", sections.events.oneway.received);

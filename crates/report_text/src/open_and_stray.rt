@@ -12,7 +12,7 @@ use event_core::{Event, PendingChange, PendingItem};
 
 /// The head of a section that has this name, and this word for an open without its close. There
 /// are so many opens in all.
-pub(crate) fn open_and_stray_head(name: &str, word: &str, all: u64, kept: &OpenAndStray) -> Row
+pub(crate) fn open_and_stray_head(name: &str, word: &str, all: u64, kept: &OpenAndStray<u64>) -> Row
     requires name { length name.now ≤ 16 }
     requires word { length word.now ≤ 16 }
     ensures { result.bytes ≡ open_and_stray_head name.now word.now all kept.now.unclosed

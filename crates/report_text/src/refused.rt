@@ -11,15 +11,23 @@ pub(crate) struct Refused;
 
 impl EventSection for Refused {
     ghost use Rattle.std.specs.Prelude.{refl};
+    ghost use Rattle.event_core.specs.Events.{events_of_wholes};
+    ghost use Rattle.audit_findings.proofs.RowsThere.{refused_there};
     ghost use Rattle.report_text.specs.Refused.{refused_head, refused_section};
 
     ghost section = { refused_section };
 
     ghost head_of = { λ _. refused_head };
 
+    ghost rows_of = { λ kept. kept.calls.refused.rows };
+
+    ghost keeps = { record { head = λ found rows. refl; rows = λ found. refl } };
+
+    ghost events = { λ wholes outcomes are. refused_there (events_of_wholes wholes) };
+
     ghost bare = { λ e. refl };
 
-    fn head(&self, _sections: &Sections, rows: usize) -> Row {
+    fn head(&self, _sections: &Sections<u64>, rows: usize) -> Row {
         let mut line = Row::new();
         push_counted(&mut line, "refused ", rows as u64);
         line

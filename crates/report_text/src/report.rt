@@ -1,11 +1,9 @@
 //! The whole report.
 
 ghost use Rattle.std.specs.Prelude.{◌≡◌, ◌≤◌, List, All, map, length, IfOk, OnOk, string_bytes};
-ghost use Rattle.transaction_view.specs.Grammar.{WholeFrame};
-ghost use Rattle.audit_findings.specs.Findings.{FindingsSaid};
-ghost use Rattle.audit_findings.specs.Kept.{AreSectionsOf};
+ghost use Rattle.report_text.specs.Section.{AreLinesOf};
 ghost use Rattle.report_text.specs.Pushed.{TakesLines};
-ghost use Rattle.report_text.specs.Text.{title, totals, report_lines, report_text};
+ghost use Rattle.report_text.specs.Text.{IsReportOf, title, totals, report_lines};
 
 use crate::buffers::Buffers;
 use crate::call_row::OfCalls;
@@ -39,9 +37,8 @@ pub fn rows<T: Threads + Sync>(
     alloc: Global,
     found: &Findings<'_>,
 ) -> Result<Vec<Row>, AllocError>
-    ensures lines { IfOk result (λ rows. (wholes : List WholeFrame) (said : FindingsSaid)
-        → AreSectionsOf wholes said found.now.frames found.now.sections
-        → map (λ row. row.bytes) rows.items ≡ report_lines said) }
+    ensures lines { IfOk result
+        (λ rows. AreLinesOf report_lines found.now (map (λ row. row.bytes) rows.items)) }
     ensures short { IfOk result (λ rows. All (λ row. length row.bytes ≤ 256) rows.items) }
 {
     let mut rows = Vec::new(alloc);
@@ -55,9 +52,7 @@ pub fn text<T: Threads + Sync>(
     alloc: Global,
     found: &Findings<'_>,
 ) -> Result<String, AllocError>
-    ensures { IfOk result (λ text. (wholes : List WholeFrame) (said : FindingsSaid)
-        → AreSectionsOf wholes said found.now.frames found.now.sections
-        → string_bytes text ≡ report_text said) }
+    ensures { IfOk result (λ text. IsReportOf found.now (string_bytes text)) }
 {
     let mut text = String::new(alloc);
     push_report(rt, alloc, found, &mut text)?;

@@ -11,15 +11,24 @@ pub(crate) struct Requests;
 
 impl EventSection for Requests {
     ghost use Rattle.std.specs.Prelude.{refl};
+    ghost use Rattle.event_core.specs.Events.{events_of_wholes};
+    ghost use Rattle.audit_findings.specs.Requests.{is_standing_request};
+    ghost use Rattle.audit_findings.proofs.RowsThere.{listed_there};
     ghost use Rattle.report_text.specs.Requests.{requests_head, requests_section};
 
     ghost section = { requests_section };
 
     ghost head_of = { λ kept. requests_head kept.events.counts.requests };
 
+    ghost rows_of = { λ kept. kept.processes.standing };
+
+    ghost keeps = { record { head = λ found rows. refl; rows = λ found. refl } };
+
+    ghost events = { λ wholes outcomes are. listed_there is_standing_request (events_of_wholes wholes) };
+
     ghost bare = { λ e. refl };
 
-    fn head(&self, sections: &Sections, rows: usize) -> Row {
+    fn head(&self, sections: &Sections<u64>, rows: usize) -> Row {
         let mut line = Row::new();
         push_counted(&mut line, "requests ", sections.events.counts.requests);
         push_counted(&mut line, " standing ", rows as u64);

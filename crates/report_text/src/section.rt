@@ -16,21 +16,22 @@ const AT_ONCE: usize = 65_536;
 
 /// A section: its head, and a line for each of its rows.
 pub(crate) trait Section {
-    ghost use Rattle.std.specs.Prelude.{◌≡◌, ℕ, List, All};
+    ghost use Rattle.std.specs.Prelude.{◌≡◌, ◌∷◌, ℕ, List, All, length};
+    ghost use Rattle.std.specs.List.{AllZip};
     ghost use Rattle.capture_frame.specs.Envelope.{PlacedFrame};
     ghost use Rattle.audit_findings.specs.declared.findings.Sections.{Sections};
-    ghost use Rattle.audit_findings.specs.Findings.{FindingsSaid};
+    ghost use Rattle.event_core.specs.Events.{EventRead};
     ghost use Rattle.audit_findings.specs.Kept.{AreOfFrames};
-    ghost use Rattle.report_text.specs.Pushed.{TellsLines};
+    ghost use Rattle.report_text.specs.Section.{AreLinesOf};
 
     /// What the findings keep of a row.
     type Kept: Sync;
 
-    /// Its lines, of what findings tell.
-    ghost lines: { FindingsSaid → List (List ℕ) };
+    /// Its lines, of findings.
+    ghost lines: { Sections EventRead → List (List ℕ) };
 
     /// Its head, of what findings keep, where it has so many rows.
-    ghost head_of: { Sections → ℕ → List ℕ };
+    ghost head_of: { Sections ℕ → ℕ → List ℕ };
 
     /// The row can be read from the frames again.
     ghost can_show: { List PlacedFrame → Self.Kept → Type 0 };
@@ -39,15 +40,16 @@ pub(crate) trait Section {
     ghost shows: { List PlacedFrame → Self.Kept → List ℕ → Type 0 };
 
     /// The head, without its line feed.
-    fn head(&self, sections: &Sections, rows: usize) -> Row
+    fn head(&self, sections: &Sections<u64>, rows: usize) -> Row
         ensures { result.bytes ≡ head_of sections.now rows };
 
     /// What is kept of the rows.
     fn rows<'f>(&self, found: &'f Findings<'_>) -> &'f [Self::Kept]
         ensures readable { AreOfFrames found.now.frames found.now.sections
             → All (can_show found.now.frames) result.now }
-        ensures told { TellsLines lines (head_of found.now.sections) (shows found.now.frames)
-            found.now result.now };
+        ensures told { (shown : List (List ℕ)) → AllZip (shows found.now.frames) result.now shown
+            → AreLinesOf lines found.now
+            (head_of found.now.sections (length result.now) ∷ shown) };
 
     /// The line of a row, without its line feed.
     fn line(&self, found: &Findings<'_>, kept: &Self::Kept) -> Row

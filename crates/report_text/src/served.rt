@@ -2,7 +2,8 @@
 
 use crate::call_row::CallSection;
 use crate::line::{Row, push_counted, push_signed, push_sum};
-use audit_findings::{CallRow, Findings, Sections};
+use audit_findings::{Findings, Sections};
+use call_stacks::Opener;
 use transaction_view::Transaction;
 
 /// The section.
@@ -11,6 +12,9 @@ pub(crate) struct Served;
 
 impl CallSection for Served {
     ghost use Rattle.std.specs.Prelude.{refl};
+    ghost use Rattle.event_core.specs.Events.{events_of_wholes};
+    ghost use Rattle.audit_findings.specs.Calls.{is_served};
+    ghost use Rattle.audit_findings.proofs.RowsThere.{lacking_there};
     ghost use Rattle.report_text.specs.Served.{served_head, served_section, sender_field};
 
     ghost section = { served_section };
@@ -19,11 +23,17 @@ impl CallSection for Served {
         served_head kept.calls.served.replied kept.calls.served.crossed
         kept.calls.served.left_open };
 
+    ghost rows_of = { λ kept. kept.calls.served.rows };
+
+    ghost keeps = { record { head = λ found rows. refl; rows = λ found. refl } };
+
+    ghost events = { λ wholes outcomes are. lacking_there is_served (events_of_wholes wholes) };
+
     ghost field = { sender_field };
 
     ghost tells = { λ call. refl };
 
-    fn head(&self, sections: &Sections, _rows: usize) -> Row {
+    fn head(&self, sections: &Sections<u64>, _rows: usize) -> Row {
         let served = &sections.calls.served;
         let mut line = Row::new();
         line.push_str("served ");
@@ -34,7 +44,7 @@ impl CallSection for Served {
         line
     }
 
-    fn calls<'f>(&self, found: &'f Findings<'_>) -> &'f [CallRow] {
+    fn calls<'f>(&self, found: &'f Findings<'_>) -> &'f [Opener<u64>] {
         found.sections().calls.served.rows.as_slice()
     }
 

@@ -11,15 +11,23 @@ pub(crate) struct Strays;
 
 impl EventSection for Strays {
     ghost use Rattle.std.specs.Prelude.{refl};
+    ghost use Rattle.event_core.specs.Events.{events_of_wholes};
+    ghost use Rattle.audit_findings.proofs.RowsThere.{strays_there};
     ghost use Rattle.report_text.specs.Strays.{strays_head, strays_section};
 
     ghost section = { strays_section };
 
     ghost head_of = { λ _. strays_head };
 
+    ghost rows_of = { λ kept. kept.calls.strays };
+
+    ghost keeps = { record { head = λ found rows. refl; rows = λ found. refl } };
+
+    ghost events = { λ wholes outcomes are. strays_there (events_of_wholes wholes) };
+
     ghost bare = { λ e. refl };
 
-    fn head(&self, _sections: &Sections, rows: usize) -> Row {
+    fn head(&self, _sections: &Sections<u64>, rows: usize) -> Row {
         let mut line = Row::new();
         push_counted(&mut line, "strays ", rows as u64);
         line

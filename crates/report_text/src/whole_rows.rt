@@ -8,7 +8,7 @@ use audit_findings::{Findings, Sections};
 pub(crate) trait WholeSection {
     ghost use Rattle.std.specs.Prelude.{◌≡◌, ℕ, List};
     ghost use Rattle.audit_findings.specs.declared.findings.Sections.{Sections};
-    ghost use Rattle.report_text.specs.Pushed.{KeepsWhole};
+    ghost use Rattle.report_text.specs.Pushed.{Keeps};
     ghost use Rattle.report_text.specs.Section.{SectionText};
 
     /// A row.
@@ -18,15 +18,21 @@ pub(crate) trait WholeSection {
     ghost section: { SectionText Self.Kept };
 
     /// Its head, of what findings keep, where it has so many rows.
-    ghost head_of: { Sections → ℕ → List ℕ };
+    ghost head_of: { Sections ℕ → ℕ → List ℕ };
+
+    /// Its rows, of what findings keep.
+    ghost rows_of: { Sections ℕ → List Self.Kept };
+
+    /// They are the section's.
+    ghost keeps: { Keeps section (λ row. row) head_of rows_of };
 
     /// The head, without its line feed.
-    fn head(&self, sections: &Sections, rows: usize) -> Row
+    fn head(&self, sections: &Sections<u64>, rows: usize) -> Row
         ensures { result.bytes ≡ head_of sections.now rows };
 
     /// The rows.
     fn rows<'f>(&self, found: &'f Findings<'_>) -> &'f [Self::Kept]
-        ensures { KeepsWhole section (head_of found.now.sections) found.now result.now };
+        ensures { result.now ≡ rows_of found.now.sections };
 
     /// The line of a row, without its line feed.
     fn line(&self, row: &Self::Kept) -> Row
@@ -51,7 +57,7 @@ impl<S: WholeSection> Section for OfRows<S> {
 
     ghost shows = { λ _ row line. line ≡ S.section.line row };
 
-    fn head(&self, sections: &Sections, rows: usize) -> Row {
+    fn head(&self, sections: &Sections<u64>, rows: usize) -> Row {
         self.0.head(sections, rows)
     }
 

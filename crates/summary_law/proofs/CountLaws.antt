@@ -1,16 +1,16 @@
 -- The count of one more change, and of one list of changes followed by another.
-use Rattle.std.proofs.Common.{◌≡◌, ℕ, zero, suc, ◌+◌, ◌-◌, ◌<◌, ◌≤◌, ◌⊎◌, pos, negsuc, cond, Option, Some, None, refl, sym, ap, subst, ◌∙◌, inl, inr, ⊎_elim}
+use Rattle.std.proofs.Common.{◌≡◌, ℕ, zero, suc, ◌+◌, ◌-◌, ◌<◌, ◌≤◌, ◌⊎◌, pos, negsuc, cond, Option, Some, None, refl, sym, ap, ap₂, subst, ◌∙◌, inl, inr, ⊎_elim, true, false, ℤ, append_assoc}
 use Rattle.std.proofs.Common.{List, [], ◌∷◌, ◌++◌, length, map, take, length-append, arith}
-use Rattle.std.specs.Prelude.{◌+ℤ◌, ◌≤ℤ◌}
+use Rattle.std.specs.Prelude.{◌+ℤ◌, ◌≤ℤ◌, int_lt}
 use Rattle.std.proofs.Math.Seq.{take-append-add, take-length}
 use Rattle.std.proofs.lemmas.Bool.{cases_lt}
-use Rattle.std.proofs.lemmas.Int.{ints}
-use Rattle.std.proofs.lemmas.List.{take-append-le, length-map, length-take-le}
+use Rattle.std.proofs.lemmas.Int.{clamps, ints}
+use Rattle.std.proofs.lemmas.List.{append-nil, take-append-le, length-map, length-take-le}
 use Rattle.std.proofs.lemmas.List.Sums.{sum_by-append}
 use Rattle.std.specs.List.{cons_option, filter_map}
 use Rattle.std.specs.Option.{option_map_or}
 use Rattle.summary_law.specs.declared.count.Count.{Count}
-use Rattle.summary_law.specs.Count.{Change, raises, lowers, keeps, is_raise, is_lower, total, IsCount, IsCountOf, IsWithin, CountsOneMore, change_read}
+use Rattle.summary_law.specs.Count.{Change, raises, lowers, keeps, is_raise, is_lower, total, least_total, count_of, IsCount, IsCountOf, IsWithin, CountsOneMore, change_read}
 
 pub total-append : (changes more : List Change) → total (changes ++ more) ≡ total changes +ℤ total more
 total-append changes more =
@@ -238,3 +238,42 @@ module _ {E I : Type 0} (read : E → Option I) (change : I → Change) where
 -- a count of what items do is no further from 0 than there are items
 pub items_within : {I : Type 0} (change : I → Change) (count : Count) (items : List I) → IsCountOf change count items → IsWithin count (length items)
 items_within change count items counts = subst (IsWithin count) (length-map items change) (count_within count (map change items) counts)
+
+-- ---- the one count of some changes
+
+pub one_count : (count other : Count) (changes : List Change) → IsCount count changes → IsCount other changes → count ≡ other
+one_count count other changes a b =
+    let reached = a.reached.2 in
+    let other_reached = b.reached.2 in
+    let above = b.least a.reached.0 a.reached.1 in
+    let below = a.least b.reached.0 b.reached.1 in
+    let low : count.low ≡ other.low = omega (arith, ints) in
+    let make : ℤ → ℤ → Count = λ sum low. record { sum = sum; low = low } in
+    ap₂ make (a.sum ∙ sym b.sum) low
+
+least_reached : (before later : List Change) → (n : ℕ) × (n ≤ length later) × (least_total before later ≡ total (before ++ take n later))
+least_reached before [] = (0, omega arith, ap total (sym (append-nil before)))
+least_reached before (change ∷ later) =
+    let rest = least_reached (before ++ change ∷ []) later in
+    let whole : (before ++ change ∷ []) ++ take rest.0 later ≡ before ++ change ∷ take rest.0 later = append_assoc before (change ∷ []) (take rest.0 later) in
+    elim (int_lt (least_total (before ++ change ∷ []) later) (total before)) as (λ b. (n : ℕ) × (n ≤ length (change ∷ later))
+    × (cond b (least_total (before ++ change ∷ []) later) (total before) ≡ total (before ++ take n (change ∷ later)))) [
+      | true ↦ (suc rest.0, omega (arith, rest.1), rest.2 ∙ ap total whole)
+      | false ↦ (0, omega arith, ap total (sym (append-nil before)))
+    ]
+
+least_below : (before later : List Change) (n : ℕ) → n ≤ length later → least_total before later ≤ℤ total (before ++ take n later)
+least_below before [] zero within = rw (append-nil before) (omega (arith, ints))
+least_below before [] (suc n) within = absurd (omega arith)
+least_below before (change ∷ later) zero within = rw (append-nil before) (omega (arith, ints, clamps))
+least_below before (change ∷ later) (suc n) within =
+    let rest = least_below (before ++ change ∷ []) later n (omega arith) in
+    let below : least_total (before ++ change ∷ []) later ≤ℤ total (before ++ change ∷ take n later)
+    = subst (λ (all : List Change). least_total (before ++ change ∷ []) later ≤ℤ total all) (append_assoc before (change ∷ []) (take n later)) rest in
+    omega (arith, ints, clamps, below)
+
+pub is_counted : (changes : List Change) → IsCount (count_of changes) changes
+is_counted changes = record { sum = refl; reached = least_reached [] changes; least = least_below [] changes }
+
+pub counted : (count : Count) (changes : List Change) → IsCount count changes → count ≡ count_of changes
+counted count changes is = one_count count (count_of changes) changes is (is_counted changes)

@@ -1,10 +1,10 @@
 -- The items that are read from the things of a list: no more than there are things, and in their order.
-use Rattle.std.proofs.Common.{◌≡◌, ℕ, suc, ◌<◌, ◌≤◌, Bool, true, false, cond, List, [], ◌∷◌, length, Option, Some, None, refl, sym, subst, arith}
+use Rattle.std.proofs.Common.{◌≡◌, ℕ, suc, ◌<◌, ◌≤◌, Bool, true, false, cond, List, [], ◌∷◌, length, Option, Some, None, refl, sym, ap, subst, arith}
 use Rattle.std.proofs.lemmas.List.Elements.{All-cons, All-head, All-nil, All-tail, All-weaker}
 use Rattle.std.proofs.lemmas.List.Kept.{AllPairs-cons}
 use Rattle.std.specs.List.{cons_option, filter_map}
 use Rattle.std.specs.Prelude.{All}
-use Rattle.summary_law.specs.ByKey.{EachFits, under}
+use Rattle.summary_law.specs.ByKey.{EachFits, items_of, under}
 use Rattle.summary_law.specs.Fits.{IsShort, PlacesRise}
 
 module _ {E I : Type 0} (read : E → Option I) where
@@ -60,3 +60,14 @@ module _ {K I : Type 0} (eq : K → K → Bool) where
   each_all P items all key =
       all_read (under eq key) P items
       (All-weaker (λ (e : K × I). P e.1) (λ e. (i : I) → under eq key e ≡ Some i → P i) (λ e h i is. subst P (sym (under-some key e i is)) h) items all)
+
+-- places that rise do so under each key
+pub items_rise : {K I : Type 0} (eq : K → K → Bool) (key : K) (place : I → ℕ) (items : List (K × I)) → PlacesRise (λ (e : K × I). place e.1) items
+    → PlacesRise place (items_of eq key items)
+items_rise {K} {I} eq key place items rise =
+    rising_read (under eq key) place (λ (e : K × I). place e.1)
+    (λ e i. elim (eq key e.0) as (λ b. cond b (Some e.1) None ≡ Some i → place i ≡ place e.1) [
+      | true ↦ λ is. let same : i ≡ e.1 = cc in ap place same
+      | false ↦ λ is. let no : ⊥ = cc in absurd no
+    ])
+    items rise

@@ -1,8 +1,9 @@
 -- The rows of a map of amounts, and sums of weights.
 use Rattle.std.proofs.Common.{◌≡◌, ℕ, ◌*◌, ◌-◌, ◌<◌, ◌≤◌, ◌^◌, Bool, true, List, [], ◌∷◌}
-use Rattle.std.proofs.Common.{length, map, sum, Option, Some, None, is_some, refl, sym, ap, subst, ◌∙◌, arith, get_or}
+use Rattle.std.proofs.Common.{length, map, sum, Option, Some, None, is_some, refl, sym, ap, ap₂, subst, ◌∙◌, arith, get_or}
 use Rattle.std.proofs.lemmas.List.{length-map}
-use Rattle.std.proofs.lemmas.List.Elements.{All-map, All-weaker}
+use Rattle.std.proofs.lemmas.Cmp.{eq_by_cmp_equiv}
+use Rattle.std.proofs.lemmas.List.Elements.{All-contains, All-map, All-weaker}
 use Rattle.std.proofs.lemmas.List.Sums.{sum_by-le}
 use Rattle.std.proofs.lemmas.Map.Made.{is_some-lookup}
 use Rattle.std.proofs.lemmas.Map.Views.{All-found}
@@ -11,11 +12,15 @@ use Rattle.std.specs.Cmp.{IsTotalOrder}
 use Rattle.std.specs.Map.{keys_of}
 use Rattle.std.specs.Ordering.{eq_by_cmp}
 use Rattle.std.specs.declared.cmp.Ordering.{Ordering}
+use Rattle.std.specs.declared.cmp.Ordering.TheVariants.{Equal}
+use Rattle.summary_law.proofs.GatherLaws.{has_own}
+use Rattle.summary_law.proofs.Members.{In, contained, in-map}
+use Rattle.summary_law.proofs.SortedLaws.{found_in, has_pair, rows_are}
 use Rattle.summary_law.proofs.ReadLaws.{each_short, each_all}
 use Rattle.summary_law.specs.ByKey.{items_of, IsOwn, EachFits, SumsByKey}
 use Rattle.summary_law.specs.Fits.{IsShort}
 use Rattle.summary_law.specs.Amount.{IsAmount, AreWeights}
-use Rattle.summary_law.specs.Tally.{count_of, AreKeys, IsTallyRow, AreTallyRows, AreWeighted}
+use Rattle.summary_law.specs.Tally.{count_of, tally_row, tally_rows, AreKeys, IsTallyRow, AreTallyRows, AreWeighted}
 use Rattle.summary_law.specs.declared.amount.Amount.{Amount}
 
 -- few weights have a sum far below 2^128
@@ -78,3 +83,25 @@ module _ {K : Type 0} (cmp : K → K → Ordering) (laws : IsTotalOrder cmp) (m 
         record { count = part.1.count; sum = part.1.sum })
         m.entries (All-found laws m ordered));
   })
+
+-- ---- where keys that compare as equal are one, rows of a tally are these
+
+module _ {K : Type 0} (cmp : K → K → Ordering) (laws : IsTotalOrder cmp) (exact : (x y : K) → cmp x y ≡ Equal → x ≡ y) (items : List (K × ℕ))
+    (rows : List (K × ℕ × ℕ)) (are : AreTallyRows cmp items rows) where
+  row_made : (row : K × ℕ × ℕ) → In row rows → row ≡ tally_row cmp items row.0
+  row_made row there =
+      let is = All-contains (IsTallyRow cmp items) rows row are.right (contained rows row there) in
+      ap₂ (λ (count sum : ℕ). let made : K × ℕ × ℕ = (row.0, count, sum) in made) is.count is.sum
+
+  pub tally_is : rows ≡ tally_rows cmp items
+  tally_is =
+      let keys = map (λ (row : K × ℕ × ℕ). row.0) rows in
+      rows_are cmp laws exact (λ row. row.0) (tally_row cmp items) (keys_of items) rows are.keys.rising row_made
+      (λ key there.
+      let some = All-contains (λ key. 0 < count_of cmp key items) keys key are.keys.came (contained keys key there) in
+      has_pair cmp exact key items (λ none. let empty = ap length none in absurd (omega (arith, some, empty))))
+      (λ key there.
+      let pair = in-map (λ (e : K × ℕ). e.0) items key there in
+      found_in cmp exact key keys
+      (are.keys.whole key
+      (subst (λ (k : K). 0 < count_of cmp k items) (sym pair.2) (came (items_of (eq_by_cmp cmp) pair.0.0 items) (has_own (eq_by_cmp_equiv laws) items pair.0 pair.1)))))

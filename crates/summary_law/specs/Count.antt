@@ -1,6 +1,7 @@
 -- The sum of a list of changes by one, and the least sum of its prefixes.
 use Rattle.std.specs.Prelude.{◌≡◌, ℕ, ◌≤◌, ℤ, pos, ◌+ℤ◌, ◌-ℤ◌, ◌≤ℤ◌, Bool, true, false, List, [], ◌∷◌, ◌++◌}
 use Rattle.std.specs.Prelude.{length, take, map, count_by, Option}
+use Rattle.std.specs.Int.{int_min}
 use Rattle.std.specs.Option.{option_map_or}
 use Rattle.summary_law.specs.declared.count.Count.{Count}
 
@@ -31,6 +32,15 @@ pub record IsCount (count : Count) (changes : List Change) : Type 0 where
   pub sum : count.sum ≡ total changes
   pub reached : (n : ℕ) × (n ≤ length changes) × (count.low ≡ total (take n changes))
   pub least : (n : ℕ) → n ≤ length changes → count.low ≤ℤ total (take n changes)
+
+-- the least sum of a prefix, of those that have at least the first of these lists
+abbrev pub least_total : List Change → List Change → ℤ
+least_total before [] = total before
+least_total before (change ∷ later) = int_min (total before) (least_total (before ++ change ∷ []) later)
+
+-- the one count that changes have
+abbrev pub count_of : List Change → Count
+count_of changes = record { sum = total changes; low = least_total [] changes }
 
 -- whatever changes the old count is of, the new one is of those and this one behind them
 abbrev pub CountsOneMore : Change → Count → Count → Type 0

@@ -6,3 +6,6 @@ pub mod Amount
 pub mod Tally
 pub mod InOrder
 pub mod Fed
+pub mod Ranked
+pub mod Readings
+pub mod Sorted

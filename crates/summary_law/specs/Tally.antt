@@ -2,6 +2,7 @@
 use Rattle.std.specs.Prelude.{◌≡◌, ℕ, ◌<◌, ◌^◌, true, List, length, map, sum, All}
 use Rattle.std.specs.List.{list_any}
 use Rattle.std.specs.List.Sorted.{IsStrictlySortedBy}
+use Rattle.std.specs.Map.{keys_of}
 use Rattle.std.specs.Ordering.{eq_by_cmp}
 use Rattle.std.specs.declared.cmp.Ordering.{Ordering}
 use Rattle.summary_law.specs.declared.amount.Amount.{Amount}
@@ -9,6 +10,7 @@ use Rattle.summary_law.specs.declared.tally.Tally.{Tally}
 use Rattle.summary_law.specs.Amount.{IsAmount}
 use Rattle.summary_law.specs.ByKey.{items_of, SumsByKey}
 use Rattle.summary_law.specs.Fits.{IsShort, short_parts, all_parts}
+use Rattle.summary_law.specs.Sorted.{sorted}
 use Rattle.summary_law.specs.Summary.{FitsInParts}
 
 -- how many items stand under the key
@@ -18,6 +20,13 @@ count_of cmp key items = length (items_of (eq_by_cmp cmp) key items)
 -- the sum of the weights that stand under the key
 abbrev pub sum_of : {K : Type 0} → (K → K → Ordering) → K → List (K × ℕ) → ℕ
 sum_of cmp key items = sum (items_of (eq_by_cmp cmp) key items)
+
+-- the row of a key, and a row for each key that items stand under, keys rising
+abbrev pub tally_row : {K : Type 0} → (K → K → Ordering) → List (K × ℕ) → K → K × ℕ × ℕ
+tally_row cmp items key = (key, count_of cmp key items, sum_of cmp key items)
+
+abbrev pub tally_rows : {K : Type 0} → (K → K → Ordering) → List (K × ℕ) → List (K × ℕ × ℕ)
+tally_rows cmp items = map (tally_row cmp items) (sorted cmp (keys_of items))
 
 -- the keys that items stand under, each once and in rising order
 pub record AreKeys {K : Type 0} (cmp : K → K → Ordering) (items : List (K × ℕ)) (keys : List K) : Type 0 where

@@ -1,7 +1,15 @@
-use Rattle.std.proofs.Common.{◌++◌, map, sym, ap, ◌∙◌, arith}
+use Rattle.std.proofs.Common.{List, ◌++◌, map, sym, ap, ◌∙◌, arith}
 use Rattle.std.specs.List.{flat_map}
 use Rattle.std.proofs.lemmas.List.{take_all}
+use Rattle.event_core.specs.Events.{events_of_wholes}
+use Rattle.handle_ledger.specs.declared.held_row.HeldRow.{HeldRow}
+use Rattle.process_ledgers.specs.Processes.{processes_of}
+use Rattle.audit_findings.specs.Handles.{handles_in, is_unbalanced_handle}
+use Rattle.audit_findings.specs.InTurn.{rows_in}
+use Rattle.audit_findings.specs.References.{references}
+use Rattle.audit_findings.specs.declared.in_turn.ProcessRow.{ProcessRow}
 use Rattle.audit_findings.proofs.HandleRows.{ListOfRows, joined_next, joined_to}
+use Rattle.audit_findings.proofs.TurnLaws.{flat_lists}
 use Rattle.audit_findings.proofs.handles.handles_of.Goals as goal
 
 pub loop-list-init : goal.loop-list-init
@@ -14,12 +22,12 @@ loop-list-preserved c =
     ∙ sym (joined_next c.args.lists.now c.loop-list.list-index _ c.loop-list-test.true)
 
 pub returns : goal.returns
-returns c wholes listed =
+returns c wholes listed outcomes are =
     let lists = c.args.lists.now in
     let items = λ (list : ListOfRows). list.items in
     let whole = take_all c.loop-list.list-index lists (omega arith) in
-    let rows = c.references_of.ensures.rows ∙ c.loop-list.invariant ∙ ap (λ ls. flat_map (λ list. list) (map items ls)) whole in
-    record {
-      rows = (map items lists, listed, rows);
-      unbalanced = c.references_of.ensures.unbalanced;
-    }
+    c.references_of.ensures
+    ∙ ap (references is_unbalanced_handle)
+    (c.loop-list.invariant ∙ ap (λ ls. flat_map (λ list. list) (map items ls)) whole
+    ∙ ap (λ (ls : List (List (ProcessRow HeldRow))). flat_map (λ list. list) ls) (listed outcomes are)
+    ∙ flat_lists (rows_in (handles_in (events_of_wholes wholes) outcomes)) (processes_of wholes))

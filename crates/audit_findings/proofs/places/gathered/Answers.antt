@@ -2,7 +2,7 @@ use Rattle.std.proofs.Common.{◌≡◌, ℕ, List, ◌++◌, IsPermutation, Vec
 use Rattle.std.specs.List.{flat_map}
 use Rattle.std.proofs.lemmas.List.{take_all}
 use Rattle.audit_findings.proofs.HandleRows.{joined_next, joined_to, lists_of}
-use Rattle.audit_findings.proofs.PlaceLaws.{gathered_sorted}
+use Rattle.audit_findings.proofs.EventLists.{lists_sorted}
 use Rattle.audit_findings.proofs.places.gathered.Goals as goal
 
 pub loop-list-init : goal.loop-list-init
@@ -15,11 +15,11 @@ loop-list-preserved g c =
     ∙ sym (joined_next c.args.lists.now c.loop-list.list-index _ c.loop-list-test.true)
 
 pub returns : goal.returns
-returns g c = λ stands wholes rise are.
+returns g c = λ wholes rise are.
     let lists = c.args.lists.now in
     let sorted = c.sort_unstable.new.self.items in
     let whole = take_all c.loop-list.list-index lists (omega arith) in
     let gathered : c.loop-list.places.items ≡ flat_map (λ own. own) (lists_of lists) =
     c.loop-list.invariant ∙ ap (λ (ls : List (Vec ℕ Global)). flat_map (λ own. own) (lists_of ls)) whole in
-    gathered_sorted g.L.ListsPlaces.is_here stands wholes rise (lists_of lists) sorted are
+    lists_sorted g.L.ListsPlaces.test wholes rise (lists_of lists) are sorted
     (subst (λ (ps : List ℕ). IsPermutation ps sorted) gathered c.sort_unstable.ensures.permutation) c.sort_unstable.ensures.sorted

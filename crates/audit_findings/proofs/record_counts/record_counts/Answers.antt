@@ -1,4 +1,4 @@
-use Rattle.std.proofs.Common.{◌≡◌, length, arith}
+use Rattle.std.proofs.Common.{◌≡◌, ◌+◌, length, arith}
 use Rattle.std.proofs.lemmas.List.{length-map}
 use Rattle.binder_code.specs.declared.record_kind.Kind.TheVariants.{BrTransaction, BrTransactionSecCtx, BrReply}
 use Rattle.event_core.specs.Events.{EventRead}
@@ -34,10 +34,12 @@ returns c events sums =
     let one : c.count.result ≡ times BrTransaction words = c.count.ensures words sums in
     let two : c.count-2.result ≡ times BrTransactionSecCtx words = c.count-2.ensures words sums in
     let three : c.count-3.result ≡ times BrReply words = c.count-3.ensures words sums in
-    record {
-      deliveries = omega (arith, one, two, three);
-      frees = c.count-4.ensures words sums;
-      requests = c.count-5.ensures words sums;
-      deaths = c.count-6.ensures words sums;
-      clears = c.count-7.ensures words sums;
+    let deliveries : c.count.result + c.count-2.result + c.count-3.result ≡ times BrTransaction words + times BrTransactionSecCtx words + times BrReply words
+    = omega (arith, one, two, three) in
+    λ i. record {
+      deliveries = deliveries i;
+      frees = c.count-4.ensures words sums i;
+      requests = c.count-5.ensures words sums i;
+      deaths = c.count-6.ensures words sums i;
+      clears = c.count-7.ensures words sums i;
     }

@@ -2,9 +2,8 @@ use Rattle.std.proofs.Common.{ℕ, List, Vec, Global, length, sym, ap, subst, �
 use Rattle.capture_frame.specs.Envelope.{PlacedFrame}
 use Rattle.event_core.specs.Events.{wholes_of}
 use Rattle.audit_findings.proofs.HandleRows.{ListOfRows, lists_of}
-use Rattle.audit_findings.specs.Buffers.{AreUnfreed}
 use Rattle.audit_findings.specs.Frames.{AreGoodFrames, AreViews}
-use Rattle.audit_findings.specs.Handles.{AreListedHandles}
+use Rattle.audit_findings.specs.Ledgers.{AreListedHandles, AreUnfreed}
 use Rattle.audit_findings.specs.Summary.{SumsPiece}
 use Rattle.audit_join.specs.Jobs.{AreSound}
 use Rattle.audit_join.proofs.CutLaws.{good_cut}
@@ -35,10 +34,10 @@ new-requires g c =
     let unfreed = c.in_ok-unfreed.ensures.places frames wholes sums shown.1 in
     let listed = c.in_ok-handles.ensures wholes (subst (λ (fs : List PlacedFrame). AreViews fs wholes) (sym c.as_slice-2.ensures) shown.1)
     (subst (λ (lists : List (Vec ℕ Global)). AreUnfreed wholes (lists_of lists)) (sym c.as_slice-3.ensures.value) unfreed) in
-    let said = c.in_ok-sections.ensures frames wholes sums (good_cut frames c.requires.cut c.requires.sound) shown.1
+    let found = c.in_ok-sections.ensures frames wholes sums (good_cut frames c.requires.cut c.requires.sound) shown.1
     (subst (λ (lists : List (Vec ℕ Global)). AreUnfreed wholes (lists_of lists)) (sym c.as_slice-4.ensures.value) unfreed)
     (subst (λ (lists : List ListOfRows). AreListedHandles wholes (lists_of lists)) (sym c.as_slice-5.ensures.value) listed) in
-    (shown.0, said.0, record { show = shown.1; are = said.1; keep = said.2 })
+    (shown.0, found.0, record { show = shown.1; objects = found.1; are = found.2 })
 
 pub returns : goal.returns
 returns g c units show =
@@ -48,7 +47,7 @@ returns g c units show =
     let unfreed = c.in_ok-unfreed.ensures.places frames wholes sums show in
     let listed = c.in_ok-handles.ensures wholes (subst (λ (fs : List PlacedFrame). AreViews fs wholes) (sym c.as_slice-2.ensures) show)
     (subst (λ (lists : List (Vec ℕ Global)). AreUnfreed wholes (lists_of lists)) (sym c.as_slice-3.ensures.value) unfreed) in
-    let said = c.in_ok-sections.ensures frames wholes sums (good_cut frames c.requires.cut c.requires.sound) show
+    let found = c.in_ok-sections.ensures frames wholes sums (good_cut frames c.requires.cut c.requires.sound) show
     (subst (λ (lists : List (Vec ℕ Global)). AreUnfreed wholes (lists_of lists)) (sym c.as_slice-4.ensures.value) unfreed)
     (subst (λ (lists : List ListOfRows). AreListedHandles wholes (lists_of lists)) (sym c.as_slice-5.ensures.value) listed) in
-    (said.0, rw c.new.ensures (record { show = show; are = said.1; keep = said.2 }))
+    (found.0, rw c.new.ensures (record { show = show; objects = found.1; are = found.2 }))

@@ -1,7 +1,7 @@
 use Rattle.std.proofs.Common.{◌++◌, [], ◌∷◌, map, ap, sym, ◌∙◌, arith}
 use Rattle.std.proofs.lemmas.List.{append-nil}
 use Rattle.event_core.specs.Reading.{event_text}
-use Rattle.audit_findings.specs.Kept.{kept_bad}
+use Rattle.audit_findings.specs.Kept.{bad_at_place}
 use Rattle.audit_findings.specs.Objects.{owned_by}
 use Rattle.audit_findings.proofs.FewLaws.{few_parts, last_small}
 use Rattle.audit_findings.proofs.OutcomeLaws.{counts_short, objects_last}
@@ -20,11 +20,11 @@ returns-in_ok-push c events sums fits =
     let e = event_text c.args.event in
     let counted = c.count_attachment.ensures in
     objects_last c.args.self.now _ events e c.count_attachment.result counted.0 sums counted.1 counted.2 counted.3
-    (c.in_ok-push.ensures.items ∙ ap (λ bad. c.args.self.now.bad.items ++ map kept_bad (owned_by e bad)) (sym c.in-Some.is))
+    (c.in_ok-push.ensures.items ∙ ap (λ bad. c.args.self.now.bad.items ++ map bad_at_place (owned_by e bad)) (sym c.in-Some.is))
 
 pub returns-in_default : goal.returns-in_default
 returns-in_default c events sums fits =
     let e = event_text c.args.event in
     let counted = c.count_attachment.ensures in
     objects_last c.args.self.now _ events e c.count_attachment.result counted.0 sums counted.1 counted.2 counted.3
-    (sym (append-nil c.args.self.now.bad.items) ∙ ap (λ bad. c.args.self.now.bad.items ++ map kept_bad (owned_by e bad)) (sym c.in_default.is))
+    (sym (append-nil c.args.self.now.bad.items) ∙ ap (λ bad. c.args.self.now.bad.items ++ map bad_at_place (owned_by e bad)) (sym c.in_default.is))

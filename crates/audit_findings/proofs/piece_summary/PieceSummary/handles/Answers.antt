@@ -4,24 +4,21 @@ use Rattle.event_core.specs.Events.{events_of_wholes}
 use Rattle.capture_frame.specs.declared.process.Process.{Process}
 use Rattle.process_ledgers.specs.EachProcess.{AreLedgersOf}
 use Rattle.summary_law.specs.declared.nothing.Nothing.{Nothing}
-use Rattle.audit_findings.specs.Buffers.{AreUnfreedIn}
-use Rattle.audit_findings.specs.Handles.{AreHandlesOf}
-use Rattle.audit_findings.specs.InTurn.{AreRowsOf, process_row}
+use Rattle.audit_findings.specs.Buffers.{is_unfreed}
+use Rattle.audit_findings.specs.Handles.{handles_in}
+use Rattle.audit_findings.specs.InTurn.{process_row, rows_in}
+use Rattle.audit_findings.specs.Places.{places_in}
 use Rattle.audit_findings.proofs.HandleRows.{entry_at}
 use Rattle.audit_findings.proofs.piece_summary.PieceSummary.handles.Goals as goal
 
 pub returns : goal.returns
-returns c sums wholes d show unfreed =
+returns c sums wholes outcomes d show are unfreed =
     let events = events_of_wholes wholes in
     let of = c.processes.ensures.gives wholes (sums wholes show) c.empty-none.ensures in
     let e : Process × Nothing = (c.unwrap.result.0.now, c.unwrap.result.1.now) in
     let is = entry_at c.processes.result wholes c.args.number e of
     (ap (λ order. slice_get order.entries.entries c.args.number) c.processes.ensures.order ∙ sym (rw c.unwrap.ensures at c.get_index.ensures.entry)) d in
     let own = subst (λ ledgers. AreLedgersOf ledgers events e.0) (sym c.ledgers-ledgers.ensures) (of.each e.0) in
-    let pushed = c.in_ok-push_rows_of.ensures ∙ ap (λ rows. rows ++ map (process_row e.0) c.as_slice.result.now) c.in_ok-rows.ensures.items
-    ∙ ap (map (process_row e.0)) c.as_slice.ensures.value in
-    subst (λ process. AreRowsOf (AreHandlesOf events) process c.push_rows_of.new.rows.items) (sym is) (
-      c.in_ok-own.own.items,
-      c.in_ok-own.ensures wholes e.0 show own (subst (λ process. AreUnfreedIn events process c.args.unfreed.now) is unfreed),
-      pushed,
-    )
+    c.in_ok-push_rows_of.ensures ∙ ap (λ rows. rows ++ map (process_row e.0) c.as_slice.result.now) c.in_ok-rows.ensures.items
+    ∙ ap (map (process_row e.0)) (c.as_slice.ensures.value ∙ c.in_ok-own.ensures wholes outcomes e.0 show are own (unfreed ∙ ap (places_in is_unfreed events) is))
+    ∙ ap (rows_in (handles_in events outcomes)) (sym is)

@@ -1,4 +1,4 @@
-use Rattle.audit_findings.proofs.ThreadRowLaws.{rows_kept}
+use Rattle.audit_findings.proofs.ThreadLists.{rows_kept}
 use Rattle.audit_findings.proofs.thread_rows.ThreadRows.of.Goals as goal
 
 pub returns : goal.returns

@@ -1,10 +1,11 @@
-use Rattle.std.proofs.Common.{false, true, ap, sym, ◌∙◌}
+use Rattle.std.proofs.Common.{ℕ, ap, ap₂, ◌∙◌}
 use Rattle.handle_ledger.proofs.handles.HandleLedger.held_row.Goals as goal
-use Rattle.handle_ledger.specs.Held.{held_count}
+use Rattle.handle_ledger.specs.declared.handle_row.HandleRow.{HandleRow}
+use Rattle.handle_ledger.specs.declared.held_row.HeldRow.{HeldRow}
 
-pub returns-clause-counted : goal.returns-clause-counted
-returns-clause-counted c = λ items held mine theirs. record {
-  taken = c.row.ensures.counted items mine;
-  strong = (c.amount.ensures held theirs).count ∙ ap (λ handle. held_count held handle false) (sym c.row.ensures.handle);
-  weak = (c.amount-2.ensures held theirs).count ∙ ap (λ handle. held_count held handle true) (sym c.row.ensures.handle);
-}
+pub returns : goal.returns
+returns c = λ items held mine theirs.
+    let taken = c.row.ensures items mine in
+    let strong = (c.amount.ensures held theirs).count in
+    let weak = (c.amount-2.ensures held theirs).count in
+    λ i. record { taken = taken i; held_strong = strong i; held_weak = weak i }

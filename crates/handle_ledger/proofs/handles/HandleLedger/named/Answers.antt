@@ -19,8 +19,11 @@ loop-handle-preserved c = λ q.
     ∙ ap (λ es. contains nat_cmp c.loop-handle.handles q || list_any (eq_by_cmp nat_cmp q) (keys_of es)) (sym c.in-Some.ensures.steps)
     ∙ c.loop-handle.invariant q
 
-pub returns : goal.returns
-returns c = λ q.
+pub returns-clause-ordered : goal.returns-clause-ordered
+returns-clause-ordered c = c.into_iter-handle-iterator.ensures.into_iter_gives.5
+
+pub returns-clause-named : goal.returns-clause-named
+returns-clause-named c = λ q.
     or_false _
     ∙ ap (λ es. contains nat_cmp c.loop-handle.handles q || list_any (eq_by_cmp nat_cmp q) (keys_of es)) (sym c.in-None.ensures.steps.0)
     ∙ c.loop-handle.invariant q

@@ -2,7 +2,7 @@ use Rattle.std.proofs.Common.{◌≡◌, ◌++◌, [], map, sym, ap, ◌∙◌, 
 use Rattle.std.proofs.lemmas.List.{append-nil}
 use Rattle.std.specs.BTreeMap.{IsOrdered}
 use Rattle.std.specs.Ordering.{nat_cmp}
-use Rattle.handle_ledger.proofs.HandleLaws.{handle_row, handle_rows}
+use Rattle.handle_ledger.proofs.HandleLaws.{entry_row, rows_are}
 use Rattle.handle_ledger.proofs.handles.HandleLedger.rows.Goals as goal
 
 pub returns : goal.returns
@@ -10,6 +10,6 @@ returns c = λ items sums.
     let entries = c.args.self.now.handles.entries in
     let ordered : IsOrdered nat_cmp entries = c.into_iter-handle-iterator.ensures.into_iter_gives.5 in
     let rest : c.loop-handle.handle-iterator ≡ [] = search rules in
-    let whole : c.loop-handle.rows.items ≡ map handle_row entries.entries
-    = sym (append-nil c.loop-handle.rows.items) ∙ sym (ap (λ es. c.loop-handle.rows.items ++ map handle_row es) rest) ∙ c.loop-handle.invariant in
-    handle_rows entries ordered items sums c.loop-handle.rows.items whole
+    let whole : c.loop-handle.rows.items ≡ map entry_row entries.entries
+    = sym (append-nil c.loop-handle.rows.items) ∙ sym (ap (λ es. c.loop-handle.rows.items ++ map entry_row es) rest) ∙ c.loop-handle.invariant in
+    whole ∙ rows_are entries ordered items sums

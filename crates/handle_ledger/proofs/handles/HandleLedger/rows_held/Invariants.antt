@@ -1,10 +1,10 @@
-use Rattle.std.proofs.Common.{◌≡◌, ◌++◌, map}
-use Rattle.std.specs.Prelude.{All}
-use Rattle.handle_ledger.proofs.HeldLaws.{handle_of_row}
+use Rattle.std.proofs.Common.{◌≡◌, ◌++◌, List, map}
+use Rattle.event_core.specs.declared.handle.HandleItem.{HandleItem}
+use Rattle.handle_ledger.specs.Handles.{HandleLedgerSums}
+use Rattle.handle_ledger.specs.Held.{OfSums, held_row}
 use Rattle.handle_ledger.proofs.handles.HandleLedger.rows_held.Given as goal
-use Rattle.handle_ledger.specs.Held.{GivesHeldRow}
 
+-- with those of the handles to come the rows are those of all handles
 abbrev pub invariant-loop-handle : goal.invariant-loop-handle
 invariant-loop-handle l =
-    (map handle_of_row l.rows.items ++ l.handle-iterator ≡ l.initial.handle-iterator)
-    × All (GivesHeldRow l.self l.held) l.rows.items
+    OfSums l.self l.held (λ items held. l.rows.items ++ map (held_row items held) l.handle-iterator ≡ map (held_row items held) l.initial.handle-iterator)

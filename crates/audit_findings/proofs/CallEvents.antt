@@ -1,0 +1,43 @@
+-- What is read of the calls of a thread is of the event that it is read of.
+use Rattle.std.proofs.Common.{◌≡◌, eqb, Bool, true, false, cond, List, Option, Some, None, refl, sym, ap, ◌∙◌}
+use Rattle.std.specs.Prelude.{◌&&◌, slice_get}
+use Rattle.event_core.specs.Events.{EventRead}
+use Rattle.call_stacks.specs.Calls.{Bracketed, is_oneway_mark, is_refused, open_count, opener_by, opener_read, refused_send, stray_read, unmatched_closers}
+use Rattle.call_stacks.specs.Matching.{is_closer, is_opener}
+use Rattle.call_stacks.specs.Verdicts.{side_of}
+use Rattle.call_stacks.specs.declared.findings.RefusedSend.{RefusedSend}
+use Rattle.call_stacks.specs.declared.opener.Opener.{Opener}
+use Rattle.audit_findings.specs.TextReads.{text_reads}
+
+abbrev pub Reading : Type 0 → Type 0
+Reading Y = List (Bracketed EventRead) → Bracketed EventRead → List (Bracketed EventRead) → Option Y
+
+-- the refused send that an event tells of
+abbrev pub send_read : Reading (RefusedSend EventRead)
+send_read before found later = refused_send found
+
+-- what is told where a test passes
+pub told_if : {Y : Type 0} (passes : Bool) (x y : Y) → cond passes (Some x) None ≡ Some y → x ≡ y
+told_if true x y is = cc
+told_if false x y is = let no : ⊥ = cc in absurd no
+
+opened_by : (event : EventRead) (answer : Option (Bracketed EventRead)) → (opener_by text_reads event answer).event ≡ event
+opened_by event None = refl
+opened_by event (Some answer) = refl
+
+-- each is of the event that it is read of
+pub opener_event : (b l : List (Bracketed EventRead)) (found : Bracketed EventRead) (o : Opener EventRead) → opener_read text_reads b found l ≡ Some o
+    → o.event ≡ found.event
+opener_event b l found o is =
+    let answer = slice_get (unmatched_closers l) 0 in
+    ap (λ (o : Opener EventRead). o.event) (sym (told_if (is_opener (side_of found.bracket)) (opener_by text_reads found.event answer) o is))
+    ∙ opened_by found.event answer
+
+pub stray_event : (b l : List (Bracketed EventRead)) (found : Bracketed EventRead) (e : EventRead) → stray_read b found l ≡ Some e → e ≡ found.event
+stray_event b l found e is = sym (told_if (is_closer (side_of found.bracket) && eqb (open_count b) 0) found.event e is)
+
+pub send_event : (b l : List (Bracketed EventRead)) (found : Bracketed EventRead) (s : RefusedSend EventRead) → send_read b found l ≡ Some s
+    → s.event ≡ found.event
+send_event b l found s is =
+    ap (λ (s : RefusedSend EventRead). s.event)
+    (sym (told_if (is_refused found.bracket) (record { event = found.event; oneway = is_oneway_mark found.before }) s is))

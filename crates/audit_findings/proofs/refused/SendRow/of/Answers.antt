@@ -1,5 +1,0 @@
-use Rattle.std.proofs.Common.{refl}
-use Rattle.audit_findings.proofs.refused.SendRow.of.Goals as goal
-
-pub returns : goal.returns
-returns c = refl

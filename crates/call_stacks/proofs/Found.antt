@@ -1,0 +1,114 @@
+-- The openers and the unmatched closers of judged events, as they are defined and as they are read from the end.
+use Rattle.std.proofs.Common.{◌≡◌, ℕ, zero, suc, ◌+◌, ◌-◌, ◌==◌, ◌&&◌, Bool, true, false, cond, Option, Some, None, refl, sym, ap, ap₂, ◌∙◌, arith, ne_eqb}
+use Rattle.std.proofs.Common.{List, [], ◌∷◌, ◌++◌, map, drop}
+use Rattle.std.proofs.lemmas.List.{map-append}
+use Rattle.std.proofs.lemmas.List.Sums.{fold-append}
+use Rattle.std.proofs.lemmas.Simd.{map-map}
+use Rattle.std.specs.List.{cons_option, fold}
+use Rattle.std.specs.Prelude.{slice_get, option_map}
+use Rattle.call_stacks.specs.declared.opener.Opener.{Opener}
+use Rattle.event_core.specs.declared.marks.Mark.{Mark}
+use Rattle.call_stacks.specs.Calls.{Reads, Bracketed, as_judged, bracket_read, bracketed_with, judged_of, mark_behind_by, is_unmatched, open_after, open_count, opener_by, opener_read, openers_in, sides_of, strays_in, unmatched_closers}
+use Rattle.call_stacks.specs.Matching.{Side, opener, closer, neither, is_closer, is_opener}
+use Rattle.call_stacks.specs.Verdicts.{side_of}
+use Rattle.call_stacks.proofs.Judging.{judged-append, pair, side}
+use Rattle.call_stacks.proofs.Lists.{event_of, found, openers_found, strays_found}
+use Rattle.call_stacks.proofs.Model.{both, entry, first_of, openers, openers-map, put, strays, strays-map}
+use Rattle.summary_law.proofs.ReadingLaws.{read-made}
+use Rattle.summary_law.specs.Readings.{chosen, read_each}
+
+module _ {E : Type 0} where
+  abbrev own_side : Bracketed E → Side
+  own_side found = side_of found.bracket
+
+  -- one more event
+  count-more : (before : List (Bracketed E)) (x : Bracketed E) → open_count (before ++ x ∷ []) ≡ open_after (open_count before) (own_side x)
+  count-more before x =
+      ap (fold open_after 0) (map-append own_side before (x ∷ [])) ∙ fold-append open_after 0 (sides_of before) (own_side x ∷ [])
+
+  -- of the unmatched closers those are left that the open calls before them do not take
+  left : (s : Side) (n : ℕ) (x : Bracketed E) (later behind : List (Bracketed E)) → drop (open_after n s) later ≡ behind
+      → drop n (put s x later) ≡ cons_option (cond (is_closer s && (n == 0)) (Some x) None) behind
+  left opener n x [] behind same = drop-nil n ∙ sym (drop-nil (n + 1)) ∙ same
+    where
+      drop-nil : (n : ℕ) → drop {A = Bracketed E} n [] ≡ []
+      drop-nil zero = refl
+      drop-nil (suc n) = refl
+  left opener n x (y ∷ later) behind same = ap (λ (k : ℕ). drop k (y ∷ later)) (add-one-is n) ∙ same
+    where
+      add-one-is : (n : ℕ) → suc n ≡ n + 1
+      add-one-is n = omega arith
+  left closer zero x later behind same = ap (λ (t : List (Bracketed E)). x ∷ t) same
+  left closer (suc n) x later behind same =
+      ap (λ (k : ℕ). drop k later) (less-one-is n) ∙ same
+      ∙ ap (λ (b : Bool). cons_option (cond b (Some x) None) behind) (sym (ne_eqb (suc n) 0 (λ zero_is. absurd (omega (arith, zero_is)))))
+    where
+      less-one-is : (n : ℕ) → n ≡ suc n - 1
+      less-one-is n = omega arith
+  left neither n x later behind same = same
+
+  unmatched-left : (before items : List (Bracketed E)) → drop (open_count before) (strays own_side items) ≡ read_each (chosen is_unmatched) before items
+  unmatched-left before [] = nothing (open_count before)
+    where
+      nothing : (n : ℕ) → drop {A = Bracketed E} n [] ≡ []
+      nothing zero = refl
+      nothing (suc n) = refl
+  unmatched-left before (x ∷ items) =
+      left (own_side x) (open_count before) x (strays own_side items) (read_each (chosen is_unmatched) (before ++ x ∷ []) items)
+      (ap (λ (n : ℕ). drop n (strays own_side items)) (sym (count-more before x)) ∙ unmatched-left (before ++ x ∷ []) items)
+
+  pub unmatched-found : (items : List (Bracketed E)) → unmatched_closers items ≡ strays own_side items
+  unmatched-found items = sym (unmatched-left [] items)
+
+  stray-chosen : (b : Bool) (x : Bracketed E) → cond b (Some x.event) None ≡ option_map (λ (f : Bracketed E). f.event) (cond b (Some x) None)
+  stray-chosen true x = refl
+  stray-chosen false x = refl
+
+  pub strays-found : (items : List (Bracketed E)) → strays_in items ≡ strays_found items
+  strays-found items =
+      ap (λ (read : List (Bracketed E) → Bracketed E → List (Bracketed E) → Option E). read_each read [] items)
+      (λ i before x later. stray-chosen (is_unmatched before x later) x i)
+      ∙ sym (read-made (chosen is_unmatched) (λ (f : Bracketed E). f.event) [] items)
+      ∙ ap (map (λ (x : Bracketed E). x.event)) (unmatched-found items)
+      ∙ sym (ap (map event_of) (strays-map pair side items) ∙ map-map event_of pair (strays own_side items))
+
+module _ {E : Type 0} (reads : Reads E) where
+  by_found : (x : Bracketed E) (h : Option (Bracketed E)) → opener_by reads x.event h ≡ found reads (both pair (x, h))
+  by_found x None = refl
+  by_found x (Some answer) = refl
+
+  one-found : (s : Side) (x : Bracketed E) (items : List (Bracketed E)) (rest : List (Opener E)) (model : List (Bracketed E × Option (Bracketed E)))
+      → rest ≡ map (λ p. found reads (both pair p)) model
+      → cons_option (cond (is_opener s) (Some (opener_by reads x.event (slice_get (unmatched_closers items) 0))) None) rest
+      ≡ map (λ p. found reads (both pair p)) (entry s x (strays own_side items) model)
+  one-found opener x items rest model same =
+      ap₂ (λ (call : Opener E) (calls : List (Opener E)). call ∷ calls)
+      (ap (λ (closers : List (Bracketed E)). opener_by reads x.event (slice_get closers 0)) (unmatched-found items)
+      ∙ by_found x (first_of (strays own_side items))) same
+  one-found closer x items rest model same = same
+  one-found neither x items rest model same = same
+
+  each-found : (before items : List (Bracketed E)) → read_each (opener_read reads) before items ≡ map (λ p. found reads (both pair p)) (openers own_side items)
+  each-found before [] = refl
+  each-found before (x ∷ items) =
+      one-found (own_side x) x items (read_each (opener_read reads) (before ++ x ∷ []) items) (openers own_side items) (each-found (before ++ x ∷ []) items)
+
+  pub openers-found : (items : List (Bracketed E)) → openers_in reads items ≡ openers_found reads items
+  openers-found items =
+      each-found [] items
+      ∙ sym (ap (map (found reads)) (openers-map pair side items) ∙ map-map (found reads) (both pair) (openers own_side items))
+
+-- what is read of judged events is read of the events
+pub judged-read : {E Y : Type 0} (reads : Reads E) (read : List (Bracketed E) → Bracketed E → List (Bracketed E) → Option Y) (before events : List E)
+    → read_each read (judged_of reads before) (bracketed_with reads (bracket_read reads) (fold (mark_behind_by reads) None before) events)
+    ≡ read_each (as_judged reads read) before events
+judged-read reads read before [] = refl
+judged-read {E} {Y} reads read before (event ∷ later) =
+    let mark = fold (mark_behind_by reads) None before in
+    let next = before ++ event ∷ [] in
+    let found : Bracketed E = record { event = event; before = mark; bracket = bracket_read reads mark event } in
+    let behind : Option Mark → List (Bracketed E) = λ m. bracketed_with reads (bracket_read reads) m later in
+    let marks : fold (mark_behind_by reads) None next ≡ mark_behind_by reads mark event = fold-append (mark_behind_by reads) None before (event ∷ []) in
+    let judged : judged_of reads next ≡ judged_of reads before ++ found ∷ [] = judged-append reads (bracket_read reads) None before (event ∷ []) in
+    ap (cons_option (read (judged_of reads before) found (behind (mark_behind_by reads mark event))))
+    (ap₂ (λ (b : List (Bracketed E)) (m : Option Mark). read_each read b (behind m)) (sym judged) (sym marks) ∙ judged-read reads read next later)

@@ -1,6 +1,0 @@
-use Rattle.event_core.specs.Events.{wholes_of, events_of_wholes}
-use Rattle.report_text.proofs.CallEvents.{strays_there}
-use Rattle.report_text.proofs.strays.StraysEventSection.places.Goals as goal
-
-pub returns-clause-events : goal.returns-clause-events
-returns-clause-events c = λ wholes said tell. strays_there (events_of_wholes (wholes_of wholes)) said.calls.strays tell.are.calls.strays
