@@ -28,7 +28,7 @@ impl Answer {
     }
 }
 
-/// The answer to the words of this line, which are parted by one tab each.
+/// The answer to the words of this line, which are separated by one tab each.
 pub(crate) fn answer_to<T: Files + Threads + Sync>(
     rt: &T,
     alloc: Global,

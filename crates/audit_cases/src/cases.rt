@@ -1,4 +1,4 @@
-//! A case: a command line, or a capture that is reported on in several ways.
+//! A case: a command line, or a capture that is audited with several numbers of workers and pieces.
 use crate::answers::{Answer, answer_to};
 use std::alloc::{AllocError, Global};
 use std::fs::Files;
@@ -6,11 +6,12 @@ use std::io;
 use std::io::Write;
 use std::thread::Threads;
 
-/// Workers and pieces, beside 1 and 1, that a capture is reported with.
+/// The workers and pieces, besides 1 and 1, with which a report is made.
 const FURTHER: &[(u64, u64)] = &[(1, 256), (2, 1), (2, 256), (7, 1), (7, 256)];
 
-/// Prints a line, and the answer to it. For `all`, a tab and one file or more, each behind a tab,
-/// that is the answer of all reports on the files, with a line more where they are not alike.
+/// Prints a line and the answer to it. If the line is `all` and one or more files, each after a
+/// tab, six reports are made on the files. The first answer is printed, and then `differs` if they
+/// are not alike.
 pub(crate) fn run_case<T: Files + Threads + Sync, W: Write>(
     rt: &T,
     alloc: Global,

@@ -1,4 +1,4 @@
-//! The auditor's answers to one capture.
+//! The auditor's answers to one capture, and whether they agree.
 ghost use Rattle.std.specs.Prelude.{◌≤◌};
 
 use audit_run::{Piece, RunError, Workers, run, run_first_fault};
@@ -10,7 +10,7 @@ const TITLE: &[u8] = b"BINDER AUDIT 2\n";
 
 const NO_FAULT: &[u8] = b"no malformed record\n";
 
-/// What `run` writes of a capture by one worker and by more, and what `run_first_fault` writes.
+/// What `run` writes about a capture, by one worker and by more, and what `run_first_fault` writes.
 #[derive(Drop)]
 pub(crate) struct Answers {
     by_one: Vec<u8>,
@@ -38,7 +38,7 @@ impl Answers {
         self.by_one.as_slice().starts_with(TITLE)
     }
 
-    /// Whether `run_first_fault` names the fault that one worker names, and none where that one
+    /// Whether `run_first_fault` names the fault that one worker names, or no fault if that worker
     /// writes a report.
     fn faults_agree(&self) -> bool {
         let due = if self.is_report() {
@@ -49,8 +49,8 @@ impl Answers {
         self.first_fault.as_slice() == due
     }
 
-    /// Whether one worker writes what is due: this fault line, or for `report N` a report whose
-    /// totals say so many frames.
+    /// Whether one worker writes what is due: this fault line, or for `report N` a report with N
+    /// frames in its totals.
     fn is_due(&self, alloc: Global, due: &str) -> Result<bool, AllocError> {
         match due.strip_prefix("report ") {
             Some(frames) => {
@@ -64,7 +64,9 @@ impl Answers {
         }
     }
 
-    /// The answers that are not as they should be, each by its name.
+    /// The names of the answers that are wrong: `run` by more workers, if it writes another text
+    /// than by one; `run_first_fault`, if it names another fault than that text, or none; and
+    /// `run, by the line`, if that text is not what is due.
     pub(crate) fn wrong(
         &self,
         alloc: Global,

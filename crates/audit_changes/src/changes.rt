@@ -1,4 +1,4 @@
-//! What is changed of a capture.
+//! Changes of a capture.
 ghost use Rattle.std.specs.Prelude.{◌≡◌, ◌+◌, ◌++◌, length, take, drop, IfOk};
 
 use std::alloc::Global;
@@ -8,16 +8,16 @@ use std::{fmt, io};
 /// One change of a capture.
 #[derive(Clone, Copy)]
 pub(crate) enum Change {
-    /// The first so many bytes are kept.
+    /// Only this many bytes are kept, the first ones.
     Cut(usize),
-    /// The byte at this place is another one.
+    /// The byte at this place is replaced by this one.
     Byte(usize, u8),
-    /// The four bytes from this place on are this number, the lowest byte first.
+    /// The four bytes from this place on are replaced by this number, the lowest byte first.
     Number(usize, u32),
 }
 
 impl Change {
-    /// The changed capture. It is an error where the capture ends before the change does.
+    /// The changed capture. It is an error if the capture ends before the change does.
     pub(crate) fn of(self, alloc: Global, capture: &[u8]) -> io::Result<Vec<u8>> {
         match self {
             Change::Cut(length) => cut(alloc, capture, length),
@@ -51,7 +51,7 @@ fn cut(alloc: Global, capture: &[u8], length: usize) -> io::Result<Vec<u8>>
     Ok(Vec::from_slice(alloc, &capture[..length])?)
 }
 
-/// The capture with these bytes in place of those that stand there.
+/// The capture with as many of its bytes, from this place on, replaced by these bytes.
 fn replaced(alloc: Global, capture: &[u8], at: usize, bytes: &[u8]) -> io::Result<Vec<u8>>
     ensures { IfOk result (λ changed. changed.items
         ≡ take at capture.now ++ bytes.now ++ drop (at + length bytes.now) capture.now) }

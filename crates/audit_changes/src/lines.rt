@@ -1,4 +1,4 @@
-//! What a line asks for.
+//! The lines of standard input.
 use std::alloc::{AllocError, Global};
 
 /// What is to be changed of a file.
@@ -8,7 +8,8 @@ pub(crate) enum Asked {
     Cut { from: usize, to: usize },
     /// A number of 32 bits is replaced.
     Change { at: usize, value: u32 },
-    /// The file is cut at every length below its own, and every byte is changed in three ways.
+    /// The file is cut at every length below its own. Every byte is changed to 0x00, to 0xff, and
+    /// to itself plus one, with 0x00 after 0xff.
     Every,
 }
 
@@ -17,12 +18,12 @@ pub(crate) enum Asked {
 pub(crate) struct Line<'a> {
     pub(crate) file: &'a str,
     pub(crate) asked: Asked,
-    /// The answer that is due, where the line says one.
+    /// The answer that is due, if the line has one.
     pub(crate) due: Option<&'a str>,
 }
 
 impl<'a> Line<'a> {
-    /// Reads a line, whose words are parted by one tab each; None where it has no such form.
+    /// Reads a line, whose words are separated by one tab each; `None` if it has another form.
     pub(crate) fn read(alloc: Global, line: &'a str) -> Result<Option<Line<'a>>, AllocError> {
         let words: Vec<&'a str> = line.split('\t').collect(alloc)?;
         Ok(line_of(words.as_slice()))
@@ -56,7 +57,7 @@ fn line_of<'a>(words: &[&'a str]) -> Option<Line<'a>> {
     }
 }
 
-/// A number in decimal digits, or behind `0x` in hexadecimal ones.
+/// A number in decimal digits, or in hexadecimal digits after `0x`.
 fn value_of(text: &str) -> Option<u32> {
     match text.strip_prefix("0x") {
         Some(digits) => u32::from_str_radix(digits, 16).ok(),

@@ -1,5 +1,5 @@
-//! Cuts and changes captures as the lines of standard input say, and prints where the auditor's
-//! answers to one capture do not agree.
+//! Cuts and changes captures as the lines of standard input say, and prints each answer of the
+//! auditor that does not agree with the others or with the line.
 #![tactic(auto)]
 
 mod answers;

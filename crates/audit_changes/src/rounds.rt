@@ -8,7 +8,8 @@ use std::io::{ErrorKind, Read, Write};
 use std::thread::Threads;
 use std::{fs, io};
 
-/// Prints a line, judges all captures that it asks for, and prints how many these were.
+/// Prints a line, compares the auditor's answers to each capture that the line asks for, and prints
+/// how many captures and how many reports there were.
 pub(crate) fn run_line<T: Files + Threads + Sync, W: Write>(
     rt: &T,
     alloc: Global,
@@ -29,7 +30,7 @@ pub(crate) fn run_line<T: Files + Threads + Sync, W: Write>(
         captures: 0,
         reports: 0,
     };
-    round.judge_all(line.asked)?;
+    round.compare_all(line.asked)?;
     round.print_counts()
 }
 
@@ -39,7 +40,8 @@ fn read_file<T: Files>(rt: &T, alloc: Global, name: &str) -> io::Result<Vec<u8>>
     Ok(bytes)
 }
 
-/// The captures that are made of a file, as they are judged.
+/// The file whose changed captures are audited, the answer that is due, and how many captures and
+/// reports there were so far.
 #[derive(Drop)]
 struct Round<'a, T, W> {
     rt: &'a T,
@@ -52,38 +54,39 @@ struct Round<'a, T, W> {
 }
 
 impl<T: Threads + Sync, W: Write> Round<'_, T, W> {
-    fn judge_all(&mut self, asked: Asked) -> io::Result<()> {
+    fn compare_all(&mut self, asked: Asked) -> io::Result<()> {
         match asked {
-            Asked::Cut { from, to } => self.judge_cuts(from, to),
-            Asked::Change { at, value } => self.judge(Change::Number(at, value)),
+            Asked::Cut { from, to } => self.compare_cuts(from, to),
+            Asked::Change { at, value } => self.compare(Change::Number(at, value)),
             Asked::Every => {
                 for length in 0..self.file.len() {
-                    self.judge(Change::Cut(length))?;
+                    self.compare(Change::Cut(length))?;
                 }
-                self.judge_bytes()
+                self.compare_bytes()
             }
         }
     }
 
-    fn judge_cuts(&mut self, from: usize, to: usize) -> io::Result<()> {
+    fn compare_cuts(&mut self, from: usize, to: usize) -> io::Result<()> {
         for length in from..=to {
-            self.judge(Change::Cut(length))?;
+            self.compare(Change::Cut(length))?;
         }
         Ok(())
     }
 
-    /// Each byte changed to 0x00, to 0xff and to the next one.
-    fn judge_bytes(&mut self) -> io::Result<()> {
+    /// Changes each byte: to 0x00, to 0xff, and to the byte plus one.
+    fn compare_bytes(&mut self) -> io::Result<()> {
         let file = self.file;
         for (at, byte) in file.iter().copied().enumerate() {
-            self.judge(Change::Byte(at, 0x00))?;
-            self.judge(Change::Byte(at, 0xff))?;
-            self.judge(Change::Byte(at, byte.wrapping_add(1)))?;
+            self.compare(Change::Byte(at, 0x00))?;
+            self.compare(Change::Byte(at, 0xff))?;
+            self.compare(Change::Byte(at, byte.wrapping_add(1)))?;
         }
         Ok(())
     }
 
-    fn judge(&mut self, change: Change) -> io::Result<()> {
+    /// Makes one change, and prints the name of each answer that is not as it should be.
+    fn compare(&mut self, change: Change) -> io::Result<()> {
         let capture = change.of(self.alloc, self.file)?;
         let answers = Answers::to(self.rt, self.alloc, capture.as_slice())?;
         self.captures = self.captures.saturating_add(1);

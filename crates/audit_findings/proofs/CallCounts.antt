@@ -1,5 +1,5 @@
 -- How many calls have a verdict, by those that are listed.
-use Rattle.std.proofs.Common.{◌≡◌, ℕ, ◌+◌, Bool, true, false, cond, List, [], ◌∷◌, map, refl, sym, ap, ◌∙◌, arith}
+use Rattle.std.proofs.Common.{◌≡◌, ℕ, ◌+◌, Bool, true, cond, List, [], ◌∷◌, map, refl, sym, ap, ◌∙◌, arith}
 use Rattle.std.specs.Prelude.{count_by}
 use Rattle.std.proofs.lemmas.List.Sums.{sum_by-cons}
 use Rattle.event_core.specs.Events.{EventRead}
@@ -12,14 +12,14 @@ use Rattle.audit_findings.specs.Calls.{is_unanswered}
 use Rattle.audit_findings.specs.Kept.{call_at_place}
 use Rattle.audit_findings.proofs.Kept.{kept_count}
 
--- as many of what is made of a list pass as of the list
+-- to count what is made of a list is to count the list by what is made
 pub count_made : {X Y : Type 0} (make : X → Y) (test : Y → Bool) (xs : List X) → count_by test (map make xs) ≡ count_by (λ x. test (make x)) xs
 count_made make test [] = refl
 count_made {X} {Y} make test (x ∷ xs) =
     sum_by-cons (λ (y : Y). cond (test y) 1 0) (make x) (map make xs) ∙ ap (λ (n : ℕ). cond (test (make x)) 1 0 + n) (count_made make test xs)
     ∙ sym (sum_by-cons (λ (x : X). cond (test (make x)) 1 0) x xs)
 
--- the calls with a verdict that lacks a reply are all among those that are kept
+-- the calls with a verdict that lacks a reply are all kept, so counting the kept ones counts all of them
 pub kept_many : (test : Verdict → Bool) → ((verdict : Verdict) → test verdict ≡ true → lacks_reply verdict ≡ true) → (told : List (Opener EventRead))
     → how_many test (map call_at_place (with_verdict lacks_reply told)) ≡ how_many test told
 kept_many test lacks told =
@@ -33,7 +33,7 @@ one_unanswered Replied = refl
 one_unanswered Crossed = refl
 one_unanswered Open = refl
 
--- crossed and open ones together are the unanswered ones
+-- the crossed and the open calls together are the unanswered ones
 pub unanswered_many : (told : List (Opener EventRead)) → how_many is_crossed told + how_many is_open told ≡ how_many is_unanswered told
 unanswered_many [] = refl
 unanswered_many (o ∷ told) =
@@ -44,7 +44,7 @@ unanswered_many (o ∷ told) =
     let both = sum_by-cons (λ (o : Opener EventRead). cond (is_unanswered o.verdict) 1 0) o told in
     omega (arith, rest, here, crossed, left_open, both)
 
--- such verdicts
+-- failed, crossed and open calls lack their reply
 pub failed_lacks : (verdict : Verdict) → is_failed verdict ≡ true → lacks_reply verdict ≡ true
 failed_lacks Failed is = refl
 failed_lacks _ is = let no : ⊥ = cc in absurd no

@@ -1,4 +1,4 @@
--- What is read of the calls of a thread is of the event that it is read of.
+-- What is read of an event for the calls of its thread names that event.
 use Rattle.std.proofs.Common.{◌≡◌, eqb, Bool, true, false, cond, List, Option, Some, None, refl, sym, ap, ◌∙◌}
 use Rattle.std.specs.Prelude.{◌&&◌, slice_get}
 use Rattle.event_core.specs.Events.{EventRead}
@@ -12,11 +12,11 @@ use Rattle.audit_findings.specs.TextReads.{text_reads}
 abbrev pub Reading : Type 0 → Type 0
 Reading Y = List (Bracketed EventRead) → Bracketed EventRead → List (Bracketed EventRead) → Option Y
 
--- the refused send that an event tells of
+-- the refused send that an event reports
 abbrev pub send_read : Reading (RefusedSend EventRead)
 send_read before found later = refused_send found
 
--- what is told where a test passes
+-- what is read if a test passes
 pub told_if : {Y : Type 0} (passes : Bool) (x y : Y) → cond passes (Some x) None ≡ Some y → x ≡ y
 told_if true x y is = cc
 told_if false x y is = let no : ⊥ = cc in absurd no
@@ -25,7 +25,7 @@ opened_by : (event : EventRead) (answer : Option (Bracketed EventRead)) → (ope
 opened_by event None = refl
 opened_by event (Some answer) = refl
 
--- each is of the event that it is read of
+-- an opener, a stray and a refused send each name the event that they are read of
 pub opener_event : (b l : List (Bracketed EventRead)) (found : Bracketed EventRead) (o : Opener EventRead) → opener_read text_reads b found l ≡ Some o
     → o.event ≡ found.event
 opener_event b l found o is =

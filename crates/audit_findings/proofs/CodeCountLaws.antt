@@ -1,4 +1,4 @@
--- Code words counted by kind: one word more, and the words of two lists.
+-- Code words counted by kind: one more word, and the words of two lists.
 use Rattle.std.proofs.Common.{◌≡◌, ◌+◌, ◌<◌, ◌≤◌, ◌^◌, inl, inr, ℕ, Bool, true, false, cond, List, [], ◌∷◌, ◌++◌, length, map, filter, get_or, sym, ap, subst, ◌∙◌, append-nil, length-append, arith}
 use Rattle.std.proofs.Math.ListN.{set}
 use Rattle.std.proofs.lemmas.Bool.{cases_eq}
@@ -14,7 +14,7 @@ use Rattle.audit_findings.specs.CodeCounts.{IsKindRow, CountListed, is_opaque_wo
 use Rattle.audit_findings.specs.RecordCounts.{is_word_of, times}
 use Rattle.audit_findings.proofs.KindWords.{kind_at, not_true, one_place}
 
--- ---- how many words are a kind's
+-- ---- how many words a kind has
 
 pub times-append : (kind : Kind) (words more : List ℕ) → times kind (words ++ more) ≡ times kind words + times kind more
 times-append kind words more = sum_by-append (λ (w : ℕ). cond (is_word_of kind w) 1 0) words more
@@ -29,16 +29,16 @@ times_more kind words word is e =
 pub times_short : (kind : Kind) (words : List ℕ) → times kind words ≤ length words
 times_short kind words = count_by-le-length (is_word_of kind) words
 
--- ---- one word more
+-- ---- one more word
 
--- of a kind that is not the word's
+-- the row of a kind other than the word's stays the same
 other_row : (kind : Kind) (words : List ℕ) (word : ℕ) (row : CodeRow) → is_word_of kind word ≡ false → IsKindRow kind words row → IsKindRow kind (words ++ word ∷ []) row
 other_row kind words word row not is =
     let more = times_more kind words word false not in
     let count = is.count in
     record { count = omega (arith, more, count); word = is.word }
 
--- of the word's kind
+-- the row of the word's kind counts one more
 own_row : (kind : Kind) (words : List ℕ) (word : ℕ) (row : CodeRow) → is_word_of kind word ≡ true → IsKindRow kind words row
     → IsKindRow kind (words ++ word ∷ []) (record { word = word; count = row.count + 1 })
 own_row kind words word row own is =
@@ -69,7 +69,7 @@ listed_more rows words word place within own counts k =
 pub grown_rows : (rows more : List CodeRow) (words : List ℕ) → ((k : ℕ) → get_or more k no_record ≡ get_or rows k no_record) → CountListed rows words → CountListed more words
 grown_rows rows more words same counts k = subst (IsKindRow (kind_at k) words) (sym (same k)) (counts k)
 
--- few words leave each row small
+-- each row of few words is small
 pub small_row : (rows : List CodeRow) (words more : List ℕ) → IsShort (words ++ more) → CountListed rows words → (k : ℕ) → (get_or rows k no_record).count ≤ 2 ^ 32
 small_row rows words more short counts k =
     let is = counts k in
@@ -96,7 +96,7 @@ no_item words word not =
     let none : opaque_items (word ∷ []) ≡ [] = ap (λ (b : Bool). map word_item (cond b (word ∷ []) [])) not in
     items-append words (word ∷ []) ∙ ap (λ (t : List (ℕ × ℕ)). opaque_items words ++ t) none ∙ append-nil (opaque_items words)
 
--- the opaque ones of few words are few weights
+-- the opaque ones among few words can be tallied
 pub weighted_items : (words : List ℕ) → IsShort words → AreWeighted (opaque_items words)
 weighted_items words short =
     let long = length-filter is_opaque_word words in

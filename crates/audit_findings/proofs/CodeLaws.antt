@@ -8,7 +8,7 @@ use Rattle.std.proofs.lemmas.List.{get_or_default, get_or_past, map-append}
 use Rattle.std.proofs.lemmas.List.Elements.{All-append, All-cons, All-contains, All-contains_itself, All-head, All-nil, All-tail, All-weaker, Contains-get_or, filter_passes}
 use Rattle.std.proofs.lemmas.List.Kept.{AllPairs-filter, AllPairs-from_increasing}
 use Rattle.std.proofs.lemmas.List.Sorted.{All-permutation, Contains-permutation, IsPermutation-map}
-use Rattle.std.proofs.lemmas.List.Sums.{sum_by-append, sum_by-cons}
+use Rattle.std.proofs.lemmas.List.Sums.{sum_by-append}
 use Rattle.std.proofs.lemmas.Map.Keys.{IsDistinct-IsPermutation, IsStrictlyIncreasing-from_sorted}
 use Rattle.std.proofs.lemmas.Map.Made.{AllPairs-from_IsDistinct, Contains-tail, IsDistinct-from_AllPairs}
 use Rattle.std.proofs.lemmas.Bool.Decides.{Decides-eqb}
@@ -31,7 +31,7 @@ use Rattle.audit_findings.proofs.KindWords.{kind_at, kind_at_place, kind_of_list
 use Rattle.audit_findings.proofs.Kept.{in_back, in_front, in_kept, kept_count, kept_in}
 use Rattle.audit_findings.proofs.Rising.{pairs_append, pairs_map, pairs_unmap}
 
--- what stands in a list is counted there
+-- a word of a list is counted there
 counted_at_least_once : (words : List ℕ) (word : ℕ) → Contains words word → 0 < count_by (λ w. eqb w word) words
 counted_at_least_once [] word has = absurd (omega (arith, has.1))
 counted_at_least_once (w ∷ words) word has =
@@ -42,7 +42,7 @@ counted_at_least_once (w ∷ words) word has =
       | inr other ↦ (let more = counted_at_least_once words word (Contains-tail w words word other has) in omega (arith, split, more))
     ]
 
--- and what is counted there stands there
+-- and what is counted in a list is a word of it
 counted_there : (word : ℕ) (words : List ℕ) → 0 < count_by (λ w. eqb w word) words → Contains words word
 counted_there word [] more = absurd (omega arith)
 counted_there word (w ∷ words) more =
@@ -65,7 +65,7 @@ strictly_rising (x ∷ xs) rises = (below xs rises.0, strictly_rising xs rises.1
     below [] all = tt
     below (y ∷ ys) all = (sym (nat_cmp_is x y Less (all y (inl refl))), below ys (λ z there. all z (inr there)))
 
--- the order of numbers tells two apart where they are two
+-- numbers that compare as equal are equal, and others are not
 same_key : (key word : ℕ) → eq_by_cmp nat_cmp key word ≡ eqb word key
 same_key key word = elim (cases_eq word key) [
   | inl same ↦ rw (eq-eqb word key same, same) ((eq_by_cmp_equiv nat_cmp_total).refl key)
@@ -91,7 +91,7 @@ items_of_word : (key : ℕ) (words : List ℕ) → count_of nat_cmp key (map wor
 items_of_word key [] = refl
 items_of_word key (word ∷ words) = one_more key word words (eqb word key) (same_key key word) refl (items_of_word key words)
 
--- a row that counts a word that stands there
+-- the row counts a word of the list
 abbrev IsRightRow : List ℕ → CodeRow → Type 0
 IsRightRow words row = (0 < row.count) × (row.count ≡ count_by (λ word. eqb word row.word) words)
 
@@ -100,7 +100,7 @@ Apart a b = a.word ≢ b.word
 
 -- ---- the rows of listed kinds
 
--- of a kind's words as many as are its word
+-- a kind has one word, so its words are counted as that word is
 times_word : (kind : Kind) (word : ℕ) (words : List ℕ) → is_word_of kind word ≡ true → times kind words ≡ count_by (λ w. eqb w word) words
 times_word kind word words own i = count_by (λ w. one_word kind word w own i) words
 
@@ -131,7 +131,7 @@ module _ (rows : List CodeRow) (words : List ℕ) (counts : CountListed rows wor
       All-weaker (Contains kept) (λ row. is_opaque_word row.word ≡ false)
       (λ row has. let found = of_kind row has in word_is_listed (kind_at found.0) row.word (found.1.word found.2)) kept (All-contains_itself kept)
 
-  -- rows that count records have words of their own
+  -- two rows that count records have different words
   rows_apart : AllPairs (λ a b. has_records a ≡ true → has_records b ≡ true → Apart a b) rows
   rows_apart i j d below within = λ first second same.
       let a = get_or rows i d in
@@ -185,7 +185,7 @@ module _ (words : List ℕ) where
       let many = items_of_word key opaque in
       (in_kept is_opaque_word words key (in_list opaque key (counted_there key opaque (omega (arith, many, came))))).1
 
-  -- an opaque word is left out nowhere
+  -- an opaque word is counted among the opaque words as often as among all words
   opaque_count : (key : ℕ) → is_opaque_word key ≡ true → count_by (λ w. eqb w key) opaque ≡ count_by (λ w. eqb w key) words
   opaque_count key is =
       kept_count (λ w. eqb w key) is_opaque_word words (λ w there same. subst (λ (v : ℕ). is_opaque_word v ≡ true) (sym (eqb-true w key same)) is)

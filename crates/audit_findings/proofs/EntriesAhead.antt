@@ -9,7 +9,7 @@ use Rattle.std.proofs.lemmas.List.{append-nil, map-append}
 use Rattle.std.proofs.lemmas.List.Concat.{flat_map-cons}
 use Rattle.std.proofs.lemmas.List.Elements.{All-cons, All-filter, All-head, All-map, All-nil, All-tail, filter-append, filter_map-append}
 use Rattle.std.proofs.lemmas.List.Sums.{sum_by-append, sum_by-cons}
-use Rattle.capture_frame.specs.Envelope.{FrameText, frame_text, placed_frame, PlacedFrame}
+use Rattle.capture_frame.specs.Envelope.{FrameText, PlacedFrame}
 use Rattle.capture_frame.specs.Lookup.{Holds, IsSplitAt, AreApart, span_of}
 use Rattle.capture_frame.specs.Units.{Placed}
 use Rattle.event_core.specs.Events.{EventRead, events_of_whole, events_of_wholes, placed_text}
@@ -25,15 +25,15 @@ use Rattle.audit_findings.proofs.FrameLaws.{events-append, first_same, none_show
 use Rattle.audit_findings.proofs.PlacesRise.{IsInSpan, whole_within, within_span}
 use Rattle.audit_findings.proofs.Rising.{pairs_head, pairs_map, pairs_tail, pairs_unmap, rising_kept}
 use Rattle.std.proofs.lemmas.List.Kept.{AllPairs-cons}
-use Rattle.summary_law.specs.Fits.{PlacesRise, all_parts, pairs_parts, rising_parts}
+use Rattle.summary_law.specs.Fits.{PlacesRise, all_halves, pairs_halves, rising_halves}
 
--- ---- views of whole frames that stand one behind others
+-- ---- views of whole frames, some after others
 
 -- how many attachment bytes a frame has
 abbrev pub attachment_bytes : PlacedFrame → ℕ
 attachment_bytes frame = length frame.unit.attachments
 
--- views of whole frames that are split are split as well
+-- if whole frames are split in two, so are their views
 record ShownApart (frames : List PlacedFrame) (first second : List (Placed WholeFrame)) : Type 0 where
   earlier : List PlacedFrame
   later : List PlacedFrame
@@ -43,7 +43,7 @@ record ShownApart (frames : List PlacedFrame) (first second : List (Placed Whole
 
 shown_split : (frames : List PlacedFrame) (first second : List (Placed WholeFrame)) → AreViews frames (first ++ second) → ShownApart frames first second
 shown_split frames [] second show = record { earlier = []; later = frames; are = refl; show_first = none_shown; show_second = show }
-shown_split [] (w ∷ first) second show = let wrong = ap length show.stand in absurd (omega (arith, wrong))
+shown_split [] (w ∷ first) second show = let wrong = ap length show.in_order in absurd (omega (arith, wrong))
 shown_split (f ∷ frames) (w ∷ first) second show =
     let one = shown_first f frames (w ∷ (first ++ second)) show in
     let same = first_same w one.0 (first ++ second) one.1 one.2 in
@@ -53,33 +53,33 @@ shown_split (f ∷ frames) (w ∷ first) second show =
       later = rest.later;
       are = ap (λ (fs : List PlacedFrame). f ∷ fs) rest.are;
       show_first = record {
-        stand = ap₂ (λ (x : Placed FrameText) (t : List (Placed FrameText)). x ∷ t) (one.3 ∙ ap placed_text (sym same.0)) rest.show_first.stand;
+        in_order = ap₂ (λ (x : Placed FrameText) (t : List (Placed FrameText)). x ∷ t) (one.3 ∙ ap placed_text (sym same.0)) rest.show_first.in_order;
         are_whole = All-cons IsWhole w first (subst IsWhole (sym same.0) one.4) rest.show_first.are_whole;
       };
       show_second = rest.show_second;
     }
 
--- the view of a whole frame that stands among others
-record ViewOf (frames : List PlacedFrame) (w : Placed WholeFrame) (behind : List (Placed WholeFrame)) : Type 0 where
+-- the view of a whole frame that is among others
+record ViewOf (frames : List PlacedFrame) (w : Placed WholeFrame) (after : List (Placed WholeFrame)) : Type 0 where
   earlier : List PlacedFrame
   frame : PlacedFrame
   later : List PlacedFrame
   are : frames ≡ earlier ++ frame ∷ later
   same : frame ≡ placed_text w
   whole : IsWhole w
-  show_behind : AreViews later behind
+  show_after : AreViews later after
 
-view_of : (frames : List PlacedFrame) (before : List (Placed WholeFrame)) (w : Placed WholeFrame) (behind : List (Placed WholeFrame))
-    → AreViews frames (before ++ w ∷ behind) → ViewOf frames w behind
-view_of frames before w behind show =
-    let apart = shown_split frames before (w ∷ behind) show in
+view_of : (frames : List PlacedFrame) (before : List (Placed WholeFrame)) (w : Placed WholeFrame) (after : List (Placed WholeFrame))
+    → AreViews frames (before ++ w ∷ after) → ViewOf frames w after
+view_of frames before w after show =
+    let apart = shown_split frames before (w ∷ after) show in
     first_view apart.later apart.earlier apart.are apart.show_second
   where
-    first_view : (later earlier : List PlacedFrame) → frames ≡ earlier ++ later → AreViews later (w ∷ behind) → ViewOf frames w behind
-    first_view [] earlier are show = let wrong = ap length show.stand in absurd (omega (arith, wrong))
+    first_view : (later earlier : List PlacedFrame) → frames ≡ earlier ++ later → AreViews later (w ∷ after) → ViewOf frames w after
+    first_view [] earlier are show = let wrong = ap length show.in_order in absurd (omega (arith, wrong))
     first_view (f ∷ later) earlier are show =
-        let one = shown_first f later (w ∷ behind) show in
-        let same = first_same w one.0 behind one.1 one.2 in
+        let one = shown_first f later (w ∷ after) show in
+        let same = first_same w one.0 after one.1 one.2 in
         record {
           earlier = earlier;
           frame = f;
@@ -87,12 +87,12 @@ view_of frames before w behind show =
           are = are;
           same = one.3 ∙ ap placed_text (sym same.0);
           whole = subst IsWhole (sym same.0) one.4;
-          show_behind = subst (AreViews later) (sym same.1) one.5;
+          show_after = subst (AreViews later) (sym same.1) one.5;
         }
 
 -- ---- the last of the frames that have begun
 
--- the one that holds the place is the last that has begun
+-- the frame that holds the place is the last one that has begun
 last_begun : (earlier : List PlacedFrame) (frame : PlacedFrame) (later : List PlacedFrame) (place count : ℕ) → AllPairs AreApart (earlier ++ frame ∷ later)
     → Holds place frame → IsSplitAt (earlier ++ frame ∷ later) place count → count ≡ length earlier + 1
 last_begun earlier frame later place count apart holds begun =
@@ -104,7 +104,7 @@ last_begun earlier frame later place count apart holds begun =
     let here : get_or frames (length earlier) frame ≡ frame = get_or-append_seam earlier frame later frame in
     elim (cases_lt count (length earlier + 1)) [
       | inl few ↦
-          let late = begun.behind (length earlier) frame (omega (arith, few)) (omega (arith, long)) in
+          let late = begun.after (length earlier) frame (omega (arith, few)) (omega (arith, long)) in
           let there = ap (λ (f : PlacedFrame). f.place) here in
           absurd (omega (arith, from, late, there))
       | inr enough ↦ elim (cases_lt (length earlier + 1) count) [
@@ -120,12 +120,12 @@ last_begun earlier frame later place count apart holds begun =
 
 -- ---- the first place that is left
 
--- the frame of the first of the chosen events, those before it, which have none, and those behind it
+-- the frame of the first chosen event, the frames before it, which have no chosen event, and those after it
 record FirstChosen (choice : EventRead → Bool) (ahead : List (Placed WholeFrame)) (place : ℕ) : Type 0 where
   front : List (Placed WholeFrame)
   whole : Placed WholeFrame
-  behind : List (Placed WholeFrame)
-  are : ahead ≡ front ++ whole ∷ behind
+  after : List (Placed WholeFrame)
+  are : ahead ≡ front ++ whole ∷ after
   none : filter choice (events_of_wholes front) ≡ []
   event : EventRead
   others : List EventRead
@@ -149,7 +149,7 @@ first_chosen choice (w ∷ ahead) place rest left = by_own (first_chosen choice 
         record {
           front = w ∷ more.front;
           whole = more.whole;
-          behind = more.behind;
+          after = more.after;
           are = ap (λ ws. w ∷ ws) more.are;
           none = chosen_of choice w more.front ∙ ap (λ es. es ++ filter choice (events_of_wholes more.front)) is ∙ more.none;
           event = more.event;
@@ -163,7 +163,7 @@ first_chosen choice (w ∷ ahead) place rest left = by_own (first_chosen choice 
         record {
           front = [];
           whole = w;
-          behind = ahead;
+          after = ahead;
           are = refl;
           none = refl;
           event = e;
@@ -172,10 +172,10 @@ first_chosen choice (w ∷ ahead) place rest left = by_own (first_chosen choice 
           at = sym (first_same place e.place rest (places_of (others ++ filter choice (events_of_wholes ahead))) same).0;
         }
 
--- its view, which is the last that has begun
+-- the view of that frame, which is the last one that has begun
 record NextFrame (frames : List PlacedFrame) (choice : EventRead → Bool) (ahead : List (Placed WholeFrame)) (place : ℕ) : Type 0 where
   chosen : FirstChosen choice ahead place
-  view : ViewOf frames chosen.whole chosen.behind
+  view : ViewOf frames chosen.whole chosen.after
   holds : Holds place view.frame
 
 next_frame : (frames : List PlacedFrame) (ahead : List (Placed WholeFrame)) → AreViews frames ahead → (choice : EventRead → Bool) (place : ℕ)
@@ -183,7 +183,7 @@ next_frame : (frames : List PlacedFrame) (ahead : List (Placed WholeFrame)) → 
 next_frame frames ahead show choice place rest left =
     let chosen = first_chosen choice ahead place rest left in
     let w = chosen.whole in
-    let view = view_of frames chosen.front w chosen.behind (subst (AreViews frames) chosen.are show) in
+    let view = view_of frames chosen.front w chosen.after (subst (AreViews frames) chosen.are show) in
     let within : IsInSpan w chosen.event =
     All-head (IsInSpan w) chosen.event chosen.others
     (subst (All (IsInSpan w)) chosen.first (All-filter choice (IsInSpan w) (events_of_whole w) (whole_within w view.whole))) in
@@ -218,7 +218,7 @@ attached_within (f ∷ frames) =
 
 module _ (frames ahead : List PlacedFrame) (good : AreGoodFrames frames) (entries : List Entry) (passed : HasPassed frames ahead entries) where
   pub apart_ahead : AllPairs AreApart ahead
-  apart_ahead = (pairs_parts AreApart passed.passed ahead (subst (AllPairs AreApart) passed.are good.apart)).1
+  apart_ahead = (pairs_halves AreApart passed.passed ahead (subst (AllPairs AreApart) passed.are good.apart)).1
 
   module _ (count : ℕ) (some : 0 < count) (within : count ≤ length ahead) (d : PlacedFrame) where
     abbrev frame_there : PlacedFrame
@@ -226,7 +226,7 @@ module _ (frames ahead : List PlacedFrame) (good : AreGoodFrames frames) (entrie
 
     pub good_there : HasGoodContent frame_there.unit
     good_there =
-        (all_parts (λ f. HasGoodContent f.unit) passed.passed ahead
+        (all_halves (λ f. HasGoodContent f.unit) passed.passed ahead
         (subst (All (λ f. HasGoodContent f.unit)) passed.are good.good)).1 (count - 1) d (omega (arith, some, within))
 
     split_there : ahead ≡ take (count - 1) ahead ++ frame_there ∷ drop count ahead
@@ -259,7 +259,7 @@ module _ (frames ahead : List PlacedFrame) (good : AreGoodFrames frames) (entrie
           few = omega (arith, attached, few, grows);
         }
 
-  -- all of them have no more than frames may have together
+  -- the lists of offsets have no more bytes than good frames may have
   pub few_bytes : list_bytes entries ≤ 2 ^ 32
   few_bytes =
       let few = passed.few in
@@ -279,9 +279,9 @@ begins_with_none (n ∷ numbers) is = let wrong : None ≡ Some n = is in absurd
 
 -- ---- so far
 
--- the entries show the attachments of the chosen events of the frames that are done, and the places of those of the
--- frames ahead are left
-pub record Stands (wholes : List (Placed WholeFrame)) (choice : EventRead → Bool) (frames : List PlacedFrame) (left : List ℕ) (entries : List Entry) :
+-- the entries show the attachments of the chosen events of the frames that are done; the places of the chosen events of
+-- the frames ahead are left
+pub record IsThere (wholes : List (Placed WholeFrame)) (choice : EventRead → Bool) (frames : List PlacedFrame) (left : List ℕ) (entries : List Entry) :
     Type 0 where
   pub done : List (Placed WholeFrame)
   pub ahead : List (Placed WholeFrame)
@@ -290,14 +290,14 @@ pub record Stands (wholes : List (Placed WholeFrame)) (choice : EventRead → Bo
   pub left_is : left ≡ places_of (filter choice (events_of_wholes ahead))
   pub shown : ShowAttachments entries (carried_by (filter choice (events_of_wholes done)))
 
--- however events of these frames are chosen that are at the places
-abbrev pub StandsFor : List PlacedFrame → List ℕ → List PlacedFrame → List ℕ → List Entry → Type 0
-StandsFor frames places ahead left entries =
+-- this holds whatever events of these frames are chosen whose places are the given ones
+abbrev pub IsReadAs : List PlacedFrame → List ℕ → List PlacedFrame → List ℕ → List Entry → Type 0
+IsReadAs frames places ahead left entries =
     (wholes : List (Placed WholeFrame)) (choice : EventRead → Bool) → AreViews frames wholes → AreChosen choice (events_of_wholes wholes) [] places
-    → Stands wholes choice ahead left entries
+    → IsThere wholes choice ahead left entries
 
-pub stands_at_start : (frames : List PlacedFrame) (places : List ℕ) (entries : List Entry) → entries ≡ [] → StandsFor frames places frames places entries
-stands_at_start frames places entries none wholes choice show chosen = record {
+pub is_at_start : (frames : List PlacedFrame) (places : List ℕ) (entries : List Entry) → entries ≡ [] → IsReadAs frames places frames places entries
+is_at_start frames places entries none wholes choice show chosen = record {
   done = [];
   ahead = wholes;
   are = refl;
@@ -306,10 +306,10 @@ stands_at_start frames places entries none wholes choice show chosen = record {
   shown = ap (map entry_attachment) none;
 }
 
-pub all_at_end : (frames : List PlacedFrame) (places : List ℕ) (ahead : List PlacedFrame) (entries : List Entry) → StandsFor frames places ahead [] entries
+pub all_at_end : (frames : List PlacedFrame) (places : List ℕ) (ahead : List PlacedFrame) (entries : List Entry) → IsReadAs frames places ahead [] entries
     → AreEntriesAt frames places entries
-all_at_end frames places ahead entries stands wholes choice show chosen =
-    let s = stands wholes choice show chosen in
+all_at_end frames places ahead entries is_at wholes choice show chosen =
+    let s = is_at wholes choice show chosen in
     let none = no_places (filter choice (events_of_wholes s.ahead)) s.left_is in
     let all : filter choice (events_of_wholes s.done) ≡ filter choice (events_of_wholes wholes) =
     sym (ap (λ ws. filter choice (events_of_wholes ws)) s.are ∙ ap (filter choice) (events-append s.done s.ahead)
@@ -321,7 +321,7 @@ all_at_end frames places ahead entries stands wholes choice show chosen =
     no_places [] none = refl
     no_places (e ∷ events) none = let wrong : [] ≡ e.place ∷ places_of events = none in absurd (cc)
 
--- where the places of events rise, so do those of the first ones and of the chosen others
+-- if the places of events rise, so do those of the first events followed by those of the chosen later ones
 rise_part : (choice : EventRead → Bool) (events later : List EventRead) → Rise (places_of (events ++ later))
     → Rise (places_of events ++ places_of (filter choice later))
 rise_part choice [] later rise =
@@ -349,7 +349,7 @@ rise_part choice (e ∷ events) later rise =
 
 module _ (frames : List PlacedFrame) (good : AreGoodFrames frames) (wholes : List (Placed WholeFrame)) (choice : EventRead → Bool) (show : AreViews frames wholes)
     (ahead : List PlacedFrame) (apart : AllPairs AreApart ahead) (place : ℕ) (rest : List ℕ) (entries : List Entry)
-    (s : Stands wholes choice ahead (place ∷ rest) entries) (count : ℕ) (begun : IsSplitAt ahead place count) where
+    (s : IsThere wholes choice ahead (place ∷ rest) entries) (count : ℕ) (begun : IsSplitAt ahead place count) where
   next : NextFrame ahead choice s.ahead place
   next = next_frame ahead s.ahead s.show_ahead choice place rest s.left_is
 
@@ -376,33 +376,33 @@ module _ (frames : List PlacedFrame) (good : AreGoodFrames frames) (wholes : Lis
       ap (λ n. drop n ahead) is ∙ ap (drop (length next.view.earlier + 1)) next.view.are
       ∙ drop-append-add next.view.earlier (next.view.frame ∷ next.view.later) 1
 
-  split : wholes ≡ (s.done ++ next.chosen.front) ++ next.chosen.whole ∷ next.chosen.behind
-  split = s.are ∙ ap (λ ws. s.done ++ ws) next.chosen.are ∙ sym (append_assoc s.done next.chosen.front (next.chosen.whole ∷ next.chosen.behind))
+  split : wholes ≡ (s.done ++ next.chosen.front) ++ next.chosen.whole ∷ next.chosen.after
+  split = s.are ∙ ap (λ ws. s.done ++ ws) next.chosen.are ∙ sym (append_assoc s.done next.chosen.front (next.chosen.whole ∷ next.chosen.after))
 
   abbrev others : List ℕ
-  others = places_of (filter choice (events_of_wholes next.chosen.behind))
+  others = places_of (filter choice (events_of_wholes next.chosen.after))
 
   left_here : AreChosen choice (events_of_whole next.chosen.whole) others (place ∷ rest)
   unfolding next
   left_here =
       let w = next.chosen.whole in
-      let behind = next.chosen.behind in
-      let parts = ap (filter choice) (events-append next.chosen.front (w ∷ behind)) ∙ filter-append choice (events_of_wholes next.chosen.front) (events_of_wholes (w ∷ behind))
-      ∙ ap (λ es. es ++ filter choice (events_of_wholes (w ∷ behind))) next.chosen.none ∙ chosen_of choice w behind in
+      let after = next.chosen.after in
+      let parts = ap (filter choice) (events-append next.chosen.front (w ∷ after)) ∙ filter-append choice (events_of_wholes next.chosen.front) (events_of_wholes (w ∷ after))
+      ∙ ap (λ es. es ++ filter choice (events_of_wholes (w ∷ after))) next.chosen.none ∙ chosen_of choice w after in
       s.left_is ∙ ap (λ ws. places_of (filter choice (events_of_wholes ws))) next.chosen.are ∙ ap places_of parts
-      ∙ map-append (λ (e : EventRead). e.place) (filter choice (events_of_whole w)) (filter choice (events_of_wholes behind))
+      ∙ map-append (λ (e : EventRead). e.place) (filter choice (events_of_whole w)) (filter choice (events_of_wholes after))
 
   rising : Rise (places_of (events_of_whole next.chosen.whole) ++ others)
   rising =
       let w = next.chosen.whole in
-      let behind = next.chosen.behind in
+      let after = next.chosen.after in
       let before = s.done ++ next.chosen.front in
       let all = (few_frames frames wholes good show).1.0.1 in
-      let parts = ap events_of_wholes split ∙ events-append before (w ∷ behind) ∙ ap (λ es. events_of_wholes before ++ es) (flat_map-cons events_of_whole w behind) in
-      let later = rising_parts (λ (e : EventRead). e.place) (events_of_wholes before) (events_of_whole w ++ events_of_wholes behind)
+      let parts = ap events_of_wholes split ∙ events-append before (w ∷ after) ∙ ap (λ es. events_of_wholes before ++ es) (flat_map-cons events_of_whole w after) in
+      let later = rising_halves (λ (e : EventRead). e.place) (events_of_wholes before) (events_of_whole w ++ events_of_wholes after)
       (subst (PlacesRise (λ (e : EventRead). e.place)) parts all) in
-      rise_part choice (events_of_whole w) (events_of_wholes behind)
-      (pairs_map (λ a b. a < b) (λ (e : EventRead). e.place) (events_of_whole w ++ events_of_wholes behind) later.1)
+      rise_part choice (events_of_whole w) (events_of_wholes after)
+      (pairs_map (λ a b. a < b) (λ (e : EventRead). e.place) (events_of_whole w ++ events_of_wholes after) later.1)
 
   module _ (frame : PlacedFrame) (d : PlacedFrame) (is : frame ≡ get_or ahead (count - 1) d) where
     same : frame ≡ placed_text next.chosen.whole
@@ -414,9 +414,9 @@ module _ (frames : List PlacedFrame) (good : AreGoodFrames frames) (wholes : Lis
         (of.0, of.1, of.2, of.3, sym (append-nil (events_of_whole next.chosen.whole)) ∙ of.4)
 
     -- the frame is done
-    pub stands_after : (new : List Entry) (left : List ℕ) → AddsEntries entries frame (place ∷ rest) new left
-        → Stands wholes choice (drop count ahead) left new
-    stands_after new left adds =
+    pub is_after : (new : List Entry) (left : List ℕ) → AddsEntries entries frame (place ∷ rest) new left
+        → IsThere wholes choice (drop count ahead) left new
+    is_after new left adds =
         let w = next.chosen.whole in
         let before = s.done ++ next.chosen.front in
         let more = adds (events_of_whole w) choice others events_of_it rising left_here in
@@ -428,9 +428,9 @@ module _ (frames : List PlacedFrame) (good : AreGoodFrames frames) (wholes : Lis
         ∙ filter-append choice (events_of_wholes before) (events_of_whole w)) in
         record {
           done = before ++ w ∷ [];
-          ahead = next.chosen.behind;
-          are = split ∙ sym (append_assoc before (w ∷ []) next.chosen.behind);
-          show_ahead = subst (λ fs. AreViews fs next.chosen.behind) (sym later_ahead) next.view.show_behind;
+          ahead = next.chosen.after;
+          are = split ∙ sym (append_assoc before (w ∷ []) next.chosen.after);
+          show_ahead = subst (λ fs. AreViews fs next.chosen.after) (sym later_ahead) next.view.show_after;
           left_is = more.0;
           shown = more.1 ∙ ap (λ us. us ++ carried_by (filter choice (events_of_whole w))) (s.shown ∙ ap carried_by chosen_before)
               ∙ sym (filter_map-append (λ (e : EventRead). e.entry) (filter choice (events_of_wholes before)) (filter choice (events_of_whole w)))

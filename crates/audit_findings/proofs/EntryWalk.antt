@@ -1,4 +1,4 @@
--- A walk through the events of a frame beside the places of those that are chosen.
+-- A walk through the events of a frame and through the places of the chosen ones at the same time.
 use Rattle.std.proofs.Common.{◌≡◌, ◌≢◌, ℕ, ◌+◌, ◌<◌, ◌≤◌, Bool, true, false, List, [], ◌∷◌, ◌++◌, length, map, All, Option, Some, None, refl, sym, ap, ap₂, subst, ◌∙◌, append_assoc, arith, ⊎_elim}
 use Rattle.std.specs.Prelude.{filter}
 use Rattle.std.specs.List.{sum_by}
@@ -6,7 +6,7 @@ use Rattle.std.proofs.lemmas.Bool.{cases_Bool}
 use Rattle.std.proofs.lemmas.List.{append-nil, map-append}
 use Rattle.std.proofs.lemmas.List.Elements.{All-head, All-tail, filter-append, filter_map-append}
 use Rattle.std.proofs.lemmas.List.Sums.{sum_by-append}
-use Rattle.capture_frame.specs.Envelope.{frame_text, placed_frame, PlacedFrame}
+use Rattle.capture_frame.specs.Envelope.{PlacedFrame}
 use Rattle.event_core.specs.Events.{AttachmentText, EventRead}
 use Rattle.event_core.specs.Reading.{Reading, Steps, entry_attachment, event_text}
 use Rattle.event_core.specs.declared.event.Event.{Event}
@@ -28,7 +28,7 @@ kept_first p x xs is = rw is refl
 pub left_out : {X : Type 0} (p : X → Bool) (x : X) (xs : List X) → p x ≡ false → filter p (x ∷ xs) ≡ filter p xs
 left_out p x xs is = rw is refl
 
--- where all places are above this one, it is not the first of those that are chosen
+-- if all places are above this one, it is not the first of the chosen ones
 not_first : (choice : EventRead → Bool) (place : ℕ) (later : List EventRead) (others rest : List ℕ) → All (λ p. place < p) (places_of later ++ others)
     → places_of (filter choice later) ++ others ≢ place ∷ rest
 not_first choice place [] others rest above same =
@@ -47,7 +47,7 @@ not_first choice place (e ∷ later) others rest above same =
     not_first choice place later others rest more (ap (λ es. places_of es ++ others) (sym (left_out choice e later no)) ∙ same))
     (cases_Bool (choice e))
 
--- after the first of rising places all are above
+-- if places rise, all places after one are above it
 rise_after : (before : List EventRead) (e : EventRead) (later : List EventRead) (others : List ℕ) → Rise (places_of (before ++ e ∷ later) ++ others)
     → All (λ p. e.place < p) (places_of later ++ others)
 rise_after [] e later others rise = pairs_head (λ a b. a < b) e.place (places_of later ++ others) rise
@@ -77,8 +77,7 @@ one_carried e (Some entry) is =
 abbrev pub GrowsGiven : List Entry → List Event → List Entry → Type 0
 GrowsGiven old given new = list_bytes new ≤ list_bytes old + sum_by offset_bytes_of (map event_text given)
 
--- the entries of the chosen ones among those that it has given are added, and the places of those that it has not given
--- are left
+-- the entries of the chosen events that it has given are added, and the places of those that it has not given are left
 abbrev pub AddsGiven : List Entry → PlacedFrame → List ℕ → List Event → List Entry → List ℕ → Type 0
 AddsGiven old frame places given new left =
     (events : List EventRead) (choice : EventRead → Bool) (others : List ℕ) → AreEventsOfFrame frame events → Rise (places_of events ++ others)
@@ -90,7 +89,7 @@ pub adds_at_start : (entries : List Entry) (frame : PlacedFrame) (places : List 
 adds_at_start entries frame places events choice others of rise chosen later is =
     (chosen ∙ ap (λ es. places_of (filter choice es) ++ others) is, sym (append-nil (map entry_attachment entries)))
 
--- the texts of one event more
+-- what one more event says is added to what the events say
 texts_more : (given : List Event) (found : Event) → map event_text (given ++ found ∷ []) ≡ map event_text given ++ event_text found ∷ []
 texts_more given found = map-append event_text given (found ∷ [])
 
@@ -158,7 +157,7 @@ module _ (old middle : List Entry) (frame : PlacedFrame) (places left : List ℕ
       absurd (not_first choice E.place later others rest (above events later others is_ahead rise) left_is))
       (cases_Bool (choice E))
 
-  -- it is not
+  -- the next place is not that of the event
   pub adds_other : ((rest : List ℕ) → left ≢ E.place ∷ rest) → AddsGiven old frame places (given ++ found ∷ []) middle left
   adds_other never events choice others of rise chosen later is =
       let is_ahead = ahead events later is in

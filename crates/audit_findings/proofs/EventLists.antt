@@ -1,5 +1,4 @@
--- Events that pass a test among those of their process: as their items pass it, and as the lists of all processes have
--- them.
+-- Events that pass a test among those of their process: by their items, and from the lists of all processes.
 use Rattle.std.proofs.Common.{◌≡◌, ℕ, Bool, true, false, cond, List, [], ◌∷◌, ◌++◌, length, map, All, Option, Some, None, ◌⊎◌, inl, inr, refl, sym, ap, subst, ◌∙◌, ◌||◌, ◌&&◌, not}
 use Rattle.std.proofs.Common.{IsPermutation, IsSorted, nat_cmp}
 use Rattle.std.specs.Prelude.{option_and_then}
@@ -23,7 +22,7 @@ use Rattle.pending_ledger.specs.Pending.{changes_of, closes, is_close, is_left_o
 use Rattle.process_ledgers.specs.Items.{KeepsPlace}
 use Rattle.process_ledgers.specs.Processes.{process_of_whole, processes_of}
 use Rattle.summary_law.specs.Readings.{by_key, chosen, read_all, read_each, with_key}
-use Rattle.summary_law.proofs.GatherLaws.{HasKeyOrNothing, as_it_is, gathered_sorted}
+use Rattle.summary_law.proofs.GatherLaws.{HasKeyOrNothing, gathered_sorted}
 use Rattle.summary_law.proofs.InOrderLaws.{each_among_firsts, firsts_distinct}
 use Rattle.summary_law.proofs.Members.{Rises, in_place, rises-map}
 use Rattle.summary_law.proofs.ReadingLaws.{chosen-is, read-both, read-made, read-picked, read-rises}
@@ -35,7 +34,7 @@ use Rattle.audit_findings.specs.Places.{EventTest, RiseInPlace, either, is_stray
 abbrev pub place_of_event : EventRead → ℕ
 place_of_event e = e.place
 
--- ---- an event passes where its item does
+-- ---- an event passes if its item does
 
 module _ {I : Type 0} (place : I → ℕ) (read : EventRead → Option I) (keeps : KeepsPlace place read) (test : List I → I → List I → Bool) where
   abbrev of_item : List EventRead → EventRead → List EventRead → Option I
@@ -87,11 +86,11 @@ each_own P (whole ∷ wholes) all =
     (All-append Own (events_of_whole whole) (events_of_wholes wholes) mine
     (each_own P wholes (All-tail P (process_of_whole whole) (map process_of_whole wholes) all)))
 
--- the process of an event is among these
+-- the process of the event is among these
 abbrev pub IsKnown : List Process → EventRead → Type 0
 IsKnown known e = list_any (same_process (process_of e)) known ≡ true
 
--- that of each event of these frames is one of theirs
+-- the process of each event of these frames is one of theirs
 pub each_known : (wholes : List (Placed WholeFrame)) → All (IsKnown (processes_of wholes)) (events_of_wholes wholes)
 each_known wholes =
     each_own (λ process. list_any (same_process process) (processes_of wholes) ≡ true) wholes
@@ -99,11 +98,11 @@ each_known wholes =
 
 -- ---- the events of all processes
 
--- those of an event's process
+-- the events of this event's process
 abbrev beside : EventRead → List EventRead → List EventRead
 beside e others = with_key same_process process_of (process_of e) others
 
--- listed events rise
+-- the places of listed events rise
 pub listed_rises : (test : EventTest) (events : List EventRead) → RiseInPlace events → Rises place_of_event (listed test events)
 listed_rises test events rise =
     read-rises (by_key same_process process_of (chosen test)) place_of_event place_of_event
@@ -162,7 +161,7 @@ module _ (read : EventRead → Option (PendingItem ℕ)) where
   chosen_either true second e = refl
   chosen_either false second e = elim second as (λ b. option_or None (cond b (Some e) None) ≡ cond b (Some e) None) [ true ↦ refl | false ↦ refl ]
 
-  -- opens and then closes are all of them, but for the order
+  -- the unclosed opens followed by the stray closes are all of both, but for the order
   both_listed : (events : List EventRead)
       → IsPermutation (listed (is_unclosed read) events ++ listed (is_stray_close read) events) (listed (either (is_unclosed read) (is_stray_close read)) events)
   both_listed events =
@@ -173,7 +172,7 @@ module _ (read : EventRead → Option (PendingItem ℕ)) where
       (λ b e l. chosen_apart (is_unclosed read (beside e b) e (beside e l)) (is_stray_close read (beside e b) e (beside e l)) e
       (tests_apart (beside e b) e (beside e l))) [] events)
 
-  -- what is kept of them
+  -- what is kept of both
   pub both_kept : (events : List EventRead) → RiseInPlace events → (opens closes rows : List ℕ) → opens ≡ places_of (listed (is_unclosed read) events)
       → closes ≡ places_of (listed (is_stray_close read) events) → IsPermutation (opens ++ closes) rows → IsSorted nat_cmp rows → (found : OpenAndStray ℕ)
       → found.unclosed ≡ length opens → found.strays ≡ length closes → found.rows ≡ rows → found ≡ pairs_at_places (open_and_stray read events)

@@ -9,8 +9,8 @@ use Rattle.std.proofs.lemmas.List.Concat.{flat_map-cons}
 use Rattle.std.proofs.lemmas.List.Sums.{sum_by-append}
 use Rattle.std.proofs.lemmas.List.Elements.{All-append, All-cons, All-nil}
 use Rattle.capture_frame.specs.declared.fault.FaultKind.{FaultKind}
-use Rattle.capture_frame.specs.Envelope.{FrameText, placed_frame, commands_place, attachments_place, PlacedFrame}
-use Rattle.capture_frame.specs.Units.{Placed, placed, Format, AllStand, spelling_of}
+use Rattle.capture_frame.specs.Envelope.{FrameText, commands_place, attachments_place, PlacedFrame}
+use Rattle.capture_frame.specs.Units.{Placed, placed, Format, AllMayCome, spelling_of}
 use Rattle.record_view.specs.Records.{RecordText, record_bytes, record_format, HasRecords, protocol_of}
 use Rattle.record_view.proofs.RecordLaws.{length-record_bytes}
 use Rattle.transaction_view.specs.Attachments.{EntryText, entry_bytes, entry_format, HasEntries}
@@ -45,12 +45,12 @@ placed_long : (base : ℕ) (records : List RecordText) → length (placed record
 placed_long base [] = refl
 placed_long base (r ∷ records) = let more = placed_long (base + length (record_bytes r)) records in omega (arith, more)
 
--- ---- each has a small list of offsets
+-- ---- each event has a small list of offsets
 
 abbrev pub bytes_of : Option AttachmentText → ℕ
 bytes_of entry = option_map_or (λ (a : AttachmentText). length a.offset_bytes) entry 0
 
-found_small : (frame : FrameText) (start place base : ℕ) (entries : List EntryText) (state : Option ℕ) → AllStand (entry_format frame) state entries
+found_small : (frame : FrameText) (start place base : ℕ) (entries : List EntryText) (state : Option ℕ) → AllMayCome (entry_format frame) state entries
     → bytes_of (option_map attachment_text (find (belongs_to start place) (placed entry_bytes base entries))) < 2 ^ 32
 found_small frame start place base [] state all = omega arith
 found_small frame start place base (e ∷ entries) state all = elim (cases_eq (start + e.offset) place) [
@@ -63,10 +63,10 @@ events_small : (frame : Placed FrameText) (entries : List EntryText) (records : 
 events_small frame entries [] has = All-nil HasSmall
 events_small frame entries (r ∷ records) has =
     All-cons HasSmall (event_of frame entries r) (map (event_of frame entries) records)
-    (found_small frame.unit (commands_place frame.place) r.place (attachments_place frame.unit frame.place) entries None has.stand)
+    (found_small frame.unit (commands_place frame.place) r.place (attachments_place frame.unit frame.place) entries None has.in_order)
     (events_small frame entries records has)
 
--- ---- those of views of good frames are few, and rise
+-- ---- the events of views of good frames are few, and rise
 
 whole_short : (frame : PlacedFrame) (w : Placed WholeFrame) → frame ≡ placed_text w → IsWhole w
     → length (events_of_whole w) + 32 ≤ span_of frame

@@ -1,9 +1,9 @@
--- Frames, and the whole frames that they are.
+-- Views of frames, and the whole frames that they show.
 use Rattle.std.proofs.Common.{◌≡◌, List, [], ◌∷◌, ◌++◌, length, map, All, Some, None, refl, sym, ap, ap₂, subst, ◌∙◌, append_assoc, arith}
 use Rattle.std.proofs.lemmas.Grind.{flat_map-append}
 use Rattle.std.proofs.lemmas.List.{append-nil}
 use Rattle.std.proofs.lemmas.List.Elements.{All-cons, All-head, All-nil, All-tail}
-use Rattle.capture_frame.specs.Envelope.{FrameText, frame_text, placed_frame, PlacedFrame}
+use Rattle.capture_frame.specs.Envelope.{FrameText, PlacedFrame}
 use Rattle.capture_frame.specs.Units.{Placed, placed_at}
 use Rattle.transaction_view.specs.FirstFault.{HasGoodContent}
 use Rattle.transaction_view.specs.Grammar.{WholeFrame}
@@ -16,7 +16,7 @@ use Rattle.event_core.proofs.EventsGiven.{Given, one_further, given_first, given
 use Rattle.capture_frame.specs.Process.{process_of_frame}
 use Rattle.process_ledgers.specs.Processes.{process_of_whole}
 use Rattle.audit_findings.specs.Ledgers.{AreFewEvents, AreFewFrames}
-use Rattle.audit_findings.proofs.FewLaws.{few_parts}
+use Rattle.audit_findings.proofs.FewLaws.{few_halves}
 use Rattle.audit_findings.specs.Frames.{AreViews, IsWhole}
 use Rattle.event_core.specs.Events.{placed_text}
 use Rattle.event_core.specs.Events.{events_of_wholes}
@@ -24,15 +24,15 @@ use Rattle.event_core.specs.Events.{events_of_wholes}
 pub events-append : (wholes others : List (Placed WholeFrame)) → events_of_wholes (wholes ++ others) ≡ events_of_wholes wholes ++ events_of_wholes others
 events-append wholes others = flat_map-append events_of_whole wholes others
 
--- no view shows no whole frame
+-- an empty list of views shows an empty list of whole frames
 pub none_shown : AreViews [] []
-none_shown = record { stand = refl; are_whole = All-nil IsWhole }
+none_shown = record { in_order = refl; are_whole = All-nil IsWhole }
 
 pub shown_none : (wholes : List (Placed WholeFrame)) → AreViews [] wholes → wholes ≡ []
 shown_none [] show = refl
-shown_none (w ∷ wholes) show = let wrong = ap length show.stand in absurd (omega (arith, wrong))
+shown_none (w ∷ wholes) show = let wrong = ap length show.in_order in absurd (omega (arith, wrong))
 
--- two lists that begin alike
+-- if two lists are the same, so are their first elements, and the others
 pub first_same : {A : Type 0} (x y : A) (xs ys : List A) → x ∷ xs ≡ y ∷ ys → (x ≡ y) × (xs ≡ ys)
 first_same x y xs ys same = (cc, cc)
 
@@ -40,34 +40,34 @@ first_same x y xs ys same = (cc, cc)
 pub shown_first : (frame : PlacedFrame) (frames : List PlacedFrame) (wholes : List (Placed WholeFrame)) → AreViews (frame ∷ frames) wholes
     → (w : Placed WholeFrame) × (others : List (Placed WholeFrame)) × (wholes ≡ w ∷ others) × (frame ≡ placed_text w) × IsWhole w
     × AreViews frames others
-shown_first frame frames [] show = let wrong = ap length show.stand in absurd (omega (arith, wrong))
+shown_first frame frames [] show = let wrong = ap length show.in_order in absurd (omega (arith, wrong))
 shown_first frame frames (w ∷ wholes) show =
-    let same = first_same frame (placed_text w) frames (map placed_text wholes) show.stand in (
+    let same = first_same frame (placed_text w) frames (map placed_text wholes) show.in_order in (
       w,
       wholes,
       refl,
       same.0,
       All-head IsWhole w wholes show.are_whole,
-      record { stand = same.1; are_whole = All-tail IsWhole w wholes show.are_whole },
+      record { in_order = same.1; are_whole = All-tail IsWhole w wholes show.are_whole },
     )
 
-pub shown_parts : (frames more : List PlacedFrame) (wholes : List (Placed WholeFrame)) → AreViews (frames ++ more) wholes
+pub shown_halves : (frames more : List PlacedFrame) (wholes : List (Placed WholeFrame)) → AreViews (frames ++ more) wholes
     → (first second : List (Placed WholeFrame)) × (wholes ≡ first ++ second) × AreViews frames first × AreViews more second
-shown_parts [] more wholes show = ([], wholes, refl, none_shown, show)
-shown_parts (f ∷ frames) more wholes show =
+shown_halves [] more wholes show = ([], wholes, refl, none_shown, show)
+shown_halves (f ∷ frames) more wholes show =
     let one = shown_first f (frames ++ more) wholes show in
-    let rest = shown_parts frames more one.1 one.5 in (
+    let rest = shown_halves frames more one.1 one.5 in (
       one.0 ∷ rest.0,
       rest.1,
       one.2 ∙ ap (λ (t : List (Placed WholeFrame)). one.0 ∷ t) rest.2,
       record {
-        stand = ap₂ (λ (x : Placed FrameText) (t : List (Placed FrameText)). x ∷ t) one.3 rest.3.stand;
+        in_order = ap₂ (λ (x : Placed FrameText) (t : List (Placed FrameText)). x ∷ t) one.3 rest.3.in_order;
         are_whole = All-cons IsWhole one.0 rest.0 one.4 rest.3.are_whole;
       },
       rest.4,
     )
 
--- good frames show whole frames
+-- a good frame shows a whole frame
 shown_one : (frame : PlacedFrame) → HasGoodContent frame.unit → (w : Placed WholeFrame) × (frame ≡ placed_text w) × IsWhole w
 shown_one frame good =
     let w : Placed WholeFrame = placed_at frame.place record { frame = frame.unit; records = good.0.0; entries = good.1.0 } in
@@ -81,14 +81,14 @@ good_shown (f ∷ frames) good =
     let rest = good_shown frames (All-tail IsGood f frames good) in (
       one.0 ∷ rest.0,
       record {
-        stand = ap₂ (λ (x : Placed FrameText) (t : List (Placed FrameText)). x ∷ t) one.1 rest.1.stand;
+        in_order = ap₂ (λ (x : Placed FrameText) (t : List (Placed FrameText)). x ∷ t) one.1 rest.1.in_order;
         are_whole = All-cons IsWhole one.0 rest.0 one.2 rest.1.are_whole;
       },
     )
 
 -- ---- the events of one frame
 
--- the frame's events are few behind those before, however its bytes are read
+-- the frame's events, following those before, are few, however its bytes are read
 abbrev pub AreFewWith : List EventRead → PlacedFrame → Type 0
 AreFewWith before frame =
     (records : List RecordText) × (entries : List EntryText) × HasRecords frame.unit records × HasEntries frame.unit entries
@@ -118,14 +118,14 @@ few_with before frame wholes others is show few =
     ∙ ap₂ (λ (a b : List EventRead). a ++ b) is (ap events_of_wholes alone ∙ events.4) in
     (events.0, events.1, events.2, events.3, subst AreFewEvents all few.1)
 
--- an event more is few with them
+-- the events before it and those given so far are few
 pub few_next : (before : List EventRead) (frame : PlacedFrame) → AreFewWith before frame → (reading : Reading) (given : List Event)
     → Given frame reading given → AreFewEvents (before ++ map event_text given)
 few_next before frame few reading given so_far =
     let first = given_first frame reading given few.0 few.1 few.2 few.3 so_far in
     let all : before ++ events_of frame few.0 few.1 ≡ (before ++ map event_text given) ++ first.0 =
     ap (λ (t : List EventRead). before ++ t) first.1 ∙ sym (append_assoc before (map event_text given) first.0) in
-    (few_parts (before ++ map event_text given) first.0 (subst AreFewEvents all few.4)).0
+    (few_halves (before ++ map event_text given) first.0 (subst AreFewEvents all few.4)).0
 
 -- at the end they are the events of the whole frame
 pub all_given : (before : List EventRead) (frame : PlacedFrame) (wholes others : List (Placed WholeFrame)) → events_of_wholes wholes ≡ before

@@ -1,8 +1,8 @@
--- The events that a reader gives of a frame, behind those of the frames before.
+-- The events that a reader gives of a frame, following those of the frames before.
 use Rattle.std.proofs.Common.{◌≡◌, ◌<◌, Bool, true, false, cond, List, [], ◌∷◌, ◌++◌, map, Some, None, sym, ap, subst, ◌∙◌, append_assoc, arith, filter_map}
 use Rattle.std.specs.Option.{unwrap_or}
 use Rattle.std.proofs.lemmas.List.{length-map, map-append}
-use Rattle.capture_frame.specs.Envelope.{placed_frame, PlacedFrame}
+use Rattle.capture_frame.specs.Envelope.{PlacedFrame}
 use Rattle.capture_frame.specs.Process.{same_process}
 use Rattle.capture_frame.specs.Units.{Placed}
 use Rattle.capture_frame.specs.declared.process.Process.{Process}
@@ -35,14 +35,14 @@ concerned_there event found is = by_kind (concerns event.kind) is
     by_kind true is = sym (ap (λ o. (unwrap_or o found).1.place) is)
     by_kind false is = let no : ⊥ = cc in absurd no
 
--- the ledgers of all processes sum these pairs, and can
+-- the ledgers of all processes are the sums of these pairs; and pairs that can be summed so
 abbrev pub SumsAll : InOrder Process ProcessLedgers Event → List (Process × Event) → Type 0
 SumsAll processes fed = SumsInOrder same_process SumsProcess processes.entries.entries fed
 
 abbrev pub FitAll : List (Process × Event) → Type 0
 FitAll fed = EachFits same_process ArePlaced fed
 
--- of few events those of each process that concern a ledger can be summarised
+-- among few events, those of each process that concern a ledger can be summed
 pub each_placed : (events : List Event) → AreFewGiven events → EachFits same_process ArePlaced (filter_map concerned events)
 each_placed events few q =
     let fed = filter_map concerned events in
@@ -59,13 +59,13 @@ pub few_given : (before : List Event) (frame : PlacedFrame) → AreFewWith (map 
 few_given before frame few reading given so_far =
     subst AreFewEvents (sym (map-append event_text before given)) (few_next (map event_text before) frame few reading given so_far)
 
--- and so they are with the one that is given next
+-- and they are still few with the one that is given next
 pub few_one_more : (before : List Event) (frame : PlacedFrame) → AreFewWith (map event_text before) frame → (reading : Reading) (given : List Event) (found : Event)
     → Given frame reading (given ++ found ∷ []) → AreFewGiven ((before ++ given) ++ found ∷ [])
 few_one_more before frame few reading given found so_far =
     subst AreFewGiven (sym (append_assoc before given (found ∷ []))) (few_given before frame few reading (given ++ found ∷ []) so_far)
 
--- the order of processes of some frames and of those behind them
+-- the order of processes of some frames and of those after them
 pub order_both : (entries : List (Process × Nothing)) (first second : List (Placed WholeFrame))
     → SumsInOrder same_process (λ (v : Nothing) (items : List ⊤). ⊤) entries
     (map (λ w. (process_of_whole w, tt)) first ++ map (λ w. (process_of_whole w, tt)) second)
@@ -73,7 +73,7 @@ pub order_both : (entries : List (Process × Nothing)) (first second : List (Pla
 order_both entries first second sums =
     subst (SumsInOrder same_process (λ (v : Nothing) (items : List ⊤). ⊤) entries) (sym (map-append (λ w. (process_of_whole w, tt)) first second)) sums
 
--- and with one frame more
+-- and with one more frame
 pub order_next : (entries : List (Process × Nothing)) (wholes : List (Placed WholeFrame)) (next : Placed WholeFrame) (process : Process)
     → process ≡ process_of_whole next
     → SumsInOrder same_process (λ (v : Nothing) (items : List ⊤). ⊤) entries (map (λ w. (process_of_whole w, tt)) wholes ++ (process, tt) ∷ [])
@@ -82,7 +82,7 @@ order_next entries wholes next process is sums =
     order_both entries wholes (next ∷ [])
     (subst (λ (p : Process). SumsInOrder same_process (λ (v : Nothing) (items : List ⊤). ⊤) entries (map (λ w. (process_of_whole w, tt)) wholes ++ (p, tt) ∷ [])) is sums)
 
--- the events of some frames and those of others are the events of both
+-- the events of some frames followed by those of others are the events of all
 pub both_given : (first second : List (Placed WholeFrame)) (given others : List Event) → map event_text given ≡ events_of_wholes first
     → map event_text others ≡ events_of_wholes second → map event_text (given ++ others) ≡ events_of_wholes (first ++ second)
 both_given first second given others is are =

@@ -1,10 +1,9 @@
--- The rows of handles of a process: the deliveries that it never frees, chosen from all events; and lists, one after
--- another.
-use Rattle.std.proofs.Common.{◌≡◌, ◌||◌, ◌<◌, ◌+◌, ℕ, zero, suc, Bool, true, false, cond, eqb, List, [], ◌∷◌, ◌++◌, length, map, take, Some, None, Vec, Global, inl, inr, refl, sym, ap, subst, ◌∙◌, arith, get_or}
+-- The rows of handles of a process: its leaked deliveries, chosen from all events; and lists, one after another.
+use Rattle.std.proofs.Common.{◌≡◌, ◌||◌, ◌<◌, ◌+◌, ℕ, zero, suc, true, false, eqb, List, [], ◌∷◌, ◌++◌, length, map, take, Some, None, Vec, Global, inl, inr, refl, sym, ap, subst, ◌∙◌, arith, get_or}
 use Rattle.std.proofs.Math.Seq.{take-suc}
 use Rattle.std.specs.Prelude.{filter, slice_get, slice_index_or}
 use Rattle.std.specs.Option.{unwrap_or}
-use Rattle.std.specs.List.{flat_map, list_any}
+use Rattle.std.specs.List.{flat_map}
 use Rattle.std.proofs.lemmas.Bool.{eq-eqb, eqb-true}
 use Rattle.std.proofs.lemmas.Grind.{flat_map-append}
 use Rattle.std.proofs.lemmas.List.{append-nil, map-append}
@@ -32,7 +31,7 @@ use Rattle.audit_findings.proofs.Rising.{rising_kept}
 
 -- ---- some of the events, chosen from all by their places
 
--- one that is among some by its place is at the place of one of them
+-- an event that is among some by its place has the place of one of them
 among_at : (some : List EventRead) (e : EventRead) → is_among some e ≡ true → (other : EventRead) × In other some × (other.place ≡ e.place)
 among_at [] e is = let none : ⊥ = cc in absurd none
 among_at (other ∷ some) e is =
@@ -44,7 +43,7 @@ among_at (other ∷ some) e is =
 
 module _ (events : List EventRead) (rise : RiseInPlace events) (some : List EventRead) (rises : Rises place_of_event some)
     (there : (e : EventRead) → In e some → In e events) where
-  -- chosen by their places, some of the events are these again
+  -- choosing by the places of some events gives these events again
   pub chosen_again : filter (is_among some) events ≡ some
   chosen_again =
       same_lists place_of_event (filter (is_among some) events) some
@@ -73,7 +72,7 @@ module _ (test : EventTest) (process : Process) (events : List EventRead) (rise 
       read-rises (chosen test) place_of_event place_of_event (λ b e l y is. ap place_of_event (chosen-is test b e l y is)) (events_in process events)
       (rising_kept place_of_event (λ (x : EventRead). same_process process (process_of x)) events rise)
 
-  -- those of a process that are listed, chosen from all events
+  -- the listed events of a process, chosen from all events
   pub listed_chosen : AreChosen (is_among (listed_in test process events)) events [] (places_in test events process)
   listed_chosen =
       let some = listed_in test process events in
@@ -87,7 +86,7 @@ key_is key [] n x d is = let wrong : None ≡ Some x = is in absurd (cc)
 key_is key (y ∷ xs) zero x d is = ap (λ o. key (unwrap_or o y)) is
 key_is key (y ∷ xs) (suc n) x d is = key_is key xs n x d is
 
--- it is that of the process with this number
+-- the entry with this number is that of the process with this number
 pub entry_at : (processes : Processes) (wholes : List (Placed WholeFrame)) (number : ℕ) (e : Process × Nothing)
     → SumsEach processes wholes → slice_get processes.order.now.entries.entries number ≡ Some e
     → (d : Process) → slice_index_or (processes_of wholes) number d ≡ e.0
@@ -102,7 +101,7 @@ ListOfRows = Vec (ProcessRow HeldRow) Global
 abbrev pub lists_of : {R : Type 0} → List (Vec R Global) → List (List R)
 lists_of {R} lists = map (λ (list : Vec R Global). list.items) lists
 
--- the first of these lists
+-- the first n of these lists, joined
 abbrev pub joined_to : {R : Type 0} → List (Vec R Global) → ℕ → List R
 joined_to {R} lists n = flat_map (λ list. list) (map (λ (list : Vec R Global). list.items) (take n lists))
 

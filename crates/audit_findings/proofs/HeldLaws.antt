@@ -21,7 +21,7 @@ use Rattle.summary_law.specs.Tally.{AreWeighted, TallySums}
 use Rattle.summary_law.specs.declared.tally.Tally.{Tally}
 use Rattle.transaction_view.specs.declared.entry.Entry.{Entry}
 use Rattle.audit_findings.specs.Entries.{carried_by, list_bytes}
-use Rattle.audit_findings.specs.Held.{held_in, unweighed}
+use Rattle.audit_findings.specs.Held.{reference_of, unweighed}
 use Rattle.audit_findings.specs.HeldCounts.{AreGoodObjects, CountsEntries, CountsHeld, CountsMore, CountsObjects, HasRoom}
 use Rattle.audit_findings.specs.Objects.{AreOutcomes, Attached, Outcome, IsOutcome, attached_to, attachments_of, good_objects}
 use Rattle.audit_findings.proofs.FrameLaws.{first_same}
@@ -29,58 +29,58 @@ use Rattle.audit_findings.proofs.Kept.{kept_map}
 use Rattle.audit_findings.proofs.OneObjects.{one_list_of_outcomes}
 use Rattle.audit_findings.proofs.OutcomeLaws.{gives_none, gives_some}
 
--- ---- one reference more
+-- ---- one more reference
 
 -- references that there is room for can be tallied
 pub short_unweighed : (held : List Held) → length held ≤ 2 ^ 32 → AreWeighted (unweighed held)
 short_unweighed held short = weighted_map (λ (reference : Held). (reference, 0)) (λ reference. omega arith) held short
 
 -- the last object gives a reference, or none
-pub gives_last : (objects : List ObjectText) (o : ObjectText) (reference : Held) → held_in o ≡ Some reference
-    → filter_map held_in (objects ++ o ∷ []) ≡ filter_map held_in objects ++ reference ∷ []
+pub gives_last : (objects : List ObjectText) (o : ObjectText) (reference : Held) → reference_of o ≡ Some reference
+    → filter_map reference_of (objects ++ o ∷ []) ≡ filter_map reference_of objects ++ reference ∷ []
 gives_last objects o reference is =
-    let one : filter_map held_in (o ∷ []) ≡ reference ∷ [] = rw is refl in
-    filter_map-append held_in objects (o ∷ []) ∙ ap (λ (t : List Held). filter_map held_in objects ++ t) one
+    let one : filter_map reference_of (o ∷ []) ≡ reference ∷ [] = rw is refl in
+    filter_map-append reference_of objects (o ∷ []) ∙ ap (λ (t : List Held). filter_map reference_of objects ++ t) one
 
-pub gives_no_last : (objects : List ObjectText) (o : ObjectText) → held_in o ≡ None
-    → filter_map held_in (objects ++ o ∷ []) ≡ filter_map held_in objects
+pub gives_no_last : (objects : List ObjectText) (o : ObjectText) → reference_of o ≡ None
+    → filter_map reference_of (objects ++ o ∷ []) ≡ filter_map reference_of objects
 gives_no_last objects o is =
-    let none : filter_map held_in (o ∷ []) ≡ [] = rw is refl in
-    filter_map-append held_in objects (o ∷ []) ∙ ap (λ (t : List Held). filter_map held_in objects ++ t) none ∙ append-nil (filter_map held_in objects)
+    let none : filter_map reference_of (o ∷ []) ≡ [] = rw is refl in
+    filter_map-append reference_of objects (o ∷ []) ∙ ap (λ (t : List Held). filter_map reference_of objects ++ t) none ∙ append-nil (filter_map reference_of objects)
 
 -- there is room for one more after those of these objects
 pub room_for_last : (held : List Held) (objects : List ObjectText) (reference : Held) (n : ℕ) → length held + n ≤ 2 ^ 32 → length objects + 1 ≤ n
-    → AreWeighted (unweighed (held ++ filter_map held_in objects) ++ (reference, 0) ∷ [])
+    → AreWeighted (unweighed (held ++ filter_map reference_of objects) ++ (reference, 0) ∷ [])
 room_for_last held objects reference n room few =
-    let more = filter_map held_in objects in
+    let more = filter_map reference_of objects in
     let all = held ++ more in
     let long = length-append held more in
     let longer = length-append all (reference ∷ []) in
-    let read = length-read held_in objects in
+    let read = length-read reference_of objects in
     subst AreWeighted (map-append (λ (r : Held). (r, 0)) all (reference ∷ []))
     (short_unweighed (all ++ reference ∷ []) (omega (arith, long, longer, read, room, few)))
 
 -- the tally with one reference more counts those of the objects with the last one
-pub counts_last : (held : List Held) (objects : List ObjectText) (o : ObjectText) (reference : Held) (tally : Tally Held) → held_in o ≡ Some reference
-    → TallySums held_cmp tally (unweighed (held ++ filter_map held_in objects) ++ (reference, 0) ∷ [])
-    → CountsHeld tally (held ++ filter_map held_in (objects ++ o ∷ []))
+pub counts_last : (held : List Held) (objects : List ObjectText) (o : ObjectText) (reference : Held) (tally : Tally Held) → reference_of o ≡ Some reference
+    → TallySums held_cmp tally (unweighed (held ++ filter_map reference_of objects) ++ (reference, 0) ∷ [])
+    → CountsHeld tally (held ++ filter_map reference_of (objects ++ o ∷ []))
 counts_last held objects o reference tally is sums =
-    let more = filter_map held_in objects in
+    let more = filter_map reference_of objects in
     let one : unweighed (held ++ more) ++ (reference, 0) ∷ [] ≡ unweighed ((held ++ more) ++ reference ∷ []) =
     sym (map-append (λ (r : Held). (r, 0)) (held ++ more) (reference ∷ [])) in
-    let all : (held ++ more) ++ reference ∷ [] ≡ held ++ filter_map held_in (objects ++ o ∷ []) =
+    let all : (held ++ more) ++ reference ∷ [] ≡ held ++ filter_map reference_of (objects ++ o ∷ []) =
     append_assoc held more (reference ∷ []) ∙ ap (λ (t : List Held). held ++ t) (sym (gives_last objects o reference is)) in
     subst (CountsHeld tally) all (subst (TallySums held_cmp tally) one sums)
 
 -- ---- the entries so far
 
--- no more references
+-- the same tally counts no more references
 pub counts_none : (tally : Tally Held) (n : ℕ) → CountsMore tally n [] tally
 counts_none tally n held counts room = subst (CountsHeld tally) (sym (append-nil held)) counts
 
 -- the references among these objects of attachments
 abbrev pub held_among : List (List ObjectText) → List Held
-held_among objects = filter_map held_in (flat_map (λ own. own) objects)
+held_among objects = filter_map reference_of (flat_map (λ own. own) objects)
 
 -- the list of offsets of an entry
 abbrev list_long : Entry → ℕ
@@ -93,11 +93,11 @@ held_few [] (own ∷ objects) are = absurd are
 held_few (e ∷ entries) [] are = absurd are
 held_few (e ∷ entries) (own ∷ objects) are =
     let first = objects_short e.body.now e.offsets.now own are.0.0 are.0.1 in
-    let read = length-read held_in own in
+    let read = length-read reference_of own in
     let rest = held_few entries objects are.1 in
-    let parts = ap (filter_map held_in) (flat_map-cons (λ (o : List ObjectText). o) own objects)
-    ∙ filter_map-append held_in own (flat_map (λ o. o) objects) in
-    let long = ap length parts ∙ length-append (filter_map held_in own) (held_among objects) in
+    let parts = ap (filter_map reference_of) (flat_map-cons (λ (o : List ObjectText). o) own objects)
+    ∙ filter_map-append reference_of own (flat_map (λ o. o) objects) in
+    let long = ap length parts ∙ length-append (filter_map reference_of own) (held_among objects) in
     let all = sum_by-cons list_long e entries in
     omega (arith, first, read, rest, long, all)
 
@@ -115,30 +115,30 @@ module _ (entries : List Entry) (few : list_bytes entries ≤ 2 ^ 32) (i : ℕ) 
   pub room_for_entry : HasRoom tally (length entry.offsets.now)
   room_for_entry = (held_among counts.0, counts.2, room_left)
 
-  -- which are counted besides
+  -- and once they are counted, the tally counts one more entry
   pub counts_next : (new : Tally Held) → CountsObjects tally entry.body.now entry.offsets.now new → CountsEntries (take (i + 1) entries) new
   counts_next new more =
       let objects = counts.0 in
       let taken : take (i + 1) entries ≡ take i entries ++ entry ∷ [] =
       take_more entries i entry within ∙ ap (λ (e : Entry). take i entries ++ e ∷ []) (sym is) in
-      let joined : held_among (objects ++ more.0 ∷ []) ≡ held_among objects ++ filter_map held_in more.0 =
-      ap (filter_map held_in) (flat_map-append (λ (o : List ObjectText). o) objects (more.0 ∷ [])
+      let joined : held_among (objects ++ more.0 ∷ []) ≡ held_among objects ++ filter_map reference_of more.0 =
+      ap (filter_map reference_of) (flat_map-append (λ (o : List ObjectText). o) objects (more.0 ∷ [])
       ∙ ap (λ os. flat_map (λ o. o) objects ++ os) (append-nil more.0))
-      ∙ filter_map-append held_in (flat_map (λ o. o) objects) more.0 in (
+      ∙ filter_map-append reference_of (flat_map (λ o. o) objects) more.0 in (
         objects ++ more.0 ∷ [],
         subst (λ es. AllZip AreGoodObjects es (objects ++ more.0 ∷ [])) (sym taken)
             (AllZip-push AreGoodObjects (take i entries) objects entry more.0 counts.1 (more.1, more.2)),
         subst (CountsHeld new) (sym joined) (more.3 (held_among objects) counts.2 room_left),
       )
 
--- ---- whose attachments they are
+-- ---- the events that own the attachments
 
--- these are the good objects of the attachments of these events
+-- the references among these objects are those among the good objects of these events' attachments
 abbrev HaveHeld : List EventRead → List (List ObjectText) → Type 0
 HaveHeld events objects =
-    (outcomes : List Outcome) × AreOutcomes (attachments_of events) outcomes × (held_among objects ≡ filter_map held_in (good_objects outcomes))
+    (outcomes : List Outcome) × AreOutcomes (attachments_of events) outcomes × (held_among objects ≡ filter_map reference_of (good_objects outcomes))
 
--- the entry that an event has, as an attachment of its own
+-- the same with one event before, which may have an entry
 first_of : (e : EventRead) (attachment : Option AttachmentText) → e.entry ≡ attachment → (events : List EventRead) (entries : List Entry)
     (objects : List (List ObjectText)) → map entry_attachment entries ≡ carried_by (e ∷ events) → AllZip AreGoodObjects entries objects
     → ((rest : List Entry) (others : List (List ObjectText)) → map entry_attachment rest ≡ carried_by events → AllZip AreGoodObjects rest others
@@ -164,13 +164,13 @@ first_of e (Some a) is events (entry ∷ entries) (own ∷ objects) show are lat
         are_objects = All-cons IsOutcome outcome rest.0
             (subst (λ (x : AttachmentText). AreObjects x.body x.offset_bytes own are.0.0) heads.0 are.0.1) rest.1.are_objects;
       },
-      ap (filter_map held_in) (flat_map-cons (λ (o : List ObjectText). o) own objects) ∙ filter_map-append held_in own (flat_map (λ o. o) objects)
-          ∙ ap (λ hs. filter_map held_in own ++ hs) rest.2
-          ∙ sym (filter_map-append held_in own (flat_map (λ (o : Outcome). o.objects) rest.0))
-          ∙ ap (filter_map held_in) (sym (flat_map-cons (λ (o : Outcome). o.objects) outcome rest.0)),
+      ap (filter_map reference_of) (flat_map-cons (λ (o : List ObjectText). o) own objects) ∙ filter_map-append reference_of own (flat_map (λ o. o) objects)
+          ∙ ap (λ hs. filter_map reference_of own ++ hs) rest.2
+          ∙ sym (filter_map-append reference_of own (flat_map (λ (o : Outcome). o.objects) rest.0))
+          ∙ ap (filter_map reference_of) (sym (flat_map-cons (λ (o : Outcome). o.objects) outcome rest.0)),
     )
 
--- what entries hold, events hold whose attachments they show
+-- if entries show the attachments of events, the events hold what the entries hold
 have_held : (events : List EventRead) (entries : List Entry) (objects : List (List ObjectText))
     → map entry_attachment entries ≡ carried_by events → AllZip AreGoodObjects entries objects → HaveHeld events objects
 have_held [] [] [] show are = ([], record { each = refl; are_objects = All-nil IsOutcome }, refl)
@@ -212,12 +212,12 @@ module _ (choice : EventRead → Bool) where
     are_objects = All-filter (λ (o : Outcome). choice o.of.owner) IsOutcome outcomes are.are_objects;
   }
 
-  -- what entries hold that show the attachments of chosen events is what the outcomes of those hold
+  -- if entries show the attachments of chosen events, they hold what the outcomes of these attachments hold
   pub held_by_chosen : (events : List EventRead) (outcomes : List Outcome) → AreOutcomes (attachments_of events) outcomes
       → (entries : List Entry) (objects : List (List ObjectText)) → map entry_attachment entries ≡ carried_by (filter choice events)
-      → AllZip AreGoodObjects entries objects → held_among objects ≡ filter_map held_in (good_objects (filter (λ o. choice o.of.owner) outcomes))
+      → AllZip AreGoodObjects entries objects → held_among objects ≡ filter_map reference_of (good_objects (filter (λ o. choice o.of.owner) outcomes))
   held_by_chosen events outcomes are entries objects show good =
       let held = have_held (filter choice events) entries objects show good in
       held.2
-      ∙ ap (λ (t : List Outcome). filter_map held_in (good_objects t))
+      ∙ ap (λ (t : List Outcome). filter_map reference_of (good_objects t))
       (one_list_of_outcomes (attachments_of (filter choice events)) held.0 (filter (λ o. choice o.of.owner) outcomes) held.1 (chosen_outcomes events outcomes are))

@@ -1,5 +1,5 @@
--- What is kept of a list, and what is in lists of which some are kept, in lists that are joined, and in rising ones.
-use Rattle.std.proofs.Common.{◌≡◌, ℕ, ◌+◌, ◌⊎◌, inl, inr, Bool, true, false, cond, List, [], ◌∷◌, ◌++◌, map, Option, Some, None, refl, sym, ap, subst, ◌∙◌, arith}
+-- What is kept of a list, and what is in a list that is filtered, joined or rising.
+use Rattle.std.proofs.Common.{◌≡◌, ℕ, ◌+◌, ◌⊎◌, inl, inr, Bool, true, false, cond, List, [], ◌∷◌, ◌++◌, map, Option, Some, None, refl, sym, ap, ◌∙◌, arith}
 use Rattle.std.specs.Prelude.{count_by, filter}
 use Rattle.std.proofs.lemmas.List.Sums.{sum_by-cons}
 use Rattle.std.specs.List.{cons_option, filter_map, flat_map}
@@ -23,7 +23,7 @@ kept_in test (y ∷ ys) x (inr there) passes =
     let rest = kept_in test ys x there passes in
     elim (test y) as (λ b. In x (cond b (y ∷ filter test ys) (filter test ys))) [ true ↦ inr rest | false ↦ rest ]
 
--- of what is made of a list those are kept whose element is
+-- to keep some of what is made of a list is to keep the elements that it is made of
 pub kept_map : {X Y : Type 0} (f : X → Y) (test : Y → Bool) (xs : List X) → filter test (map f xs) ≡ map f (filter (λ x. test (f x)) xs)
 kept_map f test [] = refl
 kept_map {X} {Y} f test (x ∷ xs) =
@@ -34,7 +34,7 @@ kept_map {X} {Y} f test (x ∷ xs) =
       | false ↦ rest
     ]
 
--- in which order two tests are made does not matter
+-- the order of two tests does not matter
 pub kept_swap : {X : Type 0} (test other : X → Bool) (xs : List X) → filter test (filter other xs) ≡ filter other (filter test xs)
 kept_swap test other [] = refl
 kept_swap {X} test other (x ∷ xs) =
@@ -52,7 +52,7 @@ kept_swap {X} test other (x ∷ xs) =
       ]
     ] refl
 
--- where all that pass one test pass another, as many pass the one of those that pass the other
+-- if all that pass one test pass another, then among those that pass the other as many pass the one
 pub kept_count : {X : Type 0} (test other : X → Bool) (xs : List X) → ((x : X) → In x xs → test x ≡ true → other x ≡ true)
     → count_by test (filter other xs) ≡ count_by test xs
 kept_count test other [] passes = refl
@@ -90,7 +90,7 @@ in_flat lists (y ∷ ys) x here = elim (in_either x (lists y) (flat_map lists ys
   | inr later ↦ let found = in_flat lists ys x later in (found.0, inr found.1, found.2)
 ]
 
--- what is read of a list is read of one of it
+-- what is read of a list is read of one of its elements
 pub read_from : {X Y : Type 0} (read : X → Option Y) (xs : List X) (y : Y) → In y (filter_map read xs) → (x : X) × In x xs × (read x ≡ Some y)
 read_from read [] y here = absurd here
 read_from {X} {Y} read (x ∷ xs) y here =
@@ -102,7 +102,7 @@ read_from {X} {Y} read (x ∷ xs) y here =
       ]
     ] refl here
 
--- two of a rising list that are at one place are one
+-- two elements of a rising list at the same place are the same
 pub one_there : {X : Type 0} (rank : X → ℕ) (xs : List X) → Rises rank xs → (x y : X) → In x xs → In y xs → rank x ≡ rank y → x ≡ y
 one_there rank [] rises x y here there same = absurd here
 one_there rank (z ∷ zs) rises x y (inl first) (inl second) same = first ∙ sym second

@@ -1,4 +1,4 @@
--- A listed kind has one code word, its own, and stands at one place in the header's order.
+-- A listed kind has one code word, its own, and is at one place in the header's order.
 use Rattle.std.proofs.Common.{◌≡◌, ◌≢◌, ◌==◌, ◌+◌, ◌*◌, ◌^◌, ◌<◌, ◌⊎◌, inl, inr, ℕ, suc, Bool, true, false, cond, Option, Some, None, Result, Ok, Err, IsSome, IfSome, IsSomeAnd, List, [], ◌∷◌, map, length, get_or, refl, sym, ap, subst, ◌∙◌, arith, eqb-true, eq-eqb}
 use Rattle.std.specs.List.{range_with_len}
 use Rattle.std.specs.Option.{option_map_or}
@@ -7,7 +7,7 @@ use Rattle.std.proofs.lemmas.Bool.{cases_lt}
 use Rattle.std.proofs.lemmas.List.{get_or-map, get_or_past}
 use Rattle.std.proofs.lemmas.List.FromFn.{get_or-range_with_len}
 use Rattle.binder_code.specs.Code.{number, letter, size, direction}
-use Rattle.binder_code.specs.Commands.{Row, row_of, listed, word_of, direction_of, letter_of, kind_of, protocol_of_word, IsOf}
+use Rattle.binder_code.specs.Commands.{Row, row_of, listed, word_of, direction_of, letter_of, kind_of, protocol_of_word, IsOfProtocol}
 use Rattle.binder_code.specs.CommandLaws.{kind_of-word}
 use Rattle.binder_code.specs.declared.code.CodeFault.{CodeFault}
 use Rattle.binder_code.specs.declared.protocol.Protocol.{Protocol}
@@ -33,7 +33,7 @@ not_true false never = refl
 fields : (word : ℕ) → word ≡ direction word * 2 ^ 30 + size word * 2 ^ 16 + letter word * 2 ^ 8 + number word
 fields word = omega arith
 
-from_fields : (row : Row) (protocol : Protocol) (word : ℕ) → IsOf protocol word → row.protocol ≡ protocol → row.number ≡ number word → row.size ≡ size word
+from_fields : (row : Row) (protocol : Protocol) (word : ℕ) → IsOfProtocol protocol word → row.protocol ≡ protocol → row.number ≡ number word → row.size ≡ size word
     → word ≡ word_of row
 from_fields row protocol word of same numbered sized =
     let letters : letter_of row.protocol ≡ letter word = ap letter_of same ∙ sym of.right_letter in
@@ -42,7 +42,7 @@ from_fields row protocol word of same numbered sized =
     let whole = fields word in
     omega (arith, letters, directions, numbered, sized, whole)
 
-line_word : (line : Option Row) (protocol : Protocol) (word : ℕ) → IsOf protocol word
+line_word : (line : Option Row) (protocol : Protocol) (word : ℕ) → IsOfProtocol protocol word
     → IsSomeAnd line (λ row. (row.protocol ≡ protocol) × (row.number ≡ number word) × (row.size ≡ size word))
     → option_map_or (λ (row : Row). word == word_of row) line false ≡ true
 line_word None protocol word of parts = absurd parts
@@ -73,7 +73,7 @@ same_line : (line : Option Row) (word other : ℕ) → option_map_or (λ (row : 
 same_line None word other is = absurd cc
 same_line (Some row) word other is = ap (λ (n : ℕ). other == n) (sym (eqb-true word (word_of row) is))
 
--- a kind's words are all one
+-- a kind has only one word
 pub one_word : (kind : Kind) (word other : ℕ) → is_word_of kind word ≡ true → is_word_of kind other ≡ (other == word)
 one_word kind word other is = same_line (row_of kind) word other is
 
@@ -93,7 +93,7 @@ pub opaque_or_not : (kind : Kind) → (kind ≡ Opaque) ⊎ (kind ≢ Opaque)
 opaque_or_not Opaque = inl refl
 opaque_or_not _ = inr (λ same. absurd cc)
 
--- a listed kind's word is no opaque one
+-- a listed kind's word is not opaque
 pub word_is_listed : (kind : Kind) (word : ℕ) → is_word_of kind word ≡ true → is_opaque_word word ≡ false
 word_is_listed kind word is =
     let listed_kind : kind ≢ Opaque = λ same. let no : is_word_of Opaque word ≡ true = subst (λ (k : Kind). is_word_of k word ≡ true) same is in absurd cc in
@@ -103,7 +103,7 @@ found_kind : (found : Result Kind CodeFault) → is_opaque_kind (kind_found foun
 found_kind (Ok kind) is = (kind, λ same. (let no : is_opaque_kind Opaque ≡ false = subst (λ (k : Kind). is_opaque_kind k ≡ false) same is in absurd cc), refl)
 found_kind (Err fault) is = absurd cc
 
--- a word that is no opaque one is a listed kind's
+-- a word that is not opaque is a listed kind's
 pub kind_of_listed_word : (word : ℕ) → is_opaque_word word ≡ false → (kind : Kind) × (is_word_of kind word ≡ true)
 kind_of_listed_word word is =
     let found = found_kind (kind_of (protocol_of_word word) word) is in
@@ -115,7 +115,7 @@ kind_of_listed_word word is =
 abbrev pub kind_at : ℕ → Kind
 kind_at k = get_or listed k Opaque
 
--- where the first of the kinds stands that has the word
+-- the place of the first kind that has the word
 place_in : ℕ → List Kind → ℕ
 place_in word [] = 0
 place_in word (kind ∷ kinds) = cond (is_word_of kind word) 0 (suc (place_in word kinds))

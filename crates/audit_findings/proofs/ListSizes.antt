@@ -7,7 +7,7 @@ use Rattle.std.proofs.lemmas.Bool.{cases_eq}
 use Rattle.std.proofs.lemmas.List.Concat.{flat_map-cons}
 use Rattle.std.proofs.lemmas.List.Elements.{All-head, All-tail, All-weaker}
 use Rattle.std.proofs.lemmas.List.Sums.{sum_by-append, sum_by-cons}
-use Rattle.capture_frame.specs.Envelope.{FrameText, attachments_place, commands_place, frame_text, placed_frame, PlacedFrame}
+use Rattle.capture_frame.specs.Envelope.{FrameText, attachments_place, commands_place, PlacedFrame}
 use Rattle.capture_frame.specs.Units.{Placed, placed, placed_at, spelling_of}
 use Rattle.record_view.specs.Records.{RecordText}
 use Rattle.transaction_view.specs.Attachments.{EntryText, entry_bytes, entry_format}
@@ -28,7 +28,7 @@ use Rattle.audit_findings.proofs.Rising.{pairs_head, pairs_map, pairs_tail}
 
 -- ---- each entry belongs to at most one of the records at some places
 
--- how long the list of the entry is that belongs to the record at the place
+-- how many bytes the list of offsets has in the entry that belongs to the record at the place
 abbrev found_bytes : ℕ → ℕ → List EntryText → ℕ → ℕ
 found_bytes start base entries place = bytes_of (option_map attachment_text (find (belongs_to start place) (placed entry_bytes base entries)))
 
@@ -40,13 +40,13 @@ found_other : (start place base : ℕ) (e : EntryText) (entries : List EntryText
     → found_bytes start base (e ∷ entries) place ≡ found_bytes start (base + length (entry_bytes e)) entries place
 found_other start place base e entries other = ap (λ o. bytes_of (option_map attachment_text o)) (find-other start place base e entries other)
 
-none_behind : (start base : ℕ) (e : EntryText) (entries : List EntryText) (places : List ℕ) → All (λ p. start + e.offset < p) places
+none_after : (start base : ℕ) (e : EntryText) (entries : List EntryText) (places : List ℕ) → All (λ p. start + e.offset < p) places
     → sum_by (found_bytes start base (e ∷ entries)) places ≡ sum_by (found_bytes start (base + length (entry_bytes e)) entries) places
-none_behind start base e entries [] all = refl
-none_behind start base e entries (p ∷ places) all =
+none_after start base e entries [] all = refl
+none_after start base e entries (p ∷ places) all =
     let above : start + e.offset < p = All-head (λ q. start + e.offset < q) p places all in
     let one = found_other start p base e entries (λ same. absurd (omega (arith, above, same))) in
-    let more = none_behind start base e entries places (All-tail (λ q. start + e.offset < q) p places all) in
+    let more = none_after start base e entries places (All-tail (λ q. start + e.offset < q) p places all) in
     let next = base + length (entry_bytes e) in
     let with_e = sum_by-cons (found_bytes start base (e ∷ entries)) p places in
     let without = sum_by-cons (found_bytes start next entries) p places in
@@ -63,7 +63,7 @@ at_most_one start base e entries (p ∷ places) rise =
       | inl same ↦
           let here = found_here start p base e entries same in
           let above = All-weaker (λ q. p < q) (λ q. start + e.offset < q) (λ q less. omega (arith, less, same)) places (pairs_head (λ a b. a < b) p places rise) in
-          let more = none_behind start base e entries places above in
+          let more = none_after start base e entries places above in
           omega (arith, here, more, with_e, without)
       | inr other ↦
           let one = found_other start p base e entries other in
@@ -112,13 +112,13 @@ entries_long frame (e ∷ entries) =
     let all = sum_by-cons list_bytes e entries in
     omega (arith, split, one, more, all)
 
--- the events of a frame rise
+-- the places of a frame's events rise
 pub frame_rises : (frame : PlacedFrame) (events : List EventRead) → AreEventsOfFrame frame events → Rise (places_of events)
 frame_rises frame events of =
     let w : Placed WholeFrame = placed_at frame.place record { frame = frame.unit; records = of.0; entries = of.1 } in
     subst (λ (es : List EventRead). Rise (places_of es)) (sym of.4) (pairs_map (λ a b. a < b) (λ (e : EventRead). e.place) _ (whole_rises w))
 
--- their lists of offsets are no longer than the attachment bytes
+-- together their lists of offsets are no longer than the attachment bytes
 pub lists_fit : (frame : PlacedFrame) (events : List EventRead) → AreEventsOfFrame frame events → sum_by offset_bytes_of events ≤ length frame.unit.attachments
 lists_fit frame events of =
     let there = frame in
@@ -131,7 +131,7 @@ lists_fit frame events of =
     let whole = ap length of.3.joined ∙ length-append (spelling_of (entry_format there.unit) of.1) [] in
     omega (arith, sums, found, long, whole)
 
--- nor are those that a reader has given
+-- nor are those of the events that a reader has given
 pub given_fit : (frame : PlacedFrame) (reading : Reading) (given : List Event) → HasGoodContent frame.unit → Given frame reading given
     → sum_by offset_bytes_of (map event_text given) ≤ length frame.unit.attachments
 given_fit frame reading given good so_far =

@@ -1,5 +1,5 @@
 -- The objects of attachments are determined by the attachments, and counts of sorts by each of them.
-use Rattle.std.proofs.Common.{◌≡◌, ℕ, zero, suc, List, [], ◌∷◌, map, refl, sym, ap, ap₂, subst, ◌∙◌, arith}
+use Rattle.std.proofs.Common.{◌≡◌, zero, suc, List, [], ◌∷◌, map, refl, sym, ap, ap₂, subst, ◌∙◌, arith}
 use Rattle.std.specs.Prelude.{All, Option}
 use Rattle.object_view.specs.declared.bad_object.BadObject.{BadObject}
 use Rattle.object_view.specs.declared.sort.Sort.{Sort}
@@ -9,7 +9,7 @@ use Rattle.object_view.proofs.ListLaws.{one_list}
 use Rattle.audit_findings.specs.declared.sort_counts.SortCounts.{SortCounts}
 use Rattle.audit_findings.specs.Objects.{Attached, Outcome, IsOutcome, AreOutcomes, count_of, sort_counts, times_of}
 
--- ---- the outcomes of attachments are one list
+-- ---- attachments have only one list of outcomes
 
 one_outcome : (a b : Outcome) → a.of ≡ b.of → IsOutcome a → IsOutcome b → a ≡ b
 one_outcome a b same is is_too =
@@ -32,7 +32,7 @@ same_outcomes (u ∷ us) (v ∷ vs) same a b =
 pub one_list_of_outcomes : (attachments : List Attached) (us vs : List Outcome) → AreOutcomes attachments us → AreOutcomes attachments vs → us ≡ vs
 one_list_of_outcomes attachments us vs a b = same_outcomes us vs (a.each ∙ sym b.each) a.are_objects b.are_objects
 
--- counts that are those of each sort are those of all
+-- if each sort has its count, the counts are those of the objects
 pub counts_are : (counts : SortCounts) (objects : List ObjectText) → ((sort : Sort) → count_of counts sort ≡ times_of sort objects)
     → counts ≡ sort_counts objects
 counts_are counts objects each = λ i. record {

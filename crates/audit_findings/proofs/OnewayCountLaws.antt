@@ -28,7 +28,7 @@ count_of-short is events =
     let read = length-read oneway_item_of events in
     omega (arith, counted, read)
 
--- of one event
+-- the count of one event: 1 or 0
 abbrev one_if : Bool → ℕ
 one_if b = cond b 1 0
 
@@ -54,7 +54,7 @@ counts_one counts e item key read same sent received =
     same_counts counts (e ∷ []) (sent ∙ sym (count_of-one is_sent e item read ∙ given is_sent_key))
     (received ∙ sym (count_of-one (λ item. not (is_sent item)) e item read ∙ given (λ k. not (is_sent_key k))))
 
--- the counts of some events and of others are together those of both
+-- the counts of some events and those of others add up to those of both
 pub counts_both : (counts more both : OnewayCounts) (first second : List EventRead) → counts ≡ oneway_counts first → more ≡ oneway_counts second
     → both.sent ≡ counts.sent + more.sent → both.received ≡ counts.received + more.received → both ≡ oneway_counts (first ++ second)
 counts_both counts more both first second a b sent received =
@@ -62,7 +62,7 @@ counts_both counts more both first second a b sent received =
     (sent ∙ ap₂ ◌+◌ (sent_is counts first a) (sent_is more second b) ∙ sym (count_of-append is_sent first second))
     (received ∙ ap₂ ◌+◌ (received_is counts first a) (received_is more second b) ∙ sym (count_of-append (λ item. not (is_sent item)) first second))
 
--- and small where the events are few
+-- and they are small if the events are few
 small_sum : (is : OnewayItem → Bool) (a b : ℕ) (first second : List EventRead) → IsShort (first ++ second) → a ≡ count_of is first → b ≡ count_of is second
     → a + b < 2 ^ 64
 small_sum is a b first second short counted more =

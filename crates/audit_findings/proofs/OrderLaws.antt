@@ -1,4 +1,4 @@
--- The order of processes, with one frame more of a process that has ledgers.
+-- The order of processes, with one more frame of a process that has ledgers.
 use Rattle.std.proofs.Common.{◌≡◌, ◌≢◌, Bool, true, false, cond, List, [], ◌∷◌, ◌++◌, map, All, Option, Some, None, is_some, refl, sym, ap, subst, ◌∙◌, ⊎_elim, filter_map}
 use Rattle.std.proofs.lemmas.Bool.{cases_Bool, true≢false}
 use Rattle.std.proofs.lemmas.List.Elements.{All-head, All-tail}
@@ -27,7 +27,7 @@ use Rattle.process_ledgers.specs.declared.process_ledgers.ProcessLedgers.{Proces
 use Rattle.audit_findings.proofs.GivenLaws.{order_next}
 use Rattle.audit_findings.proofs.EventLists.{IsKnown, each_known}
 
--- of events whose processes are all known none is fed under one that is not
+-- if the processes of all events are known, no event is fed under an unknown one
 module _ (known : List Process) (process : Process) (unknown : list_any (same_process process) known ≡ false) where
   another : (other : Process) → list_any (same_process other) known ≡ true → same_process process other ≡ false
   another other there =
@@ -77,7 +77,7 @@ among_frames own wholes events process are sums has =
     (none_fed known process unknown events all)))
     (cases_Bool (list_any (same_process process) known))
 
--- with one more frame of a process that has ledgers the order stays
+-- with one more frame of a process that has ledgers, the order stays the same
 pub order_there : (entries : List (Process × Nothing)) (own : List (Process × ProcessLedgers)) (wholes : List (Placed WholeFrame)) (events : List Event)
     → map event_text events ≡ events_of_wholes wholes → SumsOrder entries wholes
     → SumsPicked concerned (SumsInOrder same_process SumsProcess) own events → (next : Placed WholeFrame) (process : Process)

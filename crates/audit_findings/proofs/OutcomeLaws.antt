@@ -1,4 +1,4 @@
--- The objects of the attachments of a list of events, and of one that follows it.
+-- The objects of the attachments of a list of events, and of a list that follows it.
 use Rattle.std.proofs.Common.{◌≡◌, ℕ, ◌+◌, ◌*◌, ◌^◌, ◌<◌, ◌≤◌, List, [], ◌∷◌, ◌++◌, length, map, All, Option, Some, None, refl, sym, ap, ap₂, subst, ◌∙◌, length-append, arith}
 use Rattle.std.specs.List.{filter_map}
 use Rattle.std.specs.Option.{option_map, option_map_or}
@@ -16,7 +16,6 @@ use Rattle.event_core.specs.Events.{AttachmentText, EventRead}
 use Rattle.event_core.specs.Reading.{event_text, entry_attachment}
 use Rattle.audit_findings.specs.declared.objects.BadRow.{BadRow}
 use Rattle.audit_findings.specs.declared.objects.ObjectLedger.{ObjectLedger}
-use Rattle.audit_findings.specs.declared.sort_counts.SortCounts.{SortCounts}
 use Rattle.audit_findings.specs.Kept.{bad_at_place}
 use Rattle.audit_findings.specs.Ledgers.{SumsObjects, AreFewEvents, offset_bytes_of}
 use Rattle.audit_findings.specs.Objects.{Attached, attached_to, attachments_of, Outcome, IsOutcome, AreOutcomes, count_of, times_of, good_objects, bad_of, bad_objects, owned_by}
@@ -25,7 +24,7 @@ use Rattle.audit_findings.proofs.ObjectWalk.{times_of-append, times_of-short}
 pub attachments-append : (events more : List EventRead) → attachments_of (events ++ more) ≡ attachments_of events ++ attachments_of more
 attachments-append events more = filter_map-append attached_to events more
 
--- the ledger of events and of those after them
+-- the ledger of events, with those after them added
 pub objects_more : (old new : ObjectLedger) (events more : List EventRead) (outcomes : List Outcome) → SumsObjects old events
     → AreOutcomes (attachments_of more) outcomes
     → ((sort : Sort) → count_of new.counts sort ≡ count_of old.counts sort + times_of sort (good_objects outcomes))
@@ -48,7 +47,7 @@ objects_more old new events more outcomes sums are counts is = record {
       ∙ ap (map bad_at_place) (sym (filter_map-append bad_of sums.outcomes outcomes));
 }
 
--- and of two ledgers
+-- and the join of two ledgers
 pub objects_joined : (first second new : ObjectLedger) (events more : List EventRead) → SumsObjects first events → SumsObjects second more
     → ((sort : Sort) → count_of new.counts sort ≡ count_of first.counts sort + count_of second.counts sort)
     → new.bad.items ≡ first.bad.items ++ second.bad.items → SumsObjects new (events ++ more)
@@ -59,15 +58,15 @@ objects_joined first second new events more sums others counts is =
 
 -- ---- how many objects there are
 
--- how many bytes of a list of offsets an attachment has
+-- how many bytes the list of offsets of an attachment has
 abbrev offset_bytes : Attached → ℕ
 offset_bytes a = length a.attachment.offset_bytes
 
--- a list of offsets of an attachment is small
+-- the list of offsets of an attachment is small
 abbrev IsSmall : Attached → Type 0
 IsSmall a = offset_bytes a < 2 ^ 32
 
--- the good objects are no more than there is room for offsets
+-- there are no more good objects than the lists of offsets have room for
 outcomes_short : (outcomes : List Outcome) → All IsOutcome outcomes → All IsSmall (map (λ (o : Outcome). o.of) outcomes)
     → 8 * length (good_objects outcomes) ≤ 2 ^ 32 * length outcomes
 outcomes_short [] all small = omega arith
@@ -82,11 +81,11 @@ outcomes_short (o ∷ outcomes) all small =
 abbrev attached_as : EventRead → Option AttachmentText → Option Attached
 attached_as e entry = option_map (λ (a : AttachmentText). record { owner = e; attachment = a }) entry
 
--- an event has at most one attachment, and its list of offsets is small where that of the event is
+-- the list of offsets of the event's attachment is small
 abbrev HasSmall : EventRead → Type 0
 HasSmall e = offset_bytes_of e < 2 ^ 32
 
--- what an element gives stands before what the others give
+-- what an element gives comes before what the others give
 pub gives_none : {X Y : Type 0} (f : X → Option Y) (x : X) (xs : List X) → f x ≡ None → filter_map f (x ∷ xs) ≡ filter_map f xs
 gives_none f x xs is = rw is refl
 

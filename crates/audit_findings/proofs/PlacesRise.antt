@@ -1,4 +1,4 @@
--- The events of frames that stand apart rise strictly in place, and so do the rows that are made of them.
+-- The events of frames that are apart rise strictly in place, and so do the rows that are made of them.
 use Rattle.std.proofs.Common.{◌≡◌, ℕ, ◌+◌, ◌<◌, ◌≤◌, List, [], ◌∷◌, length, map, All, Option, Some, None, sym, ap, subst, ◌∙◌, length-append, arith, get_or}
 use Rattle.std.specs.Prelude.{AllPairs}
 use Rattle.std.specs.List.{flat_map}
@@ -8,8 +8,8 @@ use Rattle.std.proofs.lemmas.List.{append-nil}
 use Rattle.std.proofs.lemmas.List.Concat.{flat_map-cons}
 use Rattle.std.proofs.lemmas.List.Elements.{All-cons, All-map, All-nil, All-weaker}
 use Rattle.std.proofs.lemmas.List.Kept.{AllPairs-cons}
-use Rattle.capture_frame.specs.Units.{AllStand, placed, Placed}
-use Rattle.capture_frame.specs.Envelope.{FrameText, Before, in_version, placed_frame, frame_bytes, frame_header_length, PlacedFrame}
+use Rattle.capture_frame.specs.Units.{AllMayCome, placed, Placed}
+use Rattle.capture_frame.specs.Envelope.{Before, in_version, frame_bytes, frame_header_length, PlacedFrame}
 use Rattle.capture_frame.proofs.FrameLaws.{length-frame_bytes}
 use Rattle.object_view.specs.declared.bad_object.BadObject.{BadObject}
 use Rattle.record_view.specs.Records.{record_bytes}
@@ -26,10 +26,10 @@ use Rattle.audit_findings.specs.Objects.{AreOutcomes, Attached, attached_to, att
 use Rattle.audit_findings.specs.declared.objects.BadRow.{BadRow}
 use Rattle.audit_findings.proofs.Rising.{pairs_nil, pairs_map, pairs_unmap, pairs_flat, rising_made, rising_kept, increasing_places}
 
--- ---- units, one behind another
+-- ---- units, one after another
 
 module _ {U : Type 0} (spelling : U → List ℕ) where
-  -- each begins at the first one's place or behind it
+  -- each begins at the first one's place or after it
   placed_from : (base : ℕ) (units : List U) → All (λ (x : Placed U). base ≤ x.place) (placed spelling base units)
   placed_from base [] = All-nil (λ (x : Placed U). base ≤ x.place)
   placed_from base (u ∷ us) =
@@ -38,7 +38,7 @@ module _ {U : Type 0} (spelling : U → List ℕ) where
       (placed_from next us) in
       All-cons (λ (x : Placed U). base ≤ x.place) (record { place = base; unit = u }) (placed spelling next us) (omega arith) later
 
-  -- and ends with the last one or before it
+  -- and ends at the end of the last one or before it
   abbrev EndsBy : ℕ → Placed U → Type 0
   EndsBy end x = x.place + length (spelling x.unit) ≤ end
 
@@ -60,22 +60,22 @@ module _ {U : Type 0} (spelling : U → List ℕ) where
       AllPairs-cons (λ (a b : Placed U). a.place + length (spelling a.unit) ≤ b.place) (record { place = base; unit = u }) (placed spelling next us)
       (placed_from next us) (placed_apart next us)
 
--- ---- whole frames that stand apart
+-- ---- whole frames that are apart
 
 -- each of these whole frames ends before every later one begins
 abbrev pub WholesApart : List (Placed WholeFrame) → Type 0
 WholesApart wholes = AllPairs (λ a b. AreApart (placed_text a) (placed_text b)) wholes
 
--- they do where the frames do
+-- they do if the frames do
 pub shown_apart : (frames : List PlacedFrame) (wholes : List (Placed WholeFrame)) → AreViews frames wholes → AllPairs AreApart frames → WholesApart wholes
 shown_apart frames wholes show apart =
-    pairs_unmap AreApart placed_text wholes (subst (AllPairs AreApart) show.stand apart)
+    pairs_unmap AreApart placed_text wholes (subst (AllPairs AreApart) show.in_order apart)
 
 pub views_apart : (frames : List PlacedFrame) (wholes : List (Placed WholeFrame)) → AreViews frames wholes → WholesApart wholes → AllPairs AreApart frames
 views_apart frames wholes show apart =
-    subst (AllPairs AreApart) (sym show.stand) (pairs_map AreApart placed_text wholes apart)
+    subst (AllPairs AreApart) (sym show.in_order) (pairs_map AreApart placed_text wholes apart)
 
--- those of a capture do
+-- the whole frames of a capture do
 pub wholes_apart : (wholes : List WholeFrame) → WholesApart (wholes_of wholes)
 wholes_apart wholes i j d below within =
     let there = get_or (wholes_of wholes) i d in
@@ -93,7 +93,7 @@ whole_rises w =
     let apart = placed_apart record_bytes base w.unit.records i j d below within in
     omega (arith, apart, length-record_bytes (get_or (placed record_bytes base w.unit.records) i d).unit))
 
--- and stand within it
+-- and are within the frame
 pub IsInSpan : Placed WholeFrame → EventRead → Type 0
 IsInSpan w e = (w.place ≤ e.place) × (e.place < w.place + span_of (placed_text w))
 
@@ -114,7 +114,7 @@ whole_within w whole =
     let long = length-record_bytes (get_or (placed record_bytes base w.unit.records) i d).unit in
     (omega (arith, from), omega (arith, to, long, bytes)))
 
--- those of whole frames that stand apart rise
+-- the events of whole frames that are apart rise
 pub wholes_rise : (wholes : List (Placed WholeFrame)) → All IsWhole wholes → WholesApart wholes
     → PlacesRise (λ (e : EventRead). e.place) (events_of_wholes wholes)
 unfolding IsInSpan
@@ -130,17 +130,17 @@ wholes_rise wholes are apart =
     omega (arith, far, to, from))
 
 -- the frames of a capture are whole
-all_whole : (base : ℕ) (before : Before) (wholes : List WholeFrame) → AllStand whole_format before wholes
+all_whole : (base : ℕ) (before : Before) (wholes : List WholeFrame) → AllMayCome whole_format before wholes
     → All IsWhole (placed (λ (w : WholeFrame). frame_bytes w.frame) base wholes)
-all_whole base before [] stand = All-nil IsWhole
-all_whole base before (w ∷ wholes) stand =
+all_whole base before [] in_order = All-nil IsWhole
+all_whole base before (w ∷ wholes) in_order =
     let next = base + length (frame_bytes w.frame) in
     All-cons IsWhole (record { place = base; unit = w }) (placed (λ (x : WholeFrame). frame_bytes x.frame) next wholes)
-    (stand.0.has_records, stand.0.has_entries) (all_whole next (in_version before.version (Some w.frame.sequence)) wholes stand.1)
+    (in_order.0.has_records, in_order.0.has_entries) (all_whole next (in_version before.version (Some w.frame.sequence)) wholes in_order.1)
 
 pub events_rise : (capture : List ℕ) (wholes : List WholeFrame) → IsInGrammar capture wholes
     → PlacesRise (λ (e : EventRead). e.place) (events_of_wholes (wholes_of wholes))
-events_rise capture wholes is = wholes_rise (wholes_of wholes) (all_whole 16 (in_version is.0 None) wholes is.3.stand) (wholes_apart wholes)
+events_rise capture wholes is = wholes_rise (wholes_of wholes) (all_whole 16 (in_version is.0 None) wholes is.3.in_order) (wholes_apart wholes)
 
 -- ---- the rows of a capture
 
@@ -178,6 +178,6 @@ objects_rise capture wholes outcomes is are =
     increasing_places place (bad_objects outcomes)
     (rising_made (λ (o : Outcome). o.of.owner.place) place bad_of (λ o b made. bad_there o o.bad b made) outcomes owners)
 
--- the frames of a capture stand apart
-pub stand_apart : (frames : List PlacedFrame) (done : List WholeFrame) → AreViews frames (wholes_of done) → AllPairs AreApart frames
-stand_apart frames done show = views_apart frames (wholes_of done) show (wholes_apart done)
+-- the frames of a capture are apart
+pub frames_apart : (frames : List PlacedFrame) (done : List WholeFrame) → AreViews frames (wholes_of done) → AllPairs AreApart frames
+frames_apart frames done show = views_apart frames (wholes_of done) show (wholes_apart done)

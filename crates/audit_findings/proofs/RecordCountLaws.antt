@@ -1,4 +1,4 @@
--- Counts of different words of one list.
+-- Counts of different words in one list.
 use Rattle.std.proofs.Common.{◌≡◌, ◌≢◌, ℕ, ◌+◌, ◌<◌, ◌≤◌, inl, inr, cond, eqb, List, [], ◌∷◌, length, count_by, ap, arith}
 use Rattle.std.proofs.lemmas.Bool.{cases_eq, eq-eqb, ne_eqb}
 use Rattle.std.proofs.lemmas.List.Sums.{sum_by-cons}
@@ -13,7 +13,7 @@ is_zero : (key word : ℕ) → word ≢ key → one_if key word ≡ 0
 is_zero key word other = ap (λ b. cond b 1 0) (ne_eqb word key other)
 
 module _ (a b d : ℕ) (low : a < b) (high : b < d) where
-  -- a word is at most one of three different ones
+  -- a word is at most one of three different words
   at_most_one : (word : ℕ) → one_if a word + one_if b word + one_if d word ≤ 1
   at_most_one word = elim (cases_eq word a) [
     | inl is ↦ (
@@ -42,7 +42,7 @@ module _ (a b d : ℕ) (low : a < b) (high : b < d) where
     ]
   ]
 
-  -- three different words stand in a list no more often than it is long
+  -- three different words together are in a list no more often than it is long
   pub three_counts : (words : List ℕ)
       → count_by (λ w. eqb w a) words + count_by (λ w. eqb w b) words + count_by (λ w. eqb w d) words ≤ length words
   three_counts [] = omega arith

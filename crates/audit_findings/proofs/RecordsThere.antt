@@ -6,12 +6,12 @@ use Rattle.std.proofs.lemmas.Grind.{flat_map-append}
 use Rattle.std.proofs.lemmas.List.{append-nil}
 use Rattle.std.proofs.lemmas.List.Concat.{flat_map-cons}
 use Rattle.std.proofs.lemmas.List.Elements.{All-nil, All-cons, All-append, All-map, All-weaker, All-contains}
-use Rattle.capture_frame.specs.Envelope.{FrameText, frame_text, placed_frame, commands_place, PlacedFrame}
+use Rattle.capture_frame.specs.Envelope.{FrameText, commands_place, PlacedFrame}
 use Rattle.capture_frame.specs.Units.{Placed, placed_at, placed, spelling_of}
 use Rattle.record_view.specs.Records.{RecordText, HasRecords, record_bytes, record_format, protocol_of, span_of}
 use Rattle.transaction_view.specs.Grammar.{WholeFrame}
-use Rattle.transaction_view.proofs.RecordPlaces.{stands_within}
-use Rattle.event_core.specs.Events.{EventRead, RecordStandsAt, HasRecordAt, bare_event, event_of, events_of_whole}
+use Rattle.transaction_view.proofs.RecordPlaces.{is_within}
+use Rattle.event_core.specs.Events.{EventRead, RecordIsAtPlace, HasRecordAt, bare_event, event_of, events_of_whole}
 use Rattle.audit_findings.specs.Frames.{AreViews, IsWhole}
 use Rattle.event_core.specs.Events.{placed_text}
 use Rattle.event_core.specs.Events.{events_of_wholes}
@@ -22,21 +22,21 @@ use Rattle.audit_findings.proofs.FrameLaws.{shown_first, shown_none}
 -- the event is that of a record of the frame
 pub record IsEventOf (frame : Placed FrameText) (e : EventRead) : Type 0 where
   pub found : RecordText
-  pub stands : RecordStandsAt frame e.place found
+  pub is_at : RecordIsAtPlace frame e.place found
   pub bare : bare_event frame.unit (placed_at e.place found) ≡ record e { entry = None }
 
--- the records behind these of a frame, each at its place
-behind_stand : (frame : Placed FrameText) (before rest : List RecordText) → HasRecords frame.unit (before ++ rest) → (start : ℕ)
-    → start ≡ commands_place frame.place + span_of before → All (λ there. RecordStandsAt frame there.place there.unit) (placed record_bytes start rest)
-behind_stand frame before [] has start is = All-nil (λ (there : Placed RecordText). RecordStandsAt frame there.place there.unit)
-behind_stand frame before (r ∷ rest) has start is =
+-- the later records of a frame, each at its place
+later_there : (frame : Placed FrameText) (before rest : List RecordText) → HasRecords frame.unit (before ++ rest) → (start : ℕ)
+    → start ≡ commands_place frame.place + span_of before → All (λ there. RecordIsAtPlace frame there.place there.unit) (placed record_bytes start rest)
+later_there frame before [] has start is = All-nil (λ (there : Placed RecordText). RecordIsAtPlace frame there.place there.unit)
+later_there frame before (r ∷ rest) has start is =
     let one : span_of (before ++ r ∷ []) ≡ span_of before + length (record_bytes r) =
     ap length (flat_map-append record_bytes before (r ∷ []) ∙ ap (λ (t : List ℕ). flat_map record_bytes before ++ t) (append-nil (record_bytes r)))
     ∙ length-append (flat_map record_bytes before) (record_bytes r) in
-    All-cons (λ (there : Placed RecordText). RecordStandsAt frame there.place there.unit) (placed_at start r)
+    All-cons (λ (there : Placed RecordText). RecordIsAtPlace frame there.place there.unit) (placed_at start r)
     (placed record_bytes (start + length (record_bytes r)) rest)
-    (span_of before, record { before = before; behind = rest; has_records = has; offset_is = refl }, is)
-    (behind_stand frame (before ++ r ∷ []) rest (subst (HasRecords frame.unit) (sym (append_assoc before (r ∷ []) rest)) has)
+    (span_of before, record { before = before; after = rest; has_records = has; offset_is = refl }, is)
+    (later_there frame (before ++ r ∷ []) rest (subst (HasRecords frame.unit) (sym (append_assoc before (r ∷ []) rest)) has)
     (start + length (record_bytes r)) (omega (arith, is, one)))
 
 -- the events of a whole frame are of its records
@@ -46,9 +46,9 @@ of_whole there whole =
     let start : commands_place frame.place ≡ commands_place frame.place + span_of [] = omega arith in
     let records = placed record_bytes (commands_place frame.place) there.unit.records in
     All-map (IsEventOf frame) (event_of frame there.unit.entries) records
-    (All-weaker (λ (r : Placed RecordText). RecordStandsAt frame r.place r.unit) (λ (r : Placed RecordText). IsEventOf frame (event_of frame there.unit.entries r))
-    (λ r stands. record { found = r.unit; stands = stands; bare = refl }) records
-    (behind_stand frame [] there.unit.records whole.0 (commands_place frame.place) start))
+    (All-weaker (λ (r : Placed RecordText). RecordIsAtPlace frame r.place r.unit) (λ (r : Placed RecordText). IsEventOf frame (event_of frame there.unit.entries r))
+    (λ r is_at. record { found = r.unit; is_at = is_at; bare = refl }) records
+    (later_there frame [] there.unit.records whole.0 (commands_place frame.place) start))
 
 -- the event is that of a record of one of these frames
 pub record IsEventIn (frames : List PlacedFrame) (e : EventRead) : Type 0 where
@@ -78,14 +78,14 @@ pub has_record_in : (frames : List PlacedFrame) (wholes : List (Placed WholeFram
     → HasRecordIn frames e.place
 has_record_in frames wholes e show there =
     let is = All-contains (IsEventIn frames) (events_of_wholes wholes) e (events_in frames wholes show) there in
-    (is.frame, is.there, (is.event.found, is.event.stands))
+    (is.frame, is.there, (is.event.found, is.event.is_at))
 
 -- the frame of a record holds its place
 pub record_held : (frame : PlacedFrame) (place : ℕ) → HasRecordAt frame place → Holds place frame
 record_held frame place has =
-    let stands = has.1.1 in
-    let records = stands.before ++ has.0 ∷ stands.behind in
-    let within = stands_within frame.unit records has.1.0 has.0 stands.has_records stands in
-    let whole = ap length stands.has_records.joined ∙ length-append (spelling_of (record_format (protocol_of frame.unit.direction)) records) [] in
+    let is_at = has.1.1 in
+    let records = is_at.before ++ has.0 ∷ is_at.after in
+    let within = is_within frame.unit records has.1.0 has.0 is_at.has_records is_at in
+    let whole = ap length is_at.has_records.joined ∙ length-append (spelling_of (record_format (protocol_of frame.unit.direction)) records) [] in
     let at = has.1.2 in
     (omega (arith, at), omega (arith, at, within, whole))

@@ -1,4 +1,4 @@
--- Lists whose places rise: what is read from them, what is kept of them, and lists that are joined of such.
+-- Lists whose places rise: what is read from them, what is kept of them, and such lists joined.
 use Rattle.std.proofs.Common.{◌≡◌, ℕ, suc, ◌+◌, ◌<◌, Bool, List, [], ◌∷◌, ◌++◌, length, map, Option, Some, sym, subst, get_or, arith}
 use Rattle.std.specs.Prelude.{All, AllPairs, filter}
 use Rattle.std.specs.List.{flat_map, filter_map}
@@ -24,7 +24,7 @@ module _ {X : Type 0} (R : X → X → Type 0) where
   pub pairs_tail : (x : X) (xs : List X) → AllPairs R (x ∷ xs) → AllPairs R xs
   pairs_tail x xs all i j d below within = all (suc i) (suc j) d (omega (arith, below)) (omega (arith, within))
 
-  -- lists one behind the other
+  -- one list followed by another
   pub pairs_append : (xs ys : List X) → AllPairs R xs → AllPairs R ys → All (λ x. All (R x) ys) xs → AllPairs R (xs ++ ys)
   pairs_append [] ys first second between = second
   pairs_append (x ∷ xs) ys first second between =
@@ -52,11 +52,11 @@ all_flat P of (x ∷ xs) all =
     subst (All P) (sym (flat_map-cons of x xs))
     (All-append P (of x) (flat_map of xs) (All-head (λ a. All P (of a)) x xs all) (all_flat P of xs (All-tail (λ a. All P (of a)) x xs all)))
 
--- each element of the one list, and each of the other
+-- it holds between each element of the one list and each element of the other
 abbrev pub Between : {X Y : Type 0} → (Y → Y → Type 0) → (X → List Y) → X → X → Type 0
 Between R of a b = All (λ x. All (R x) (of b)) (of a)
 
--- lists one behind the other, where it holds within each and between each and every later one
+-- it holds in joined lists, if it holds within each and between each and every later one
 pub pairs_flat : {X Y : Type 0} (R : Y → Y → Type 0) (of : X → List Y) (xs : List X) → All (λ x. AllPairs R (of x)) xs → AllPairs (Between R of) xs
     → AllPairs R (flat_map of xs)
 pairs_flat R of [] each between = pairs_nil R
@@ -69,7 +69,7 @@ pairs_flat R of (x ∷ xs) each between =
 
 -- ---- places
 
--- of things whose places rise those that are read rise, where each keeps its thing's place
+-- if the places of things rise, so do those of what is read of them, where each keeps the place of its thing
 pub rising_made : {E I : Type 0} (place : E → ℕ) (place_of : I → ℕ) (read : E → Option I) → ((e : E) (i : I) → read e ≡ Some i → place_of i ≡ place e)
     → (things : List E) → PlacesRise place things → PlacesRise place_of (filter_map read things)
 rising_made place place_of read keeps things rise = rising_read read place_of place keeps things rise

@@ -6,7 +6,7 @@ use Rattle.std.specs.Option.{option_map}
 use Rattle.std.proofs.lemmas.List.Elements.{All-contains_itself, All-filter, All-map}
 use Rattle.capture_frame.specs.Process.{same_process, same_thread}
 use Rattle.event_core.specs.Events.{AttachmentText, EventRead, process_of, thread_of}
-use Rattle.call_stacks.specs.Calls.{Bracketed, as_judged, bracket_read, bracketed_with, judged_of, mark_behind_by, opener_read, stray_read, with_verdict}
+use Rattle.call_stacks.specs.Calls.{Bracketed, as_bracketed, bracket_read, bracketed_with, bracketed_of, mark_after, opener_read, stray_read, with_verdict}
 use Rattle.call_stacks.specs.Verdicts.{lacks_reply}
 use Rattle.call_stacks.specs.declared.findings.RefusedSend.{RefusedSend}
 use Rattle.call_stacks.specs.declared.opener.Opener.{Opener}
@@ -26,7 +26,7 @@ use Rattle.audit_findings.specs.Threads.{in_threads}
 use Rattle.audit_findings.proofs.CallEvents.{Reading, opener_event, send_event, send_read, stray_event}
 use Rattle.audit_findings.proofs.Kept.{read_from}
 
--- what is read of events, each thing of an event of its own, has events
+-- what is read of events has these events, if each item has the event that it is read of
 read_there : {Y : Type 0} (read : List EventRead → EventRead → List EventRead → Option Y) (owner : Y → EventRead)
     → ((b : List EventRead) (e : EventRead) (l : List EventRead) (y : Y) → read b e l ≡ Some y → owner y ≡ e) → (events : List EventRead)
     → All (λ y. Contains events (owner y)) (read_all read events)
@@ -37,7 +37,7 @@ read_there {Y} read owner own events =
     contained events (owner y)
     (subst (In (owner y)) (sym at.3) (subst (λ (e : EventRead). In e (at.0 ++ at.1 ∷ at.2)) (sym (own at.0 at.1 at.2 y at.4)) (in_middle at.0 at.1 at.2))))
 
--- those that are listed of each process
+-- the listed events of each process
 pub listed_there : (test : EventTest) (events : List EventRead) → All (Contains events) (listed test events)
 listed_there test events =
     read_there (by_key same_process process_of (chosen test)) (λ e. e)
@@ -50,17 +50,17 @@ listed_there test events =
 pub both_there : (read : EventRead → Option (PendingItem ℕ)) (events : List EventRead) → All (Contains events) (open_and_stray read events).rows
 both_there read events = listed_there (either (is_unclosed read) (is_stray_close read)) events
 
--- those that are read of each thread, where each is of an event of its own
+-- what is read of each thread, if each item has the event that it is read of
 threads_there : {Y : Type 0} (read : Reading Y) (owner : Y → EventRead)
     → ((b l : List (Bracketed EventRead)) (j : Bracketed EventRead) (y : Y) → read b j l ≡ Some y → owner y ≡ j.event) → (events : List EventRead)
     → All (λ y. Contains events (owner y)) (in_threads read events)
 threads_there read owner own events =
-    read_there (by_key same_thread thread_of (as_judged text_reads read)) owner
+    read_there (by_key same_thread thread_of (as_bracketed text_reads read)) owner
     (λ b e l y is.
     let before = with_key same_thread thread_of (thread_of e) b in
     let later = with_key same_thread thread_of (thread_of e) l in
-    let mark = fold (mark_behind_by text_reads) None before in
-    own (judged_of text_reads before) (bracketed_with text_reads (bracket_read text_reads) (mark_behind_by text_reads mark e) later)
+    let mark = fold (mark_after text_reads) None before in
+    own (bracketed_of text_reads before) (bracketed_with text_reads (bracket_read text_reads) (mark_after text_reads mark e) later)
     (record { event = e; before = mark; bracket = bracket_read text_reads mark e }) y is)
     events
 
@@ -74,7 +74,7 @@ pub refused_there : (events : List EventRead) → All (Contains events) (map (λ
 refused_there events =
     All-map (Contains events) (λ (s : RefusedSend EventRead). s.event) (refused_sends events) (threads_there send_read (λ s. s.event) send_event events)
 
--- the calls that lack their reply, of those that pass a test
+-- the calls that lack their reply among those that pass a test
 pub lacking_there : (test : Opener EventRead → Bool) (events : List EventRead)
     → All (λ o. Contains events o.event) (with_verdict lacks_reply (filter test (openers events)))
 lacking_there test events =

@@ -1,12 +1,12 @@
--- The attachments of a capture of bytes have their objects.
+-- The attachments of a capture of bytes have outcomes.
 use Rattle.std.proofs.Common.{◌≡◌, ℕ, ◌+◌, inl, inr, Bool, true, false, cond, Option, Some, None, refl, sym, ap, subst, ◌∙◌}
 use Rattle.std.proofs.Common.{List, [], ◌∷◌, ◌++◌, length}
-use Rattle.std.specs.List.{cons_option, filter_map, find, flat_map}
+use Rattle.std.specs.List.{find, flat_map}
 use Rattle.std.specs.Option.{option_map}
 use Rattle.std.proofs.lemmas.List.{append-nil, drop_at}
 use Rattle.std.proofs.lemmas.List.Elements.{All-cons, All-nil}
 use Rattle.capture_frame.specs.Envelope.{Before, in_version, attachments_place, file_header, frame_bytes}
-use Rattle.capture_frame.specs.Units.{AllStand, IsBytes, Placed, placed, placed_at}
+use Rattle.capture_frame.specs.Units.{AllMayCome, IsBytes, Placed, placed, placed_at}
 use Rattle.capture_frame.proofs.NumberLaws.{IsBytes-drop}
 use Rattle.object_view.proofs.ListLaws.{some_objects}
 use Rattle.transaction_view.specs.Attachments.{EntryText, HasEntries, entry_bytes}
@@ -23,7 +23,7 @@ use Rattle.audit_findings.specs.Objects.{Attached, AreOutcomes, IsOutcome, Outco
 IsBytes-back : (front rest : List ℕ) → IsBytes (front ++ rest) → IsBytes rest
 IsBytes-back front rest h = subst IsBytes (drop_at front rest (length front) refl) (IsBytes-drop (length front) (front ++ rest) h)
 
--- each unit is made of bytes where all are
+-- each unit is made of bytes if all together are
 unit_bytes : {U : Type 0} (spelling : U → List ℕ) (base : ℕ) (units : List U) → IsBytes (flat_map spelling units) → (x : Placed U)
     → In x (placed spelling base units) → IsBytes (spelling x.unit)
 unit_bytes spelling base [] h x here = absurd here
@@ -32,7 +32,7 @@ unit_bytes {U} spelling base (u ∷ us) h x (inl is) =
 unit_bytes spelling base (u ∷ us) h x (inr there) =
     unit_bytes spelling (base + length (spelling u)) us (IsBytes-back (spelling u) (flat_map spelling us) h) x there
 
--- the offset bytes of an entry are bytes of it
+-- the list of offsets of an entry is made of bytes
 entry_list : (entry : EntryText) → IsBytes (entry_bytes entry) → IsBytes entry.offset_bytes
 unfolding entry_bytes
 entry_list entry h = IsBytes-back entry.body entry.offset_bytes (IsBytes-drop 12 (entry_bytes entry) h)
@@ -47,23 +47,23 @@ good_entries whole has h =
     let attachments = IsBytes-attachments whole.frame [] (subst IsBytes (sym (append-nil (frame_bytes whole.frame))) h) in
     record { entries = has; bytes = IsBytes-front (flat_map entry_bytes whole.entries) [] (subst IsBytes has.joined attachments) }
 
-each_good : (base : ℕ) (before : Before) (wholes : List WholeFrame) → AllStand whole_format before wholes
+each_good : (base : ℕ) (before : Before) (wholes : List WholeFrame) → AllMayCome whole_format before wholes
     → IsBytes (flat_map (λ (w : WholeFrame). frame_bytes w.frame) wholes) → (x : Placed WholeFrame)
     → In x (placed (λ (w : WholeFrame). frame_bytes w.frame) base wholes) → HasGoodEntries x.unit
-each_good base before [] stand h x here = absurd here
-each_good base before (w ∷ wholes) stand h x (inl is) =
+each_good base before [] in_order h x here = absurd here
+each_good base before (w ∷ wholes) in_order h x (inl is) =
     subst (λ (p : Placed WholeFrame). HasGoodEntries p.unit) (sym is)
-    (good_entries w stand.0.has_entries (IsBytes-front (frame_bytes w.frame) (flat_map (λ (w : WholeFrame). frame_bytes w.frame) wholes) h))
-each_good base before (w ∷ wholes) stand h x (inr there) =
-    each_good (base + length (frame_bytes w.frame)) (in_version before.version (Some w.frame.sequence)) wholes stand.1
+    (good_entries w in_order.0.has_entries (IsBytes-front (frame_bytes w.frame) (flat_map (λ (w : WholeFrame). frame_bytes w.frame) wholes) h))
+each_good base before (w ∷ wholes) in_order h x (inr there) =
+    each_good (base + length (frame_bytes w.frame)) (in_version before.version (Some w.frame.sequence)) wholes in_order.1
     (IsBytes-back (frame_bytes w.frame) (flat_map (λ (w : WholeFrame). frame_bytes w.frame) wholes) h) x there
 
 all_good : (capture : List ℕ) (wholes : List WholeFrame) → IsBytes capture → IsInGrammar capture wholes → (x : Placed WholeFrame)
     → In x (wholes_of wholes) → HasGoodEntries x.unit
 all_good capture wholes h is =
-    let behind = IsBytes-back (file_header is.0) is.1 (subst IsBytes is.2 h) in
+    let after = IsBytes-back (file_header is.0) is.1 (subst IsBytes is.2 h) in
     let spelled = flat_map (λ (w : WholeFrame). frame_bytes w.frame) wholes in
-    each_good 16 (in_version is.0 None) wholes is.3.stand (IsBytes-front spelled [] (subst IsBytes is.3.joined behind))
+    each_good 16 (in_version is.0 None) wholes is.3.in_order (IsBytes-front spelled [] (subst IsBytes is.3.joined after))
 
 -- ---- attachments
 

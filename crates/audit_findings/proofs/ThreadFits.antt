@@ -1,4 +1,4 @@
--- What is fed of few events can be summarised under their threads.
+-- What is fed of few events can be summed under their threads.
 use Rattle.std.proofs.Common.{◌≡◌, ◌<◌, ◌≤◌, Bool, true, false, cond, List, [], ◌∷◌, ◌++◌, length, map, filter, ap, subst, ◌∙◌, arith}
 use Rattle.std.proofs.lemmas.List.{length-map, map-append}
 use Rattle.std.proofs.lemmas.List.Elements.{filter-append}
@@ -17,11 +17,11 @@ use Rattle.capture_frame.specs.Process.{same_thread}
 use Rattle.audit_findings.specs.ThreadLedger.{fed_call, fed_calls, leaves_mark}
 use Rattle.audit_findings.proofs.Rising.{pairs_map, rising_kept}
 
--- what is fed of each thread can be summarised
+-- what is fed under each thread can be summed
 abbrev pub FitThreads : List (Thread × CallEvent) → Type 0
 FitThreads fed = EachFits same_thread (IsPlaced event_place) fed
 
--- and these entries sum it
+-- and these entries are its sums
 abbrev pub SumsFedCalls : List (Thread × Calls CallEvent) → List (Thread × CallEvent) → Type 0
 SumsFedCalls entries fed = SumsInOrder same_thread (CallsSum event_reads false) entries fed
 
@@ -44,15 +44,15 @@ fit_calls events placed key =
     (rising_kept (λ (e : EventRead). e.place) leaves_mark events placed.1) in
     (omega (arith, fewer, long, read, short), items_rise same_thread key event_place fed rise)
 
--- what is fed of a list followed by another
-pub fed_behind : (first second : List EventRead) → fed_calls (first ++ second) ≡ fed_calls first ++ fed_calls second
-fed_behind first second =
+-- what is fed of one list followed by another
+pub fed_after : (first second : List EventRead) → fed_calls (first ++ second) ≡ fed_calls first ++ fed_calls second
+fed_after first second =
     ap (map fed_call) (filter-append leaves_mark first second) ∙ map-append fed_call (filter leaves_mark first) (filter leaves_mark second)
 
-pub fit_behind : (first second : List EventRead) → AreFewEvents (first ++ second) → FitThreads (fed_calls first ++ fed_calls second)
-fit_behind first second few = subst FitThreads (fed_behind first second) (fit_calls (first ++ second) few.0)
+pub fit_after : (first second : List EventRead) → AreFewEvents (first ++ second) → FitThreads (fed_calls first ++ fed_calls second)
+fit_after first second few = subst FitThreads (fed_after first second) (fit_calls (first ++ second) few.0)
 
--- an event that leaves a mark is fed, and another is not
+-- an event that leaves a mark is fed, and any other is not
 pub fed_marked : (e : EventRead) → leaves_mark e ≡ true → fed_calls (e ∷ []) ≡ fed_call e ∷ []
 fed_marked e is = ap (λ (b : Bool). map fed_call (cond b (e ∷ []) [])) is
 

@@ -1,5 +1,5 @@
--- What is read of the events of each thread, as the ledgers of the threads have it.
-use Rattle.std.proofs.Common.{◌≡◌, ℕ, ◌+◌, ◌<◌, ◌≤◌, ◌^◌, Bool, true, false, cond, eqb, not, List, [], ◌∷◌, ◌++◌, length, map, filter, All, Option, Some, None, ◌⊎◌, inl, inr, refl, sym, ap, ap₂, subst, ◌∙◌, ⊎_elim, arith}
+-- What is read of the events of each thread, from the ledgers of the threads.
+use Rattle.std.proofs.Common.{◌≡◌, ℕ, ◌+◌, ◌<◌, ◌≤◌, Bool, true, false, cond, eqb, not, List, [], ◌∷◌, ◌++◌, length, map, filter, All, Option, Some, None, ◌⊎◌, inl, inr, refl, sym, ap, ap₂, subst, ◌∙◌, ⊎_elim, arith}
 use Rattle.std.specs.Prelude.{◌&&◌, count_by, option_and_then, slice_get}
 use Rattle.std.specs.Option.{is_some}
 use Rattle.std.specs.List.{AllZip, IsDistinct, cons_option, filter_map, flat_map, fold, sum_by}
@@ -15,26 +15,24 @@ use Rattle.std.proofs.lemmas.Simd.{map-map}
 use Rattle.capture_frame.proofs.ProcessLaws.{same_thread_equiv}
 use Rattle.capture_frame.specs.Process.{same_thread}
 use Rattle.capture_frame.specs.declared.process.Thread.{Thread}
-use Rattle.event_core.specs.Brackets.{bracket_of, mark_of}
+use Rattle.event_core.specs.Brackets.{mark_of}
 use Rattle.event_core.specs.Events.{EventRead, thread_of}
 use Rattle.event_core.specs.declared.marks.Bracket.{Bracket}
-use Rattle.event_core.specs.declared.marks.Bracket.TheVariants.{Call, Served, Reply, Sent, Error, Refused, Neither}
+use Rattle.event_core.specs.declared.marks.Bracket.TheVariants.{Call, Served, Reply, Sent, Error, Neither}
 use Rattle.event_core.specs.declared.marks.Mark.{Mark}
-use Rattle.call_stacks.proofs.Found.{judged-read}
+use Rattle.call_stacks.proofs.Found.{bracketed-read}
 use Rattle.call_stacks.proofs.MarkLaws.{no_mark}
 use Rattle.call_stacks.proofs.Retold.{ReadAlike, retold, told_opener, told_send}
 use Rattle.call_stacks.proofs.Sums.{marked}
 use Rattle.call_stacks.proofs.Unmarked.{with_unmarked}
-use Rattle.call_stacks.specs.Calls.{AreFindings, Bracketed, CallsSum, GivesFindings, as_judged, bracket_read, bracketed_with, event_place, event_reads, how_many, is_oneway_mark, is_refused, judged_of, mark_behind_by, open_count, opener_by, opener_read, openers_of, refused_of, refused_send, stray_read, strays_in, unmatched_closers, with_verdict}
+use Rattle.call_stacks.specs.Calls.{AreFindings, Bracketed, CallsSum, GivesFindings, as_bracketed, bracket_read, bracketed_with, event_place, event_reads, how_many, is_oneway_mark, is_refused, bracketed_of, mark_after, open_count, opener_by, opener_read, openers_of, refused_of, refused_send, stray_read, strays_in, unmatched_closers, with_verdict}
 use Rattle.call_stacks.specs.Matching.{is_closer, is_opener}
 use Rattle.call_stacks.specs.Verdicts.{is_answered, is_replied, lacks_reply, side_of, verdict_of}
 use Rattle.call_stacks.specs.declared.call_record.CallEvent.{CallEvent}
 use Rattle.call_stacks.specs.declared.calls.Calls.{Calls}
 use Rattle.call_stacks.specs.declared.findings.CallFindings.{CallFindings}
-use Rattle.call_stacks.specs.declared.findings.RefusedSend.{RefusedSend}
 use Rattle.call_stacks.specs.declared.opener.Opener.{Opener}
 use Rattle.call_stacks.specs.declared.verdict.Verdict.{Verdict}
-use Rattle.call_stacks.specs.declared.verdict.Verdict.TheVariants.{Answered, Replied}
 use Rattle.summary_law.proofs.GatherLaws.{HasKeyOrNothing, all_in, gathered_sorted, key_among, read-gathered}
 use Rattle.summary_law.proofs.InOrderLaws.{each_sums, entries_distinct, none_else}
 use Rattle.summary_law.proofs.Members.{In, map-in}
@@ -42,12 +40,12 @@ use Rattle.summary_law.proofs.ReadingLaws.{read-at, read-rises}
 use Rattle.summary_law.specs.ByKey.{items_of}
 use Rattle.summary_law.specs.Fits.{IsPlaced}
 use Rattle.summary_law.specs.Readings.{by_key, read_all, read_each, with_key}
-use Rattle.audit_findings.specs.Calls.{is_call_bracket, is_made, is_served, openers, refused_sends, stray_closers}
-use Rattle.audit_findings.specs.Kept.{call_at_place, places_of}
+use Rattle.audit_findings.specs.Calls.{is_call_bracket, is_made, is_served, openers}
+use Rattle.audit_findings.specs.Kept.{call_at_place}
 use Rattle.audit_findings.specs.Places.{RiseInPlace}
 use Rattle.audit_findings.specs.TextReads.{text_reads}
 use Rattle.audit_findings.specs.ThreadLedger.{SumsThreads, fed_call, fed_calls, leaves_mark, text_call}
-use Rattle.audit_findings.specs.ThreadRows.{AreGatheredRows, AreSortedRows, IsCountIfSmall, KeepRows, kept_call, kept_send, made_in, made_of, makes, send_at_place, sends_in, served_by, served_in, strays_of}
+use Rattle.audit_findings.specs.ThreadRows.{AreGatheredRows, AreSortedRows, IsCountIfSmall, KeepRows, kept_call, kept_send, made_in, makes, send_at_place, sends_in, served_in, strays_of}
 use Rattle.audit_findings.specs.Threads.{events_in_thread, in_threads}
 use Rattle.audit_findings.specs.declared.thread_rows.ThreadRows.{ThreadRows}
 use Rattle.audit_findings.proofs.CallEvents.{Reading, opener_event, send_event, send_read, stray_event, told_if}
@@ -61,17 +59,17 @@ Entry = Thread × Calls CallEvent
 abbrev place_of_event : EventRead → ℕ
 place_of_event e = e.place
 
--- ---- readings of judged events
+-- ---- readings of bracketed events
 
--- nothing is read of an event that is no bracket
+-- nothing is read of an event whose bracket is `Neither`
 abbrev IsQuiet : {Y : Type 0} → Reading Y → Type 0
 IsQuiet read = (b l : List (Bracketed EventRead)) (found : Bracketed EventRead) → found.bracket ≡ Neither → read b found l ≡ None
 
--- what is read of an event is at a place of its own
+-- what is read of an event is at the event's place
 abbrev KeepsEvent : {Y : Type 0} → Reading Y → (Y → ℕ) → Type 0
 KeepsEvent {Y} read rank = (b l : List (Bracketed EventRead)) (found : Bracketed EventRead) (y : Y) → read b found l ≡ Some y → rank y ≡ found.event.place
 
--- what is read, where it passes a test
+-- what is read, if it passes a test
 abbrev if_passes : {Y : Type 0} → (Y → Bool) → Y → Option Y
 if_passes test y = cond (test y) (Some y) None
 
@@ -88,13 +86,13 @@ read-kept {X} {Y} test read before (x ∷ later) =
     ≡ cons_option (option_and_then (if_passes test) o) (read_each (kept test read) next later)) [
       | None ↦ rest
       | Some y ↦ elim (test y) as (λ b. cond b (y ∷ filter test (read_each read next later)) (filter test (read_each read next later))
-        ≡ cons_option (cond b (Some y) None) (read_each (kept test read) next later)) [
-        | true ↦ ap (λ (t : List Y). y ∷ t) rest
-        | false ↦ rest
-      ]
+          ≡ cons_option (cond b (Some y) None) (read_each (kept test read) next later)) [
+            | true ↦ ap (λ (t : List Y). y ∷ t) rest
+            | false ↦ rest
+          ]
     ]
 
--- what is read of an element by itself
+-- a reading that looks at each element by itself
 read-plain : {X Y : Type 0} (read : X → Option Y) (before xs : List X) → filter_map read xs ≡ read_each (λ b x l. read x) before xs
 read-plain read before [] = refl
 read-plain read before (x ∷ later) = ap (cons_option (read x)) (read-plain read (before ++ x ∷ []) later)
@@ -122,7 +120,7 @@ kept_keeps {Y} test read rank keeps before later found y is =
 
 -- ---- the events of each thread
 
--- what is fed under a thread is of its events, where they leave a mark
+-- what is fed under a thread are its events that leave a mark
 calls_fed : (key : Thread) (events : List EventRead)
     → items_of same_thread key (fed_calls events) ≡ filter (marked event_reads) (map text_call (events_in_thread key events))
 calls_fed key [] = refl
@@ -145,7 +143,7 @@ calls_fed key (e ∷ events) =
           ]
     ] refl
 
--- the events of a thread are placed where all are, and so is what their calls go by
+-- if all events are placed, so are those of a thread, and what is kept of them for its calls
 placed_texts : (key : Thread) (events : List EventRead) → IsPlaced place_of_event events → IsPlaced event_place (map text_call (events_in_thread key events))
 placed_texts key events placed =
     let own = events_in_thread key events in
@@ -156,7 +154,7 @@ placed_texts key events placed =
       pairs_map (λ (a b : CallEvent). a.place < b.place) text_call own (rising_kept place_of_event (λ (e : EventRead). same_thread key (thread_of e)) events placed.1),
     )
 
--- what the calls of an event go by is read of it in both forms
+-- both forms of an event read the same
 texts_alike : ReadAlike text_reads event_reads text_call
 texts_alike = record { place = λ e. refl; kind = λ e. refl; oneway = λ e. refl }
 
@@ -179,9 +177,9 @@ module _ (entries : List Entry) (events : List EventRead) (sums : SumsThreads en
 
   module _ {Y : Type 0} (read : Reading Y) (quiet : IsQuiet read) where
     -- each event has an entry for its thread, or nothing is read of it
-    among : All (HasKeyOrNothing same_thread_equiv thread_of (as_judged text_reads read) keys) events
+    among : All (HasKeyOrNothing same_thread_equiv thread_of (as_bracketed text_reads read) keys) events
     among =
-        all_in (HasKeyOrNothing same_thread_equiv thread_of (as_judged text_reads read) keys) events
+        all_in (HasKeyOrNothing same_thread_equiv thread_of (as_bracketed text_reads read) keys) events
         (λ e there.
         ⊎_elim
         (λ (marks : leaves_mark e ≡ true).
@@ -190,29 +188,29 @@ module _ (entries : List Entry) (events : List EventRead) (sums : SumsThreads en
         (map-in fed_call (filter leaves_mark events) e (kept_in leaves_mark events e there marks))))
         (λ (plain : leaves_mark e ≡ false).
         inr (λ before later.
-        let mark = fold (mark_behind_by text_reads) None before in
-        quiet (judged_of text_reads before) (bracketed_with text_reads (bracket_read text_reads) (mark_behind_by text_reads mark e) later)
+        let mark = fold (mark_after text_reads) None before in
+        quiet (bracketed_of text_reads before) (bracketed_with text_reads (bracket_read text_reads) (mark_after text_reads mark e) later)
         (record { event = e; before = mark; bracket = bracket_read text_reads mark e }) (unmarked e mark plain)))
         (cases_Bool (leaves_mark e)))
 
     -- what is read of a thread
     abbrev own_read : Thread → List Y
-    own_read key = read_all (as_judged text_reads read) (events_in_thread key events)
+    own_read key = read_all (as_bracketed text_reads read) (events_in_thread key events)
 
     gathered : IsPermutation (flat_map own_read keys) (in_threads read events)
-    gathered = read-gathered same_thread_equiv thread_of (as_judged text_reads read) keys distinct [] events among
+    gathered = read-gathered same_thread_equiv thread_of (as_bracketed text_reads read) keys distinct [] events among
 
     -- rows of what is read of each thread, sorted, are those of what is read of all
     thread_sorted : {R : Type 0} (row : Y → R) (rank : R → ℕ) → KeepsEvent read (λ y. rank (row y)) → RiseInPlace events → (old new : List R)
         → old ≡ flat_map (λ key. map row (own_read key)) keys → IsPermutation old new → IsNonDecreasingBy rank new → new ≡ map row (in_threads read events)
     thread_sorted {R} row rank keeps rise old new are moved sorted =
-        gathered_sorted same_thread_equiv thread_of (as_judged text_reads read) row rank keys distinct events among
-        (read-rises (by_key same_thread thread_of (as_judged text_reads read)) place_of_event (λ y. rank (row y))
+        gathered_sorted same_thread_equiv thread_of (as_bracketed text_reads read) row rank keys distinct events among
+        (read-rises (by_key same_thread thread_of (as_bracketed text_reads read)) place_of_event (λ y. rank (row y))
         (λ b e l y is.
         let before = with_key same_thread thread_of (thread_of e) b in
         let later = with_key same_thread thread_of (thread_of e) l in
-        let mark = fold (mark_behind_by text_reads) None before in
-        keeps (judged_of text_reads before) (bracketed_with text_reads (bracket_read text_reads) (mark_behind_by text_reads mark e) later)
+        let mark = fold (mark_after text_reads) None before in
+        keeps (bracketed_of text_reads before) (bracketed_with text_reads (bracket_read text_reads) (mark_after text_reads mark e) later)
         (record { event = e; before = mark; bracket = bracket_read text_reads mark e }) y is) events rise)
         new (subst (λ (t : List R). IsPermutation t new) are moved) sorted
 
@@ -224,7 +222,7 @@ module _ (entries : List Entry) (events : List EventRead) (sums : SumsThreads en
   abbrev SumsOwn : Entry → Type 0
   SumsOwn e = CallsSum event_reads false e.1 (items_of same_thread e.0 (fed_calls events))
 
-  -- of a thread
+  -- what the ledger of a thread found is found of its events
   found_own : (e : Entry) (found : CallFindings CallEvent) → SumsOwn e → GivesFindings event_reads false e.1 found
       → AreFindings event_reads false (map text_call (events_in_thread e.0 events)) found
   found_own e found own gives =
@@ -240,7 +238,7 @@ module _ (entries : List Entry) (events : List EventRead) (sums : SumsThreads en
       All-weaker (λ (e : Entry). (items_of same_thread e.0 (fed_calls events) ≡ [] → ⊥) × SumsOwn e) SumsOwn (λ e both. both.1) entries
       (each_sums same_thread_equiv (CallsSum event_reads false) entries (fed_calls events) sums.sums)
 
-  -- lists of what is found of threads are those of their events
+  -- the lists that are found of threads are those of their events
   lists_told : {R : Type 0} (lists : CallFindings CallEvent → List R) (own : Thread → List R)
       → ((key : Thread) (found : CallFindings CallEvent) → IsFound key found → lists found ≡ own key)
       → (some : List Entry) → All SumsOwn some → (founds : List (CallFindings CallEvent))
@@ -301,17 +299,17 @@ sum_flat {K} {X} test lists (k ∷ keys) =
 -- ---- the lists of a thread
 
 -- the openers of a thread, as they are read of its events
-openers_read : (own : List EventRead) → openers_of text_reads own ≡ read_all (as_judged text_reads (opener_read text_reads)) own
-openers_read own = judged-read text_reads (opener_read text_reads) [] own
+openers_read : (own : List EventRead) → openers_of text_reads own ≡ read_all (as_bracketed text_reads (opener_read text_reads)) own
+openers_read own = bracketed-read text_reads (opener_read text_reads) [] own
 
--- those of a thread that lack their reply and pass a test
+-- the openers of a thread that lack their reply and pass a test
 abbrev lacking : (Opener EventRead → Bool) → Reading (Opener EventRead)
 lacking test = kept (λ o. lacks_reply o.verdict) (kept test (opener_read text_reads))
 
 lacking_read : (test : Opener EventRead → Bool) (own : List EventRead)
-    → filter test (with_verdict lacks_reply (openers_of text_reads own)) ≡ read_all (as_judged text_reads (lacking test)) own
+    → filter test (with_verdict lacks_reply (openers_of text_reads own)) ≡ read_all (as_bracketed text_reads (lacking test)) own
 lacking_read test own =
-    let read = as_judged text_reads (opener_read text_reads) in
+    let read = as_bracketed text_reads (opener_read text_reads) in
     kept_swap test (λ (o : Opener EventRead). lacks_reply o.verdict) (openers_of text_reads own)
     ∙ ap (λ (os : List (Opener EventRead)). with_verdict lacks_reply (filter test os)) (openers_read own)
     ∙ ap (with_verdict lacks_reply) (read-kept test read [] own)
@@ -322,9 +320,9 @@ module _ (events : List EventRead) (key : Thread) (found : CallFindings CallEven
   abbrev own_events : List EventRead
   own_events = events_in_thread key events
 
-  -- the calls that are kept, where they pass a test that reads the same of both forms
+  -- the kept calls that pass a test, if the test reads the same in both forms
   calls_told : (test : Opener CallEvent → Bool) (like : Opener EventRead → Bool) → ((o : Opener EventRead) → test (told_opener text_call o) ≡ like o)
-      → map kept_call (filter test found.openers.items) ≡ map call_at_place (read_all (as_judged text_reads (lacking like)) own_events)
+      → map kept_call (filter test found.openers.items) ≡ map call_at_place (read_all (as_bracketed text_reads (lacking like)) own_events)
   calls_told test like same =
       let told = told_opener text_call in
       let lack = with_verdict lacks_reply (openers_of text_reads own_events) in
@@ -333,36 +331,36 @@ module _ (events : List EventRead) (key : Thread) (found : CallFindings CallEven
       ∙ ap (λ (t : Opener EventRead → Bool). map call_at_place (filter t lack)) (λ i o. same o i)
       ∙ ap (map call_at_place) (lacking_read like own_events)
 
-  made_told : made_in found ≡ map call_at_place (read_all (as_judged text_reads (lacking is_made)) own_events)
+  made_told : made_in found ≡ map call_at_place (read_all (as_bracketed text_reads (lacking is_made)) own_events)
   made_told = calls_told makes is_made (λ o. refl)
 
-  served_told : served_in found ≡ map call_at_place (read_all (as_judged text_reads (lacking is_served)) own_events)
+  served_told : served_in found ≡ map call_at_place (read_all (as_bracketed text_reads (lacking is_served)) own_events)
   served_told = calls_told (λ o. not (makes o)) is_served (λ o. refl)
 
-  strays_told : strays_of found ≡ map place_of_event (read_all (as_judged text_reads stray_read) own_events)
+  strays_told : strays_of found ≡ map place_of_event (read_all (as_bracketed text_reads stray_read) own_events)
   strays_told =
       ap (map event_place) (retold text_reads event_reads text_call texts_alike own_events false found are).strays
-      ∙ map-map event_place text_call (strays_in (judged_of text_reads own_events))
-      ∙ ap (map place_of_event) (judged-read text_reads stray_read [] own_events)
+      ∙ map-map event_place text_call (strays_in (bracketed_of text_reads own_events))
+      ∙ ap (map place_of_event) (bracketed-read text_reads stray_read [] own_events)
 
-  sends_told : sends_in found ≡ map send_at_place (read_all (as_judged text_reads send_read) own_events)
+  sends_told : sends_in found ≡ map send_at_place (read_all (as_bracketed text_reads send_read) own_events)
   sends_told =
-      let judged = judged_of text_reads own_events in
+      let bracketed = bracketed_of text_reads own_events in
       ap (map kept_send) (retold text_reads event_reads text_call texts_alike own_events false found are).refused
-      ∙ map-map kept_send (told_send text_call) (refused_of judged)
-      ∙ ap (map send_at_place) (read-plain refused_send [] judged ∙ judged-read text_reads send_read [] own_events)
+      ∙ map-map kept_send (told_send text_call) (refused_of bracketed)
+      ∙ ap (map send_at_place) (read-plain refused_send [] bracketed ∙ bracketed-read text_reads send_read [] own_events)
 
-  answered_told : found.answered ≡ how_many is_answered (read_all (as_judged text_reads (opener_read text_reads)) own_events)
+  answered_told : found.answered ≡ how_many is_answered (read_all (as_bracketed text_reads (opener_read text_reads)) own_events)
   answered_told =
       (retold text_reads event_reads text_call texts_alike own_events false found are).answered ∙ ap (how_many is_answered) (openers_read own_events)
 
-  replied_told : found.replied ≡ how_many is_replied (read_all (as_judged text_reads (opener_read text_reads)) own_events)
+  replied_told : found.replied ≡ how_many is_replied (read_all (as_bracketed text_reads (opener_read text_reads)) own_events)
   replied_told =
       (retold text_reads event_reads text_call texts_alike own_events false found are).replied ∙ ap (how_many is_replied) (openers_read own_events)
 
 -- ---- calls that have their reply
 
--- which end of a call its thread is at follows from a verdict of a reply
+-- a verdict of a reply says whether the thread makes the call or serves it
 reply_tells : (call answer : Bracket) → (is_answered (verdict_of call answer) ≡ true → call ≡ Call) × (is_replied (verdict_of call answer) ≡ true → call ≡ Served)
 reply_tells Call Reply = (λ is. refl, λ is. let no : ⊥ = cc in absurd no)
 reply_tells Call Error = (λ is. refl, λ is. let no : ⊥ = cc in absurd no)
@@ -384,20 +382,20 @@ opener_tells event (Some answer) =
 
 all_tell : (events : List EventRead) (o : Opener EventRead) → In o (openers events) → Tells o
 all_tell events o there =
-    let at = read-at (by_key same_thread thread_of (as_judged text_reads (opener_read text_reads))) [] events o there in
+    let at = read-at (by_key same_thread thread_of (as_bracketed text_reads (opener_read text_reads))) [] events o there in
     let before = with_key same_thread thread_of (thread_of at.1) at.0 in
     let later = with_key same_thread thread_of (thread_of at.1) at.2 in
-    let mark = fold (mark_behind_by text_reads) None before in
-    let answer = slice_get (unmatched_closers (bracketed_with text_reads (bracket_read text_reads) (mark_behind_by text_reads mark at.1) later)) 0 in
+    let mark = fold (mark_after text_reads) None before in
+    let answer = slice_get (unmatched_closers (bracketed_with text_reads (bracket_read text_reads) (mark_after text_reads mark at.1) later)) 0 in
     subst Tells (told_if (is_opener (side_of (bracket_read text_reads mark at.1))) (opener_by text_reads at.1 answer) o at.4) (opener_tells at.1 answer)
 
 -- ---- the rows of all threads
 
--- a number that is the count of what is found of threads is that of all, where there are few
+-- if the number is the count over all threads wherever that is small, it is the count over all events, which are few
 count_kept : (entries : List Entry) (events : List EventRead) (sums : SumsThreads entries events) (founds : List (CallFindings CallEvent))
     → Founds entries events sums founds → (test : Verdict → Bool) (count : CallFindings CallEvent → ℕ)
     → ((key : Thread) (found : CallFindings CallEvent) → IsFound entries events sums key found
-    → count found ≡ how_many test (read_all (as_judged text_reads (opener_read text_reads)) (events_in_thread key events)))
+    → count found ≡ how_many test (read_all (as_bracketed text_reads (opener_read text_reads)) (events_in_thread key events)))
     → (of : Opener EventRead → Bool) → ((o : Opener EventRead) → In o (openers events) → test o.verdict ≡ true → of o ≡ true)
     → (number : ℕ) → IsCountIfSmall number (sum_by count founds) → number ≡ how_many test (filter of (openers events))
 count_kept entries events sums founds zip test count tells of passes number small =
@@ -408,33 +406,33 @@ count_kept entries events sums founds zip test count tells of passes number smal
     let moved = sum_by-IsPermutation (λ (o : Opener EventRead). cond (test o.verdict) 1 0) (flat_map own (keys_of entries)) (openers events)
     (gathered entries events sums read opener_quiet) in
     let few = count_by-le-length (λ (o : Opener EventRead). test o.verdict) (openers events) in
-    let short = read-short (by_key same_thread thread_of (as_judged text_reads read)) [] events in
+    let short = read-short (by_key same_thread thread_of (as_bracketed text_reads read)) [] events in
     let most = sums.placed.0 in
     let whole : sum_by count founds ≡ how_many test (openers events) = told ∙ all ∙ sym moved in
     small (omega (arith, few, short, most, whole)) ∙ whole ∙ sym (kept_count (λ (o : Opener EventRead). test o.verdict) of (openers events) passes)
 
 module _ (entries : List Entry) (events : List EventRead) (sums : SumsThreads entries events) (rise : RiseInPlace events) (old new : ThreadRows)
     (gathered_rows : AreGatheredRows entries old) (rows : AreSortedRows old new) where
-  -- the rows of a list, by what a reading tells of each thread
+  -- the rows of a sorted list, from a reading of each thread
   list_kept : {Y R : Type 0} (read : Reading Y) → IsQuiet read → (row : Y → R) (rank : R → ℕ) → KeepsEvent read (λ y. rank (row y))
       → (lists : CallFindings CallEvent → List R)
       → ((key : Thread) (found : CallFindings CallEvent) → IsFound entries events sums key found
-      → lists found ≡ map row (read_all (as_judged text_reads read) (events_in_thread key events)))
+      → lists found ≡ map row (read_all (as_bracketed text_reads read) (events_in_thread key events)))
       → (before after : List R) → before ≡ flat_map lists gathered_rows.founds → IsPermutation before after → IsNonDecreasingBy rank after
       → after ≡ map row (in_threads read events)
   list_kept read quiet row rank keeps lists tells before after are moved sorted =
       thread_sorted entries events sums read quiet row rank keeps rise before after
-      (are ∙ lists_told entries events sums lists (λ key. map row (read_all (as_judged text_reads read) (events_in_thread key events))) tells entries
+      (are ∙ lists_told entries events sums lists (λ key. map row (read_all (as_bracketed text_reads read) (events_in_thread key events))) tells entries
       (each_own entries events sums) gathered_rows.founds gathered_rows.are)
       moved sorted
 
   lacking_kept : (of : Opener EventRead → Bool) (lists : CallFindings CallEvent → List (Opener ℕ))
       → ((key : Thread) (found : CallFindings CallEvent) → IsFound entries events sums key found
-      → lists found ≡ map call_at_place (read_all (as_judged text_reads (lacking of)) (events_in_thread key events)))
+      → lists found ≡ map call_at_place (read_all (as_bracketed text_reads (lacking of)) (events_in_thread key events)))
       → (before after : List (Opener ℕ)) → before ≡ flat_map lists gathered_rows.founds → IsPermutation before after → IsNonDecreasingBy (λ o. o.event) after
       → after ≡ map call_at_place (with_verdict lacks_reply (filter of (openers events)))
   lacking_kept of lists tells before after are moved sorted =
-      let read = by_key same_thread thread_of (as_judged text_reads (opener_read text_reads)) in
+      let read = by_key same_thread thread_of (as_bracketed text_reads (opener_read text_reads)) in
       list_kept (lacking of) (kept_quiet (λ o. lacks_reply o.verdict) (kept of (opener_read text_reads)) (kept_quiet of (opener_read text_reads) opener_quiet))
       call_at_place (λ o. o.event)
       (kept_keeps (λ o. lacks_reply o.verdict) (kept of (opener_read text_reads)) (λ o. o.event.place)

@@ -1,4 +1,4 @@
--- The rows of threads, one thread behind another.
+-- The rows of threads, one thread after another.
 use Rattle.std.proofs.Common.{◌≡◌, ℕ, false, ◌+◌, ◌-◌, ◌^◌, min, List, [], ◌∷◌, ◌++◌, refl, sym, ap, ◌∙◌, append_assoc, arith}
 use Rattle.std.specs.List.{sum_by}
 use Rattle.std.proofs.lemmas.List.Sums.{sum_by-cons}
@@ -12,9 +12,9 @@ use Rattle.capture_frame.specs.declared.process.Thread.{Thread}
 use Rattle.call_stacks.specs.declared.findings.RefusedSend.{RefusedSend}
 use Rattle.call_stacks.specs.declared.opener.Opener.{Opener}
 use Rattle.audit_findings.specs.declared.thread_rows.ThreadRows.{ThreadRows}
-use Rattle.audit_findings.specs.ThreadRows.{made_in, served_in, strays_of, sends_in, TakesOver, IsCountIfSmall, AreRowsInTurn, AreGatheredRows}
+use Rattle.audit_findings.specs.ThreadRows.{made_in, served_in, strays_of, sends_in, TakesOver, IsCountIfSmall, AreRowsOfThreads, AreGatheredRows}
 
-pub no_threads : AreRowsInTurn [] [] [] 0 0 [] []
+pub no_threads : AreRowsOfThreads [] [] [] 0 0 [] []
 no_threads = record {
   founds = [];
   are = tt;
@@ -26,7 +26,7 @@ no_threads = record {
   sends_are = refl;
 }
 
--- a sum with the number of a thread in front
+-- a sum with the number of one thread added at the beginning
 more_in_front : (own : CallFindings CallEvent → ℕ) (found : CallFindings CallEvent) (founds : List (CallFindings CallEvent)) (number : ℕ)
     → IsCountIfSmall number (sum_by own founds) → IsCountIfSmall (own found + number) (sum_by own (found ∷ founds))
 more_in_front own found founds number holds few =
@@ -34,10 +34,10 @@ more_in_front own found founds number holds few =
     let rest = holds (omega (arith, both, few)) in
     omega (arith, both, rest)
 
--- one thread more, in front
+-- one more thread at the beginning
 pub thread_in_front : (e : Thread × Calls CallEvent) (entries : List (Thread × Calls CallEvent)) (found : CallFindings CallEvent) (made served : List (Opener ℕ))
-    (answered replied : ℕ) (strays : List ℕ) (sends : List (RefusedSend ℕ)) → GivesFindings event_reads false e.1 found → AreRowsInTurn entries made served answered replied strays sends
-    → AreRowsInTurn (e ∷ entries) (made_in found ++ made) (served_in found ++ served) (found.answered + answered) (found.replied + replied)
+    (answered replied : ℕ) (strays : List ℕ) (sends : List (RefusedSend ℕ)) → GivesFindings event_reads false e.1 found → AreRowsOfThreads entries made served answered replied strays sends
+    → AreRowsOfThreads (e ∷ entries) (made_in found ++ made) (served_in found ++ served) (found.answered + answered) (found.replied + replied)
     (strays_of found ++ strays) (sends_in found ++ sends)
 thread_in_front e entries found made served answered replied strays sends gives rows = record {
   founds = found ∷ rows.founds;
@@ -50,19 +50,19 @@ thread_in_front e entries found made served answered replied strays sends gives 
   sends_are = ap (λ (t : List (RefusedSend ℕ)). sends_in found ++ t) rows.sends_are ∙ sym (flat_map-cons sends_in found rows.founds);
 }
 
--- a number that another was added to
+-- a number to which another was added
 added : (old own new more count : ℕ) → new ≡ min (old + own) (2 ^ 64 - 1) → IsCountIfSmall (old + (own + more)) count → IsCountIfSmall (new + more) count
 added old own new more count is holds few =
     let whole = holds few in
     omega (arith, is, whole, few)
 
--- rows that a thread's were taken over into, with those to come
+-- rows that took over those of a thread, followed by those to come
 pub taken_over : (entries : List (Thread × Calls CallEvent)) (old new : ThreadRows) (found : CallFindings CallEvent) (made served : List (Opener ℕ))
     (answered replied : ℕ) (strays : List ℕ) (sends : List (RefusedSend ℕ)) → TakesOver old found new
-    → AreRowsInTurn entries (old.made.items ++ (made_in found ++ made)) (old.served.items ++ (served_in found ++ served)) (old.answered + (found.answered + answered))
+    → AreRowsOfThreads entries (old.made.items ++ (made_in found ++ made)) (old.served.items ++ (served_in found ++ served)) (old.answered + (found.answered + answered))
     (old.replied + (found.replied + replied)) (old.strays.items ++ (strays_of found ++ strays))
     (old.sends.items ++ (sends_in found ++ sends))
-    → AreRowsInTurn entries (new.made.items ++ made) (new.served.items ++ served) (new.answered + answered) (new.replied + replied) (new.strays.items ++ strays)
+    → AreRowsOfThreads entries (new.made.items ++ made) (new.served.items ++ served) (new.answered + answered) (new.replied + replied) (new.strays.items ++ strays)
     (new.sends.items ++ sends)
 taken_over entries old new found made served answered replied strays sends takes rows = record {
   founds = rows.founds;
@@ -80,9 +80,9 @@ none_more number count holds few =
     let whole = holds few in
     omega (arith, whole)
 
--- rows with none to come
+-- rows with no rows to come
 pub all_turned : (entries : List (Thread × Calls CallEvent)) (rows : ThreadRows)
-    → AreRowsInTurn entries (rows.made.items ++ []) (rows.served.items ++ []) (rows.answered + 0) (rows.replied + 0) (rows.strays.items ++ []) (rows.sends.items ++ [])
+    → AreRowsOfThreads entries (rows.made.items ++ []) (rows.served.items ++ []) (rows.answered + 0) (rows.replied + 0) (rows.strays.items ++ []) (rows.sends.items ++ [])
     → AreGatheredRows entries rows
 all_turned entries rows are = record {
   founds = are.founds;

@@ -1,10 +1,10 @@
 -- What is made of each process in turn.
-use Rattle.std.proofs.Common.{◌≡◌, ℕ, ◌+◌, List, [], ◌∷◌, ◌++◌, length, map, refl, sym, ap, ap₂, subst, ◌∙◌, append_assoc, length-append, arith}
+use Rattle.std.proofs.Common.{◌≡◌, ◌+◌, List, [], ◌∷◌, ◌++◌, length, map, refl, sym, ap, ap₂, ◌∙◌, append_assoc, length-append}
 use Rattle.std.specs.List.{flat_map}
 use Rattle.std.specs.Map.{keys_of}
 use Rattle.std.proofs.lemmas.Grind.{flat_map-append}
 use Rattle.std.proofs.lemmas.List.Concat.{flat_map-cons}
-use Rattle.std.proofs.lemmas.List.{append-nil, length-map, map-append}
+use Rattle.std.proofs.lemmas.List.{append-nil, map-append}
 use Rattle.capture_frame.specs.declared.process.Process.{Process}
 use Rattle.capture_frame.specs.Units.{Placed}
 use Rattle.transaction_view.specs.Grammar.{WholeFrame}
@@ -16,7 +16,7 @@ use Rattle.process_ledgers.specs.Processes.{processes_of}
 use Rattle.audit_findings.specs.InTurn.{in_turn, process_row, rows_in}
 use Rattle.audit_findings.specs.declared.in_turn.ProcessRow.{ProcessRow}
 
--- the lists are those of the processes of these entries but the rest
+-- the lists are those of the processes of the entries before the rest
 pub record Listing {R : Type 0} (of : List EventRead → Process → List R) (processes : Processes) (rest : List (Process × Nothing)) (lists : List (List R)) :
     Type 0 where
   pub done : List (Process × Nothing)
@@ -58,7 +58,7 @@ module _ {R : Type 0} (of : List EventRead → Process → List R) (processes : 
     all_done : listing.done ≡ entries
     all_done = sym (append-nil listing.done) ∙ ap (λ (t : List (Process × Nothing)). listing.done ++ t) (sym none) ∙ listing.whole
 
-    -- at the end there is one for each entry
+    -- at the end there is a list for each entry
     pub listing_long : length lists ≡ length entries
     listing_long = listing.count ∙ ap length all_done
 
@@ -75,7 +75,7 @@ flat_lists of [] = refl
 flat_lists {K} {R} of (k ∷ keys) =
     flat_map-cons (λ (own : List R). own) (of k) (map of keys) ∙ ap (λ (t : List R). of k ++ t) (flat_lists of keys) ∙ sym (flat_map-cons of k keys)
 
--- the rows are those of the processes of these entries but the rest, each as one of its process
+-- the rows are those of the processes of the entries before the rest, each with its process
 abbrev pub Turning : {R : Type 0} → (List EventRead → Process → List R) → Processes → List (Process × Nothing) → List (ProcessRow R) → Type 0
 Turning {R} of processes rest rows =
     (lists : List (List (ProcessRow R))) × Listing (λ events. rows_in (of events)) processes rest lists × (rows ≡ flat_map (λ (own : List (ProcessRow R)). own) lists)

@@ -1,18 +1,18 @@
--- The sections `buffers` and `frees`: deliveries that are never freed, and frees of what is not delivered or is freed
--- already (docs/REPORT.md).
+-- The sections `buffers` and `frees`: leaked deliveries and stray frees (docs/REPORT.md).
 use Rattle.std.specs.Prelude.{List}
 use Rattle.event_core.specs.Events.{EventRead}
 use Rattle.process_ledgers.specs.Items.{buffer_pending_of}
 use Rattle.audit_findings.specs.Places.{EventTest, is_stray_close, is_unclosed, listed}
 
--- whether the event is a delivery that no later free has the address of
-abbrev pub is_unfreed : EventTest
-is_unfreed = is_unclosed buffer_pending_of
+-- whether the event is a leaked delivery: no later free has its address
+abbrev pub is_leaked : EventTest
+is_leaked = is_unclosed buffer_pending_of
 
--- the deliveries that no later free of their process has the address of
+-- the leaked deliveries: those whose address no later free of their process has
 abbrev pub leaked : List EventRead → List EventRead
-leaked events = listed is_unfreed events
+leaked events = listed is_leaked events
 
--- the frees whose address was not delivered to their process, or was not delivered again since its last free there
+-- the stray frees: in their process no earlier delivery or free has their address, or the latest one that has it is a
+-- free
 abbrev pub stray_frees : List EventRead → List EventRead
 stray_frees events = listed (is_stray_close buffer_pending_of) events

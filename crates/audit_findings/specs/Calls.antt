@@ -16,28 +16,32 @@ use Rattle.audit_findings.specs.declared.calls.Calls.{Calls}
 use Rattle.audit_findings.specs.declared.refused.Refused.{Refused}
 use Rattle.audit_findings.specs.declared.served.Served.{Served}
 
--- the calls of all threads, those that a thread makes and those that it serves, each with what becomes of it
+-- the openers of all threads, in the order of the events: the calls that threads make and those that they serve, each
+-- with what became of it
 abbrev pub openers : List EventRead → List (Opener EventRead)
 openers events = in_threads (opener_read text_reads) events
 
+-- whether the bracket is that of a call that the thread makes
 abbrev pub is_call_bracket : Bracket → Bool
 is_call_bracket Call = true
 is_call_bracket _ = false
 
--- whether the thread of an opener makes the call; else it serves it
+-- whether the opener is a call that its thread makes
 abbrev pub is_made : Opener EventRead → Bool
 is_made o = is_call_bracket (bracket_read text_reads None o.event)
 
+-- whether it is a call that its thread serves: every opener that is not made is served
 abbrev pub is_served : Opener EventRead → Bool
 is_served o = not (is_made o)
 
--- crossed and open are the two sorts of unanswered
+-- whether the verdict counts as unanswered: crossed or open
 abbrev pub is_unanswered : Verdict → Bool
 is_unanswered Crossed = true
 is_unanswered Open = true
 is_unanswered _ = false
 
--- how many of the calls that threads make there are of each sort, and those that lack their reply
+-- what `calls` says of the calls that threads make: how many are answered, failed and unanswered, and the calls that
+-- lack their reply
 abbrev pub calls_of : List (Opener EventRead) → Calls EventRead
 calls_of made = record {
   answered = how_many is_answered made;
@@ -46,7 +50,8 @@ calls_of made = record {
   rows = with_verdict lacks_reply made;
 }
 
--- how many of the calls that threads serve there are of each sort, and those that lack their reply
+-- what `served` says of the calls that threads serve: how many are replied, crossed and open, and the calls that lack
+-- their reply
 abbrev pub served_of : List (Opener EventRead) → Served EventRead
 served_of served = record {
   replied = how_many is_replied served;
@@ -55,19 +60,19 @@ served_of served = record {
   rows = with_verdict lacks_reply served;
 }
 
--- the closers of all threads that match no opener of their thread
+-- the strays: the closers of all threads that close no opener of their thread
 abbrev pub stray_closers : List EventRead → List EventRead
 stray_closers events = in_threads stray_read events
 
--- the refused sends of all threads
+-- the refused sends of all threads, each by the error reply that reports it
 abbrev pub refused_sends : List EventRead → List (RefusedSend EventRead)
 refused_sends events = in_threads (λ before found later. refused_send found) events
 
--- the error replies that tell of them, and how many of these sends were oneway ones
+-- what `refused` says of these sends: how many of them are oneway, and the error replies that report them
 abbrev pub refused_of : List (RefusedSend EventRead) → Refused EventRead
 refused_of sends = record { oneway = count_by (λ s. s.oneway) sends; rows = map (λ s. s.event) sends }
 
--- what the report says of the calls of all threads
+-- what the four sections say of the calls of all threads
 abbrev pub call_sections : List EventRead → CallSections EventRead
 call_sections events = record {
   calls = calls_of (filter is_made (openers events));

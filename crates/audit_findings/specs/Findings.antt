@@ -26,12 +26,12 @@ abbrev pub last_sequence : Placed WholeFrame → List (Placed WholeFrame) → �
 last_sequence first [] = first.unit.frame.sequence
 last_sequence first (next ∷ others) = last_sequence next others
 
--- how many sequences from the first frame's to the last one's have no frame here
+-- the missing frames: (last sequence - first sequence) - (frames - 1), and 0 where there is no frame
 abbrev pub missing_count : List (Placed WholeFrame) → ℕ
 missing_count [] = 0
 missing_count (first ∷ others) = (last_sequence first others - first.unit.frame.sequence) - length others
 
--- what is counted and listed of all events, whatever their process and thread
+-- what the report counts and lists over all events, whatever their process and thread
 abbrev pub event_sections : List EventRead → List Outcome → EventSections EventRead
 event_sections events outcomes = record {
   records = length events;
@@ -44,7 +44,7 @@ event_sections events outcomes = record {
   flags = flagged events;
 }
 
--- what is counted and paired in each process
+-- what the report says of each process: the sections from `handles` to `clears`, and the rows of `oneway`
 abbrev pub process_sections : List (Placed WholeFrame) → List Outcome → ProcessSections EventRead
 process_sections wholes outcomes =
     let events = events_of_wholes wholes in
@@ -59,7 +59,8 @@ process_sections wholes outcomes =
       oneway = in_turn (oneway_of events) (processes_of wholes);
     }
 
--- what the report says of these frames, whose attachments have these outcomes; a listed event is the event itself
+-- The findings: what the report says of these frames, whose attachments have these outcomes. A listed event is the
+-- event itself.
 abbrev pub findings_of : List (Placed WholeFrame) → List Outcome → Sections EventRead
 findings_of wholes outcomes = record {
   frames = length wholes;

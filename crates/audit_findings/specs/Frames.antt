@@ -1,8 +1,8 @@
--- Frames, and the whole frames that they are.
+-- Views of frames, and the whole frames that they show.
 use Rattle.std.specs.Prelude.{◌≡◌, ◌≤◌, ◌^◌, List, map, All, AllPairs}
 use Rattle.std.specs.List.{sum_by}
 use Rattle.capture_frame.specs.Units.{Placed}
-use Rattle.capture_frame.specs.Envelope.{frame_text, placed_frame, PlacedFrame}
+use Rattle.capture_frame.specs.Envelope.{placed_frame, PlacedFrame}
 use Rattle.capture_frame.specs.Cut.{shown_by}
 use Rattle.capture_frame.specs.Lookup.{span_of, AreApart}
 use Rattle.record_view.specs.Records.{HasRecords}
@@ -10,8 +10,8 @@ use Rattle.transaction_view.specs.Attachments.{HasEntries}
 use Rattle.transaction_view.specs.FirstFault.{HasGoodContent}
 use Rattle.transaction_view.specs.Grammar.{WholeFrame}
 use Rattle.event_core.specs.Events.{placed_text}
-use Rattle.summary_law.specs.Fits.{all_parts, pairs_parts}
-use Rattle.summary_law.specs.Summary.{FitsInParts}
+use Rattle.summary_law.specs.Fits.{all_halves, pairs_halves}
+use Rattle.summary_law.specs.Summary.{FitsInHalves}
 use Rattle.std.proofs.Common.{arith, subst}
 use Rattle.std.proofs.lemmas.List.{map-append}
 use Rattle.std.proofs.lemmas.List.Sums.{sum_by-append}
@@ -20,28 +20,31 @@ use Rattle.std.proofs.lemmas.List.Sums.{sum_by-append}
 abbrev pub IsWhole : Placed WholeFrame → Type 0
 IsWhole there = HasRecords there.unit.frame there.unit.records × HasEntries there.unit.frame there.unit.entries
 
--- the frames are these whole frames, each at its place
+-- the views show these whole frames, in order: each has the place, the numbers and the bytes of its whole frame, whose
+-- records and entries are those of these bytes
 pub record AreViews (frames : List PlacedFrame) (wholes : List (Placed WholeFrame)) : Type 0 where
-  pub stand : frames ≡ map placed_text wholes
+  pub in_order : frames ≡ map placed_text wholes
   pub are_whole : All IsWhole wholes
 
--- frames whose records and entries have no fault, of at most 2^32 bytes together, each of which ends before every later
--- one begins
+-- good frames: their records and entries have no fault, each frame ends before every later one begins, and together
+-- they have at most 2^32 bytes
 pub record AreGoodFrames (frames : List PlacedFrame) : Type 0 where
   pub few : sum_by span_of frames ≤ 2 ^ 32
   pub good : All (λ frame. HasGoodContent frame.unit) frames
   pub apart : AllPairs AreApart frames
 
-pub good_frames_parts : FitsInParts AreGoodFrames
-good_frames_parts first second fit =
-    let good = all_parts (λ (frame : PlacedFrame). HasGoodContent frame.unit) first second fit.good in
-    let apart = pairs_parts AreApart first second fit.apart in
+-- both halves of a list of good frames are good
+pub good_frames_halves : FitsInHalves AreGoodFrames
+good_frames_halves first second fit =
+    let good = all_halves (λ (frame : PlacedFrame). HasGoodContent frame.unit) first second fit.good in
+    let apart = pairs_halves AreApart first second fit.apart in
     let parts = sum_by-append span_of first second in
     let few = fit.few in (
       record { few = omega (arith, parts, few); good = good.0; apart = apart.0 },
       record { few = omega (arith, parts, few); good = good.1; apart = apart.1 },
     )
 
-pub good_views_parts : FitsInParts (λ views. AreGoodFrames (shown_by views))
-good_views_parts first second fit =
-    good_frames_parts (shown_by first) (shown_by second) (subst AreGoodFrames (map-append placed_frame first second) fit)
+-- both halves of a list of views of good frames are views of good frames
+pub good_views_halves : FitsInHalves (λ views. AreGoodFrames (shown_by views))
+good_views_halves first second fit =
+    good_frames_halves (shown_by first) (shown_by second) (subst AreGoodFrames (map-append placed_frame first second) fit)

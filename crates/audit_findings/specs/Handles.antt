@@ -1,5 +1,5 @@
--- The section `handles`: the references that each process holds by handle, those that it took itself and those that its
--- deliveries hold (docs/REPORT.md).
+-- The section `handles`: the references that each process has by handle, which are those that it took and those that
+-- its deliveries hold (docs/REPORT.md).
 use Rattle.std.specs.Prelude.{◌||◌, Bool, List}
 use Rattle.capture_frame.specs.Units.{Placed}
 use Rattle.capture_frame.specs.declared.process.Process.{Process}
@@ -15,17 +15,17 @@ use Rattle.audit_findings.specs.Objects.{Outcome}
 use Rattle.audit_findings.specs.References.{is_not_zero, references}
 use Rattle.audit_findings.specs.declared.references.References.{References}
 
--- the rows of this process: one for each handle of which it takes or lets go references or to which its deliveries hold
--- one, handles rising
+-- the rows of a process: one for each handle that one of its BC_ACQUIRE, BC_RELEASE, BC_INCREFS and BC_DECREFS names or
+-- that one of its leaked deliveries holds, handles rising
 abbrev pub handles_in : List EventRead → List Outcome → Process → List HeldRow
 handles_in events outcomes process =
     held_rows (items_of_process handle_item_of process events) (unweighed (held_of_process events outcomes process))
 
--- whether the strong or the weak references that the process took are not as many as those that it let go
+-- whether a handle is unbalanced: its strong or its weak count is not 0; what is held does not matter
 abbrev pub is_unbalanced_handle : HeldRow → Bool
 is_unbalanced_handle row = is_not_zero row.taken.strong.sum || is_not_zero row.taken.weak.sum
 
--- the section: the rows of each process in turn
+-- the section: the rows of each process in turn, and how many are unbalanced
 abbrev pub handle_references : List (Placed WholeFrame) → List Outcome → References HeldRow
 handle_references wholes outcomes =
     references is_unbalanced_handle (in_turn (handles_in (events_of_wholes wholes) outcomes) (processes_of wholes))

@@ -4,14 +4,14 @@ use Rattle.std.specs.List.{flat_map}
 use Rattle.capture_frame.specs.declared.process.Process.{Process}
 use Rattle.audit_findings.specs.declared.in_turn.ProcessRow.{ProcessRow}
 
--- a row as one of this process
+-- a row, with the process that it belongs to
 abbrev pub process_row : {R : Type 0} → Process → R → ProcessRow R
 process_row process row = record { process = process; row = row }
 
--- the rows of a process, each as one of it
+-- the rows of a process, each with the process
 abbrev pub rows_in : {R : Type 0} → (Process → List R) → Process → List (ProcessRow R)
 rows_in rows process = map (process_row process) (rows process)
 
--- the rows of each process in turn
+-- the rows of each of these processes in turn
 abbrev pub in_turn : {R : Type 0} → (Process → List R) → List Process → List (ProcessRow R)
 in_turn rows processes = flat_map (rows_in rows) processes

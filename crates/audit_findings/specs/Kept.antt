@@ -1,4 +1,4 @@
--- What is kept of the findings: of a listed event its place.
+-- The findings as the code keeps them: of each listed event it keeps the place.
 use Rattle.std.specs.Prelude.{◌≡◌, ℕ, List, map}
 use Rattle.capture_frame.specs.Envelope.{PlacedFrame}
 use Rattle.event_core.specs.Events.{EventRead, events_of_wholes, wholes_of}
@@ -17,18 +17,23 @@ use Rattle.audit_findings.specs.declared.objects.BadRow.{BadRow}
 use Rattle.audit_findings.specs.declared.open_and_stray.OpenAndStray.{OpenAndStray}
 use Rattle.audit_findings.specs.declared.process_sections.ProcessSections.{ProcessSections}
 
+-- the places of these events
 abbrev pub places_of : List EventRead → List ℕ
 places_of events = map (λ e. e.place) events
 
+-- a bad object, with the place of its owner
 abbrev pub bad_at_place : BadRow EventRead → BadRow ℕ
 bad_at_place row = record { owner = row.owner.place; bad = row.bad }
 
+-- a call, with the place of its event
 abbrev pub call_at_place : Opener EventRead → Opener ℕ
 call_at_place o = record { event = o.event.place; verdict = o.verdict; closer = o.closer }
 
+-- unclosed opens and stray closes, with the places of their events
 abbrev pub pairs_at_places : OpenAndStray EventRead → OpenAndStray ℕ
 pairs_at_places found = record { unclosed = found.unclosed; strays = found.strays; rows = places_of found.rows }
 
+-- the sections over all events, with the place of each listed event
 abbrev pub events_at_places : EventSections EventRead → EventSections ℕ
 events_at_places s = record {
   records = s.records;
@@ -41,6 +46,7 @@ events_at_places s = record {
   flags = places_of s.flags;
 }
 
+-- `calls`, with the place of each listed call
 abbrev pub made_at_places : Calls EventRead → Calls ℕ
 made_at_places c = record {
   answered = c.answered;
@@ -49,6 +55,7 @@ made_at_places c = record {
   rows = map call_at_place c.rows;
 }
 
+-- `served`, with the place of each listed call
 abbrev pub served_at_places : Served EventRead → Served ℕ
 served_at_places c = record {
   replied = c.replied;
@@ -57,9 +64,11 @@ served_at_places c = record {
   rows = map call_at_place c.rows;
 }
 
+-- `refused`, with the place of each error reply
 abbrev pub refused_at_places : Refused EventRead → Refused ℕ
 refused_at_places c = record { oneway = c.oneway; rows = places_of c.rows }
 
+-- the four sections of calls, with the place of each listed event
 abbrev pub calls_at_places : CallSections EventRead → CallSections ℕ
 calls_at_places s = record {
   calls = made_at_places s.calls;
@@ -68,6 +77,7 @@ calls_at_places s = record {
   refused = refused_at_places s.refused;
 }
 
+-- the sections of each process, with the place of each listed event
 abbrev pub processes_at_places : ProcessSections EventRead → ProcessSections ℕ
 processes_at_places s = record {
   handles = s.handles;
@@ -80,7 +90,7 @@ processes_at_places s = record {
   oneway = s.oneway;
 }
 
--- the findings, where each listed event is kept by its place
+-- all findings, with the place of each listed event
 abbrev pub at_places : Sections EventRead → Sections ℕ
 at_places s = record {
   frames = s.frames;
@@ -90,22 +100,25 @@ at_places s = record {
   processes = processes_at_places s.processes;
 }
 
--- the frames are these of a capture, whose attachments have these outcomes, and the sections keep their findings
+-- the frames show these whole frames of a capture, their attachments have these outcomes, and the sections keep the
+-- findings of both
 pub record AreSectionsOf (wholes : List WholeFrame) (outcomes : List Outcome) (frames : List PlacedFrame) (sections : Sections ℕ) :
     Type 0 where
   pub show : AreViews frames (wholes_of wholes)
   pub objects : AreOutcomes (attachments_of (events_of_wholes (wholes_of wholes))) outcomes
   pub are : sections ≡ at_places (findings_of (wholes_of wholes) outcomes)
 
--- findings as they are kept: the frames, and the sections
+-- findings as the code keeps them: the frames, and the sections
 pub record KeptFindings : Type 0 where
   pub frames : List PlacedFrame
   pub sections : Sections ℕ
 
+-- these frames and these sections, as findings
 abbrev pub kept_findings : List PlacedFrame → Sections ℕ → KeptFindings
 kept_findings frames sections = record { frames = frames; sections = sections }
 
--- the sections keep the findings of the frames, which are some of a capture
+-- the frames show some whole frames of a capture, and the sections keep the findings of these and of some outcomes of
+-- their attachments
 abbrev pub AreOfFrames : List PlacedFrame → Sections ℕ → Type 0
 AreOfFrames frames sections =
     (wholes : List WholeFrame) × (outcomes : List Outcome) × AreSectionsOf wholes outcomes frames sections

@@ -1,4 +1,4 @@
--- What the ledgers of some events, and of some frames, come to while they are made.
+-- The ledgers of events and of frames while they are made: what each keeps of the list that it sums.
 use Rattle.capture_frame.specs.Envelope.{PlacedFrame}
 use Rattle.std.specs.Prelude.{◌≡◌, ℕ, ◌+◌, ◌<◌, ◌^◌, List, [], ◌∷◌, ◌++◌, length, map, count_by, All}
 use Rattle.std.proofs.Common.{subst}
@@ -7,7 +7,7 @@ use Rattle.std.specs.Option.{option_map_or}
 use Rattle.capture_frame.specs.Units.{Placed}
 use Rattle.transaction_view.specs.Grammar.{WholeFrame}
 use Rattle.event_core.specs.Events.{AttachmentText, EventRead}
-use Rattle.summary_law.specs.Fits.{IsShort, IsPlaced, all_parts, placed_parts}
+use Rattle.summary_law.specs.Fits.{IsShort, IsPlaced, all_halves, placed_halves}
 use Rattle.audit_findings.specs.declared.event_ledgers.EventLedgers.{EventLedgers}
 use Rattle.audit_findings.specs.declared.findings.Sections.{Sections}
 use Rattle.audit_findings.specs.declared.flags.FlagLedger.{FlagLedger}
@@ -19,7 +19,7 @@ use Rattle.audit_findings.specs.Codes.{code_words, is_opaque}
 use Rattle.audit_findings.specs.Findings.{findings_of, last_sequence}
 use Rattle.audit_findings.specs.Flags.{flagged}
 use Rattle.audit_findings.specs.Frames.{AreViews}
-use Rattle.audit_findings.specs.Buffers.{is_unfreed}
+use Rattle.audit_findings.specs.Buffers.{is_leaked}
 use Rattle.audit_findings.specs.Handles.{handles_in}
 use Rattle.audit_findings.specs.InTurn.{rows_in}
 use Rattle.audit_findings.specs.declared.in_turn.ProcessRow.{ProcessRow}
@@ -41,31 +41,31 @@ use Rattle.process_ledgers.specs.declared.process_ledgers.ProcessLedgers.{Proces
 use Rattle.process_ledgers.specs.declared.processes.Processes.{Processes}
 use Rattle.summary_law.specs.Fed.{SumsPicked}
 use Rattle.summary_law.specs.InOrder.{SumsInOrder}
-use Rattle.summary_law.specs.Summary.{FitsInParts}
+use Rattle.summary_law.specs.Summary.{FitsInHalves}
 use Rattle.capture_frame.specs.Process.{same_process}
 use Rattle.audit_findings.specs.declared.event_sums.EventSums.{EventSums}
 use Rattle.audit_findings.specs.ThreadLedger.{SumsThreadCalls}
 
--- how many bytes of a list of offsets an event has
+-- how many bytes the list of offsets of an event's attachment has; 0 without an attachment
 abbrev pub offset_bytes_of : EventRead → ℕ
 offset_bytes_of e = option_map_or (λ (a : AttachmentText). length a.offset_bytes) e.entry 0
 
--- at most 2^32 events, whose places rise, and whose lists of offsets each have fewer than 2^32 bytes
+-- few events: at most 2^32, whose places rise and whose lists of offsets each have fewer than 2^32 bytes
 abbrev pub AreFewEvents : List EventRead → Type 0
 AreFewEvents events = IsPlaced (λ e. e.place) events × All (λ e. offset_bytes_of e < 2 ^ 32) events
 
--- the places are those of the events with flag bits that the header does not name
+-- the ledger lists the places of the events with unknown flags
 abbrev pub ListsFlagged : FlagLedger → List EventRead → Type 0
 ListsFlagged ledger events = ledger.places.items ≡ map (λ e. e.place) (flagged events)
 
--- the objects are counted, and the bad ones kept
+-- the ledger counts the good objects of the events' attachments by sort, and keeps the bad ones
 pub record SumsObjects (ledger : ObjectLedger) (events : List EventRead) : Type 0 where
   pub outcomes : List Outcome
   pub are : AreOutcomes (attachments_of events) outcomes
   pub counted : (sort : Sort) → count_of ledger.counts sort ≡ times_of sort (good_objects outcomes)
   pub kept : ledger.bad.items ≡ map bad_at_place (bad_objects outcomes)
 
--- the ledgers are those of these events
+-- the ledgers are the sums of these events
 pub record SumsEvents (ledgers : EventLedgers) (events : List EventRead) : Type 0 where
   pub records : ledgers.records ≡ length events
   pub opaque : ledgers.opaque ≡ count_by is_opaque events
@@ -74,31 +74,32 @@ pub record SumsEvents (ledgers : EventLedgers) (events : List EventRead) : Type 
   pub objects : SumsObjects ledgers.objects events
   pub flags : ListsFlagged ledgers.flags events
 
--- the sequences are those of these frames
+-- the value has the number of these frames, and the sequences of the first and of the last
 abbrev pub SumsFrames : Sequences → List (Placed WholeFrame) → Type 0
 SumsFrames sequences [] = sequences.frames ≡ 0
 SumsFrames sequences (first ∷ others) =
     (sequences.frames ≡ length others + 1) × (sequences.first ≡ first.unit.frame.sequence)
     × (sequences.last ≡ last_sequence first others)
 
--- what these events say are few events
+-- these events are few, as they are read
 abbrev pub AreFewGiven : List Event → Type 0
 AreFewGiven events = AreFewEvents (map event_text events)
 
-pub few_given_parts : FitsInParts AreFewGiven
-few_given_parts first second few =
+-- both halves of few events are few
+pub few_given_halves : FitsInHalves AreFewGiven
+few_given_halves first second few =
     let all = subst AreFewEvents (map-append event_text first second) few in
-    let placed = placed_parts (λ (e : EventRead). e.place) (map event_text first) (map event_text second) all.0 in
-    let small = all_parts (λ (e : EventRead). offset_bytes_of e < 2 ^ 32) (map event_text first) (map event_text second) all.1 in
+    let placed = placed_halves (λ (e : EventRead). e.place) (map event_text first) (map event_text second) all.0 in
+    let small = all_halves (λ (e : EventRead). offset_bytes_of e < 2 ^ 32) (map event_text first) (map event_text second) all.1 in
     ((placed.0, small.0), (placed.1, small.1))
 
--- the ledgers are those of these events, of their threads and of their processes
+-- the ledgers are the sums of these events: of all together, of those of each thread, and of those of each process
 pub record SumsGiven (sums : EventSums) (events : List Event) : Type 0 where
   pub all : SumsEvents sums.all (map event_text events)
   pub threads : SumsThreadCalls sums.threads (map event_text events)
   pub processes : SumsPicked concerned (SumsInOrder same_process SumsProcess) sums.processes.entries.entries events
 
--- the ledgers are those of these frames, and of the events that they were given of them
+-- the ledgers are the sums of these frames: of their sequences, of their processes in order, and of all their events
 pub record SumsLedgers (ledgers : FrameLedgers) (wholes : List (Placed WholeFrame)) : Type 0 where
   pub sequences : SumsFrames ledgers.sequences wholes
   pub order : SumsOrder ledgers.order.entries.entries wholes
@@ -106,12 +107,12 @@ pub record SumsLedgers (ledgers : FrameLedgers) (wholes : List (Placed WholeFram
   pub are_all : map event_text given ≡ events_of_wholes wholes
   pub sums : SumsGiven ledgers.of_events given
 
--- the ledgers are those of some frames
+-- the ledgers are the sums of some frames
 abbrev pub SumsSome : FrameLedgers → Type 0
 SumsSome ledgers = (wholes : List (Placed WholeFrame)) × SumsLedgers ledgers wholes
 
--- the new ledgers are the old ones, but in the order the process of the next frame has its place
-pub record Names (old : FrameLedgers) (process : Process) (new : FrameLedgers) : Type 0 where
+-- the new ledgers are the old ones, except that the order has the process of the next frame too
+pub record NamesProcess (old : FrameLedgers) (process : Process) (new : FrameLedgers) : Type 0 where
   pub sequences : new.sequences ≡ old.sequences
   pub order : (wholes : List (Placed WholeFrame)) (next : Placed WholeFrame) → SumsLedgers old wholes
       → process ≡ process_of_whole next → SumsOrder new.order.entries.entries (wholes ++ next ∷ [])
@@ -121,19 +122,19 @@ pub record Names (old : FrameLedgers) (process : Process) (new : FrameLedgers) :
 abbrev pub AreFewFrames : List (Placed WholeFrame) → Type 0
 AreFewFrames wholes = IsShort wholes × AreFewEvents (events_of_wholes wholes)
 
--- the ledgers are those of some frames that are few with these frames behind them
+-- the ledgers are the sums of some frames, and these followed by the frames given are few
 abbrev pub CanTake : FrameLedgers → List PlacedFrame → Type 0
 CanTake ledgers frames =
     (wholes others : List (Placed WholeFrame)) × SumsLedgers ledgers wholes × AreViews frames others
     × AreFewFrames (wholes ++ others)
 
--- whatever frames the old ledgers are those of, the new ones are those of them and of these behind them
-abbrev pub Takes : FrameLedgers → List PlacedFrame → FrameLedgers → Type 0
-Takes old frames new =
+-- whatever frames the old ledgers are the sums of, the new ones are the sums of those followed by these, if all are few
+abbrev pub TakesFrames : FrameLedgers → List PlacedFrame → FrameLedgers → Type 0
+TakesFrames old frames new =
     (wholes others : List (Placed WholeFrame)) → SumsLedgers old wholes → AreViews frames others
     → AreFewFrames (wholes ++ others) → SumsLedgers new (wholes ++ others)
 
--- the ledgers are those of some frames that are few
+-- the ledgers are the sums of some frames that are few
 abbrev pub AreOfFew : FrameLedgers → Type 0
 AreOfFew ledgers = (wholes : List (Placed WholeFrame)) × SumsLedgers ledgers wholes × AreFewFrames wholes
 
@@ -141,34 +142,35 @@ AreOfFew ledgers = (wholes : List (Placed WholeFrame)) × SumsLedgers ledgers wh
 abbrev pub AreOutcomesOf : List (Placed WholeFrame) → List Outcome → Type 0
 AreOutcomesOf wholes outcomes = AreOutcomes (attachments_of (events_of_wholes wholes)) outcomes
 
--- the lists are those of the processes of these frames: of each the places of its deliveries that it never frees
+-- a list for each process of these frames, in order: the places of its leaked deliveries
 abbrev pub AreUnfreed : List (Placed WholeFrame) → List (List ℕ) → Type 0
-AreUnfreed wholes lists = lists ≡ map (places_in is_unfreed (events_of_wholes wholes)) (processes_of wholes)
+AreUnfreed wholes lists = lists ≡ map (places_in is_leaked (events_of_wholes wholes)) (processes_of wholes)
 
--- the lists are those of the processes of these frames: of each the rows of its handles
+-- a list for each process of these frames, in order: its rows of `handles`
 abbrev pub AreListedHandles : List (Placed WholeFrame) → List (List (ProcessRow HeldRow)) → Type 0
 AreListedHandles wholes lists =
     (outcomes : List Outcome) → AreOutcomesOf wholes outcomes
     → lists ≡ map (rows_in (handles_in (events_of_wholes wholes) outcomes)) (processes_of wholes)
 
--- the ledgers may be those of any process of these frames, and the places those of the deliveries that it never frees:
--- the rows are that process's
+-- whatever process of these frames the ledgers are those of: if the places are those of its leaked deliveries, the
+-- rows are its rows of `handles`
 abbrev pub GivesHandles : ProcessLedgers → List PlacedFrame → List ℕ → List HeldRow → Type 0
 GivesHandles ledgers frames unfreed rows =
     (wholes : List (Placed WholeFrame)) (outcomes : List Outcome) (process : Process) → AreViews frames wholes
     → AreOutcomesOf wholes outcomes → AreLedgersOf ledgers (events_of_wholes wholes) process
-    → unfreed ≡ places_in is_unfreed (events_of_wholes wholes) process
+    → unfreed ≡ places_in is_leaked (events_of_wholes wholes) process
     → rows ≡ handles_in (events_of_wholes wholes) outcomes process
 
--- whatever few frames the ledgers are those of, whose processes have these unfreed deliveries and rows of handles, the
--- sections keep their findings
+-- whatever few frames the ledgers are the sums of: if their processes have these leaked deliveries and these rows of
+-- `handles`, the sections keep the findings of the frames
 abbrev pub GiveSections : FrameLedgers → List (List ℕ) → List (List (ProcessRow HeldRow)) → Sections ℕ → Type 0
 GiveSections ledgers unfreed handles sections =
     (wholes : List (Placed WholeFrame)) → SumsLedgers ledgers wholes → AreFewFrames wholes
     → AreUnfreed wholes unfreed → AreListedHandles wholes handles
     → (outcomes : List Outcome) × AreOutcomesOf wholes outcomes × (sections ≡ at_places (findings_of wholes outcomes))
 
--- whatever frames the ledgers are those of, these are their processes, with these ledgers where none has an item
+-- whatever frames the ledgers are the sums of, these are their processes, each with its ledgers; a process without an
+-- item has the ledgers `none`, which are sums of nothing
 abbrev pub GivesProcesses : FrameLedgers → ProcessLedgers → Processes → Type 0
 GivesProcesses ledgers none processes =
     (wholes : List (Placed WholeFrame)) → SumsLedgers ledgers wholes → SumsProcess none [] → SumsEach processes wholes

@@ -1,6 +1,6 @@
 -- The record at a place of the capture.
 use Rattle.std.specs.Prelude.{◌≡◌, ℕ, List, Contains, None}
-use Rattle.capture_frame.specs.Envelope.{placed_frame, PlacedFrame}
+use Rattle.capture_frame.specs.Envelope.{PlacedFrame}
 use Rattle.capture_frame.specs.Units.{Placed}
 use Rattle.transaction_view.specs.Grammar.{WholeFrame}
 use Rattle.event_core.specs.declared.event.Event.{Event}
@@ -12,7 +12,7 @@ use Rattle.audit_findings.specs.Frames.{AreViews}
 abbrev pub HasRecordIn : List PlacedFrame → ℕ → Type 0
 HasRecordIn frames place = (frame : PlacedFrame) × Contains frames frame × HasRecordAt frame place
 
--- it says what the event at this place does, with the attachment left out
+-- the event that was found is the one at this place of these frames, with its attachment left out
 abbrev pub SaysEventAt : List PlacedFrame → ℕ → Event → Type 0
 SaysEventAt frames place found =
     (wholes : List (Placed WholeFrame)) → AreViews frames wholes → (e : EventRead) → Contains (events_of_wholes wholes) e

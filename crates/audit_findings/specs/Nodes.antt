@@ -1,4 +1,4 @@
--- The section `nodes`: the references that the driver holds to the nodes of each process (docs/REPORT.md).
+-- The section `nodes`: the references that the driver asks each process to hold to its nodes (docs/REPORT.md).
 use Rattle.std.specs.Prelude.{◌||◌, Bool, List}
 use Rattle.capture_frame.specs.declared.process.Process.{Process}
 use Rattle.capture_frame.specs.Units.{Placed}
@@ -12,16 +12,16 @@ use Rattle.audit_findings.specs.declared.references.References.{References}
 use Rattle.audit_findings.specs.InTurn.{in_turn}
 use Rattle.audit_findings.specs.References.{is_not_zero, references}
 
--- the rows of this process: one for each node of which references are asked for, let go or acknowledged, by rising ptr
--- and then by rising cookie
+-- the rows of a process: one for each node that one of its BR_ACQUIRE, BR_RELEASE, BC_ACQUIRE_DONE, BR_INCREFS,
+-- BR_DECREFS and BC_INCREFS_DONE names, by rising ptr and then by rising cookie
 abbrev pub nodes_in : List EventRead → Process → List NodeRow
 nodes_in events process = node_rows (items_of_process node_item_of process events)
 
--- whether of one strength more or fewer references were let go than were taken, or acknowledged than were asked for
+-- whether a node is unbalanced: one of its four counts, strong, weak, strong due and weak due, is not 0
 abbrev pub is_unbalanced_node : NodeRow → Bool
 is_unbalanced_node row =
     is_not_zero row.strong.sum || is_not_zero row.weak.sum || is_not_zero row.strong_due || is_not_zero row.weak_due
 
--- the section: the rows of each process in turn
+-- the section: the rows of each process in turn, and how many are unbalanced
 abbrev pub node_references : List (Placed WholeFrame) → References NodeRow
 node_references wholes = references is_unbalanced_node (in_turn (nodes_in (events_of_wholes wholes)) (processes_of wholes))

@@ -11,11 +11,12 @@ use Rattle.event_core.specs.Events.{AttachmentText, EventRead}
 use Rattle.audit_findings.specs.declared.objects.BadRow.{BadRow}
 use Rattle.audit_findings.specs.declared.sort_counts.SortCounts.{SortCounts}
 
--- an attachment, with the event of the record that it belongs to
+-- an attachment, with the event of the record that owns it
 pub record Attached : Type 0 where
   pub owner : EventRead
   pub attachment : AttachmentText
 
+-- the attachment of an event, if it has one, with the event as its owner
 abbrev pub attached_to : EventRead → Option Attached
 attached_to e = option_map (λ a. record { owner = e; attachment = a }) e.entry
 
@@ -23,22 +24,22 @@ attached_to e = option_map (λ a. record { owner = e; attachment = a }) e.entry
 abbrev pub attachments_of : List EventRead → List Attached
 attachments_of events = filter_map attached_to events
 
--- what the objects of an attachment come to: those before the first bad one, and that one, if there is one
+-- the outcome of an attachment: its good objects, which are those before the first bad one, and the bad one, if any
 pub record Outcome : Type 0 where
   pub of : Attached
   pub objects : List ObjectText
   pub bad : Option BadObject
 
--- the outcome is that of its attachment
+-- these are the good objects and the bad one of the attachment, by its data and its list of offsets
 abbrev pub IsOutcome : Outcome → Type 0
 IsOutcome o = AreObjects o.of.attachment.body o.of.attachment.offset_bytes o.objects o.bad
 
--- each of these attachments, in their order, has its outcome
+-- these are the outcomes of the attachments, one for each, in order
 pub record AreOutcomes (attachments : List Attached) (outcomes : List Outcome) : Type 0 where
   pub each : map (λ o. o.of) outcomes ≡ attachments
   pub are_objects : All IsOutcome outcomes
 
--- whether two sorts are one
+-- whether two sorts are the same
 abbrev pub same_sort : Sort → Sort → Bool
 same_sort sort other = sort_number sort == sort_number other
 
@@ -56,7 +57,7 @@ count_of counts Ptr = counts.ptr
 abbrev pub times_of : Sort → List ObjectText → ℕ
 times_of sort objects = count_by (λ o. same_sort o.sort sort) objects
 
--- the good objects of these outcomes
+-- the good objects of these outcomes, in order
 abbrev pub good_objects : List Outcome → List ObjectText
 good_objects outcomes = flat_map (λ o. o.objects) outcomes
 
@@ -64,11 +65,11 @@ good_objects outcomes = flat_map (λ o. o.objects) outcomes
 abbrev pub bad_of : Outcome → Option (BadRow EventRead)
 bad_of o = option_map (λ bad. record { owner = o.of.owner; bad = bad }) o.bad
 
--- the bad objects of these outcomes
+-- the bad objects of these outcomes, in order
 abbrev pub bad_objects : List Outcome → List (BadRow EventRead)
 bad_objects outcomes = filter_map bad_of outcomes
 
--- how many of these objects are of each sort
+-- the counts of the head: how many of these objects are of each sort
 abbrev pub sort_counts : List ObjectText → SortCounts
 sort_counts objects = record {
   binder = times_of Binder objects;
@@ -80,7 +81,7 @@ sort_counts objects = record {
   ptr = times_of Ptr objects;
 }
 
--- the bad object of an owner's attachment, if it has one
+-- the bad object of an owner's attachment, if it has one, as a list
 abbrev pub owned_by : EventRead → Option BadObject → List (BadRow EventRead)
 owned_by owner None = []
 owned_by owner (Some bad) = record { owner = owner; bad = bad } ∷ []

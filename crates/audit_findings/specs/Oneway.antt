@@ -13,26 +13,28 @@ use Rattle.process_ledgers.specs.OnewayLedger.{oneway_cmp, oneway_pair}
 use Rattle.process_ledgers.specs.Processes.{items_of_process}
 use Rattle.audit_findings.specs.declared.oneway_counts.OnewayCounts.{OnewayCounts}
 
+-- whether the key is that of transactions sent to some handle
 abbrev pub is_sent_key : OnewayKey → Bool
 is_sent_key (Sent handle) = true
 is_sent_key Received = false
 
--- whether the transaction is sent; else it is received
+-- whether the oneway transaction is sent; if not, it is received
 abbrev pub is_sent : OnewayItem → Bool
 is_sent item = is_sent_key item.key
 
--- how many oneway transactions among these events are sent, and how many received
+-- how many oneway transactions are sent by these events
 abbrev pub sent_count : List EventRead → ℕ
 sent_count events = count_by is_sent (filter_map oneway_item_of events)
 
+-- how many oneway transactions are received by these events
 abbrev pub received_count : List EventRead → ℕ
 received_count events = count_by (λ item. not (is_sent item)) (filter_map oneway_item_of events)
 
--- the counts of the oneway transactions among these events
+-- the counts of the head: how many oneway transactions are sent, and how many received
 abbrev pub oneway_counts : List EventRead → OnewayCounts
 oneway_counts events = record { sent = sent_count events; received = received_count events }
 
--- the rows of this process: one for each handle that it sends to, handles rising, and one for what it receives; each
--- has its key, how many there are, and their data sizes added up
+-- the rows of a process: one for each handle that it sends oneway transactions to, handles rising, and then one for
+-- those that it receives, if any; each has its key, how many there are, and the sum of their data_size
 abbrev pub oneway_of : List EventRead → Process → List (OnewayKey × ℕ × ℕ)
 oneway_of events process = tally_rows oneway_cmp (map oneway_pair (items_of_process oneway_item_of process events))

@@ -1,5 +1,5 @@
--- Rows that are events: of each process those that pass a test, which sees the items of the process before the event's
--- and after it (docs/REPORT.md).
+-- Rows that are events: those that pass a test among the events of their process (docs/REPORT.md). The test sees which
+-- events come before this one in the process, and which come after it.
 use Rattle.std.specs.Prelude.{ℕ, ◌||◌, Bool, false, List, length, map, Option, filter_map}
 use Rattle.std.specs.Option.{option_map_or}
 use Rattle.std.specs.Ordering.{eq_by_cmp, nat_cmp}
@@ -13,40 +13,41 @@ use Rattle.summary_law.specs.Fits.{PlacesRise}
 use Rattle.summary_law.specs.Readings.{by_key, chosen, read_all}
 use Rattle.audit_findings.specs.declared.open_and_stray.OpenAndStray.{OpenAndStray}
 
--- a test of an event among others
+-- a test of an event, by the events before it and the events after it
 abbrev pub EventTest : Type 0
 EventTest = List EventRead → EventRead → List EventRead → Bool
 
--- the test that is so of an event where it is so of its item, among the items of the others
+-- the test that an event passes if it has an item, and the item passes this test among the items of the others
 abbrev pub item_is : {I : Type 0} → (EventRead → Option I) → (List I → I → List I → Bool) → EventTest
 item_is read test before e later =
     option_map_or (λ item. test (filter_map read before) item (filter_map read later)) (read e) false
 
--- the events of this process that pass the test among those of the process
+-- the events of this process that pass the test among the events of the process, in order
 abbrev pub listed_in : EventTest → Process → List EventRead → List EventRead
 listed_in test process events = read_all (chosen test) (events_in process events)
 
--- their places
+-- the places of those events
 abbrev pub places_in : EventTest → List EventRead → Process → List ℕ
 places_in test events process = map (λ e. e.place) (listed_in test process events)
 
--- the events that pass the test among those of their process
+-- the events that pass the test among the events of their own process, in order
 abbrev pub listed : EventTest → List EventRead → List EventRead
 listed test events = read_all (by_key same_process process_of (chosen test)) events
 
--- whether the event opens what no later one closes
+-- whether the event is an open, and no later close has its key
 abbrev pub is_unclosed : (EventRead → Option (PendingItem ℕ)) → EventTest
 is_unclosed read = item_is read (is_left_open (eq_by_cmp nat_cmp))
 
--- whether the event closes what is not open
+-- whether the event is a stray close: no earlier open or close has its key, or the latest one that has it is a close
 abbrev pub is_stray_close : (EventRead → Option (PendingItem ℕ)) → EventTest
 is_stray_close read = item_is read (is_stray (eq_by_cmp nat_cmp))
 
--- whether an event passes the one test or the other
+-- whether an event passes one test or the other
 abbrev pub either : EventTest → EventTest → EventTest
 either test other before e later = test before e later || other before e later
 
--- how many events open what no later one of their process closes, and how many close what is not open; and all of them
+-- how many events are unclosed opens in their process, how many are stray closes there, and all of these events in
+-- order
 abbrev pub open_and_stray : (EventRead → Option (PendingItem ℕ)) → List EventRead → OpenAndStray EventRead
 open_and_stray read events = record {
   unclosed = length (listed (is_unclosed read) events);

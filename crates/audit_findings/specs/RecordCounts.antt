@@ -1,4 +1,5 @@
--- How many records of some kinds there are, by their code words (docs/REPORT.md).
+-- The first numbers of the heads from `buffers` to `clears`: how many records of the kind there are, by their code
+-- words (docs/REPORT.md).
 use Rattle.std.specs.Prelude.{◌==◌, ◌+◌, ℕ, Bool, false, List, count_by}
 use Rattle.std.specs.Option.{option_map_or}
 use Rattle.binder_code.specs.Commands.{Row, row_of, word_of}
@@ -14,7 +15,7 @@ is_word_of kind word = option_map_or (λ (row : Row). word == word_of row) (row_
 abbrev pub times : Kind → List ℕ → ℕ
 times kind words = count_by (is_word_of kind) words
 
--- the counts of these code words
+-- how many of these code words are those of deliveries, frees, requests, deaths and clears
 abbrev pub record_counts : List ℕ → RecordCounts
 record_counts words = record {
   deliveries = times BrTransaction words + times BrTransactionSecCtx words + times BrReply words;

@@ -1,8 +1,7 @@
--- What the sections `handles` and `nodes` have alike: rows of each process in turn, and how many of them are unbalanced
--- (docs/REPORT.md).
+-- What the sections `handles` and `nodes` have in common: the rows of each process in turn, and how many of them are
+-- unbalanced (docs/REPORT.md).
 use Rattle.std.specs.Prelude.{ℤ, pos, not, Bool, List, count_by}
 use Rattle.std.specs.Ordering.{int_eq}
-use Rattle.capture_frame.specs.declared.process.Process.{Process}
 use Rattle.audit_findings.specs.declared.in_turn.ProcessRow.{ProcessRow}
 use Rattle.audit_findings.specs.declared.references.References.{References}
 
@@ -10,7 +9,7 @@ use Rattle.audit_findings.specs.declared.references.References.{References}
 abbrev pub is_not_zero : ℤ → Bool
 is_not_zero n = not (int_eq n (pos 0))
 
--- rows, and how many of them are unbalanced
+-- these rows, and how many of them are unbalanced
 abbrev pub references : {R : Type 0} → (R → Bool) → List (ProcessRow R) → References R
 references {R} is_unbalanced rows =
     record { unbalanced = count_by (λ (row : ProcessRow R). is_unbalanced row.row) rows; rows = rows }

@@ -1,4 +1,4 @@
--- What the summary of some frames stands for.
+-- What a summary of frames keeps, and what it gives.
 use Rattle.std.specs.Prelude.{◌≡◌, ℕ, List, length, slice_index_or}
 use Rattle.capture_frame.specs.Envelope.{PlacedFrame}
 use Rattle.capture_frame.specs.Units.{Placed}
@@ -7,7 +7,7 @@ use Rattle.event_core.specs.Events.{events_of_wholes}
 use Rattle.handle_ledger.specs.declared.held_row.HeldRow.{HeldRow}
 use Rattle.process_ledgers.specs.Processes.{processes_of}
 use Rattle.transaction_view.specs.Grammar.{WholeFrame}
-use Rattle.audit_findings.specs.Buffers.{is_unfreed}
+use Rattle.audit_findings.specs.Buffers.{is_leaked}
 use Rattle.audit_findings.specs.Findings.{findings_of}
 use Rattle.audit_findings.specs.Frames.{AreViews, AreGoodFrames}
 use Rattle.audit_findings.specs.Handles.{handles_in}
@@ -20,31 +20,31 @@ use Rattle.audit_findings.specs.declared.findings.Sections.{Sections}
 use Rattle.audit_findings.specs.declared.in_turn.ProcessRow.{ProcessRow}
 use Rattle.audit_findings.specs.declared.piece_summary.PieceSummary.{PieceSummary}
 
--- its ledgers are those of the whole frames that these frames are
+-- the summary sums these frames: its ledgers are the sums of whatever whole frames they show
 abbrev pub SumsPiece : PieceSummary → List PlacedFrame → Type 0
 SumsPiece summary frames = (wholes : List (Placed WholeFrame)) → AreViews frames wholes → SumsLedgers summary.ledgers wholes
 
--- how many processes they have
+-- how many processes the summed frames have
 abbrev pub process_count : PieceSummary → ℕ
 process_count summary = length summary.ledgers.order.entries.entries
 
--- whatever frames the summary sums, the lists are the places of the deliveries that each of their processes never frees
+-- whatever frames the summary sums: a list for each of their processes, in order, the places of its leaked deliveries
 abbrev pub GivesUnfreed : PieceSummary → List (List ℕ) → Type 0
 GivesUnfreed summary lists =
     (frames : List PlacedFrame) (wholes : List (Placed WholeFrame)) → SumsPiece summary frames → AreViews frames wholes
     → AreUnfreed wholes lists
 
--- if the summary is that of these frames, and the places are those of the deliveries that the process at this index
--- never frees, the rows are those of the process's handles
+-- if the summary sums these frames, and the places are those of the leaked deliveries of the process with this index,
+-- the rows are the rows of `handles` of that process
 abbrev pub GivesHandlesAt : PieceSummary → List PlacedFrame → ℕ → List ℕ → List (ProcessRow HeldRow) → Type 0
 GivesHandlesAt summary frames index unfreed rows =
     SumsPiece summary frames → (wholes : List (Placed WholeFrame)) (outcomes : List Outcome) (d : Process)
     → AreViews frames wholes → AreOutcomesOf wholes outcomes
-    → unfreed ≡ places_in is_unfreed (events_of_wholes wholes) (slice_index_or (processes_of wholes) index d)
+    → unfreed ≡ places_in is_leaked (events_of_wholes wholes) (slice_index_or (processes_of wholes) index d)
     → rows ≡ rows_in (handles_in (events_of_wholes wholes) outcomes) (slice_index_or (processes_of wholes) index d)
 
--- whatever frames it sums, whose processes have these unfreed deliveries and rows of handles, the sections keep their
--- findings
+-- whatever good frames the summary sums: if their processes have these leaked deliveries and these rows of `handles`,
+-- the sections keep the findings of the frames, with some outcomes of their attachments
 abbrev pub GiveSectionsOf : PieceSummary → List (List ℕ) → List (List (ProcessRow HeldRow)) → Sections ℕ → Type 0
 GiveSectionsOf summary unfreed handles sections =
     (frames : List PlacedFrame) (wholes : List (Placed WholeFrame)) → SumsPiece summary frames → AreGoodFrames frames

@@ -1,4 +1,4 @@
--- What the calls of all threads come to while they are made.
+-- The ledger of the calls of all threads, while it is made.
 use Rattle.std.specs.Prelude.{Bool, false, List, filter, is_some, map}
 use Rattle.capture_frame.specs.Process.{same_thread}
 use Rattle.capture_frame.specs.declared.process.Thread.{Thread}
@@ -12,7 +12,7 @@ use Rattle.summary_law.specs.InOrder.{SumsInOrder}
 use Rattle.audit_findings.specs.TextReads.{text_reads}
 use Rattle.audit_findings.specs.declared.thread_ledger.ThreadLedger.{ThreadLedger}
 
--- what the calls of a thread go by of an event; nothing is kept of it beside
+-- what is kept of an event for the calls of its thread: its place, its kind, and whether it is a oneway transaction
 abbrev pub text_call : EventRead → CallEvent
 text_call e = record { place = e.place; kind = e.kind; oneway = is_oneway e.kind e.payload }
 
@@ -20,15 +20,16 @@ text_call e = record { place = e.place; kind = e.kind; oneway = is_oneway e.kind
 abbrev pub leaves_mark : EventRead → Bool
 leaves_mark e = is_some (mark_read text_reads e)
 
--- an event is fed under its thread
+-- an event, as it is fed under its thread
 abbrev pub fed_call : EventRead → Thread × CallEvent
 fed_call e = (thread_of e, text_call e)
 
--- of events that leave no mark nothing is fed
+-- what is fed of these events: those that leave a mark, in order
 abbrev pub fed_calls : List EventRead → List (Thread × CallEvent)
 fed_calls events = map fed_call (filter leaves_mark events)
 
--- the entries have, for each thread with an event that leaves a mark and no other, the calls of such events
+-- the entries have, for each thread with an event that leaves a mark and for no other thread, the calls of its events
+-- that leave one
 pub record SumsThreads (entries : List (Thread × Calls CallEvent)) (events : List EventRead) : Type 0 where
   pub placed : IsPlaced (λ e. e.place) events
   pub sums : SumsInOrder same_thread (CallsSum event_reads false) entries (fed_calls events)

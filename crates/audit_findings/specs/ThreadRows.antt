@@ -15,41 +15,47 @@ use Rattle.audit_findings.specs.Calls.{is_call_bracket, is_made, is_served, open
 use Rattle.audit_findings.specs.Kept.{call_at_place, places_of}
 use Rattle.audit_findings.specs.declared.thread_rows.ThreadRows.{ThreadRows}
 
--- a refused send, with its event as its place
+-- a refused send, with the place of its event
 abbrev pub send_at_place : RefusedSend EventRead → RefusedSend ℕ
 send_at_place s = record { event = s.event.place; oneway = s.oneway }
 
--- what is kept of a call and of a refused send that a thread's ledger found
+-- what is kept of a call that a thread's ledger found
 abbrev pub kept_call : Opener CallEvent → Opener ℕ
 kept_call o = record { event = o.event.place; verdict = o.verdict; closer = o.closer }
 
+-- what is kept of a refused send that a thread's ledger found
 abbrev pub kept_send : RefusedSend CallEvent → RefusedSend ℕ
 kept_send s = record { event = s.event.place; oneway = s.oneway }
 
--- whether the thread makes the call that its ledger found; else it serves it
+-- whether the thread makes the call that its ledger found; if not, it serves it
 abbrev pub makes : Opener CallEvent → Bool
 makes o = is_call_bracket (bracket_read event_reads None o.event)
 
--- what is kept of what a thread's ledger found
+-- of these calls of a thread: those that it makes, as they are kept
 abbrev pub made_of : List (Opener CallEvent) → List (Opener ℕ)
 made_of openers = map kept_call (filter makes openers)
 
+-- those that it serves, as they are kept
 abbrev pub served_by : List (Opener CallEvent) → List (Opener ℕ)
 served_by openers = map kept_call (filter (λ o. not (makes o)) openers)
 
+-- of what a thread's ledger found: the calls that the thread makes, as they are kept
 abbrev pub made_in : CallFindings CallEvent → List (Opener ℕ)
 made_in found = made_of found.openers.items
 
+-- the calls that it serves, as they are kept
 abbrev pub served_in : CallFindings CallEvent → List (Opener ℕ)
 served_in found = served_by found.openers.items
 
+-- the places of the strays
 abbrev pub strays_of : CallFindings CallEvent → List ℕ
 strays_of found = map event_place found.strays.items
 
+-- the refused sends, as they are kept
 abbrev pub sends_in : CallFindings CallEvent → List (RefusedSend ℕ)
 sends_in found = map kept_send found.refused.items
 
--- the rows are the old ones and then those of a thread, and what is counted are both together
+-- the new rows are the old ones followed by those of a thread, and the new counts are both together, at most 2^64 - 1
 pub record TakesOver (old : ThreadRows) (found : CallFindings CallEvent) (new : ThreadRows) : Type 0 where
   pub made : new.made.items ≡ old.made.items ++ made_in found
   pub served : new.served.items ≡ old.served.items ++ served_in found
@@ -58,12 +64,12 @@ pub record TakesOver (old : ThreadRows) (found : CallFindings CallEvent) (new : 
   pub strays : new.strays.items ≡ old.strays.items ++ strays_of found
   pub sends : new.sends.items ≡ old.sends.items ++ sends_in found
 
--- the number is the count, if that has 64 bits
+-- the number is the count, if the count fits 64 bits
 abbrev pub IsCountIfSmall : ℕ → ℕ → Type 0
 IsCountIfSmall number count = count < 2 ^ 64 → number ≡ count
 
--- what is kept of the threads of some entries, one thread after another, and how many of their calls have their reply
-pub record AreRowsInTurn (entries : List (Thread × Calls CallEvent)) (made served : List (Opener ℕ)) (answered replied : ℕ)
+-- what is kept of the threads of these entries, one thread after another, and how many of their calls have their reply
+pub record AreRowsOfThreads (entries : List (Thread × Calls CallEvent)) (made served : List (Opener ℕ)) (answered replied : ℕ)
     (strays : List ℕ) (sends : List (RefusedSend ℕ)) : Type 0 where
   pub founds : List (CallFindings CallEvent)
   pub are : AllZip (λ (e : Thread × Calls CallEvent) found. GivesFindings event_reads false e.1 found) entries founds
@@ -74,9 +80,10 @@ pub record AreRowsInTurn (entries : List (Thread × Calls CallEvent)) (made serv
   pub strays_are : strays ≡ flat_map strays_of founds
   pub sends_are : sends ≡ flat_map sends_in founds
 
+-- the rows are those of the threads of these entries, one thread after another
 abbrev pub AreGatheredRows : List (Thread × Calls CallEvent) → ThreadRows → Type 0
 AreGatheredRows entries rows =
-    AreRowsInTurn entries rows.made.items rows.served.items rows.answered rows.replied rows.strays.items rows.sends.items
+    AreRowsOfThreads entries rows.made.items rows.served.items rows.answered rows.replied rows.strays.items rows.sends.items
 
 -- the lists are the old ones, each in the order of its places, and the numbers are the same
 pub record AreSortedRows (old new : ThreadRows) : Type 0 where

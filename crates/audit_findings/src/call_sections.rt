@@ -1,4 +1,4 @@
-//! The sections of what became of calls.
+//! The sections `calls`, `served`, `strays` and `refused` together.
 
 ghost use Rattle.std.specs.Prelude.{◌≡◌, List, IfOk};
 ghost use Rattle.event_core.specs.Events.{EventRead};
@@ -22,7 +22,7 @@ pub struct CallSections<E> {
     pub calls: Calls<E>,
     /// The calls that threads get to serve.
     pub served: Served<E>,
-    /// The closers that match no opener, in rising place.
+    /// The closers that close no opener, in rising place.
     pub strays: Rows<E>,
     /// Refused sends.
     pub refused: Refused<E>,

@@ -11,22 +11,22 @@ use crate::rows::Rows;
 use crate::verdicts::count_of;
 use call_stacks::{Opener, Verdict};
 
-/// The calls that threads make. A listed call is told by what stands for its event.
+/// The calls that threads make. `E` is what is kept of the event of a listed call.
 #[derive(Drop)]
 pub struct Calls<E> {
     /// How many got their reply.
     pub answered: u64,
-    /// How many an error reply ended.
+    /// How many an error reply closed.
     pub failed: u64,
-    /// How many neither a reply nor an error reply ended: crossed and open ones.
+    /// How many are crossed or open.
     pub unanswered: u64,
     /// Those that are not answered, in rising place.
     pub rows: Rows<Opener<E>>,
 }
 
 impl Calls<u64> {
-    /// What is kept of the calls that threads make: of these many answered ones, and of those that
-    /// lack their reply.
+    /// What is kept of the calls that threads make: how many are answered, and the calls that lack
+    /// their reply.
     pub(crate) fn of(answered: u64, made: Vec<Opener<u64>>) -> Self
         ensures { (told : List (Opener EventRead)) → answered ≡ how_many is_answered told →
             made.items ≡ map call_at_place (with_verdict lacks_reply told) →

@@ -1,4 +1,4 @@
-//! How often each code word stands there, while it is counted.
+//! The counts of code words, while they are made.
 
 ghost use Rattle.std.specs.Prelude.{◌≡◌, ℕ, ◌+◌, ◌<◌, ◌≤◌, ◌^◌, ◌++◌, List, [], length, map, filter, slice_index_or, IfOk, OnOk, IsTrue};
 ghost use Rattle.binder_code.specs.Commands.{kind_of, listed, protocol_of_word};
@@ -13,11 +13,11 @@ use binder_code::{Code, Kind};
 use std::alloc::{AllocError, Global};
 use summary_law::{Summary, Tally};
 
-/// How often each code word came. A listed kind has one code word, so records of listed kinds,
-/// which most are, are counted by kind.
+/// How often each code word came. Most records are of listed kinds, and a listed kind has one code
+/// word, so these are counted by kind.
 #[derive(Drop)]
 pub(crate) struct CodeCounts {
-    /// The row of each listed kind, in the header's order; none before the first such record.
+    /// The row of each listed kind, in the header's order; no rows before the first such record.
     listed: Vec<CodeRow>,
     /// The code words of opaque records, each with weight 0.
     opaque: Tally<u32>,
@@ -39,7 +39,7 @@ impl CodeCounts {
         }
     }
 
-    /// Counts the code word of a record of this kind. After an error the counts are only to be
+    /// Counts the code word of a record of this kind. After an error the counts may only be
     /// dropped.
     pub fn add(&mut self, kind: Kind, code: Code) -> Result<(), AllocError>
         requires meant { kind_of (protocol_of_word code.0) code.0 ≡ Ok kind }
@@ -52,7 +52,7 @@ impl CodeCounts {
         }
     }
 
-    /// Those of these records and of the later ones.
+    /// The counts of these records and of the later ones.
     pub fn join(self, later: CodeCounts) -> Result<CodeCounts, AllocError>
         requires { CanJoin CountWords IsShort self later }
         ensures { IfOk result (Joins CountWords IsShort self later) }
@@ -86,7 +86,7 @@ impl CodeCounts {
     }
 }
 
-/// Where the row of a listed kind stands.
+/// The index of a listed kind's row.
 fn place_of(kind: Kind) -> usize
     ensures { slice_index_or listed result Kind.Opaque ≡ kind }
 {
@@ -118,7 +118,7 @@ fn join_listed(mut rows: Vec<CodeRow>, later: &[CodeRow]) -> Result<Vec<CodeRow>
     Ok(rows)
 }
 
-/// Adds rows of no record behind fewer rows than so many.
+/// Adds rows of no record until there are at least so many rows.
 fn lengthen(rows: &mut Vec<CodeRow>, least: usize) -> Result<(), AllocError>
     ensures long { OnOk result (least ≤ length rows.new.items) }
     ensures same { OnOk result ((k : ℕ) → slice_index_or rows.new.items k no_record
@@ -159,7 +159,7 @@ fn plus(row: CodeRow, more: CodeRow) -> CodeRow
     }
 }
 
-/// Those of the rows that count a record.
+/// Pushes those of the rows that count a record.
 fn push_listed(rows: &mut Vec<CodeRow>, listed: &[CodeRow]) -> Result<(), AllocError>
     ensures { OnOk result (rows.new.items ≡ rows.old.items ++ filter has_records listed.now) }
 {
@@ -171,7 +171,7 @@ fn push_listed(rows: &mut Vec<CodeRow>, listed: &[CodeRow]) -> Result<(), AllocE
     Ok(())
 }
 
-/// The keys and the counts of a tally's rows.
+/// Pushes a row for each row of a tally: its key and its count.
 fn push_opaque(rows: &mut Vec<CodeRow>, tallied: &[(u32, u64, u128)]) -> Result<(), AllocError>
     ensures { OnOk result (rows.new.items ≡ rows.old.items ++ map row_of tallied.now) }
 {

@@ -27,7 +27,7 @@ pub(crate) fn code_rows(alloc: Global, codes: &CodeCounts) -> Result<Rows<CodeRo
     Ok(Rows::of(rows))
 }
 
-/// How many opaque records a record of this kind is.
+/// 1 for the kind of opaque records, 0 for any other.
 pub(crate) fn opaque_count(kind: Kind) -> u64
     ensures { result ≡ (if is_opaque_kind kind then 1 else 0) }
 {

@@ -1,4 +1,4 @@
-//! The attachments of events that are known by their places.
+//! The attachments of events that are found by their places.
 
 ghost use Rattle.std.specs.Prelude.{◌≡◌, ◌≢◌, ◌≤◌, ◌+◌, ◌^◌, ◌∷◌, ◌++◌, ℕ, List, drop, length, IfOk, IfSome, IfNone, OnOk};
 ghost use Rattle.capture_frame.specs.Envelope.{frame_text, placed_frame};
@@ -11,8 +11,8 @@ use event_core::{Event, Events};
 use std::alloc::{AllocError, Global};
 use transaction_view::Entry;
 
-/// The entries of the events at these places, in order; the places rise. A frame is gone through
-/// once for all places in it.
+/// The entries of the events at these places, which rise. A frame is read once for all places in
+/// it.
 pub(crate) fn entries_at<'c>(
     alloc: Global,
     frames: &FrameSlice<'_, 'c>,
@@ -27,7 +27,7 @@ pub(crate) fn entries_at<'c>(
     let mut ahead = frames.without_first(0);
     let mut rest = places;
     while let Some(first) = rest.first() {
-        // Where a record begins, the last frame that has begun holds it.
+        // If a record begins at this place, the last frame that begins at or before it holds it.
         let count = ahead.count_begun(*first);
         if count == 0 {
             break;
@@ -38,8 +38,8 @@ pub(crate) fn entries_at<'c>(
     Ok(entries)
 }
 
-/// Adds the entries of those events of a frame that are at the first of these places. The places
-/// after them are given.
+/// Adds the entries of those events of a frame that are at the first of these places, and gives the
+/// places that are left.
 fn add_frame<'c, 'p>(
     entries: &mut Vec<Entry<'c>>,
     frame: Frame<'c>,
@@ -62,7 +62,7 @@ fn add_frame<'c, 'p>(
     Ok(rest)
 }
 
-/// The places after the first one, where that is this place.
+/// The places after the first one, if the first one is this place.
 fn after(places: &[u64], place: u64) -> Option<&[u64]>
     ensures some { IfSome result (λ others. places.entry.now ≡ place ∷ others.now) }
     ensures none { IfNone result ((others : List ℕ) → places.entry.now ≢ place ∷ others) }

@@ -1,4 +1,4 @@
-//! What events come to.
+//! The ledgers over all events.
 
 ghost use Rattle.std.specs.Prelude.{[], IfOk, OnOk};
 ghost use Rattle.event_core.specs.Reading.{event_text};
@@ -38,7 +38,7 @@ impl EventLedgers {
         }
     }
 
-    /// Adds an event. After an error they are only to be dropped.
+    /// Adds an event. After an error the ledgers may only be dropped.
     pub fn add(&mut self, event: Event<'_>) -> Result<(), AllocError>
         requires { CanAdd SumsEvents AreFewEvents self.old (event_text event) }
         ensures { OnOk result
@@ -52,12 +52,12 @@ impl EventLedgers {
         self.flags.add(event)
     }
 
-    /// Those of these events and of the later ones.
+    /// The ledgers of these events and of the later ones.
     pub fn join(self, later: EventLedgers) -> Result<EventLedgers, AllocError>
         requires { CanJoin SumsEvents AreFewEvents self later }
         ensures { IfOk result (Joins SumsEvents AreFewEvents self later) }
     {
-        // All are joined before one is looked at, so that less is left to drop at each `?`.
+        // All are joined before any result is looked at: so less is left to drop at each `?`.
         let codes = self.codes.join(later.codes);
         let objects = self.objects.join(later.objects);
         let flags = self.flags.join(later.flags);

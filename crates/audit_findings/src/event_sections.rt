@@ -1,4 +1,4 @@
-//! The sections of what is counted and listed of all events.
+//! What is counted and listed over all events.
 
 ghost use Rattle.std.specs.Prelude.{◌≡◌, List, IfOk};
 ghost use Rattle.event_core.specs.Events.{EventRead};
@@ -16,16 +16,16 @@ use crate::rows::Rows;
 use crate::sort_counts::SortCounts;
 use std::alloc::{AllocError, Global};
 
-/// What is said of all events, whatever their process and thread.
+/// What the report counts and lists over all events, whatever their process and thread.
 #[derive(Drop)]
 pub struct EventSections<E> {
     /// How many records there are, opaque ones included.
     pub records: u64,
     /// How many of them are opaque.
     pub opaque: u64,
-    /// How often each code word stands there, the words rising.
+    /// How many records have each code word, the words rising.
     pub codes: Rows<CodeRow>,
-    /// How many records of some kinds there are.
+    /// How many deliveries, frees, requests, deaths and clears there are.
     pub counts: RecordCounts,
     /// How many oneway transactions there are.
     pub oneway: OnewayCounts,
@@ -33,12 +33,12 @@ pub struct EventSections<E> {
     pub objects: SortCounts,
     /// The bad objects, in rising place of their records.
     pub bad_objects: Rows<BadRow<E>>,
-    /// The records with flag bits that the header does not name, in rising place.
+    /// The records with unknown flags, in rising place.
     pub flags: Rows<E>,
 }
 
 impl EventSections<u64> {
-    /// What is kept of the ledgers of some events.
+    /// What is kept of some events, from their ledgers.
     pub(crate) fn of(alloc: Global, ledgers: EventLedgers) -> Result<Self, AllocError>
         requires { (events : List EventRead) × SumsEvents ledgers events × AreFewEvents events }
         ensures { IfOk result (λ kept. (events : List EventRead) → SumsEvents ledgers events →

@@ -1,6 +1,6 @@
-//! What events come to: all together, in each thread, and in each process.
+//! The sums of events: of all together, of those of each thread, and of those of each process.
 
-ghost use Rattle.audit_findings.specs.Ledgers.{SumsGiven, AreFewGiven, few_given_parts};
+ghost use Rattle.audit_findings.specs.Ledgers.{SumsGiven, AreFewGiven, few_given_halves};
 
 use crate::event_ledgers::EventLedgers;
 use crate::thread_ledger::ThreadLedger;
@@ -10,12 +10,12 @@ use process_ledgers::{ProcessLedgers, concerns};
 use std::alloc::{AllocError, Global};
 use summary_law::{InOrder, Summary};
 
-/// What events come to: all together, in each thread, and in each process.
+/// The sums of events: of all together, of those of each thread, and of those of each process.
 #[derive(Drop)]
 pub(crate) struct EventSums<'c> {
     pub all: EventLedgers,
     pub threads: ThreadLedger,
-    /// The ledgers of each process with an event that concerns one.
+    /// The ledgers of each process that has an event which concerns one of them.
     pub processes: InOrder<Process, ProcessLedgers<'c>>,
 }
 
@@ -51,5 +51,5 @@ impl<'c> Summary for EventSums<'c> {
         })
     }
 
-    ghost fits_parts = { few_given_parts };
+    ghost fits_halves = { few_given_halves };
 }

@@ -9,23 +9,24 @@ use capture_frame::{Frame, FrameList, FrameSlice};
 use event_core::{Event, event_without_attachment_at};
 use std::marker::Model;
 
-/// The numbers and the rows of the report, by what stands for a listed record.
+/// The numbers and the rows of the report. `E` is what is kept of a listed record: its place in the
+/// code, its event in the definitions.
 #[derive(Drop)]
 pub struct Sections<E> {
     /// How many frames there are.
     pub frames: u64,
-    /// How many sequences between the first and the last frame's have no frame.
+    /// How many sequences between those of the first and the last frame have no frame.
     pub missing: u64,
-    /// What is counted and listed of all events.
+    /// What is counted and listed over all events.
     pub events: EventSections<E>,
     /// What became of the calls of each thread.
     pub calls: CallSections<E>,
-    /// What is counted and paired in each process.
+    /// What is said of each process.
     pub processes: ProcessSections<E>,
 }
 
-/// What the report says of a capture: its frames, numbers, and rows. A listed record is kept by its
-/// place; the rest of its row is read from the frames again.
+/// What the report says of a capture: its frames, its numbers and its rows. Of a listed record the
+/// place is kept; the rest of its row is read again from the frames.
 #[derive(Drop)]
 pub struct Findings<'c> {
     frames: FrameList<'c>,
@@ -39,7 +40,7 @@ impl<'c> Model for Findings<'c> {
 
     ghost view = { λ f. kept_findings f.frames f.sections };
 
-    // They are those of some frames of a capture, which the views show.
+    // They are the findings of some whole frames of a capture, which the views show.
     ghost invariant = { λ f. AreOfFrames f.frames f.sections };
 }
 
@@ -48,7 +49,7 @@ impl<'c> Findings<'c> {
     ghost use Rattle.capture_frame.specs.Lookup.{IsFrameAt};
     ghost use Rattle.audit_findings.specs.Lookup.{HasRecordIn, SaysEventAt};
 
-    /// The findings of frames and what is kept of them.
+    /// The findings of these frames and sections.
     pub fn new(frames: FrameList<'c>, sections: Sections<u64>) -> Findings<'c>
         requires { AreOfFrames frames sections }
         ensures { result ≡ kept_findings frames.entry sections }
@@ -71,7 +72,7 @@ impl<'c> Findings<'c> {
         &self.sections
     }
 
-    /// The frame that holds the byte at a place of the capture; None where no frame does.
+    /// The frame that holds the byte at a place of the capture; None if no frame does.
     pub fn frame_at(&self, place: u64) -> Option<Frame<'c>>
         ensures { IsFrameAt self.now.frames place result }
     {

@@ -10,7 +10,7 @@ use binder_code::unknown_bits;
 use event_core::Event;
 use std::alloc::{AllocError, Global};
 
-/// The places of the records with flag bits that the header does not name.
+/// The places of the records with unknown flags.
 #[derive(Drop)]
 pub(crate) struct FlagLedger {
     places: Vec<u64>,
@@ -36,7 +36,7 @@ impl FlagLedger {
         Ok(())
     }
 
-    /// Those of these events and of the later ones.
+    /// The ledger of these events and of the later ones.
     pub fn join(self, later: FlagLedger) -> Result<FlagLedger, AllocError>
         ensures { IfOk result (λ joined. (events others : List EventRead) →
             ListsFlagged self events → ListsFlagged later others →
@@ -56,7 +56,7 @@ impl FlagLedger {
     }
 }
 
-/// The flag bits of an event's record that the header does not name.
+/// The unknown flags of an event's record; 0 if it is not a transaction or a reply.
 fn unknown_flags(event: Event<'_>) -> u32
     ensures { result ≡ unknown_flags (event_text event.entry) }
 {

@@ -17,8 +17,8 @@ use handle_ledger::HeldRow;
 use process_ledgers::ProcessLedgers;
 use std::alloc::{AllocError, Global};
 
-/// The rows of the handles of one process. What its deliveries hold that it never frees, which are
-/// at these places, is read again from the frames.
+/// The rows of handles of one process. `unfreed` are the places of its leaked deliveries; what
+/// these hold is read again from the frames.
 pub(crate) fn handles_of_process(
     alloc: Global,
     frames: &FrameSlice<'_, '_>,
@@ -34,7 +34,7 @@ pub(crate) fn handles_of_process(
     ledgers.handles.own.rows_held(&held)
 }
 
-/// The section: the rows of each process in turn.
+/// The section, from the rows of each process in turn.
 pub(crate) fn handles_of(
     alloc: Global,
     lists: &[Vec<ProcessRow<HeldRow>>],

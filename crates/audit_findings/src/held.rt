@@ -9,7 +9,7 @@ use std::alloc::{AllocError, Global};
 use summary_law::{Summary, Tally};
 use transaction_view::Entry;
 
-/// Held references by handle, strong and weak ones apart.
+/// Held references by handle; strong and weak ones are counted apart.
 pub(crate) type HeldTally = Tally<(u32, bool)>;
 
 /// Counts the references that the attachments of these entries hold.

@@ -31,7 +31,7 @@ pub(crate) trait ByProcess {
     /// The rows of a process among these events.
     ghost rows_of: { List EventRead → Process → List Self.Row };
 
-    /// The rows of the process that the ledgers are of.
+    /// The rows of the process whose ledgers these are.
     fn rows(ledgers: &ProcessLedgers<'_>) -> Result<Vec<Self::Row>, AllocError>
         ensures { IfOk result (λ rows. (events : List EventRead) (process : Process) →
             AreLedgersOf ledgers.now events process → rows.items ≡ rows_of events process) };

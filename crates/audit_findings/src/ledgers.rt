@@ -1,9 +1,9 @@
-//! What frames come to.
+//! The ledgers of frames.
 
 ghost use Rattle.std.specs.Prelude.{◌≡◌, [], ◌∷◌, map, IfOk, OnOk};
 ghost use Rattle.capture_frame.specs.Envelope.{placed_frame};
 ghost use Rattle.summary_law.specs.Summary.{CanJoin, Joins};
-ghost use Rattle.audit_findings.specs.Ledgers.{SumsLedgers, SumsSome, Names, AreFewFrames, CanTake, Takes, AreOfFew, GiveSections, GivesProcesses};
+ghost use Rattle.audit_findings.specs.Ledgers.{SumsLedgers, SumsSome, NamesProcess, AreFewFrames, CanTake, TakesFrames, AreOfFew, GiveSections, GivesProcesses};
 
 use crate::call_sections::CallSections;
 use crate::event_sections::EventSections;
@@ -19,7 +19,7 @@ use process_ledgers::{ProcessLedgers, Processes};
 use std::alloc::{AllocError, Global};
 use summary_law::{InOrder, Nothing, Summary};
 
-/// The sequences of frames, their processes, and what their events come to.
+/// The sequences of frames, their processes, and the sums of their events.
 #[derive(Drop)]
 pub(crate) struct FrameLedgers<'c> {
     pub sequences: Sequences,
@@ -39,10 +39,10 @@ impl<'c> FrameLedgers<'c> {
         }
     }
 
-    /// Adds a frame without a fault. After an error they are only to be dropped.
+    /// Adds a frame without a fault. After an error the ledgers may only be dropped.
     pub fn add(&mut self, frame: Frame<'c>) -> Result<(), AllocError>
         requires { CanTake self.old (placed_frame frame ∷ []) }
-        ensures { OnOk result (Takes self.old (placed_frame frame.entry ∷ []) self.new) }
+        ensures { OnOk result (TakesFrames self.old (placed_frame frame.entry ∷ []) self.new) }
     {
         self.name_process(frame.of_process())?;
         self.sequences = self.sequences.with(frame.sequence);
@@ -53,11 +53,12 @@ impl<'c> FrameLedgers<'c> {
         Ok(())
     }
 
-    // Gives the process of the next frame its place in the order. One with ledgers has had a frame,
-    // so it has its place. That it has them is asked first: their next `add` takes no look-up then.
+    // Gives the process of the next frame its place in the order. A process with ledgers has had a
+    // frame, so it has its place. Its ledgers are looked up first: then their next `add` takes no
+    // look-up.
     fn name_process(&mut self, process: Process) -> Result<(), AllocError>
         requires { SumsSome self.old }
-        ensures { OnOk result (Names self.old process self.new) }
+        ensures { OnOk result (NamesProcess self.old process self.new) }
     {
         if self.of_events.processes.has(process) {
             return Ok(());
@@ -65,7 +66,7 @@ impl<'c> FrameLedgers<'c> {
         self.order.add((process, ()))
     }
 
-    /// Those of these frames and of the later ones.
+    /// The ledgers of these frames and of the later ones.
     pub fn join(self, later: FrameLedgers<'c>) -> Result<FrameLedgers<'c>, AllocError>
         requires { CanJoin SumsLedgers AreFewFrames self later }
         ensures { IfOk result (Joins SumsLedgers AreFewFrames self.entry later.entry) }
@@ -77,7 +78,8 @@ impl<'c> FrameLedgers<'c> {
         })
     }
 
-    /// The processes of the frames; where no event of one concerns a ledger, it has these.
+    /// The processes of the frames, with their ledgers. A process without an event that concerns a
+    /// ledger has `none`.
     pub fn processes<'a>(&'a self, none: &'a ProcessLedgers<'c>) -> Processes<'a, 'c>
         ensures order { result.order.now ≡ self.now.order }
         ensures gives { GivesProcesses self.now none.now result }
@@ -89,8 +91,8 @@ impl<'c> FrameLedgers<'c> {
         }
     }
 
-    /// What the findings keep of the frames, whose processes have these unfreed deliveries and rows
-    /// of handles.
+    /// What the findings keep of the frames. `unfreed` and `handles` have a list for each process,
+    /// in the order of first frames: the places of its leaked deliveries, and its rows of handles.
     pub fn sections(
         self,
         alloc: Global,

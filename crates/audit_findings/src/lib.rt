@@ -1,4 +1,4 @@
-//! What the frames of a capture come to: its findings, kept as places, numbers and rows.
+//! From the frames of a capture to its findings, kept as places, numbers and rows.
 #![tactic(auto)]
 
 mod buffers;

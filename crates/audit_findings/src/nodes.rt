@@ -27,7 +27,7 @@ impl ByProcess for Nodes {
     }
 }
 
-/// The section: the rows of each process in turn.
+/// The section, from the rows of each process in turn.
 pub(crate) fn nodes_of(
     alloc: Global,
     processes: Processes<'_, '_>,

@@ -14,10 +14,10 @@ use object_view::{BadObject, Objects};
 use std::alloc::{AllocError, Global};
 use transaction_view::Entry;
 
-/// A bad object, and whose it is.
+/// A bad object, and its owner.
 #[derive(Clone, Copy, Debug, PartialEq, Eq)]
 pub struct BadRow<E> {
-    /// What stands for the record that its attachment belongs to.
+    /// What is kept of the record that owns the attachment.
     pub owner: E,
     /// The object.
     pub bad: BadObject,
@@ -55,7 +55,7 @@ impl ObjectLedger {
         Ok(())
     }
 
-    /// Those of these events and of the later ones.
+    /// The ledger of these events and of the later ones.
     pub fn join(self, later: ObjectLedger) -> Result<ObjectLedger, AllocError>
         requires { CanJoin SumsObjects AreFewEvents self later }
         ensures { IfOk result (Joins SumsObjects AreFewEvents self later) }
@@ -69,7 +69,7 @@ impl ObjectLedger {
     }
 }
 
-/// Counts the objects of an event's attachment, up to the first bad one, which is given.
+/// Counts the objects of an event's attachment up to the first bad one, and gives that one.
 fn count_attachment(counts: &mut SortCounts, event: Event<'_>) -> Option<BadObject>
     requires { (sort : Sort) →
         count_of counts.old sort + offset_bytes_of (event_text event) < 2 ^ 64 }
@@ -85,7 +85,7 @@ fn count_attachment(counts: &mut SortCounts, event: Event<'_>) -> Option<BadObje
     }
 }
 
-/// Counts the objects of an attachment, up to the first bad one, which is given.
+/// Counts the objects of an attachment up to the first bad one, and gives that one.
 fn count_entry(counts: &mut SortCounts, entry: Entry<'_>) -> Option<BadObject>
     requires { (sort : Sort) → count_of counts.old sort + length entry.offsets.now < 2 ^ 64 }
     ensures { (objects : List ObjectText)

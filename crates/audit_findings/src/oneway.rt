@@ -15,8 +15,8 @@ use event_core::OnewayKey;
 use process_ledgers::{ProcessLedgers, Processes};
 use std::alloc::{AllocError, Global};
 
-/// The oneway transactions that a process sends to a handle, or those that it receives: which, how
-/// many, and the bytes of data that they say they have, together.
+/// The oneway transactions that a process sends to a handle, or those that it receives: the key,
+/// how many there are, and the sum of their data_size.
 pub type OnewayRow = (OnewayKey, u64, u128);
 
 /// The rows of the oneway transactions of a process.

@@ -31,7 +31,7 @@ impl OnewayCounts {
         received: 1,
     };
 
-    /// Those of one event.
+    /// The counts of one event.
     pub(crate) fn of(event: Event<'_>) -> Self
         ensures { result ≡ oneway_counts (event_text event.entry ∷ []) }
     {
@@ -44,7 +44,7 @@ impl OnewayCounts {
         }
     }
 
-    /// Those of some events and of others.
+    /// The counts of two lists of events together.
     pub(crate) fn plus(self, other: Self) -> Self
         requires sent { self.sent + other.sent < 2 ^ 64 }
         requires received { self.received + other.received < 2 ^ 64 }

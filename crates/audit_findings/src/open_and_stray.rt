@@ -1,15 +1,16 @@
-//! What the sections `deaths` and `clears` have: opens that nothing closes, and stray closes.
+//! What the sections `deaths` and `clears` list: unclosed opens and stray closes.
 
 use crate::rows::Rows;
 
-/// Opens that no later close of their process has the key of, and stray closes: those whose latest
-/// earlier item of their key, in their process, is no open.
+/// Unclosed opens and stray closes. An open is unclosed if no later close of its process has its
+/// key. A close is stray if no earlier item of its process has its key, or if the latest one is a
+/// close.
 #[derive(Drop)]
 pub struct OpenAndStray<E> {
-    /// How many such opens there are.
+    /// How many unclosed opens there are.
     pub unclosed: u64,
     /// How many stray closes there are.
     pub strays: u64,
-    /// What stands for all of them, in rising place.
+    /// What is kept of each of them, in rising place.
     pub rows: Rows<E>,
 }

@@ -1,4 +1,4 @@
-//! Opens and closes that the ledgers of processes pair by their keys, and what has no partner.
+//! Opens and closes that the ledgers of processes pair by key, and those without a partner.
 
 ghost use Rattle.std.specs.Prelude.{◌≡◌, List, IfOk};
 ghost use Rattle.capture_frame.specs.Units.{Placed};
@@ -32,7 +32,7 @@ pub(crate) trait OpensAndCloses {
     /// The open or the close that an event is.
     ghost read: { EventRead → Option (PendingItem ℕ) };
 
-    /// It is at the event's place.
+    /// It has the event's place.
     ghost keeps: { KeepsPlace place_of read };
 
     /// The ledger.
@@ -72,7 +72,7 @@ impl<P: OpensAndCloses> ListsPlaces for Strays<P> {
     }
 }
 
-/// Both, of all processes.
+/// The unclosed opens and the stray closes of all processes.
 pub(crate) fn open_and_stray_of<P: OpensAndCloses>(
     alloc: Global,
     processes: Processes<'_, '_>,

@@ -3,7 +3,7 @@
 ghost use Rattle.std.specs.Prelude.{◌≡◌, ◌<◌, List, length, map, IfOk};
 ghost use Rattle.capture_frame.specs.Cut.{shown_by};
 ghost use Rattle.capture_frame.specs.Envelope.{PlacedFrame};
-ghost use Rattle.audit_findings.specs.Frames.{AreGoodFrames, good_views_parts};
+ghost use Rattle.audit_findings.specs.Frames.{AreGoodFrames, good_views_halves};
 ghost use Rattle.audit_findings.specs.Summary.{SumsPiece, GivesHandlesAt, GivesUnfreed, GiveSectionsOf, process_count};
 
 use crate::buffers::BufferPairs;
@@ -20,7 +20,7 @@ use std::alloc::{AllocError, Global};
 use std::marker::PhantomData;
 use summary_law::Summary;
 
-/// What the report needs of some frames, one behind another.
+/// The summary of some frames, one after another: all that the report needs of them.
 #[derive(Drop)]
 pub struct PieceSummary<'c> {
     ledgers: FrameLedgers<'c>,
@@ -36,8 +36,8 @@ impl<'c> PieceSummary<'c> {
         self.ledgers.order.entries.len()
     }
 
-    /// The places of the deliveries that each process never frees, rising; the processes in the
-    /// order of first frames.
+    /// The places of the leaked deliveries of each process, rising; the processes in the order of
+    /// first frames.
     pub fn unfreed(&self) -> Result<Vec<Vec<u64>>, AllocError>
         ensures count { IfOk result (λ lists. length lists.items ≡ process_count self.now) }
         ensures places { IfOk result
@@ -47,8 +47,8 @@ impl<'c> PieceSummary<'c> {
         lists_of::<Unclosed<BufferPairs>>(self.alloc, self.ledgers.processes(&none))
     }
 
-    /// The rows of handles of a process by its number, in the order of first frames, where these
-    /// are the frames that are summarised, and these the places of its unfreed deliveries.
+    /// The rows of handles of the process with this number, from 0 in the order of first frames.
+    /// `frames` are the frames that are summed, and `unfreed` the places of its leaked deliveries.
     pub fn handles(
         &self,
         frames: &FrameSlice<'_, '_>,
@@ -70,8 +70,8 @@ impl<'c> PieceSummary<'c> {
         Ok(rows)
     }
 
-    /// What the findings keep of the frames, whose processes have these unfreed deliveries and rows
-    /// of handles.
+    /// What the findings keep of the frames. `unfreed` and `handles` have a list for each process,
+    /// in the order of first frames: the places of its leaked deliveries, and its rows of handles.
     pub fn sections(
         self,
         unfreed: &[Vec<u64>],
@@ -114,5 +114,5 @@ impl<'c> Summary for PieceSummary<'c> {
         })
     }
 
-    ghost fits_parts = { good_views_parts };
+    ghost fits_halves = { good_views_halves };
 }

@@ -1,4 +1,4 @@
-//! The sections of what is counted and paired in each process.
+//! What the report says of each process.
 
 ghost use Rattle.std.specs.Prelude.{◌≡◌, List, map, IfOk};
 ghost use Rattle.capture_frame.specs.Units.{Placed};
@@ -28,30 +28,32 @@ use handle_ledger::{HeldRow, NodeRow};
 use process_ledgers::Processes;
 use std::alloc::{AllocError, Global};
 
-/// What the sections say that count and pair in each process.
+/// What the report says of each process: the sections from `handles` to `clears`, and the rows of
+/// `oneway`.
 #[derive(Drop)]
 pub struct ProcessSections<E> {
-    /// The references that processes hold by handle, and those that their deliveries hold.
+    /// The references that processes take by handle, and those that their deliveries hold.
     pub handles: References<HeldRow>,
     /// The references to the nodes of processes.
     pub nodes: References<NodeRow>,
-    /// The deliveries that are never freed, in rising place.
+    /// The leaked deliveries, in rising place.
     pub leaked: Rows<E>,
-    /// The frees of what is not delivered or is freed already, in rising place.
+    /// The stray frees, in rising place.
     pub stray_frees: Rows<E>,
-    /// The requests that nothing ended, in rising place.
+    /// The standing requests, in rising place.
     pub standing: Rows<E>,
-    /// Deaths that nobody acknowledges, and stray acknowledgements.
+    /// Unacknowledged deaths and stray acknowledgements.
     pub deaths: OpenAndStray<E>,
-    /// Clears that nobody confirms, and stray confirmations.
+    /// Unconfirmed clears and stray confirmations.
     pub clears: OpenAndStray<E>,
-    /// Oneway transactions of each process in the order of first frames: by rising handle what it
-    /// sends, then what it receives.
+    /// The oneway transactions of each process, in the order of first frames: those that it sends,
+    /// by rising handle, then those that it receives.
     pub oneway: Rows<ProcessRow<OnewayRow>>,
 }
 
 impl ProcessSections<u64> {
-    /// What is kept of all processes, whose unfreed deliveries and rows of handles are these lists.
+    /// What is kept of all processes. `unfreed` and `handles` have a list for each, in order: the
+    /// places of its leaked deliveries, and its rows of handles.
     pub(crate) fn of(
         alloc: Global,
         processes: Processes<'_, '_>,

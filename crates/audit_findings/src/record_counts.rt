@@ -1,4 +1,4 @@
-//! The first numbers of the heads of the sections `buffers` to `clears`.
+//! The first numbers of the heads from `buffers` to `clears`.
 
 ghost use Rattle.std.specs.Prelude.{◌≡◌, ◌<◌, ◌^◌, List, length};
 ghost use Rattle.event_core.specs.Events.{EventRead};
@@ -9,7 +9,7 @@ ghost use Rattle.audit_findings.specs.RecordCounts.{record_counts};
 use crate::code_counts::CodeCounts;
 use binder_code::Kind;
 
-/// How many records of some kinds there are.
+/// How many records of these kinds there are.
 #[derive(Clone, Copy, Debug, PartialEq, Eq)]
 pub struct RecordCounts {
     /// BR_TRANSACTION, BR_TRANSACTION_SEC_CTX and BR_REPLY: the driver delivers a buffer.

@@ -1,4 +1,4 @@
-//! What the sections `handles` and `nodes` have alike.
+//! What the sections `handles` and `nodes` have in common.
 
 ghost use Rattle.std.specs.Prelude.{◌≡◌};
 ghost use Rattle.audit_findings.specs.References.{references};
@@ -6,13 +6,13 @@ ghost use Rattle.audit_findings.specs.References.{references};
 use crate::in_turn::ProcessRow;
 use crate::rows::Rows;
 
-/// References by what they are to, of each process in the order of first frames.
+/// A section of references: by handle, or by node.
 #[derive(Drop)]
 pub struct References<R> {
-    /// How many rows are unbalanced: more or fewer references were let go, or acknowledged, than
-    /// were taken.
+    /// How many rows are unbalanced: strong or weak is not 0, or for a node strong due or weak due.
     pub unbalanced: u64,
-    /// The rows of each process in turn, the keys of each rising.
+    /// The rows of each process in turn, in the order of first frames; within a process the keys
+    /// rise.
     pub rows: Rows<ProcessRow<R>>,
 }
 
@@ -20,7 +20,7 @@ pub struct References<R> {
 pub(crate) trait Balance {
     ghost use Rattle.std.specs.Prelude.{◌≡◌, Bool};
 
-    /// Whether more or fewer references were let go, or acknowledged, than were taken.
+    /// Whether the row is unbalanced.
     ghost unbalanced: { Self → Bool };
 
     fn is_unbalanced(&self) -> bool

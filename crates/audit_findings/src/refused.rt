@@ -11,12 +11,12 @@ use crate::rows::Rows;
 use call_stacks::RefusedSend;
 use std::alloc::{AllocError, Global};
 
-/// The error replies that tell of refused sends.
+/// The error replies that report refused sends.
 #[derive(Drop)]
 pub struct Refused<E> {
-    /// How many of the refused sends were oneway transactions; the section `oneway` says it.
+    /// How many of the refused sends were oneway; this is in the head of `oneway`.
     pub oneway: u64,
-    /// What stands for all of them, in rising place.
+    /// What is kept of each error reply, in rising place.
     pub rows: Rows<E>,
 }
 

@@ -4,7 +4,7 @@ use crate::places::ListsPlaces;
 use process_ledgers::ProcessLedgers;
 use std::alloc::AllocError;
 
-/// Requests that still stand.
+/// The standing requests.
 pub(crate) struct Standing;
 
 impl ListsPlaces for Standing {

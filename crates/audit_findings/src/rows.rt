@@ -1,4 +1,4 @@
-//! A list that a contract sees as such.
+//! Rows that contracts see as a list.
 
 ghost use Rattle.std.specs.Prelude.{◌≡◌, length};
 

@@ -21,7 +21,7 @@ impl Sequences {
         last: 0,
     };
 
-    /// Those of these frames and of one more, which has this sequence.
+    /// The sequences of these frames and of one more, which has this sequence.
     pub fn with(self, sequence: u64) -> Self
         requires { self.frames + 1 < 2 ^ 64 }
         ensures { (wholes : List (Placed WholeFrame)) (next : Placed WholeFrame) →
@@ -40,7 +40,7 @@ impl Sequences {
         }
     }
 
-    /// Those of these frames and of the later ones.
+    /// The sequences of these frames and of the later ones.
     pub fn then(self, later: Self) -> Self
         requires { self.frames + later.frames < 2 ^ 64 }
         ensures { (wholes others : List (Placed WholeFrame)) →

@@ -11,22 +11,22 @@ use crate::rows::Rows;
 use crate::verdicts::count_of;
 use call_stacks::{Opener, Verdict};
 
-/// The calls that threads get to serve. A listed call is told by what stands for its event.
+/// The calls that threads get to serve. `E` is what is kept of the event of a listed call.
 #[derive(Drop)]
 pub struct Served<E> {
     /// How many the thread replied to.
     pub replied: u64,
-    /// How many something else closed.
+    /// How many are crossed: something else closed them.
     pub crossed: u64,
-    /// How many nothing closed.
+    /// How many are open: nothing closed them.
     pub left_open: u64,
     /// Those that are not replied to, in rising place.
     pub rows: Rows<Opener<E>>,
 }
 
 impl Served<u64> {
-    /// What is kept of the calls that threads serve: of these many replied ones, and of those that
-    /// lack their reply.
+    /// What is kept of the calls that threads serve: how many are replied, and the calls that lack
+    /// their reply.
     pub(crate) fn of(replied: u64, served: Vec<Opener<u64>>) -> Self
         ensures { (told : List (Opener EventRead)) → replied ≡ how_many is_replied told →
             served.items ≡ map call_at_place (with_verdict lacks_reply told) →

@@ -12,8 +12,8 @@ use event_core::Event;
 use std::alloc::{AllocError, Global};
 use summary_law::{InOrder, Summary};
 
-/// The calls of each thread with an event that leaves a mark; nothing is kept of an event but what
-/// calls go by.
+/// The calls of each thread with an event that leaves a mark. Of an event only what decides the
+/// calls is kept.
 #[derive(Drop)]
 pub(crate) struct ThreadLedger {
     pub threads: InOrder<Thread, Calls<CallEvent>>,
@@ -28,7 +28,7 @@ impl ThreadLedger {
         }
     }
 
-    /// Adds an event. After an error the ledger is only to be dropped.
+    /// Adds an event. After an error the ledger may only be dropped.
     pub fn add(&mut self, event: Event<'_>) -> Result<(), AllocError>
         requires { CanAdd SumsThreadCalls AreFewEvents self.old (event_text event) }
         ensures { OnOk result
@@ -41,7 +41,7 @@ impl ThreadLedger {
         }
     }
 
-    /// Those of these events and of the later ones.
+    /// The ledger of these events and of the later ones.
     pub fn join(self, later: ThreadLedger) -> Result<ThreadLedger, AllocError>
         requires { CanJoin SumsThreadCalls AreFewEvents self later }
         ensures { IfOk result (Joins SumsThreadCalls AreFewEvents self later) }

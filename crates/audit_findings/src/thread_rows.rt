@@ -14,8 +14,8 @@ use event_core::Bracket;
 use std::alloc::{AllocError, Global};
 use summary_law::InOrder;
 
-/// What is kept of the calls of all threads, each list in rising place once it is sorted. Of the
-/// calls that have their reply, which most have, there is only a count.
+/// What is kept of the calls of all threads, each list in rising place once it is sorted. Most
+/// calls have their reply; those are only counted.
 #[derive(Drop)]
 pub(crate) struct ThreadRows {
     /// The calls that threads make and that lack their reply.
@@ -26,14 +26,14 @@ pub(crate) struct ThreadRows {
     pub answered: u64,
     /// How many calls that threads serve are replied to.
     pub replied: u64,
-    /// The places of the closers that match no opener.
+    /// The places of the closers that close no opener.
     pub strays: Vec<u64>,
     /// The refused sends.
     pub sends: Vec<RefusedSend<u64>>,
 }
 
 impl ThreadRows {
-    /// Those of all threads, each list in rising place.
+    /// The rows of all threads, each list in rising place.
     pub fn of(alloc: Global, ledger: ThreadLedger) -> Result<Self, AllocError>
         ensures { IfOk result (λ rows. (events : List EventRead) →
             SumsThreadCalls ledger events → RiseInPlace events → KeepRows rows events) }
@@ -43,7 +43,7 @@ impl ThreadRows {
         Ok(rows)
     }
 
-    /// Those of each thread in turn. What a thread has is dropped once its rows are taken.
+    /// The rows of each thread in turn. The calls of a thread are dropped once its rows are taken.
     fn in_turn(alloc: Global, ledger: ThreadLedger) -> Result<Self, AllocError>
         ensures { IfOk result (λ rows.
             AreGatheredRows ledger.threads.entries.entries rows) }
@@ -64,8 +64,8 @@ impl ThreadRows {
         Ok(rows)
     }
 
-    /// Takes over the calls of a thread. The numbers never get to 2^64, as no capture has so many
-    /// records; that is known to the caller alone, so they are sums that stop there.
+    /// Takes over the calls of a thread. No capture has 2^64 records, so the numbers stay below
+    /// that; only the caller knows it, so these sums saturate.
     fn take_over(&mut self, found: &CallFindings<CallEvent>) -> Result<(), AllocError>
         ensures { OnOk result (TakesOver self.old found.now self.new) }
     {
@@ -89,17 +89,14 @@ impl ThreadRows {
     }
 }
 
-/// Whether its thread makes the call; else it serves it.
+/// Whether its thread makes the call; if not, the thread serves it.
 fn makes(opener: &Opener<CallEvent>) -> bool
     ensures { result ≡ makes opener.now }
 {
     matches!(opener.event.bracket(None), Bracket::Call)
 }
 
-fn push_made(
-    rows: &mut Vec<Opener<u64>>,
-    openers: &[Opener<CallEvent>],
-) -> Result<(), AllocError>
+fn push_made(rows: &mut Vec<Opener<u64>>, openers: &[Opener<CallEvent>]) -> Result<(), AllocError>
     ensures { OnOk result (rows.new.items ≡ rows.old.items ++ made_of openers.now) }
 {
     for opener in openers {
@@ -110,10 +107,7 @@ fn push_made(
     Ok(())
 }
 
-fn push_served(
-    rows: &mut Vec<Opener<u64>>,
-    openers: &[Opener<CallEvent>],
-) -> Result<(), AllocError>
+fn push_served(rows: &mut Vec<Opener<u64>>, openers: &[Opener<CallEvent>]) -> Result<(), AllocError>
     ensures { OnOk result (rows.new.items ≡ rows.old.items ++ served_by openers.now) }
 {
     for opener in openers {
@@ -124,7 +118,7 @@ fn push_served(
     Ok(())
 }
 
-/// A call with its event as its place.
+/// A call, with the place of its event.
 fn kept_call(opener: &Opener<CallEvent>) -> Opener<u64>
     ensures { result ≡ kept_call opener.now }
 {

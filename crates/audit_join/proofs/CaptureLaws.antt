@@ -12,7 +12,7 @@ use Rattle.audit_join.specs.declared.audit_error.AuditError.TheVariants.{Memory,
 use Rattle.audit_join.specs.Audit.{IsAudited, IsMalformed}
 use Rattle.audit_join.specs.Parts.{AreAudited, AreMalformed, error_of_capture}
 
--- the findings of its joined capture are its own
+-- the findings of the joined capture are those of the capture
 pub capture_found : (capture : List ℕ) (found : KeptFindings) → AreAudited (capture ∷ []) found → IsAudited capture found
 capture_found capture found (readable, (wholes, outcomes, is, are)) =
     let same = capture_one_reading whole_format whole_decided (joined (capture ∷ [])) wholes readable.0 is
@@ -23,7 +23,7 @@ capture_found capture found (readable, (wholes, outcomes, is, are)) =
       subst (λ (them : List WholeFrame). AreSectionsOf them outcomes found.frames found.sections) same are,
     )
 
--- and so is the first fault
+-- the first fault of the single part is the first fault of the capture
 pub capture_malformed : (capture : List ℕ) (error : AuditError PartFault) → AreMalformed (capture ∷ []) error → IsMalformed capture (error_of_capture error)
 capture_malformed capture Memory first = first
 capture_malformed capture (Malformed found) first = (fault_of_one_part whole_format capture found first).1

@@ -1,4 +1,4 @@
--- The jobs that processes are, and what they give together.
+-- The jobs of processes, and what they give together.
 use Rattle.std.proofs.Common.{◌≡◌, ℕ, zero, suc, ◌+◌, ◌^◌, ◌<◌, ◌≤◌, Bool, not, List, [], ◌∷◌, length, map, Option, Some, None, Vec, Global, refl, sym, ap, ap₂, ◌∙◌, arith, get_or}
 use Rattle.std.specs.Option.{unwrap_or}
 use Rattle.std.specs.Prelude.{All, IfSome, slice_get, slice_index_or}
@@ -27,7 +27,7 @@ use Rattle.transaction_view.specs.Grammar.{WholeFrame}
 use Rattle.audit_findings.proofs.EventSizes.{few_frames}
 use Rattle.audit_findings.proofs.FrameLaws.{first_same, good_shown}
 use Rattle.audit_findings.proofs.HandleRows.{ListOfRows, lists_of}
-use Rattle.audit_findings.specs.Buffers.{is_unfreed}
+use Rattle.audit_findings.specs.Buffers.{is_leaked}
 use Rattle.audit_findings.specs.Frames.{AreGoodFrames, AreViews}
 use Rattle.audit_findings.specs.Handles.{handles_in}
 use Rattle.audit_findings.specs.InTurn.{rows_in}
@@ -35,7 +35,7 @@ use Rattle.audit_findings.specs.Ledgers.{AreListedHandles, AreUnfreed}
 use Rattle.audit_findings.specs.Places.{places_in}
 use Rattle.audit_findings.specs.Summary.{GivesHandlesAt, SumsPiece, process_count}
 use Rattle.audit_findings.specs.declared.piece_summary.PieceSummary.{PieceSummary}
-use Rattle.capture_frame.specs.Envelope.{frame_text, PlacedFrame}
+use Rattle.capture_frame.specs.Envelope.{PlacedFrame}
 use Rattle.transaction_view.specs.FirstFault.{HasGoodContent}
 use Rattle.audit_join.proofs.FaultLaws.{good_or_bad}
 use Rattle.audit_join.proofs.JobLists.{Judged, good, bad, judged}
@@ -53,7 +53,7 @@ few_firsts {K} eq (k ∷ keys) =
     let few = count_by-le-length test (firsts eq keys) in
     omega (arith, rest, long, few)
 
--- as many as are told apart
+-- the summary counts the different processes of the frames
 process_number : (summary : PieceSummary) (frames : List PlacedFrame) (wholes : List (Placed WholeFrame)) → SumsPiece summary frames → AreViews frames wholes
     → process_count summary ≡ length (processes_of wholes)
 process_number summary frames wholes sums show =
@@ -70,9 +70,9 @@ few_processes summary frames sums fits =
     let long = length-map shown.0 process_of_whole in
     omega (arith, few, number, firsts_few, long)
 
--- ---- frames of which it is merely told that they are sound
+-- ---- frames that are merely known to be sound
 
--- such a frame has no fault, and what it has instead can be found again
+-- such a frame has no fault, so its records and entries can be found again
 sound_here : (frame : PlacedFrame) → Judged frame → ∥ HasGoodContent frame.unit ∥₁ → HasGoodContent frame.unit
 sound_here frame (good whole) told = whole
 sound_here frame (bad fault fails) told =
@@ -86,7 +86,7 @@ sound_again frames cut told = record {
   apart = cut.apart;
 }
 
--- ---- as jobs
+-- ---- processes as jobs
 
 pub jobs_long : (n : ℕ) → length (process_jobs n) ≡ n
 jobs_long n = length-map-range_with_len process_job 0 n
@@ -118,7 +118,7 @@ process_work n few = record {
   few = let long = jobs_long n in omega (arith, few, long);
 }
 
--- ---- none of them has a fault
+-- ---- no job has a fault
 
 abbrev fault_in : Option Job → Option ℕ
 fault_in None = None
@@ -135,13 +135,13 @@ no_least n x least = let found = least.found in no_fault_from 0 n found.0 found.
 
 -- ---- what they give
 
--- an element that is there, by its number
+-- the element with a number, if it is there
 pub got : {X : Type 0} (xs : List X) (n : ℕ) (x d : X) → slice_get xs n ≡ Some x → get_or xs n d ≡ x
 got [] n x d is = let wrong : None ≡ Some x = is in absurd (cc)
 got (y ∷ xs) zero x d is = ap (λ o. unwrap_or o y) is
 got (y ∷ xs) (suc n) x d is = got xs n x d is
 
--- the lists of all processes, where each is that of its own
+-- the lists of all processes, if each list is that of its process
 listed : {R : Type 0} (places : Process → List ℕ) (rows : Process → List R) (processes : List Process) (unfreed : List (Vec ℕ Global)) (lists : List (Vec R Global))
     → length lists ≡ length processes → lists_of unfreed ≡ map places processes
     → ((i : ℕ) (list : Vec R Global) → slice_get lists i ≡ Some list → (own : Vec ℕ Global) → slice_get unfreed i ≡ Some own → (d : Process)
@@ -165,5 +165,5 @@ all_listed summary frames unfreed lists sums are wholes show same outcomes objec
     let number = process_number summary frames wholes sums show in
     let count = are.count in
     let long = jobs_long (process_count summary) in
-    listed (places_in is_unfreed events) (rows_in (handles_in events outcomes)) (processes_of wholes) unfreed lists
+    listed (places_in is_leaked events) (rows_in (handles_in events outcomes)) (processes_of wholes) unfreed lists
     (omega (arith, number, count, long)) same (λ i list is own there d mine. are.each i list is own there sums wholes outcomes d show objects mine)

@@ -1,11 +1,11 @@
--- The jobs that runs of frames are, each with the place of its first fault, or none.
+-- The jobs that pieces of frames are, each with the place of its first fault, or none.
 use Rattle.std.specs.Prelude.{ℕ, ◌+◌, ◌≤◌, List, [], ◌∷◌, length, All, Option, Some, None}
 use Rattle.std.proofs.Common.{refl, ap, arith}
 use Rattle.std.specs.List.{AllZip}
 use Rattle.std.proofs.lemmas.List.Elements.{All-nil, All-cons, All-head, All-tail}
 use Rattle.capture_frame.specs.declared.fault.Fault.{Fault}
 use Rattle.capture_frame.specs.declared.fault.FaultKind.{FaultKind}
-use Rattle.capture_frame.specs.Envelope.{frame_text, PlacedFrame}
+use Rattle.capture_frame.specs.Envelope.{PlacedFrame}
 use Rattle.capture_frame.specs.Units.{IsBytes}
 use Rattle.capture_frame.proofs.UnitLaws.{Outcome, read, failed, outcome}
 use Rattle.record_view.specs.Records.{HasReadableRecords, format_of, protocol_of}
@@ -14,7 +14,7 @@ use Rattle.transaction_view.specs.Attachments.{entry_format}
 use Rattle.transaction_view.specs.FirstFault.{HasGoodContent, HasContentFault, ContentFails, in_records, in_entries}
 use Rattle.transaction_view.proofs.EntryLaws.{entries_decided}
 use Rattle.claim_board.specs.declared.job.Job.{Job}
-use Rattle.audit_join.specs.Jobs.{AreCut, IsFaultOf, IsJobOf, IsOfBytes, AreJobRuns}
+use Rattle.audit_join.specs.Jobs.{AreCut, IsFaultOf, IsJobOf, IsOfBytes, AreJobPieces}
 
 -- the content of a frame is good, or has a first fault
 pub data Judged (frame : PlacedFrame) : Type 0 where
@@ -49,18 +49,18 @@ judged frame bytes =
 abbrev HasFault : List PlacedFrame → Type 0
 HasFault frames = (fault : Option ℕ) × IsFaultOf frames fault
 
-behind_good : (frame : PlacedFrame) (frames : List PlacedFrame) → HasGoodContent frame.unit → (fault : Option ℕ)
+after_good : (frame : PlacedFrame) (frames : List PlacedFrame) → HasGoodContent frame.unit → (fault : Option ℕ)
     → IsFaultOf frames fault → HasFault (frame ∷ frames)
-behind_good frame frames whole None sound =
+after_good frame frames whole None sound =
     (None, All-cons (λ (f : PlacedFrame). HasGoodContent f.unit) frame frames whole sound)
-behind_good frame frames whole (Some place) (fault, first, is) = (
+after_good frame frames whole (Some place) (fault, first, is) = (
   Some place,
   (
     fault,
     record {
       before = frame ∷ first.before;
       frame = first.frame;
-      behind = first.behind;
+      after = first.after;
       are = ap (λ (t : List PlacedFrame). frame ∷ t) first.are;
       sound = All-cons (λ (f : PlacedFrame). HasGoodContent f.unit) frame first.before whole first.sound;
       fails = first.fails;
@@ -70,7 +70,7 @@ behind_good frame frames whole (Some place) (fault, first, is) = (
 )
 
 by_first : (frame : PlacedFrame) (frames : List PlacedFrame) → Judged frame → HasFault frames → HasFault (frame ∷ frames)
-by_first frame frames (good whole) others = behind_good frame frames whole others.0 others.1
+by_first frame frames (good whole) others = after_good frame frames whole others.0 others.1
 by_first frame frames (bad fault fails) others = (
   Some fault.place,
   (
@@ -78,7 +78,7 @@ by_first frame frames (bad fault fails) others = (
     record {
       before = [];
       frame = frame;
-      behind = frames;
+      after = frames;
       are = refl;
       sound = All-nil (λ (f : PlacedFrame). HasGoodContent f.unit);
       fails = fails;
@@ -100,21 +100,21 @@ job_of (f ∷ frames) some fault = (
   record { first = f; others = frames; are = refl; start = refl; fault = fault.1 },
 )
 
--- the jobs that runs are
-pub record HaveJobs (runs : List (List PlacedFrame)) : Type 0 where
+-- the jobs that the pieces are
+pub record HaveJobs (pieces : List (List PlacedFrame)) : Type 0 where
   pub jobs : List Job
-  pub each : AllZip IsJobOf runs jobs
+  pub each : AllZip IsJobOf pieces jobs
 
--- each run is a job
-pub jobs_of : (runs : List (List PlacedFrame)) → AreJobRuns runs → HaveJobs runs
+-- each piece is a job
+pub jobs_of : (pieces : List (List PlacedFrame)) → AreJobPieces pieces → HaveJobs pieces
 jobs_of [] can = record { jobs = []; each = tt }
-jobs_of (run ∷ runs) can =
-    let job = job_of run (All-head (λ (list : List PlacedFrame). 1 ≤ length list) run runs can.some)
-    (fault_of run (All-head AreCut run runs can.cut).bytes) in
+jobs_of (piece ∷ pieces) can =
+    let job = job_of piece (All-head (λ (list : List PlacedFrame). 1 ≤ length list) piece pieces can.some)
+    (fault_of piece (All-head AreCut piece pieces can.cut).bytes) in
     let few = can.few in
-    let others = jobs_of runs (record {
+    let others = jobs_of pieces (record {
       few = omega (arith, few);
-      some = All-tail (λ (list : List PlacedFrame). 1 ≤ length list) run runs can.some;
-      cut = All-tail AreCut run runs can.cut;
+      some = All-tail (λ (list : List PlacedFrame). 1 ≤ length list) piece pieces can.some;
+      cut = All-tail AreCut piece pieces can.cut;
     }) in
     record { jobs = job.0 ∷ others.jobs; each = (job.1, others.each) }

@@ -1,5 +1,5 @@
 pub mod PartLaws
-pub mod RunLaws
+pub mod PieceLaws
 pub mod JobLists
 pub mod JobLaws
 pub mod CutLaws

@@ -1,4 +1,4 @@
--- In which part a place of the joined capture is.
+-- Which part a place of the joined capture is in.
 use Rattle.std.proofs.Common.{◌≡◌, ℕ, suc, ◌+◌, ◌-◌, ◌<◌, ◌≤◌, List, [], ◌∷◌, ◌++◌, length, take, drop, map, Bor, get_or, refl, sym, ap, ◌∙◌, length-append, length-drop, length-take, arith}
 use Rattle.std.specs.List.{flat_map}
 use Rattle.std.proofs.lemmas.List.{take_more, map-append, at_drop_more, take-append-drop, length-map}
@@ -15,53 +15,53 @@ use Rattle.audit_join.specs.Parts.{IsFaultOfPart}
 abbrev pub bytes_of : List (Bor (List ℕ)) → List (List ℕ)
 bytes_of parts = map (λ (part : Bor (List ℕ)). part.now) parts
 
--- how many bytes stand behind the file headers of parts
-abbrev pub behind_headers : List (List ℕ) → ℕ
-behind_headers parts = length (flat_map (λ (part : List ℕ). drop 16 part) parts)
+-- how many bytes come after the file headers of parts
+abbrev pub after_headers : List (List ℕ) → ℕ
+after_headers parts = length (flat_map (λ (part : List ℕ). drop 16 part) parts)
 
-behind_headers-append : (front back : List (List ℕ)) → behind_headers (front ++ back) ≡ behind_headers front + behind_headers back
-behind_headers-append front back = ap length (flat_map-append (λ (part : List ℕ). drop 16 part) front back)
+after_headers-append : (front back : List (List ℕ)) → after_headers (front ++ back) ≡ after_headers front + after_headers back
+after_headers-append front back = ap length (flat_map-append (λ (part : List ℕ). drop 16 part) front back)
     ∙ length-append (flat_map (λ (part : List ℕ). drop 16 part) front) (flat_map (λ (part : List ℕ). drop 16 part) back)
 
-behind_headers-cons : (part : List ℕ) (parts : List (List ℕ)) → behind_headers (part ∷ parts) ≡ (length part - 16) + behind_headers parts
-behind_headers-cons part parts = ap length (flat_map-cons (λ (part : List ℕ). drop 16 part) part parts)
+after_headers-cons : (part : List ℕ) (parts : List (List ℕ)) → after_headers (part ∷ parts) ≡ (length part - 16) + after_headers parts
+after_headers-cons part parts = ap length (flat_map-cons (λ (part : List ℕ). drop 16 part) part parts)
     ∙ length-append (drop 16 part) (flat_map (λ (part : List ℕ). drop 16 part) parts)
-    ∙ ap (λ (n : ℕ). n + behind_headers parts) (length-drop 16 part)
+    ∙ ap (λ (n : ℕ). n + after_headers parts) (length-drop 16 part)
 
--- the place in the joined capture, without the file header of the part
-place_behind : (parts : List (List ℕ)) (fault : Fault) (found : PartFault) (is : IsFaultOfPart parts fault found)
-    → fault.place ≡ behind_headers is.front + found.fault.place
-place_behind parts fault found is =
+-- the place in the joined capture, in which the part has no file header
+place_after : (parts : List (List ℕ)) (fault : Fault) (found : PartFault) (is : IsFaultOfPart parts fault found)
+    → fault.place ≡ after_headers is.front + found.fault.place
+place_after parts fault found is =
     let place = is.place in
-    let whole : length (joined is.front) ≡ 16 + behind_headers is.front = length-append (file_header Two) (flat_map (λ (part : List ℕ). drop 16 part) is.front) in
+    let whole : length (joined is.front) ≡ 16 + after_headers is.front = length-append (file_header Two) (flat_map (λ (part : List ℕ). drop 16 part) is.front) in
     omega (arith, place, whole)
 
 -- ---- a place is in one part
 
--- what stands in front of a part, its number and the place in it are told by the place in all
-one_part : (front others : List (List ℕ)) (part other : List ℕ) (behind rest : List (List ℕ)) (place within also : ℕ)
-    → front ++ part ∷ behind ≡ others ++ other ∷ rest → place ≡ behind_headers front + within → place ≡ behind_headers others + also
+-- the place in the joined capture gives the number of the part and the place in it
+one_part : (front others : List (List ℕ)) (part other : List ℕ) (after rest : List (List ℕ)) (place within also : ℕ)
+    → front ++ part ∷ after ≡ others ++ other ∷ rest → place ≡ after_headers front + within → place ≡ after_headers others + also
     → 16 ≤ within → within < length part → 16 ≤ also → also < length other → (length front ≡ length others) × (within ≡ also)
-one_part [] [] part other behind rest place within also same here there least inside least_too inside_too = (refl, omega (arith, here, there))
-one_part [] (o ∷ others) part other behind rest place within also same here there least inside least_too inside_too =
+one_part [] [] part other after rest place within also same here there least inside least_too inside_too = (refl, omega (arith, here, there))
+one_part [] (o ∷ others) part other after rest place within also same here there least inside least_too inside_too =
     let first : part ≡ o = cc in
     let long = ap length first in
-    let cons = behind_headers-cons o others in
-    let none : behind_headers [] ≡ 0 = refl in
+    let cons = after_headers-cons o others in
+    let none : after_headers [] ≡ 0 = refl in
     absurd (omega (arith, here, there, long, cons, none, inside, least_too))
-one_part (f ∷ front) [] part other behind rest place within also same here there least inside least_too inside_too =
+one_part (f ∷ front) [] part other after rest place within also same here there least inside least_too inside_too =
     let first : f ≡ other = cc in
     let long = ap length first in
-    let cons = behind_headers-cons f front in
-    let none : behind_headers [] ≡ 0 = refl in
+    let cons = after_headers-cons f front in
+    let none : after_headers [] ≡ 0 = refl in
     absurd (omega (arith, here, there, long, cons, none, inside_too, least))
-one_part (f ∷ front) (o ∷ others) part other behind rest place within also same here there least inside least_too inside_too =
+one_part (f ∷ front) (o ∷ others) part other after rest place within also same here there least inside least_too inside_too =
     let first : f ≡ o = cc in
-    let later : front ++ part ∷ behind ≡ others ++ other ∷ rest = cc in
+    let later : front ++ part ∷ after ≡ others ++ other ∷ rest = cc in
     let long = ap length first in
-    let cons = behind_headers-cons f front in
-    let cons_too = behind_headers-cons o others in
-    let one = one_part front others part other behind rest (place - (length f - 16)) within also later (omega (arith, here, cons))
+    let cons = after_headers-cons f front in
+    let cons_too = after_headers-cons o others in
+    let one = one_part front others part other after rest (place - (length f - 16)) within also later (omega (arith, here, cons))
     (omega (arith, there, cons_too, long)) least inside least_too inside_too in
     (ap suc one.0, one.1)
 
@@ -72,16 +72,16 @@ same_fault a b part kind place =
 
 pub one_place : (parts : List (List ℕ)) (fault : Fault) (a b : PartFault) → IsFaultOfPart parts fault a → IsFaultOfPart parts fault b → a ≡ b
 one_place parts fault a b x y =
-    let one = one_part x.front y.front x.part y.part x.behind y.behind fault.place a.fault.place b.fault.place (sym x.are ∙ y.are)
-    (place_behind parts fault a x) (place_behind parts fault b y) x.least x.within y.least y.within in
+    let one = one_part x.front y.front x.part y.part x.after y.after fault.place a.fault.place b.fault.place (sym x.are ∙ y.are)
+    (place_after parts fault a x) (place_after parts fault b y) x.least x.within y.least y.within in
     same_fault a b (x.number ∙ ap (λ (n : ℕ). n + 1) one.0 ∙ sym y.number) (x.kind ∙ sym y.kind) one.1
 
 -- ---- part by part
 
--- the place left behind the first i parts
+-- the place that is left after the first i parts
 pub record IsLeft (parts : List (Bor (List ℕ))) (i : ℕ) (place left : ℕ) : Type 0 where
-  pub behind_file_header : 16 ≤ left
-  pub is : place ≡ behind_headers (bytes_of (take i parts)) + left
+  pub after_file_header : 16 ≤ left
+  pub is : place ≡ after_headers (bytes_of (take i parts)) + left
 
 -- the first parts, with one more
 pub one_more : (parts : List (Bor (List ℕ))) (i : ℕ) (d : Bor (List ℕ)) → i < length parts
@@ -89,18 +89,18 @@ pub one_more : (parts : List (Bor (List ℕ))) (i : ℕ) (d : Bor (List ℕ)) �
 one_more parts i d within = ap bytes_of (take_more parts i d within)
     ∙ map-append (λ (part : Bor (List ℕ)). part.now) (take i parts) (get_or parts i d ∷ [])
 
--- what is left behind one part more, which does not have the place
+-- what is left after one more part, which does not have the place
 pub left_next : (parts : List (Bor (List ℕ))) (i : ℕ) (d : Bor (List ℕ)) (place left less : ℕ) → i < length parts → IsLeft parts i place left
     → length (get_or parts i d).now ≤ left → less ≡ length (get_or parts i d).now - 16 → (less ≤ left) × IsLeft parts (i + 1) place (left - less)
 left_next parts i d place left less within at long is =
     let part = (get_or parts i d).now in
-    let more = ap behind_headers (one_more parts i d within) ∙ behind_headers-append (bytes_of (take i parts)) (part ∷ []) in
-    let one = behind_headers-cons part [] in
-    let none : behind_headers [] ≡ 0 = refl in
-    let least = at.behind_file_header in
+    let more = ap after_headers (one_more parts i d within) ∙ after_headers-append (bytes_of (take i parts)) (part ∷ []) in
+    let one = after_headers-cons part [] in
+    let none : after_headers [] ≡ 0 = refl in
+    let least = at.after_file_header in
     let place_is = at.is in (
       omega (arith, long, is),
-      record { behind_file_header = omega (arith, least, long, is); is = omega (arith, place_is, more, one, none, is, long) },
+      record { after_file_header = omega (arith, least, long, is); is = omega (arith, place_is, more, one, none, is, long) },
     )
 
 -- the part that has it
@@ -115,25 +115,25 @@ part_found parts i d fault left number within at inside is =
     record {
       front = bytes_of (take i parts);
       part = (get_or parts i d).now;
-      behind = bytes_of (drop (i + 1) parts);
+      after = bytes_of (drop (i + 1) parts);
       are = ap bytes_of (sym (take-append-drop i parts)) ∙ map-append (λ (part : Bor (List ℕ)). part.now) (take i parts) (drop i parts)
           ∙ ap (λ (t : List (List ℕ)). bytes_of (take i parts) ++ t) (at_drop_more bytes_of parts i d within);
       number = omega (arith, many, is);
       kind = refl;
-      least = at.behind_file_header;
+      least = at.after_file_header;
       within = inside;
       place = omega (arith, place_is, whole);
     }
 
--- behind all parts none is left
+-- after all parts no place is left
 pub none_left : (parts : List (Bor (List ℕ))) (i : ℕ) (fault : Fault) (left : ℕ) → take i parts ≡ parts → IsLeft parts i fault.place left
     → (found : PartFault) × IsFaultOfPart (bytes_of parts) fault found → ⊥
 none_left parts i fault left all at (found, is) =
-    let place = place_behind (bytes_of parts) fault found is in
+    let place = place_after (bytes_of parts) fault found is in
     let inside = is.within in
-    let least = at.behind_file_header in
+    let least = at.after_file_header in
     let place_is = at.is in
-    let whole = ap (λ (t : List (Bor (List ℕ))). behind_headers (bytes_of t)) all ∙ ap behind_headers is.are
-    ∙ behind_headers-append is.front (is.part ∷ is.behind) in
-    let one = behind_headers-cons is.part is.behind in
+    let whole = ap (λ (t : List (Bor (List ℕ))). after_headers (bytes_of t)) all ∙ ap after_headers is.are
+    ∙ after_headers-append is.front (is.part ∷ is.after) in
+    let one = after_headers-cons is.part is.after in
     omega (arith, place, inside, least, place_is, whole, one)

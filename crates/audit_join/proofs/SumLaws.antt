@@ -1,31 +1,31 @@
 -- Shares of frames that are summed, and joined in order.
-use Rattle.std.proofs.Common.{◌≡◌, ℕ, ◌+◌, ◌≤◌, List, [], ◌∷◌, ◌++◌, length, take, drop, map, Some, refl, sym, ap, ap₂, subst, ◌∙◌, arith}
+use Rattle.std.proofs.Common.{◌≡◌, ℕ, ◌+◌, List, [], ◌∷◌, ◌++◌, take, drop, map, Some, sym, ap, ap₂, subst, ◌∙◌}
 use Rattle.std.specs.Prelude.{slice_get}
 use Rattle.std.proofs.lemmas.List.{map-append, take-append-drop}
 use Rattle.capture_frame.specs.Cut.{shown_by}
 use Rattle.capture_frame.specs.Envelope.{PlacedFrame, placed_frame}
 use Rattle.capture_frame.specs.declared.frame.Frame.{Frame}
 use Rattle.summary_law.specs.Summary.{Adds, CanAdd, CanJoin, Joins}
-use Rattle.audit_findings.specs.Frames.{AreGoodFrames, good_frames_parts}
+use Rattle.audit_findings.specs.Frames.{AreGoodFrames, good_frames_halves}
 use Rattle.audit_findings.specs.Summary.{SumsPiece}
 use Rattle.audit_findings.specs.declared.piece_summary.PieceSummary.{PieceSummary}
 use Rattle.audit_join.specs.Shares.{SumsShare}
 use Rattle.audit_join.proofs.FaultLaws.{first_more}
 
--- good frames are good on both sides of a number
+-- good frames that are split at a number are good on both sides
 pub good_sides : (frames : List PlacedFrame) (n : ℕ) → AreGoodFrames frames → AreGoodFrames (take n frames) × AreGoodFrames (drop n frames)
-good_sides frames n good = good_frames_parts (take n frames) (drop n frames) (subst AreGoodFrames (sym (take-append-drop n frames)) good)
+good_sides frames n good = good_frames_halves (take n frames) (drop n frames) (subst AreGoodFrames (sym (take-append-drop n frames)) good)
 
--- what a summary of frames sums, as its views
+-- the summary sums the frames that these views show
 abbrev SumsShown : PieceSummary → List Frame → Type 0
 SumsShown summary views = SumsPiece summary (shown_by views)
 
 abbrev AreGoodShown : List Frame → Type 0
 AreGoodShown views = AreGoodFrames (shown_by views)
 
--- ---- one frame more
+-- ---- one more frame
 
--- the views with one more
+-- the views with one more, and the frames that they show
 shown_more : (frames : List PlacedFrame) (n : ℕ) (views : List Frame) (found : Frame) → shown_by views ≡ take n frames
     → slice_get frames n ≡ Some (placed_frame found) → shown_by (views ++ found ∷ []) ≡ take (n + 1) frames
 shown_more frames n views found shown there =

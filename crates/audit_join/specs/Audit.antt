@@ -7,17 +7,18 @@ use Rattle.audit_join.specs.declared.audit_error.AuditError.TheVariants.{Memory,
 use Rattle.audit_findings.specs.Objects.{Outcome}
 use Rattle.audit_findings.specs.Kept.{KeptFindings, AreSectionsOf}
 
--- the capture is in the grammar, and the findings are those of its frames
+-- the capture is in the grammar by some frames, their attachments have some outcomes, and what was found are the
+-- findings of both
 abbrev pub IsAudited : List ℕ → KeptFindings → Type 0
 IsAudited capture found =
     (wholes : List WholeFrame) × (outcomes : List Outcome) × IsInGrammar capture wholes
     × AreSectionsOf wholes outcomes found.frames found.sections
 
--- a fault is one that is first; of want of memory nothing is said
-abbrev pub NamesFirst : {F : Type 0} → (F → Type 0) → AuditError F → Type 0
-NamesFirst IsFirst Memory = ⊤
-NamesFirst IsFirst (Malformed fault) = IsFirst fault
+-- if the error names a fault, this fault is the first; if memory was refused, nothing is said
+abbrev pub NamesFirstFault : {F : Type 0} → (F → Type 0) → AuditError F → Type 0
+NamesFirstFault IsFirst Memory = ⊤
+NamesFirstFault IsFirst (Malformed fault) = IsFirst fault
 
--- a fault is the capture's first
+-- if the error names a fault, this is the first fault of the capture
 abbrev pub IsMalformed : List ℕ → AuditError Fault → Type 0
-IsMalformed capture error = NamesFirst (HasFirstFault capture) error
+IsMalformed capture error = NamesFirstFault (HasFirstFault capture) error

@@ -1,8 +1,8 @@
--- The first fault of what stands in frames, and the jobs that runs of frames are.
+-- The first fault of the records and entries of frames, and the jobs that pieces of frames are.
 use Rattle.std.specs.Prelude.{◌≡◌, ℕ, ◌+◌, ◌≤◌, ◌^◌, List, length, ◌∷◌, ◌++◌, All, AllPairs, Option, Some, None}
 use Rattle.std.specs.List.{sum_by}
 use Rattle.capture_frame.specs.declared.fault.Fault.{Fault}
-use Rattle.capture_frame.specs.Envelope.{frame_text, PlacedFrame}
+use Rattle.capture_frame.specs.Envelope.{PlacedFrame}
 use Rattle.capture_frame.specs.Units.{IsBytes}
 use Rattle.transaction_view.specs.FirstFault.{HasGoodContent, HasContentFault}
 use Rattle.claim_board.specs.declared.job.Job.{Job}
@@ -16,21 +16,21 @@ AreSound frames = All (λ frame. HasGoodContent frame.unit) frames
 pub record IsFirstIn (frames : List PlacedFrame) (fault : Fault) : Type 0 where
   pub before : List PlacedFrame
   pub frame : PlacedFrame
-  pub behind : List PlacedFrame
-  pub are : frames ≡ before ++ frame ∷ behind
+  pub after : List PlacedFrame
+  pub are : frames ≡ before ++ frame ∷ after
   pub sound : AreSound before
   pub fails : HasContentFault frame fault
 
--- what stands in a frame are bytes
+-- the command bytes and the attachment bytes of a frame are bytes
 abbrev pub IsOfBytes : PlacedFrame → Type 0
 IsOfBytes frame = IsBytes frame.unit.commands × IsBytes frame.unit.attachments
 
--- the frame ends at a place of a capture as it may be
+-- the frame ends at most 2^32 bytes from the beginning of the capture
 abbrev pub EndsNear : PlacedFrame → Type 0
 EndsNear frame = frame.place + span_of frame ≤ 2 ^ 32
 
--- frames as they are cut from a capture: of bytes, at most 2^32 together, each of which ends before every later one
--- begins
+-- frames as they are cut from a capture: they consist of bytes, at most 2^32 together, none of them ends more than 2^32
+-- bytes from the beginning, and each ends before every later one begins
 pub record AreCut (frames : List PlacedFrame) : Type 0 where
   pub few : sum_by span_of frames ≤ 2 ^ 32
   pub apart : AllPairs AreApart frames
@@ -46,7 +46,8 @@ abbrev pub IsFaultOf : List PlacedFrame → Option ℕ → Type 0
 IsFaultOf frames None = AreSound frames
 IsFaultOf frames (Some place) = HasFirstAt frames place
 
--- the frames begin where the job starts, and its fault is their first
+-- the job is that of these frames, at least one: it starts at the place of the first frame, and its fault is at the
+-- place of their first fault, if they have one
 pub record IsJobOf (frames : List PlacedFrame) (job : Job) : Type 0 where
   pub first : PlacedFrame
   pub others : List PlacedFrame
@@ -54,8 +55,8 @@ pub record IsJobOf (frames : List PlacedFrame) (job : Job) : Type 0 where
   pub start : job.start ≡ first.place
   pub fault : IsFaultOf frames job.fault
 
--- at most 2^32 runs of some frames each
-pub record AreJobRuns (runs : List (List PlacedFrame)) : Type 0 where
-  pub few : length runs ≤ 2 ^ 32
-  pub some : All (λ run. 1 ≤ length run) runs
-  pub cut : All AreCut runs
+-- at most 2^32 pieces, each of at least one frame, and cut from a capture
+pub record AreJobPieces (pieces : List (List PlacedFrame)) : Type 0 where
+  pub few : length pieces ≤ 2 ^ 32
+  pub some : All (λ piece. 1 ≤ length piece) pieces
+  pub cut : All AreCut pieces

@@ -1,5 +1,5 @@
 pub mod Audit
-pub mod Runs
+pub mod Pieces
 pub mod Jobs
 pub mod Judged
 pub mod Processes

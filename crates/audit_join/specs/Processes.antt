@@ -1,4 +1,4 @@
--- The jobs that processes are.
+-- A job for each process.
 use Rattle.std.specs.Prelude.{ℕ, List, map, None}
 use Rattle.std.specs.List.{range_with_len}
 use Rattle.claim_board.specs.declared.job.Job.{Job}
@@ -7,6 +7,6 @@ use Rattle.claim_board.specs.declared.job.Job.{Job}
 abbrev pub process_job : ℕ → Job
 process_job number = record { start = number; fault = None }
 
--- the jobs of so many processes, in order
+-- the jobs of n processes, in order
 abbrev pub process_jobs : ℕ → List Job
 process_jobs n = map process_job (range_with_len 0 n)

@@ -37,7 +37,7 @@ impl From<Fault> for AuditError {
     }
 }
 
-/// The same of a single part, which is a capture.
+/// The error of a single part, which is a capture.
 impl From<PartsError> for AuditError {
     ghost use Rattle.std.specs.Prelude.{◌≡◌};
     ghost use Rattle.audit_join.specs.Parts.{error_of_capture};

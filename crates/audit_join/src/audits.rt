@@ -1,4 +1,4 @@
-//! From a capture, or from its parts, to its findings.
+//! From a capture, or from its parts, to its findings or its first fault.
 
 ghost use Rattle.std.specs.Prelude.{◌≡◌, ◌<◌, ◌≤◌, ◌^◌, List, length, map, IfErr, IfOk};
 ghost use Rattle.std.specs.List.{sum_by};
@@ -31,8 +31,9 @@ use handle_ledger::HeldRow;
 use std::alloc::{AllocError, Global};
 use std::thread::Threads;
 
-/// The findings of a capture that is read in parts, in order, or their first fault. The frames of
-/// all parts are one list, which so many workers judge, a piece at a time, and then sum in shares.
+/// The findings of a capture that is read in parts, in order, or the first fault of the parts.
+/// Workers judge the frames of all parts, each a piece at a time, and then sum them in shares. The
+/// clauses hold for any workers, piece and gate, and say nothing of `Memory`.
 pub fn audit_parts<'c, T: Threads + Sync, G: Gate + Sync>(
     rt: &T,
     alloc: Global,
@@ -61,7 +62,7 @@ pub fn audit_parts<'c, T: Threads + Sync, G: Gate + Sync>(
     }
 }
 
-/// Judges frames of parts; the error is the first fault of the parts, or want of memory.
+/// Judges frames of parts. The error is the first fault of the parts, or want of memory.
 fn judge_parts<T: Threads + Sync, G: Gate + Sync>(
     rt: &T,
     alloc: Global,
@@ -85,8 +86,7 @@ fn judge_parts<T: Threads + Sync, G: Gate + Sync>(
     }
 }
 
-/// The findings of a capture, which is a single part, or its first fault. So many workers judge the
-/// frames, a piece at a time, and then sum them in shares.
+/// The findings of a capture, or its first fault: `audit_parts` of a single part.
 pub fn audit<'c, T: Threads + Sync, G: Gate + Sync>(
     rt: &T,
     alloc: Global,
@@ -102,7 +102,7 @@ pub fn audit<'c, T: Threads + Sync, G: Gate + Sync>(
     Ok(audit_parts(rt, alloc, &[capture], workers, piece, gate)?)
 }
 
-/// The same by one worker.
+/// The same by one worker, with pieces of 256 frames and `NoGate`.
 pub fn audit_one<'c, T: Threads + Sync>(
     rt: &T,
     alloc: Global,
@@ -117,7 +117,7 @@ pub fn audit_one<'c, T: Threads + Sync>(
     audit(rt, alloc, capture, workers, piece, &NoGate)
 }
 
-/// The findings of frames, whose shares are summed by workers.
+/// The findings of these frames, which workers sum in shares.
 fn findings_of<'c, T: Threads + Sync>(
     rt: &T,
     alloc: Global,
@@ -146,9 +146,9 @@ fn findings_of<'c, T: Threads + Sync>(
     Ok(Findings::new(frames, sections))
 }
 
-/// The rows of handles of each process. Which deliveries are never freed is known only when all
-/// frames are summed. So what they hold is read from the frames a second time, by workers that take
-/// a process at a time.
+/// The rows of handles of each process. Only when all frames are summed is it known which
+/// deliveries are leaked. So what they hold is read from the frames a second time, by workers that
+/// take a process at a time.
 fn look_again<'c, T: Threads + Sync>(
     rt: &T,
     alloc: Global,

@@ -10,12 +10,12 @@ use claim_board::{JobStop, Work};
 use handle_ledger::HeldRow;
 use std::alloc::Global;
 
-/// A job for each process of these frames: to make its rows of handles. None has a fault.
+/// A job for each process of these frames: to make its rows of handles. No job has a fault.
 #[derive(Drop)]
 pub(crate) struct HandleWork<'f, 'c> {
     pub whole: &'f PieceSummary<'c>,
     pub frames: &'f FrameSlice<'f, 'c>,
-    /// The places of each process's unfreed deliveries.
+    /// The places of each process's leaked deliveries.
     pub unfreed: &'f [Vec<u64>],
     ghost cut: { AreCut frames.now },
     ghost sound: { ∥ AreSound frames.now ∥₁ },

@@ -3,7 +3,7 @@
 ghost use Rattle.std.specs.Prelude.{◌≡◌};
 ghost use Rattle.audit_join.specs.declared.limits.TheConstants.{CAPTURE_LIMIT};
 
-/// The most bytes that a capture may have, all its parts together, are 1 GiB.
+/// A capture may have 1 GiB at most, all its parts together.
 pub fn limit()
     ensures { CAPTURE_LIMIT ≡ 1073741824 }
 {}

@@ -10,9 +10,9 @@ mod limits;
 mod part_bytes;
 mod part_places;
 mod piece;
+mod piece_checks;
 mod piece_work;
 mod plan;
-mod run_checks;
 mod shares;
 
 pub use audit_error::{AuditError, PartsError};

@@ -1,10 +1,10 @@
-//! What parts are made of.
+//! Parts are made of bytes.
 
 ghost use Rattle.std.specs.Prelude.{map, All};
 ghost use Rattle.capture_frame.specs.Units.{IsBytes};
 
-/// Every part is bytes. Its type says so, and proofs have that of a slice that is at hand, so each
-/// of them is taken once. There is nothing to do.
+/// Every part is made of bytes. Its type says so, but a proof can use that only of a slice at hand.
+/// So each part is taken once, and nothing is done with it.
 pub(crate) fn take_bytes(parts: &[&[u8]])
     ensures { All IsBytes (map (λ part. part.now) parts.now) }
 {

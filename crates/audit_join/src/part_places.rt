@@ -1,4 +1,4 @@
-//! In which part a place of the joined capture is.
+//! Which part a place of the joined capture is in.
 
 ghost use Rattle.std.specs.Prelude.{◌≡◌, ◌<◌, ◌^◌, length, map};
 ghost use Rattle.capture_frame.specs.declared.fault.PartFault.{PartFault};
@@ -6,7 +6,7 @@ ghost use Rattle.audit_join.specs.Parts.{IsFaultOfPart};
 
 use capture_frame::{FILE_HEADER, Fault, PartFault};
 
-/// A fault of the joined capture, as one of the part that it stands in.
+/// The fault of the joined capture, as the fault of the part that it is in.
 pub(crate) fn part_of(parts: &[&[u8]], fault: Fault) -> PartFault
     requires few { length parts.now < 2 ^ 32 }
     requires there { (found : PartFault)

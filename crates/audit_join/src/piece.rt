@@ -2,7 +2,8 @@
 
 ghost use Rattle.std.specs.Prelude.{◌≡◌, ◌≤◌, ◌↔◌, IsSome, IfSome};
 
-/// How many frames a worker judges at a time: 1 to 65,536. They are summed in other shares.
+/// How many frames a worker judges at a time: 1 to 65,536. It does not say how frames are summed:
+/// that is done in shares.
 #[derive(Clone, Copy, Debug, PartialEq, Eq)]
 pub struct Piece {
     frames: u64,

@@ -1,4 +1,4 @@
-//! The summary of frames, by workers in threads.
+//! Frames are summed by workers in threads.
 
 ghost use Rattle.std.specs.Prelude.{◌≤◌, ◌<◌, length, IfOk, IfSome};
 ghost use Rattle.std.specs.Thread.{IsSend, IsSync};
@@ -12,9 +12,9 @@ use std::thread;
 use std::thread::Threads;
 use summary_law::Summary;
 
-/// What workers share: it is halved, each half is summed, and the two sums are joined. It is a trait
-/// so that the closures of `sum_shares` give a type without a lifetime: what they ensure would be
-/// lost otherwise.
+/// What workers sum: it is halved, each half is summed, and the two sums are joined. It is a trait
+/// so that the closures of `sum_shares` give a type without a lifetime; otherwise what they ensure
+/// would be lost.
 pub(crate) trait Share: Sized {
     type Sum;
 
@@ -24,10 +24,10 @@ pub(crate) trait Share: Sized {
     // The sum of all of it.
     ghost sums: { Self → Self.Sum → Type 0 };
 
-    // The whole is these two, one after the other.
+    // The whole is these two halves, one after the other.
     ghost halved: { Self → Self → Self → Type 0 };
 
-    /// About half the work and the rest of it, where it can be halved.
+    /// About half the work, and the rest of it; None if it can't be halved.
     fn halves(&self) -> Option<(Self, Self)>
         requires { fits self.now }
         ensures { IfSome result
@@ -38,15 +38,15 @@ pub(crate) trait Share: Sized {
         requires { fits self.now }
         ensures { IfOk result (sums self.now) };
 
-    /// The sum, where these are the sums of its halves.
+    /// The sum of all, from the sums of its halves.
     fn join(&self, first: Self::Sum, second: Self::Sum) -> Result<Self::Sum, AllocError>
         requires { fits self.now
             × ((front back : Self) × halved self.now front back × sums front first × sums back second) }
         ensures { IfOk result (sums self.now) };
 }
 
-/// The sum of this share. It and the workers are halved, as long as there are two of each; each
-/// worker sums a share, and the sums are joined in order.
+/// The sum of this share. The share and the workers are halved as long as there are two of each.
+/// Each worker sums a share, and the sums are joined in order.
 pub(crate) fn sum_shares<R: Threads + Sync, S: Share + Sync + Drop>(
     rt: &R,
     alloc: Global,
@@ -111,8 +111,8 @@ impl<'f, 'c> Share for FrameSlice<'f, 'c> {
     }
 }
 
-/// As many frames as begin before the middle between the places of the first and the last one; at
-/// least one, and not all.
+/// How many frames are in the first half: those that begin at or before the middle between the
+/// places of the first and the last frame; at least one, and not all.
 fn middle(frames: &FrameSlice<'_, '_>) -> usize
     requires good { AreGoodFrames frames.now }
     requires some { 2 ≤ length frames.now }

@@ -1,4 +1,4 @@
--- What a failure leaves where the words ask for something.
+-- What a failure leaves on standard output if the words ask for something.
 use Rattle.std.proofs.Common.{List, ℕ, Option, Err}
 use Rattle.clap.specs.Words.{Text}
 use Rattle.audit_streams.specs.declared.failure.Failure.TheVariants.{Run}
@@ -6,10 +6,10 @@ use Rattle.audit_streams.specs.declared.run_error.RunError.{RunError}
 use Rattle.audit_streams.specs.declared.run_error.RunError.TheVariants.{Memory, TooLarge, Read, Write, Open}
 use Rattle.audit_run.specs.Run.{given, none_given}
 use Rattle.audit_run.specs.declared.answers.Request.{Request}
-use Rattle.audit_program.specs.Program.{Ask, Leaves, RunsOnFiles}
+use Rattle.audit_program.specs.Program.{Ask, FailureLeaves, RunsOnFiles}
 
 pub failed_on_files : (words : List Text) (asked : Request) (old new : Option (List ℕ)) (error : RunError) → Ask words asked
-    → RunsOnFiles asked old new (Err error) → Leaves words old new (Run error)
+    → RunsOnFiles asked old new (Err error) → FailureLeaves words old new (Run error)
 failed_on_files words asked old new Memory ask (given capture gives writes) = writes
 failed_on_files words asked old new Memory ask (none_given error gives is keeps) = keeps
 failed_on_files words asked old new TooLarge ask runs = (asked, ask, runs)

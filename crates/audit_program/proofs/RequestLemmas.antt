@@ -1,4 +1,4 @@
--- Lemmas on what the rows of a parse ask for.
+-- Lemmas on what the rows that clap found ask for.
 use Rattle.std.proofs.Common.{◌≡◌, ℕ, ◌<◌, ◌≤◌, ◌^◌, List, length, map, Option, Some, None, IfSome, IfNone, codes, arith, ap, refl, sym, ◌∙◌, option_map, ◌⊎◌, inl, inr}
 use Rattle.std.proofs.lemmas.List.{length-map}
 use Rattle.std.specs.Str.Parse.{ParsesUnsigned, ExplainsUnsignedError, HasUnsignedDigitsIfOk, IsNumeral, digits_value, without_leading_plus}
@@ -44,7 +44,7 @@ module _ (name : Text) (rows : List Row) where
       λ n reads. let bad : Some reads.0 ≡ None = sym reads.1 ∙ sym is_text in absurd (cc)
   number_large (Some t) None is_text none value = λ n reads. not_read t n reads is_text (value t refl).1.0
 
--- what `get_strs` gives: files that the rows name, or too many
+-- what `get_strs` gives are the files that the rows name, none, or too many
 pub files_read : (rows : List Row) (o : Option (Bor (List (Bor Text)))) (files : Bor (List (Bor Text)))
     → option_map (λ s. map (λ v. v.now) s.now) o ≡ all_of (codes "files") rows → o ≡ Some files → length files.now ≤ 256
     → NamesFiles rows (map (λ v. v.now) files.now)
@@ -70,7 +70,7 @@ files_too_many rows o files is some many others names =
     let most = names.1 in
     many (omega (arith, long, most))
 
--- a report wants its two numbers and its file, and the first fault its file
+-- without its two numbers no report is asked for
 module _ (rows : List Row) where
   no_number : (question : Question) → HasNumbers rows question
       → ((n : ℕ) → ReadsNumber (codes "workers") rows n → 2 ^ 64 ≤ n)

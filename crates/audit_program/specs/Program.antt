@@ -1,5 +1,5 @@
--- What the program does with the words of a command line: what it leaves on standard output and on standard error, and
--- the status that the process ends with (docs/REPORT.md).
+-- How the program ends on the words of a command line: what was written to standard output and to standard error, and
+-- the status (docs/REPORT.md). Of a stream whose bytes no contract can say, for example a terminal, nothing is said.
 use Rattle.std.specs.Prelude.{◌≡◌, ℕ, List, length, map, string_bytes, Option, Result, Ok, Err}
 use Rattle.std.specs.IoError.{error_kind}
 use Rattle.std.specs.Vec.Iter.{into_iter_items}
@@ -13,7 +13,7 @@ use Rattle.audit_streams.specs.declared.run_error.RunError.TheVariants.{Memory}
 use Rattle.audit_streams.specs.KnownBytes.{AppendsPrefix}
 use Rattle.audit_run.specs.Question.{GoWithStatus, IsAnswer}
 use Rattle.audit_run.specs.PartRuns.{FilesGive}
-use Rattle.audit_run.specs.Run.{Runs}
+use Rattle.audit_run.specs.Run.{RunEnds}
 use Rattle.audit_run.specs.declared.answers.Request.{Request}
 use Rattle.audit_streams.specs.declared.failure.Failure.{Failure}
 use Rattle.audit_streams.specs.declared.failure.Failure.TheVariants.{Usage, Run}
@@ -21,7 +21,7 @@ use Rattle.audit_program.specs.CommandLine.{AreTaken, WordsAskFor}
 use Rattle.audit_streams.specs.Failure.{line_of, status_of}
 use Rattle.audit_program.specs.Failure.{failure_of_words}
 
--- clap takes the words, and they ask for this
+-- clap takes the words, and they ask for this request
 abbrev pub Ask : List Text → Request → Type 0
 Ask words asked = AreTaken words × WordsAskFor words asked
 
@@ -29,36 +29,45 @@ Ask words asked = AreTaken words × WordsAskFor words asked
 abbrev pub AskForNothing : List Text → Type 0
 AskForNothing words = (asked : Request) → ¬ Ask words asked
 
--- what comes of the files of a request, of which nobody knows beforehand what they have
+-- A run on the files of a request ends so (`RunEnds`). No contract can say which bytes a file has, so this speaks of some
+-- parts, one from each file, within the limit together.
 abbrev pub RunsOnFiles : Request → Option (List ℕ) → Option (List ℕ) → Result ℕ RunError → Type 0
 RunsOnFiles asked old new result =
-    Runs (FilesGive (length asked.files.now)) (IsAnswer asked.question) GoWithStatus old new result
+    RunEnds (FilesGive (length asked.files.now)) (IsAnswer asked.question) GoWithStatus old new result
 
--- the words ask for something, and the whole answer to it was written, about some parts, one of each file, that are
--- together within the limit
+-- the words ask for something, and a run on the files that they name has written the whole answer, with this status
 abbrev pub AnswersWords : List Text → Option (List ℕ) → Option (List ℕ) → ℕ → Type 0
 AnswersWords words old new status = (asked : Request) × Ask words asked × RunsOnFiles asked old new (Ok status)
 
--- what a failure leaves on standard output: nothing more, but for a failed write the beginning of an answer
-abbrev pub Leaves : List Text → Option (List ℕ) → Option (List ℕ) → Failure → Type 0
-Leaves words old new Usage = AskForNothing words × Keeps old new
-Leaves words old new (Run Memory) = Keeps old new
-Leaves words old new (Run error) = (asked : Request) × Ask words asked × RunsOnFiles asked old new (Err error)
+-- What a failure leaves on standard output. With `Usage`, the words ask for nothing, and standard output is unchanged.
+-- With `Memory`, the words may be any, and it is unchanged too. With any other error, the words ask for something, and
+-- a run on the files that they name has ended with that error: after `Write` standard output has grown by a beginning
+-- of an answer, and after the others it is unchanged.
+abbrev pub FailureLeaves : List Text → Option (List ℕ) → Option (List ℕ) → Failure → Type 0
+FailureLeaves words old new Usage = AskForNothing words × Keeps old new
+FailureLeaves words old new (Run Memory) = Keeps old new
+FailureLeaves words old new (Run error) = (asked : Request) × Ask words asked × RunsOnFiles asked old new (Err error)
 
--- how the program ends on the words of a command line: what standard output, then standard error, held before and hold
--- then, and the status. With an answer standard error stays; with a failure it grows by what could be written of the
--- failure's line.
-pub data Ends (words : List Text) (out out_after err err_after : Option (List ℕ)) (status : ℕ) : Type 0 where
+-- How the program ends on these words: the bytes of standard output and of standard error before and after, and the
+-- status. With an answer, standard error is unchanged. With a failure, it has grown by a beginning of the failure's
+-- line, which can be nothing or the whole line. By status:
+-- 0: the words ask for the report, and it was written; or for the first fault, and `no malformed record` was written.
+-- 2: the words ask for either, and the line that names the first fault was written.
+-- 3: `Memory`, whatever the words are.
+-- 4: `Open`, `Read`, `TooLarge` or `Write`, and the words ask for something.
+-- 64: `Usage`, and the words ask for nothing or clap does not take them.
+pub data ProgramEnds (words : List Text) (out out_after err err_after : Option (List ℕ)) (status : ℕ) : Type 0 where
   answered : AnswersWords words out out_after status → Keeps err err_after
-      → Ends words out out_after err err_after status
-  failed : (failure : Failure) → Leaves words out out_after failure → AppendsPrefix err err_after (line_of failure)
-      → status ≡ status_of failure → Ends words out out_after err err_after status
+      → ProgramEnds words out out_after err err_after status
+  failed : (failure : Failure) → FailureLeaves words out out_after failure → AppendsPrefix err err_after (line_of failure)
+      → status ≡ status_of failure → ProgramEnds words out out_after err err_after status
 
--- the program ends so on the words that the system gives; where it gives none, by the kind of its error
+-- How the program ends on the words that the system gave. If it gave an error instead, standard output is unchanged,
+-- and standard error and the status are as for the failure of that error (`failure_of_words`).
 abbrev pub EndsOn : {A B : Type 0} → Result (IntoIter (String A) B) Error → Option (List ℕ) → Option (List ℕ)
     → Option (List ℕ) → Option (List ℕ) → ℕ → Type 0
 EndsOn (Ok words) out out_after err err_after status =
-    Ends (map string_bytes (into_iter_items words)) out out_after err err_after status
+    ProgramEnds (map string_bytes (into_iter_items words)) out out_after err err_after status
 EndsOn (Err error) out out_after err err_after status =
     Keeps out out_after × AppendsPrefix err err_after (line_of (failure_of_words (error_kind error)))
     × (status ≡ status_of (failure_of_words (error_kind error)))

@@ -1,6 +1,6 @@
-//! The answer to what the words of a command line ask for.
+//! Answers what the words of a command line ask for.
 ghost use Rattle.std.specs.Prelude.{map, string_bytes, IfErr, IfOk};
-ghost use Rattle.audit_program.specs.Program.{AnswersWords, Leaves};
+ghost use Rattle.audit_program.specs.Program.{AnswersWords, FailureLeaves};
 
 use crate::command_line::{matches_of, request_of};
 use audit_run::answer_files;
@@ -20,7 +20,7 @@ pub(crate) fn answer_words<T: Files + Threads + Sync, W: Write>(
     ensures answered { IfOk result
         (AnswersWords (map string_bytes words.now) (W.contents out.old) (W.contents out.new)) }
     ensures failed { IfErr result
-        (Leaves (map string_bytes words.now) (W.contents out.old) (W.contents out.new)) }
+        (FailureLeaves (map string_bytes words.now) (W.contents out.old) (W.contents out.new)) }
 {
     let matches = matches_of(alloc, words)?;
     let Some(request) = request_of(&matches) else {

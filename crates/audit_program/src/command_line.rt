@@ -13,7 +13,7 @@ use std::alloc::{AllocError, Global};
 /// The most files that a command line may name.
 const MOST_FILES: usize = 256;
 
-/// Why words are not taken.
+/// Why `clap` does not take the words.
 #[derive(Clone, Copy, Debug, PartialEq, Eq)]
 pub(crate) enum WordsError {
     Memory,
@@ -33,7 +33,7 @@ impl From<WordsError> for Failure {
     }
 }
 
-// An option with a number from 1 to 64.
+// The option `--workers`.
 fn workers<'a>(alloc: Global) -> Arg<'a>
     ensures rule { rule_of result ≡ number_rule (codes "workers") 64 (codes "4") }
     ensures local { result.global ≡ false }
@@ -45,6 +45,7 @@ fn workers<'a>(alloc: Global) -> Arg<'a>
         .default_value("4")
 }
 
+// The option `--piece`.
 fn piece<'a>(alloc: Global) -> Arg<'a>
     ensures rule { rule_of result ≡ number_rule (codes "piece") 65536 (codes "256") }
     ensures local { result.global ≡ false }
@@ -124,7 +125,7 @@ fn first_fault_of<'m>(matches: &'m ArgMatches<'_>) -> Option<Request<'m>>
     Some(Request { question, files })
 }
 
-/// What the words ask for, of which these are the matches.
+/// What the words ask for, given what `clap` has matched in them.
 pub(crate) fn request_of<'m>(matches: &'m ArgMatches<'_>) -> Option<Request<'m>>
     ensures some { IfSome result (AsksFor (subcommand_rows_of matches.now)) }
     ensures none { IfNone result
@@ -149,7 +150,7 @@ fn refusal(error: &Error) -> WordsError
     }
 }
 
-/// Reads the words, of which the first is the program's own name.
+/// Has `clap` read the words. The first word is the program's own name.
 pub(crate) fn matches_of<'a>(
     alloc: Global,
     words: &'a [String],

@@ -1,4 +1,4 @@
-//! The program: from the words of a command line to two streams and a status.
+//! The program as a library: from the words of a command line to two streams and a status.
 #![tactic(auto)]
 
 mod answers;

@@ -5,7 +5,7 @@ ghost use Rattle.std.specs.Vec.Iter.{into_iter_items};
 ghost use Rattle.audit_streams.specs.KnownBytes.{AppendsPrefix};
 ghost use Rattle.audit_streams.specs.Failure.{line_of, status_of};
 ghost use Rattle.audit_program.specs.Failure.{failure_of_words};
-ghost use Rattle.audit_program.specs.Program.{Ends, EndsOn};
+ghost use Rattle.audit_program.specs.Program.{ProgramEnds, EndsOn};
 
 use crate::answers::answer_words;
 use audit_streams::{Failure, RunError};
@@ -17,8 +17,8 @@ use std::io::{ErrorKind, Write};
 use std::process::ExitCode;
 use std::thread::Threads;
 
-/// Does what the words ask for, and gives the status that the process ends with. The first word is
-/// the program's own name.
+/// Does what the words ask for, and gives the status that the process must end with. The first word
+/// is the program's own name.
 pub fn program<T: Files + Threads + Sync, W: Write, E: Write>(
     rt: &T,
     alloc: Global,
@@ -26,7 +26,7 @@ pub fn program<T: Files + Threads + Sync, W: Write, E: Write>(
     out: &mut W,
     err: &mut E,
 ) -> u8
-    ensures { Ends (map string_bytes words.now) (W.contents out.old) (W.contents out.new)
+    ensures { ProgramEnds (map string_bytes words.now) (W.contents out.old) (W.contents out.new)
         (E.contents err.old) (E.contents err.new) result }
 {
     match answer_words(rt, alloc, words, out) {
@@ -35,7 +35,7 @@ pub fn program<T: Files + Threads + Sync, W: Write, E: Write>(
     }
 }
 
-/// Tells the failure, and gives its status, also where its line can't be written.
+/// Writes the failure's line, and gives its status even if the line can't be written.
 fn ended_by<E: Write>(failure: Failure, err: &mut E) -> u8
     ensures status { result ≡ status_of failure }
     ensures line { AppendsPrefix (E.contents err.old) (E.contents err.new) (line_of failure) }
@@ -44,7 +44,8 @@ fn ended_by<E: Write>(failure: Failure, err: &mut E) -> u8
     failure.status()
 }
 
-/// `program` on the words of the process, as the system gave them.
+/// `program` on the words of the process, as the system gave them. If the system could not give
+/// them, the status is that of `Memory` or of `Usage`.
 pub fn ended<T: Files + Threads + Sync, W: Write, E: Write>(
     rt: &T,
     alloc: Global,
@@ -61,7 +62,7 @@ pub fn ended<T: Files + Threads + Sync, W: Write, E: Write>(
     }
 }
 
-/// The failure of a process whose words could not be had.
+/// The failure if the system could not give the process its words.
 fn words_failure(kind: ErrorKind) -> Failure
     ensures { result ≡ failure_of_words kind }
 {
@@ -79,7 +80,7 @@ fn program_on<T: Files + Threads + Sync, W: Write, E: Write>(
     out: &mut W,
     err: &mut E,
 ) -> u8
-    ensures { Ends (map string_bytes (into_iter_items words)) (W.contents out.old)
+    ensures { ProgramEnds (map string_bytes (into_iter_items words)) (W.contents out.old)
         (W.contents out.new)
         (E.contents err.old) (E.contents err.new) result }
 {

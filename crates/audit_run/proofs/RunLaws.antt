@@ -1,4 +1,5 @@
--- What a run rests on: what came of a failed write, and what is said besides of the same text.
+-- Lemmas about how a run ends: from readers to their files, from one form of the capture or of the answer to another,
+-- and if a line could not be written.
 use Rattle.std.proofs.Common.{◌≡◌, ℕ, ◌<◌, List, length, map, Vec, Global, Bor, Option, Result, Ok, Err, sym, ap, subst, ◌∙◌, arith}
 use Rattle.std.specs.List.{AllZip}
 use Rattle.std.proofs.lemmas.List.{length-map}
@@ -9,10 +10,10 @@ use Rattle.audit_streams.specs.declared.run_error.RunError.{RunError}
 use Rattle.audit_streams.specs.declared.run_error.RunError.TheVariants.{Memory, TooLarge, Read, Write, Open}
 use Rattle.audit_streams.specs.KnownBytes.{AppendsPrefix}
 use Rattle.audit_streams.specs.Parts.{IsAllOf}
-use Rattle.audit_run.specs.PartRuns.{FilesGive, IsOpeningFault, ReadersGive}
-use Rattle.audit_run.specs.Run.{Breaks, IsAnswered, Runs, given, none_given}
+use Rattle.audit_run.specs.PartRuns.{FilesGive, IsOpeningError, ReadersGive}
+use Rattle.audit_run.specs.Run.{EndsWithError, IsAnswered, RunEnds, given, none_given}
 
--- what readers give is what files give that were opened
+-- an error that readers may give is one that files may give
 files_give : (files : ℕ) (had : List (Option (List ℕ))) (error : RunError) → ReadersGive had (Err error) → FilesGive files (Err error)
 files_give files had Memory gives = gives
 files_give files had TooLarge gives = tt
@@ -20,29 +21,31 @@ files_give files had Read gives = gives
 files_give files had Write gives = gives
 files_give files had Open gives = absurd gives
 
+-- how a run on the readers ends is how the run on their files ends
 pub run_on_files : {A : Type 0} (files : ℕ) (had : List (Option (List ℕ))) (IsOn : List (List ℕ) → List ℕ → Type 0)
     (GoesWith : List (List ℕ) → A → Type 0) (old new : Option (List ℕ)) (result : Result A RunError) → length had ≡ files
-    → Runs (ReadersGive had) IsOn GoesWith old new result → Runs (FilesGive files) IsOn GoesWith old new result
+    → RunEnds (ReadersGive had) IsOn GoesWith old new result → RunEnds (FilesGive files) IsOn GoesWith old new result
 run_on_files files had IsOn GoesWith old new result many (given parts gives writes) =
     given parts (AllZip-long IsAllOf had parts gives.0.0 ∙ many, gives.0.1, gives.1) writes
 run_on_files files had IsOn GoesWith old new result many (none_given error gives is keeps) =
     none_given error (files_give files had error gives) is keeps
 
-pub opening_gives : (files : ℕ) (error : RunError) → IsOpeningFault error → FilesGive files (Err error)
+-- an error of opening files is one that files may give
+pub opening_gives : (files : ℕ) (error : RunError) → IsOpeningError error → FilesGive files (Err error)
 opening_gives files Memory fault = tt
 opening_gives files TooLarge fault = absurd fault
 opening_gives files Read fault = absurd fault
 opening_gives files Write fault = absurd fault
 opening_gives files Open fault = tt
 
--- a part from each reader
+-- there are as many parts as readers
 pub a_part_each : {R : Type 0} (remaining : R → Option (List ℕ)) (readers : List R) (parts : List (Vec ℕ Global))
     → AllZip IsAllOf (map remaining readers) (map (λ (part : Vec ℕ Global). part.items) parts) → length parts ≡ length readers
 a_part_each remaining readers parts read =
     sym (length-map parts (λ (part : Vec ℕ Global). part.items))
     ∙ AllZip-long IsAllOf (map remaining readers) (map (λ (part : Vec ℕ Global). part.items) parts) read ∙ length-map readers remaining
 
--- a slice for each reader
+-- there are as many slices as readers, so they are as few
 pub few_slices : {R : Type 0} (remaining : R → Option (List ℕ)) (readers : List R) (parts : List (List ℕ)) (slices : List (Bor (List ℕ))) (most : ℕ)
     → AllZip IsAllOf (map remaining readers) parts → map (λ (slice : Bor (List ℕ)). slice.now) slices ≡ parts → length readers < most
     → length slices < most
@@ -51,13 +54,13 @@ few_slices remaining readers parts slices most read same few =
     let one_each = sym (length-map slices (λ (slice : Bor (List ℕ)). slice.now)) ∙ ap length same in
     omega (arith, many, one_each, few)
 
--- the line of a fault of so many slices
+-- the line of a fault is the same for slices and for their bytes, because there are equally many
 pub line_of_slices : (slices : List (Bor (List ℕ))) (found : PartFault)
     → part_fault_line (length slices) found ≡ part_fault_line (length (map (λ (slice : Bor (List ℕ)). slice.now) slices)) found
 line_of_slices slices found =
     ap (λ (n : ℕ). part_fault_line n found) (sym (length-map slices (λ (slice : Bor (List ℕ)). slice.now)))
 
--- an answer of another kind to the same text, of what was read in another form
+-- a run that answers, said of the capture in another form, with another kind of answer
 pub answered_by : {C D A B : Type 0} (IsOn : C → List ℕ → Type 0) (IsOnOther : D → List ℕ → Type 0) (GoesWith : C → A → Type 0)
     (GoesWithOther : D → B → Type 0) (read : C) (form : D) (old new : Option (List ℕ)) (answer : A) (other : B)
     → ((text : List ℕ) → IsOn read text → IsOnOther form text) → (GoesWith read answer → GoesWithOther form other)
@@ -65,10 +68,10 @@ pub answered_by : {C D A B : Type 0} (IsOn : C → List ℕ → Type 0) (IsOnOth
 answered_by IsOn IsOnOther GoesWith GoesWithOther read form old new answer other texts goes answered =
     record { text = answered.text; right = texts answered.text answered.right; written = answered.written; goes = goes answered.goes }
 
--- and what stands written without one
+-- a run that ends with an error, said of the capture in another form
 pub broken_by : {C D : Type 0} (IsOn : C → List ℕ → Type 0) (IsOnOther : D → List ℕ → Type 0) (read : C) (form : D)
     (old new : Option (List ℕ)) (error : RunError) → ((text : List ℕ) → IsOn read text → IsOnOther form text)
-    → Breaks IsOn read old new error → Breaks IsOnOther form old new error
+    → EndsWithError IsOn read old new error → EndsWithError IsOnOther form old new error
 broken_by IsOn IsOnOther read form old new Memory texts breaks = breaks
 broken_by IsOn IsOnOther read form old new TooLarge texts breaks = breaks
 broken_by IsOn IsOnOther read form old new Read texts breaks = breaks
@@ -76,11 +79,11 @@ broken_by IsOn IsOnOther read form old new Write texts breaks =
     record { text = breaks.text; right = texts breaks.text breaks.right; begun = breaks.begun }
 broken_by IsOn IsOnOther read form old new Open texts breaks = breaks
 
--- another answer to the same run
+-- the end of a run that answers, with another kind of answer
 pub runs_to : {C A B : Type 0} (Gives : Result C RunError → Type 0) (IsOn : C → List ℕ → Type 0) (GoesWith : C → A → Type 0)
     (GoesWithOther : C → B → Type 0) (old new : Option (List ℕ)) (answer : A) (other : B)
-    → ((read : C) → GoesWith read answer → GoesWithOther read other) → Runs Gives IsOn GoesWith old new (Ok answer)
-    → Runs Gives IsOn GoesWithOther old new (Ok other)
+    → ((read : C) → GoesWith read answer → GoesWithOther read other) → RunEnds Gives IsOn GoesWith old new (Ok answer)
+    → RunEnds Gives IsOn GoesWithOther old new (Ok other)
 runs_to Gives IsOn GoesWith GoesWithOther old new answer other goes (given read gives answered) =
     given read gives (answered_by IsOn IsOn GoesWith GoesWithOther read read old new answer other (λ text right. right) (goes read) answered)
 runs_to Gives IsOn GoesWith GoesWithOther old new answer other goes (none_given error gives is keeps) = absurd (cc)
@@ -91,16 +94,16 @@ error_of A error = Err error
 same_error : (A : Type 0) (error other : RunError) → error_of A error ≡ error_of A other → error ≡ other
 same_error A error other is = cc
 
--- and the same want of one
+-- the end of a run that ends with an error, for another kind of answer
 pub runs_out : {C A B : Type 0} (Gives : Result C RunError → Type 0) (IsOn : C → List ℕ → Type 0) (GoesWith : C → A → Type 0)
-    (GoesWithOther : C → B → Type 0) (old new : Option (List ℕ)) (error : RunError) → Runs Gives IsOn GoesWith old new (Err error)
-    → Runs Gives IsOn GoesWithOther old new (Err error)
+    (GoesWithOther : C → B → Type 0) (old new : Option (List ℕ)) (error : RunError) → RunEnds Gives IsOn GoesWith old new (Err error)
+    → RunEnds Gives IsOn GoesWithOther old new (Err error)
 runs_out Gives IsOn GoesWith GoesWithOther old new error (given read gives breaks) = given read gives breaks
 runs_out {C} {A} {B} Gives IsOn GoesWith GoesWithOther old new error (none_given other gives is keeps) =
     none_given other gives (ap (error_of B) (same_error A error other is)) keeps
 
--- a line that names the first fault and could not be written
+-- a run ends with `Write` if a right line was written only in part
 pub line_begun : {C : Type 0} (IsOn : C → List ℕ → Type 0) (read : C) (line : List ℕ) (error : RunError) (old new : Option (List ℕ))
-    → IsOn read line → error ≡ Write → AppendsPrefix old new line → Breaks IsOn read old new error
+    → IsOn read line → error ≡ Write → AppendsPrefix old new line → EndsWithError IsOn read old new error
 line_begun IsOn read line error old new right is begun =
-    subst (Breaks IsOn read old new) (sym is) (record { text = line; right = right; begun = begun })
+    subst (EndsWithError IsOn read old new) (sym is) (record { text = line; right = right; begun = begun })

@@ -1,4 +1,4 @@
--- What a run about parts comes to: what reading gave, and which answers go with it.
+-- What reading gives of a capture in several parts, one from each reader or from each file.
 use Rattle.std.specs.Prelude.{◌≡◌, ℕ, ◌≤◌, List, length, All, Option, Result, Ok, Err, ⊤}
 use Rattle.capture_frame.specs.Units.{IsBytes}
 use Rattle.audit_join.specs.declared.limits.TheConstants.{CAPTURE_LIMIT}
@@ -6,8 +6,10 @@ use Rattle.audit_streams.specs.Parts.{bytes_of, AreRead, ArePastLimit}
 use Rattle.audit_streams.specs.declared.run_error.RunError.{RunError}
 use Rattle.audit_streams.specs.declared.run_error.RunError.TheVariants.{Memory, TooLarge, Read, Write, Open}
 
--- what readers give that had these bytes, each where they are known: a part from each, of bytes, all together within the
--- limit; or no parts, of which TooLarge comes only where all bytes are known and pass it, or some are not
+-- Readers that had these bytes give parts or an error. There is a part from each reader, in order. Each part consists
+-- of bytes, and if it is known what its reader had, the part is all of that. Together the parts are within the limit.
+-- If it is known what each reader had, `TooLarge` comes only if that is more than the limit together. `Memory` and
+-- `Read` may come at any time, `Write` and `Open` never.
 abbrev pub ReadersGive : List (Option (List ℕ)) → Result (List (List ℕ)) RunError → Type 0
 ReadersGive had (Ok parts) = AreRead CAPTURE_LIMIT had parts × All IsBytes parts
 ReadersGive had (Err Memory) = ⊤
@@ -16,14 +18,16 @@ ReadersGive had (Err Read) = ⊤
 ReadersGive had (Err Write) = ⊥
 ReadersGive had (Err Open) = ⊥
 
--- what so many files give, which are opened first: a part from each, of bytes, all together within the limit, or none
+-- This many files, which are opened first, give parts or an error. There is a part from each file. Each part consists
+-- of bytes, and together they are within the limit. Which bytes a file has, no contract can say. Any error but `Write`
+-- may come at any time.
 abbrev pub FilesGive : ℕ → Result (List (List ℕ)) RunError → Type 0
 FilesGive files (Ok parts) = (length parts ≡ files) × (bytes_of parts ≤ CAPTURE_LIMIT) × All IsBytes parts
 FilesGive files (Err Write) = ⊥
 FilesGive files (Err _) = ⊤
 
--- why files are not opened
-abbrev pub IsOpeningFault : RunError → Type 0
-IsOpeningFault Memory = ⊤
-IsOpeningFault Open = ⊤
-IsOpeningFault _ = ⊥
+-- an error that opening files may end with: `Memory` or `Open`
+abbrev pub IsOpeningError : RunError → Type 0
+IsOpeningError Memory = ⊤
+IsOpeningError Open = ⊤
+IsOpeningError _ = ⊥

@@ -1,8 +1,8 @@
-//! The answer to a question about a capture: about what readers give, or about files.
+//! Answers a question about a capture whose parts come from readers or from files.
 ghost use Rattle.std.specs.Prelude.{◌≡◌, ◌<◌, ◌^◌, length, map, vec_len, IfErr, IfOk};
-ghost use Rattle.audit_run.specs.PartRuns.{FilesGive, IsOpeningFault, ReadersGive};
+ghost use Rattle.audit_run.specs.PartRuns.{FilesGive, IsOpeningError, ReadersGive};
 ghost use Rattle.audit_run.specs.Question.{GoWithStatus, IsAnswer};
-ghost use Rattle.audit_run.specs.Run.{Runs};
+ghost use Rattle.audit_run.specs.Run.{RunEnds};
 
 use crate::part_runs::{run_first_fault_parts, run_parts};
 use crate::written::PartsWritten;
@@ -18,21 +18,22 @@ use std::thread::Threads;
 /// What is asked of a capture.
 #[derive(Clone, Copy, Debug, PartialEq)]
 pub enum Question {
-    /// The report, by so many workers, and so many frames at a time.
+    /// The report, made by this many workers, each of which takes this many frames at a time.
     Report { workers: Workers, piece: Piece },
     /// The first fault, or that there is none.
     FirstFault,
 }
 
-/// What is asked, and the names of the files that have the parts of the capture, in order.
+/// What is asked, and the names of the files that hold the parts of the capture, in order.
 #[derive(Clone, Copy, Debug, PartialEq)]
 pub struct Request<'a> {
     pub question: Question,
     pub files: &'a [&'a str],
 }
 
-/// Opens the files that the request names, all before the first is read, and answers about what
-/// they give. Its clause can tell of that only that it is some parts within the limit.
+/// Opens the files that the request names, in order and all before the first is read, and answers
+/// its question as `answer` does. No contract can say which bytes a file has. So the clause speaks
+/// of some parts, one from each file, within the limit together.
 pub fn answer_files<T: Files + Threads + Sync, W: Write>(
     rt: &T,
     alloc: Global,
@@ -40,17 +41,17 @@ pub fn answer_files<T: Files + Threads + Sync, W: Write>(
     out: &mut W,
 ) -> Result<u8, RunError>
     requires { length request.files.now < 2 ^ 32 }
-    ensures { Runs (FilesGive (length request.entry.files.now)) (IsAnswer request.entry.question)
+    ensures { RunEnds (FilesGive (length request.entry.files.now)) (IsAnswer request.entry.question)
         GoWithStatus (W.contents out.old) (W.contents out.new) result }
 {
     let readers = open_files(rt, alloc, request.files)?;
     answer(rt, alloc, request.question, readers, out)
 }
 
-/// Opens each of these files, in order. Memory for them all is taken first.
+/// Opens these files in order. Memory for the list of all of them is taken first.
 fn open_files<T: Files>(rt: &T, alloc: Global, files: &[&str]) -> Result<Vec<T::File>, RunError>
     ensures each { IfOk result (λ opened. vec_len opened ≡ length files.now) }
-    ensures faults { IfErr result IsOpeningFault }
+    ensures faults { IfErr result IsOpeningError }
 {
     let mut opened = Vec::with_capacity(alloc, files.len()).map_err(|_| RunError::Memory)?;
     for file in files {
@@ -60,8 +61,8 @@ fn open_files<T: Files>(rt: &T, alloc: Global, files: &[&str]) -> Result<Vec<T::
     Ok(opened)
 }
 
-/// Answers about the parts that the readers give. The answer is the status that goes with what was
-/// written.
+/// Reads the parts of a capture in order, writes the answer to the question about them, and gives
+/// the status that goes with it.
 pub fn answer<T: Threads + Sync, R: Read + Drop, W: Write>(
     rt: &T,
     alloc: Global,
@@ -70,7 +71,7 @@ pub fn answer<T: Threads + Sync, R: Read + Drop, W: Write>(
     out: &mut W,
 ) -> Result<u8, RunError>
     requires { vec_len readers < 2 ^ 32 }
-    ensures { Runs (ReadersGive (map R.remaining readers.items)) (IsAnswer question) GoWithStatus
+    ensures { RunEnds (ReadersGive (map R.remaining readers.items)) (IsAnswer question) GoWithStatus
         (W.contents out.old) (W.contents out.new) result }
 {
     match question {

@@ -1,5 +1,5 @@
-//! From the bytes of a capture of Android Binder traffic to the text on it, over any reader and any
-//! writer; also of a capture that several readers give in parts.
+//! Reads a capture of Android Binder traffic, or its parts, from any readers, and writes the text
+//! on it to any writer.
 #![tactic(auto)]
 
 mod answers;

@@ -1,4 +1,4 @@
-//! From the bytes of several readers, the parts of a capture, to the bytes of a writer.
+//! Runs on a capture in parts, from several readers to a writer.
 
 ghost use Rattle.std.specs.Prelude.{◌≡◌, ◌<◌, ◌≤◌, ◌^◌, List, [], length, map, vec_len, vec_capacity, All, IfOk, IfErr, OnOk, OnErr, IsOkUnless, string_bytes};
 ghost use Rattle.std.specs.Io.KnownBytes.{Appends};
@@ -13,7 +13,7 @@ ghost use Rattle.report_text.specs.Text.{IsReportOf, IsReportOn};
 ghost use Rattle.audit_streams.specs.KnownBytes.{AppendsPrefix};
 ghost use Rattle.audit_streams.specs.Parts.{AreRead, bytes_of};
 ghost use Rattle.audit_run.specs.PartRuns.{ReadersGive};
-ghost use Rattle.audit_run.specs.Run.{GoesWithFault, GoesWithWritten, Runs, Writes};
+ghost use Rattle.audit_run.specs.Run.{GoesWithFault, GoesWithWritten, RunEnds, Writes};
 
 use crate::written::PartsWritten;
 use audit_findings::Findings;
@@ -28,8 +28,13 @@ use std::thread::Threads;
 use transaction_view::first_fault_parts;
 
 /// Reads the parts of a capture in order, each to its end, and writes the report on the joined
-/// capture, or the line that names the first fault. So many workers share the frames of all parts,
-/// a piece at a time, and the gate is told of each piece that is begun and ended.
+/// capture, or the line that names the first fault. Without a reader, the joined capture has no
+/// frames. The workers share the frames of all parts, a piece at a time, and the gate is told
+/// before and after each piece.
+///
+/// The contract names neither workers nor piece nor gate, and parts have one text
+/// (`laws::one_text_of_parts` of `report_text`). So two runs on the same parts that are both Ok
+/// have written the same text.
 pub fn run_parts<T: Threads + Sync, R: Read + Drop, W: Write, G: Gate + Sync>(
     rt: &T,
     alloc: Global,
@@ -41,8 +46,8 @@ pub fn run_parts<T: Threads + Sync, R: Read + Drop, W: Write, G: Gate + Sync>(
 ) -> Result<PartsWritten, RunError>
     requires { vec_len readers < 2 ^ 32 }
 
-    // At Ok what is written is the definitions' text of what was read, and nothing else.
-    ensures { Runs (ReadersGive (map R.remaining readers.items)) IsTextOfParts
+    // A run that is Ok has written the definitions' text of what was read, and nothing else.
+    ensures { RunEnds (ReadersGive (map R.remaining readers.items)) IsTextOfParts
         (GoesWithWritten AreReadable HasFirstPartFault)
         (W.contents writer.old) (W.contents writer.new) result }
 {
@@ -53,14 +58,14 @@ pub fn run_parts<T: Threads + Sync, R: Read + Drop, W: Write, G: Gate + Sync>(
 }
 
 /// Reads the parts of a capture in order, each to its end, and writes the line that names the first
-/// fault, or that there is none. Reading alone takes memory: see `write_first_fault`.
+/// fault, or that says that there is none. Only reading takes memory (see `write_first_fault`).
 pub fn run_first_fault_parts<R: Read + Drop, W: Write>(
     alloc: Global,
     readers: Vec<R>,
     writer: &mut W,
 ) -> Result<Option<PartFault>, RunError>
     requires { vec_len readers < 2 ^ 32 }
-    ensures { Runs (ReadersGive (map R.remaining readers.items)) IsLineOnParts
+    ensures { RunEnds (ReadersGive (map R.remaining readers.items)) IsLineOnParts
         (GoesWithFault AreReadable HasFirstPartFault)
         (W.contents writer.old) (W.contents writer.new) result }
 {
@@ -70,8 +75,8 @@ pub fn run_first_fault_parts<R: Read + Drop, W: Write>(
     write_first_fault_parts(slices.as_slice(), writer)
 }
 
-/// An empty list with room for the slices of so many parts. The room is taken before anything is
-/// read, so that no memory is asked for between the parts and their first fault.
+/// An empty list with room for the slices of this many parts. The room is taken before anything is
+/// read. So once the parts are read, looking for their first fault asks for no memory.
 fn room_for<'p>(alloc: Global, parts: usize) -> Result<Vec<&'p [u8]>, RunError>
     ensures empty { IfOk result (λ room. room.items ≡ []) }
     ensures room { IfOk result (λ room. vec_capacity room ≡ parts) }
@@ -80,7 +85,7 @@ fn room_for<'p>(alloc: Global, parts: usize) -> Result<Vec<&'p [u8]>, RunError>
     Vec::with_capacity(alloc, parts).map_err(|_| RunError::Memory)
 }
 
-/// Reads the parts whole, all together within the limit.
+/// Reads the parts whole, together within the limit.
 fn read_within<R: Read + Drop>(alloc: Global, readers: Vec<R>) -> Result<Vec<Vec<u8>>, RunError>
     ensures parts { IfOk result (λ parts. AreRead CAPTURE_LIMIT (map R.remaining readers.items)
         (map (λ part. part.items) parts.items)) }
@@ -90,7 +95,7 @@ fn read_within<R: Read + Drop>(alloc: Global, readers: Vec<R>) -> Result<Vec<Vec
     read_parts(alloc, readers, CAPTURE_LIMIT)
 }
 
-/// The bytes of each part, in an empty list that has room for them.
+/// Puts the slice of each part into the list, which is empty and has room for them.
 fn slices_of<'p>(room: Vec<&'p [u8]>, parts: &'p [Vec<u8>]) -> Vec<&'p [u8]>
     requires empty { room.items ≡ [] }
     requires room { length parts.now ≤ vec_capacity room }
@@ -104,8 +109,8 @@ fn slices_of<'p>(room: Vec<&'p [u8]>, parts: &'p [Vec<u8>]) -> Vec<&'p [u8]>
     slices
 }
 
-/// The same slice. Of the elements of a `Vec` no clause says that they are bytes; of those of a
-/// slice this one does.
+/// The same slice, with a clause that its elements are bytes. Of the elements of a `Vec` no clause
+/// says so.
 pub(crate) fn as_bytes(slice: &[u8]) -> &[u8]
     ensures same { result.now ≡ slice.now }
     ensures bytes { IsBytes slice.now }
@@ -164,8 +169,8 @@ fn report_on<T: Threads + Sync, G: Gate + Sync>(
     Ok(report_of(rt, alloc, found)?)
 }
 
-/// The report of findings, which end here: they are large, and dear to prove where other values
-/// are dropped beside them.
+/// The report on findings, which are dropped here: they are large, and a function that drops other
+/// values beside them is costly to prove.
 fn report_of<T: Threads + Sync>(
     rt: &T,
     alloc: Global,
@@ -176,7 +181,8 @@ fn report_of<T: Threads + Sync>(
     text(rt, alloc, &found)
 }
 
-/// Writes the line that names the first fault of parts, or that there is none. It takes no memory.
+/// Writes the line that names the first fault of parts, or that says that there is none. It takes
+/// no memory.
 pub(crate) fn write_first_fault_parts<W: Write>(
     parts: &[&[u8]],
     writer: &mut W,
@@ -199,7 +205,7 @@ pub(crate) fn write_first_fault_parts<W: Write>(
     }
 }
 
-/// Writes the line that names a fault of so many parts.
+/// Writes the line that names a fault, given how many parts there are.
 fn write_fault<W: Write>(writer: &mut W, found: PartFault, parts: usize) -> Result<(), RunError>
     ensures ok { OnOk result (Appends (W.contents writer.old) (W.contents writer.new)
         (part_fault_line parts found)) }

@@ -1,7 +1,7 @@
-//! From the bytes of a reader, which are a capture, to the bytes of a writer.
+//! Runs on a capture in one part, from a reader to a writer.
 
 ghost use Rattle.std.specs.Prelude.{◌≡◌, ◌≤◌, length, vec_len, IfOk, IfErr, IfSome, IsOkUnless};
-ghost use Rattle.audit_run.specs.Run.{GoesWithFault, GoesWithWritten, ReaderGives, Runs, Writes};
+ghost use Rattle.audit_run.specs.Run.{GoesWithFault, GoesWithWritten, ReaderGives, RunEnds, Writes};
 ghost use Rattle.transaction_view.specs.Grammar.{HasFirstFault, IsReadable};
 ghost use Rattle.report_text.specs.Answers.{IsTextOf, IsLineOn};
 ghost use Rattle.audit_join.specs.declared.limits.TheConstants.{CAPTURE_LIMIT};
@@ -16,8 +16,9 @@ use std::alloc::Global;
 use std::io::{Read, Write};
 use std::thread::Threads;
 
-/// Reads a capture to its end, and writes its report, or the line that names its first fault. So
-/// many workers share its frames, a piece at a time.
+/// Reads a capture to its end, and writes its report, or the line that names its first fault. The
+/// workers share its frames, a piece at a time. The text does not depend on workers and piece: see
+/// `run_parts`.
 pub fn run<T: Threads + Sync, R: Read, W: Write>(
     rt: &T,
     alloc: Global,
@@ -26,15 +27,15 @@ pub fn run<T: Threads + Sync, R: Read, W: Write>(
     workers: Workers,
     piece: Piece,
 ) -> Result<Written, RunError>
-    // At Ok what is written is the definitions' text of what was read, and nothing else.
-    ensures { Runs (ReaderGives (R.remaining reader.old)) IsTextOf
+    // A run that is Ok has written the definitions' text of what was read, and nothing else.
+    ensures { RunEnds (ReaderGives (R.remaining reader.old)) IsTextOf
         (GoesWithWritten IsReadable HasFirstFault)
         (W.contents writer.old) (W.contents writer.new) result }
 {
     run_gated(rt, alloc, reader, writer, workers, piece, &NoGate)
 }
 
-/// The same, where a gate is told of each piece that is begun and ended.
+/// The same as `run`, with a gate that is told before and after each piece.
 pub fn run_gated<T: Threads + Sync, R: Read, W: Write, G: Gate + Sync>(
     rt: &T,
     alloc: Global,
@@ -44,8 +45,8 @@ pub fn run_gated<T: Threads + Sync, R: Read, W: Write, G: Gate + Sync>(
     piece: Piece,
     gate: &G,
 ) -> Result<Written, RunError>
-    // At Ok what is written is the definitions' text of what was read, and nothing else.
-    ensures { Runs (ReaderGives (R.remaining reader.old)) IsTextOf
+    // A run that is Ok has written the definitions' text of what was read, and nothing else.
+    ensures { RunEnds (ReaderGives (R.remaining reader.old)) IsTextOf
         (GoesWithWritten IsReadable HasFirstFault)
         (W.contents writer.old) (W.contents writer.new) result }
 {
@@ -71,7 +72,7 @@ fn read_within<R: Read>(alloc: Global, reader: &mut R) -> Result<Vec<u8>, RunErr
     read_capture(alloc, reader, CAPTURE_LIMIT)
 }
 
-/// Writes the report on a capture, which is a single part, or the line that names its first fault.
+/// Writes the report on a capture, as a single part, or the line that names its first fault.
 fn write_report<T: Threads + Sync, W: Write, G: Gate + Sync>(
     rt: &T,
     alloc: Global,
@@ -91,14 +92,14 @@ fn write_report<T: Threads + Sync, W: Write, G: Gate + Sync>(
     }
 }
 
-/// Reads a capture to its end, and writes the line that names its first fault, or that there is
-/// none. Reading alone takes memory: see `write_first_fault`.
+/// Reads a capture to its end, and writes the line that names its first fault, or that says that
+/// there is none. Only reading takes memory (see `write_first_fault`).
 pub fn run_first_fault<R: Read, W: Write>(
     alloc: Global,
     reader: &mut R,
     writer: &mut W,
 ) -> Result<Option<Fault>, RunError>
-    ensures { Runs (ReaderGives (R.remaining reader.old)) IsLineOn
+    ensures { RunEnds (ReaderGives (R.remaining reader.old)) IsLineOn
         (GoesWithFault IsReadable HasFirstFault)
         (W.contents writer.old) (W.contents writer.new) result }
 {
@@ -106,7 +107,8 @@ pub fn run_first_fault<R: Read, W: Write>(
     write_first_fault(as_bytes(capture.as_slice()), writer)
 }
 
-/// Writes the line that names a capture's first fault, or that there is none. It takes no memory.
+/// Writes the line that names a capture's first fault, or that says that there is none. It takes no
+/// memory: it has no allocator.
 pub fn write_first_fault<W: Write>(
     capture: &[u8],
     writer: &mut W,

@@ -2,14 +2,14 @@
 
 use capture_frame::{Fault, PartFault};
 
-/// What was written of a capture.
+/// What a run has written about a capture.
 #[derive(Clone, Copy, Debug, PartialEq, Eq)]
 pub enum Written<F = Fault> {
     /// The report.
     Report,
-    /// The line that names the first malformed unit, and its part where there are several.
+    /// The line that names the first fault, and the part that has it if there are several.
     Malformed(F),
 }
 
-/// What was written of a capture that is read in parts.
+/// What a run has written about a capture in parts.
 pub type PartsWritten = Written<PartFault>;

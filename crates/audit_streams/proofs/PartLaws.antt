@@ -13,7 +13,7 @@ zip_push R [] (b ∷ ys) x y each one = absurd each
 zip_push R (a ∷ xs) [] x y each one = absurd each
 zip_push R (a ∷ xs) (b ∷ ys) x y each one = (each.0, zip_push R xs ys x y each.1 one)
 
--- one reader more, and its part
+-- with one reader more, and its part, each part is still all that its reader had
 pub read_next : {R V : Type 0} (remaining : R → Option (List ℕ)) (items : V → List ℕ) (readers : List R) (parts : List V) (reader : R) (part : V)
     → AllZip IsAllOf (map remaining readers) (map items parts) → IsAllOf (remaining reader) (items part)
     → AllZip IsAllOf (map remaining (readers ++ reader ∷ [])) (map items (parts ++ part ∷ []))
@@ -21,25 +21,25 @@ read_next remaining items readers parts reader part each one =
     rw (map-append remaining readers (reader ∷ []), map-append items parts (part ∷ []))
     (zip_push IsAllOf (map remaining readers) (map items parts) (remaining reader) (items part) each one)
 
--- where it is known what all readers had, the parts so far and the next one, which is more than is left, pass the limit
-pub past_limit : {R : Type 0} (remaining : R → Option (List ℕ)) (parts known : List (List ℕ)) (front : List R) (reader : R) (behind : List R)
-    → map remaining (front ++ reader ∷ behind) ≡ map Some known → AllZip IsAllOf (map remaining front) parts
+-- if it is known what each reader had, and the next reader had more than is left, they had more than the limit together
+pub past_limit : {R : Type 0} (remaining : R → Option (List ℕ)) (parts known : List (List ℕ)) (front : List R) (reader : R) (after : List R)
+    → map remaining (front ++ reader ∷ after) ≡ map Some known → AllZip IsAllOf (map remaining front) parts
     → (limit left : ℕ) → left + bytes_of parts ≡ limit → IfSome (remaining reader) (λ bytes. left < length bytes) → limit < bytes_of known
-past_limit remaining [] [] [] reader behind same each limit left is more = absurd (cc)
-past_limit remaining [] (k ∷ known) [] reader behind same each limit left is more =
+past_limit remaining [] [] [] reader after same each limit left is more = absurd (cc)
+past_limit remaining [] (k ∷ known) [] reader after same each limit left is more =
     let has : remaining reader ≡ Some k = cc in
     let long : left < length k = rw has at more in
     let whole = sum_by-cons (λ (p : List ℕ). length p) k known in
     omega (arith, long, whole, is)
-past_limit remaining (p ∷ parts) known [] reader behind same each limit left is more = absurd each
-past_limit remaining [] known (f ∷ front) reader behind same each limit left is more = absurd each
-past_limit remaining (p ∷ parts) [] (f ∷ front) reader behind same each limit left is more = absurd (cc)
-past_limit remaining (p ∷ parts) (k ∷ known) (f ∷ front) reader behind same each limit left is more =
+past_limit remaining (p ∷ parts) known [] reader after same each limit left is more = absurd each
+past_limit remaining [] known (f ∷ front) reader after same each limit left is more = absurd each
+past_limit remaining (p ∷ parts) [] (f ∷ front) reader after same each limit left is more = absurd (cc)
+past_limit remaining (p ∷ parts) (k ∷ known) (f ∷ front) reader after same each limit left is more =
     let has : remaining f ≡ Some k = cc in
     let first : p ≡ k = rw has at each.0 in
-    let rest : map remaining (front ++ reader ∷ behind) ≡ map Some known = cc in
+    let rest : map remaining (front ++ reader ∷ after) ≡ map Some known = cc in
     let long = ap length first in
     let whole = sum_by-cons (λ (q : List ℕ). length q) k known in
     let read = sum_by-cons (λ (q : List ℕ). length q) p parts in
-    let later = past_limit remaining parts known front reader behind rest each.1 (left + bytes_of parts) left refl more in
+    let later = past_limit remaining parts known front reader after rest each.1 (left + bytes_of parts) left refl more in
     omega (arith, long, whole, read, later, is)

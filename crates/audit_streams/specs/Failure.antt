@@ -1,4 +1,4 @@
--- What ends the program without an answer.
+-- The failures that end the program without an answer: their statuses and their lines (docs/REPORT.md).
 use Rattle.std.specs.Prelude.{ℕ, List, [], ◌∷◌, ◌++◌, codes}
 use Rattle.audit_streams.specs.declared.run_error.RunError.TheVariants.{Memory, TooLarge, Read, Write, Open}
 use Rattle.audit_streams.specs.RunError.{error_line}
@@ -14,7 +14,7 @@ status_of (Run Read) = 4
 status_of (Run Write) = 4
 status_of (Run Open) = 4
 
--- what standard error says of a failure, as a line with its line feed
+-- the line of a failure on standard error, with its line feed
 abbrev pub line_of : Failure → List ℕ
 line_of Usage = codes "usage: binder_audit report [--workers N] [--piece N] FILE... or first-fault FILE..." ++ 10 ∷ []
 line_of (Run error) = error_line error

@@ -8,7 +8,7 @@ use crate::run_error::RunError;
 use crate::writing::write_text;
 use std::io::Write;
 
-/// What ended the program with a line on standard error.
+/// What ended the program without an answer.
 #[derive(Clone, Copy, Debug, PartialEq, Eq)]
 pub enum Failure {
     /// The words of the command line ask for nothing.

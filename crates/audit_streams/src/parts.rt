@@ -1,15 +1,15 @@
 //! Reads the parts of a capture whole, one after another.
 ghost use Rattle.std.specs.Prelude.{map, IfOk, IfErr, IsErrOf};
 ghost use Rattle.audit_streams.specs.Parts.{AreRead, ArePastLimit};
-ghost use Rattle.audit_streams.specs.RunError.{IsReadingFault};
+ghost use Rattle.audit_streams.specs.RunError.{IsReadingError};
 
 use crate::reading::read_capture;
 use crate::run_error::RunError;
 use std::alloc::Global;
 use std::io::Read;
 
-/// Reads each reader to its end before the next one, as `read_capture` does. The limit is on all
-/// parts together, and the first error is the answer.
+/// Reads each reader to its end, as `read_capture` does, before it reads the next one. The limit is
+/// on all parts together. The first error is the answer.
 pub fn read_parts<R: Read + Drop>(
     alloc: Global,
     readers: Vec<R>,
@@ -19,7 +19,7 @@ pub fn read_parts<R: Read + Drop>(
         AreRead limit (map R.remaining readers.items) (map (λ part. part.items) parts.items)) }
     ensures too_large { IsErrOf result RunError.TooLarge →
         ArePastLimit limit (map R.remaining readers.items) }
-    ensures faults { IfErr result IsReadingFault }
+    ensures faults { IfErr result IsReadingError }
 {
     let mut parts = Vec::new(alloc);
     let mut left = limit;

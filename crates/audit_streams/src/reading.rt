@@ -2,7 +2,7 @@
 ghost use Rattle.std.specs.Prelude.{◌≡◌, ◌+◌, ◌<◌, ◌≤◌, ◌↔◌, ◌++◌, length, vec_len, IfSome, IfOk, IfErr, OnOk, OnErr, IsErrOf, IsOkUnless};
 ghost use Rattle.std.specs.Io.KnownBytes.{IsAtEnd};
 ghost use Rattle.audit_streams.specs.KnownBytes.{ConsumesSome};
-ghost use Rattle.audit_streams.specs.RunError.{IsReadingFault, IsRoomFault};
+ghost use Rattle.audit_streams.specs.RunError.{IsReadingError, IsRoomError};
 ghost use Rattle.audit_streams.specs.declared.reading.TheConstants.{ASKED};
 
 use crate::run_error::RunError;
@@ -12,8 +12,11 @@ use std::io::Read;
 // How many bytes are asked for at a time.
 const ASKED: usize = 65_536;
 
-/// Reads until the reader gives no more, and at most `limit + 1` times. A read that passes the
-/// limit is `TooLarge`, and each error of the reader is `Read`, also one that a retry could mend.
+/// Reads until the reader gives no more bytes, by at most `limit + 1` reads. A read that passes the
+/// limit is `TooLarge`. Any error of the reader is `Read`, even one that another try could mend.
+///
+/// The clauses leave some of this open: they allow `Memory` for a failed read, and `Read` for
+/// refused memory.
 pub fn read_capture<R: Read>(
     alloc: Global,
     reader: &mut R,
@@ -25,7 +28,7 @@ pub fn read_capture<R: Read>(
     ensures within { IfOk result (λ capture. vec_len capture ≤ limit) }
     ensures too_large { IsErrOf result RunError.TooLarge →
         IfSome (R.remaining reader.old) (λ known. limit < length known) }
-    ensures faults { IfErr result IsReadingFault }
+    ensures faults { IfErr result IsReadingError }
     ensures left { ConsumesSome (R.remaining reader.old) (R.remaining reader.new) }
 {
     let mut buffer = empty_buffer(alloc)?;
@@ -40,7 +43,7 @@ fn empty_buffer(alloc: Global) -> Result<Vec<u8>, RunError>
     vec![in alloc; 0u8; ASKED].map_err(|_| RunError::Memory)
 }
 
-// Reads by way of the buffer.
+// Reads whole, through the buffer.
 fn read_through<R: Read>(
     alloc: Global,
     reader: &mut R,
@@ -54,7 +57,7 @@ fn read_through<R: Read>(
     ensures within { IfOk result (λ capture. vec_len capture ≤ limit) }
     ensures too_large { IsErrOf result RunError.TooLarge →
         IfSome (R.remaining reader.old) (λ known. limit < length known) }
-    ensures faults { IfErr result IsReadingFault }
+    ensures faults { IfErr result IsReadingError }
     ensures left { ConsumesSome (R.remaining reader.old) (R.remaining reader.new) }
 {
     let mut capture = Vec::new(alloc);
@@ -68,7 +71,7 @@ fn read_through<R: Read>(
     unreachable!()
 }
 
-// Appends the piece where the limit leaves room for it.
+// Appends these bytes if the limit leaves room for them.
 fn append_within(capture: &mut Vec<u8>, piece: &[u8], limit: usize) -> Result<(), RunError>
     requires { vec_len capture.old ≤ limit }
     ensures ok { OnOk result (capture.new.items ≡ capture.old.items ++ piece.now) }
@@ -76,7 +79,7 @@ fn append_within(capture: &mut Vec<u8>, piece: &[u8], limit: usize) -> Result<()
     ensures within { vec_len capture.new ≤ limit }
     ensures too_large { IsErrOf result RunError.TooLarge
         ↔ (limit < vec_len capture.old + length piece.now) }
-    ensures memory { IfErr result IsRoomFault }
+    ensures memory { IfErr result IsRoomError }
 {
     if limit - capture.len() < piece.len() {
         return Err(RunError::TooLarge);

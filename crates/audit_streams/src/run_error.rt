@@ -1,20 +1,21 @@
-//! Why a run came to no answer.
+//! The errors that end a run without an answer.
 ghost use Rattle.std.specs.Prelude.{◌≡◌};
 ghost use Rattle.audit_streams.specs.RunError.{error_line};
 
 use thiserror::Error;
 
-/// What ended a run. It is displayed as its line, without the line feed.
+/// What ended a run without an answer. It is displayed as its line without the line feed; no clause
+/// says so.
 #[derive(Clone, Copy, Debug, PartialEq, Eq, Error)]
 #[error("{}", self.line().trim_end())]
 pub enum RunError {
-    /// Memory ran out.
+    /// Memory was refused.
     Memory,
-    /// The capture, all its parts together, has more bytes than are allowed.
+    /// The capture, all its parts together, has more bytes than the limit.
     TooLarge,
     /// A read failed.
     Read,
-    /// A write or the flush failed, and a prefix of the text may stand written.
+    /// A write or the flush failed. A beginning of the text may have been written.
     Write,
     /// A file could not be opened.
     Open,

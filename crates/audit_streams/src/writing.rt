@@ -6,7 +6,8 @@ ghost use Rattle.audit_streams.specs.KnownBytes.{AppendsPrefix};
 use crate::run_error::RunError;
 use std::io::Write;
 
-/// Writes until the text is through, and then flushes once. A failed write is not tried again.
+/// Writes until the writer has taken the whole text, and then flushes once. A write that fails, or
+/// that takes no byte, is `Write` and is not tried again.
 pub fn write_text<W: Write>(writer: &mut W, text: &[u8]) -> Result<(), RunError>
     ensures ok { OnOk result (Appends (W.contents writer.old) (W.contents writer.new) text.now) }
     ensures err { OnErr result

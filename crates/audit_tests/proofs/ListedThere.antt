@@ -1,20 +1,21 @@
 -- A record begins at each place that the findings list.
-use Rattle.std.proofs.Common.{map, sym, subst, ap, ◌∙◌}
-use Rattle.std.specs.Prelude.{All, Contains}
+use Rattle.std.proofs.Common.{sym, subst, ap}
+use Rattle.std.specs.Prelude.{ℕ, All, Contains}
 use Rattle.std.proofs.lemmas.List.Elements.{All-map, All-filter, All-contains_itself, All-weaker}
 use Rattle.event_core.specs.Events.{EventRead}
 use Rattle.audit_findings.specs.Flags.{has_unknown_flags, flagged}
 use Rattle.event_core.specs.Events.{wholes_of, events_of_wholes}
 use Rattle.audit_findings.specs.Kept.{KeptFindings, AreOfFrames}
 use Rattle.audit_findings.specs.Lookup.{HasRecordIn}
+use Rattle.audit_findings.specs.declared.findings.Sections.{Sections}
 use Rattle.audit_findings.proofs.RecordsThere.{has_record_in}
 
--- at those of the section `flags`
+-- a record begins at each place that the section `flags` lists
 pub flags_there : (found : KeptFindings) → AreOfFrames found.frames found.sections → All (HasRecordIn found.frames) found.sections.events.flags
-flags_there found (wholes, said, tell) =
+flags_there found (wholes, outcomes, tell) =
     let events = events_of_wholes (wholes_of wholes) in
     let listed = All-filter has_unknown_flags (Contains events) events (All-contains_itself events) in
-    subst (All (HasRecordIn found.frames)) (sym (tell.keep.events.flags ∙ ap (map (λ (e : EventRead). e.place)) tell.are.events.flags))
+    subst (All (HasRecordIn found.frames)) (sym (ap (λ (s : Sections ℕ). s.events.flags) tell.are))
     (All-map (HasRecordIn found.frames) (λ (e : EventRead). e.place) (flagged events)
     (All-weaker (Contains events) (λ (e : EventRead). HasRecordIn found.frames e.place)
     (λ e there. has_record_in found.frames (wholes_of wholes) e tell.show there) (flagged events) listed))

@@ -1,4 +1,4 @@
-//! The board of one thread, and all jobs by workers in threads.
+//! Tests of `claim_board`: the board of one thread, and all jobs by workers in threads.
 
 mod jobs;
 mod rounds;

@@ -1,11 +1,11 @@
-//! A reader and a writer of one byte a call, which fail, and count how often they were called.
+//! A reader and a writer of one byte a call, which can fail and count their calls.
 
 ghost use Rattle.std.specs.Prelude.{◌≤◌, length};
 
 use std::io;
 use std::io::{ErrorKind, Read, Write};
 
-/// Gives its bytes and then letters, one a read, and fails at one read.
+/// A reader that gives its bytes and then letters, one a read, and can fail at one read.
 #[derive(Drop)]
 pub(crate) struct Drip<'a> {
     rest: &'a [u8],
@@ -43,7 +43,7 @@ impl<'a> Drip<'a> {
 }
 
 impl<'a> Drip<'a> {
-    // Puts a letter there where one is left, and says how many it put.
+    // Puts a letter into the buffer if one is left, and says how many it put.
     fn letter_into(&mut self, buf: &mut [u8]) -> usize
         requires { 1 ≤ length buf.old }
         ensures { result ≤ 1 }
@@ -77,15 +77,15 @@ impl<'a> Read for Drip<'a> {
     }
 }
 
-/// Takes one byte a write, and fails at one write, or at each flush.
+/// A writer that takes one byte a write, and can fail at one write, or at each flush.
 #[derive(Drop)]
 pub(crate) struct Sink<'a> {
     due: &'a [u8],
-    /// How many of the bytes that are due were taken, one behind another.
+    /// How many of the bytes that are due were taken, in order.
     pub(crate) taken: usize,
     /// The number of the write that fails, from 1; 0 for none.
     fails_at: u64,
-    /// By which error that write fails; without one it takes no byte.
+    /// The error of that write. If there is none, that write takes no byte.
     fault: Option<ErrorKind>,
     flush_fault: Option<ErrorKind>,
     pub(crate) writes: u64,

@@ -1,23 +1,23 @@
-//! Where findings end. They are large, and each function that drops them is dear to prove: so two
-//! do.
+//! The functions that drop findings. Findings are large, and each function that drops them is
+//! costly to prove, so only two do.
 
 use audit_findings::Findings;
 use report_text::text;
 use std::alloc::{AllocError, Global};
 use std::thread::Threads;
 
-/// What findings are held against.
+/// What findings are compared with.
 pub(crate) trait Expected {
-    /// Ends the test where they are not as expected.
+    /// Ends the test if they are not as expected.
     fn hold(&self, found: &Findings<'_>);
 }
 
-/// The findings are as expected, and end.
+/// Compares the findings with what is expected, and drops them.
 pub(crate) fn expect<E: Expected>(found: Findings<'_>, due: &E) {
     due.hold(&found);
 }
 
-/// The text of the findings, which end.
+/// The text of the findings, which are dropped.
 pub(crate) fn told<T: Threads + Sync>(
     rt: &T,
     alloc: Global,

@@ -1,4 +1,5 @@
-//! What no clause says: the sections of a capture, typed by hand, of however many parts.
+//! Tests of `audit_join`: its calls answer, which no clause says, and the sections of a capture are
+//! those that were typed by hand.
 
 mod captures;
 mod lookup;
@@ -15,7 +16,7 @@ use std::process::Abort;
 use std::test::Fail;
 use summary_law::Count;
 
-/// How often each code word stands in the eight frames.
+/// How often the eight frames have each code word.
 const CODES: &[CodeRow] = &[
     CodeRow {
         word: 0x0000_630c,
@@ -72,7 +73,7 @@ const COUNTS: RecordCounts = RecordCounts {
     clears: 0,
 };
 
-/// The handle that process 100 took a reference to.
+/// The handle that process 100 acquired.
 const HANDLES: &[ProcessRow<HeldRow>] = &[ProcessRow {
     process: Process {
         device: 0,
@@ -89,7 +90,8 @@ const HANDLES: &[ProcessRow<HeldRow>] = &[ProcessRow {
     },
 }];
 
-/// Where buffers are delivered that nobody frees: one to process 200, and one to process 100.
+/// The places of the deliveries whose buffers are never freed: one to process 200, and one to
+/// process 100.
 const LEAKED: &[u64] = &[272, 540];
 
 /// The good objects of the eight frames.
@@ -123,7 +125,7 @@ const BAD_OBJECTS: &[BadRow<u64>] = &[
     },
 ];
 
-/// Where their records with unknown flag bits stand.
+/// The places of their records with unknown flag bits.
 const FLAGS: &[u64] = &[92, 272, 720];
 
 /// The sections are those of the eight frames.

@@ -1,5 +1,6 @@
-//! Tests of the crates that share, join, print and run an audit: of their public calls, on captures
-//! and rows that were typed from docs/. They stand here, since a crate with tests is proved twice.
+//! Tests of the public calls of `claim_board`, `audit_streams`, `audit_join`, `report_text` and
+//! `audit_run`, on captures and rows that were typed from docs/. They have a crate of their own,
+//! because a crate with tests is proved twice.
 #![tactic(auto)]
 
 #[cfg(test)]

@@ -1,4 +1,5 @@
-//! Lines as docs/REPORT.md and docs/ENVELOPE.md spell them, and more rows than are held at a time.
+//! Tests of `report_text`: lines as docs/REPORT.md and docs/ENVELOPE.md spell them, a report by
+//! `rows` and by `text`, and more rows than are rendered at a time.
 
 use crate::expected::told;
 use audit_findings::Findings;
@@ -10,7 +11,7 @@ use std::process::Abort;
 use std::test::Fail;
 use std::thread::Threads;
 
-/// A fault of each kind at the greatest place.
+/// The line of a fault of each kind, at the greatest place.
 const FAULT_LINES: &[(FaultKind, &str)] = &[
     (
         FaultKind::HeaderShort,
@@ -89,10 +90,10 @@ fn check_fault<R: Abort>(rt: &R, kind: FaultKind, line: &str) {
     assert_eq!(rt; fault_text(fault).as_str(), line);
 }
 
-/// One more than the rows that are held at a time.
+/// One more than the rows that are rendered at a time.
 const MANY: u32 = 65_537;
 
-/// The first of so many handles.
+/// The least of these handles.
 const FIRST_HANDLE: u32 = 100_000;
 
 /// The file header, and the header of a write of thread 8 of process 7 with 65,537 records of 8
@@ -103,7 +104,7 @@ const MANY_HEADERS: &[u8] = b"BNDRCAP1\x08\0\0\0\0\0\0\0\
 
 const BC_ACQUIRE: u32 = 0x4004_6305;
 
-// The handles, each taken once, the last one first.
+// A capture in which each of these handles is acquired once, the greatest one first.
 fn many_handles(alloc: Global) -> Result<Vec<u8>, AllocError> {
     let mut capture = Vec::new(alloc);
     capture.extend_from_slice(MANY_HEADERS)?;
@@ -114,7 +115,7 @@ fn many_handles(alloc: Global) -> Result<Vec<u8>, AllocError> {
     Ok(capture)
 }
 
-/// How the report on them starts, up to the second row.
+/// How the report on it begins, up to the second row of `handles`.
 const MANY_START: &str = "BINDER AUDIT 2\n\
     frames 1 records 65537 opaque 0 missing 0\n\
     codes 1\n\
@@ -127,7 +128,7 @@ const MANY_START: &str = "BINDER AUDIT 2\n\
     \x20\x200 7 100000 1 0 0 0 0 0\n\
     \x20\x200 7 100001 1 0 0 0 0 0\n";
 
-/// How it ends, from the last row but one.
+/// How it ends, from the last row of `handles` but one.
 const MANY_END: &str = "  0 7 165535 1 0 0 0 0 0\n\
     \x20\x200 7 165536 1 0 0 0 0 0\n\
     nodes 0 unbalanced 0\n\
@@ -140,7 +141,7 @@ const MANY_END: &str = "  0 7 165535 1 0 0 0 0 0\n\
     objects binder 0 weak_binder 0 handle 0 weak_handle 0 fd 0 fda 0 ptr 0 bad 0\n\
     flags 0\n";
 
-/// How many bytes the rows between have, of 25 each.
+/// How many bytes the rows between these have, 25 each.
 const MANY_BETWEEN: usize = 65_533 * 25;
 
 #[test]
@@ -153,10 +154,10 @@ fn tells_more_rows_than_it_holds(rt: HostRuntime) -> Result<(), Fail> {
     Ok(())
 }
 
-// Whether the text has that start, that end, and as many bytes between them as the other rows.
+// Whether the text begins and ends so, with as many bytes between as the other rows have.
 fn has_ends(told: &str, start: &str, end: &str) -> bool {
     match told.strip_prefix(start) {
-        Some(behind) => match behind.strip_suffix(end) {
+        Some(after) => match after.strip_suffix(end) {
             Some(between) => between.len() == MANY_BETWEEN,
             None => false,
         },
@@ -165,8 +166,8 @@ fn has_ends(told: &str, start: &str, end: &str) -> bool {
 }
 
 /// A read of thread 101 of process 100 on device 5, with a transaction at 48 whose one object is
-/// misaligned. Two sequences behind it a write of thread 8 of process 7 on the greatest device,
-/// with a transaction at 196 whose flags are 0x82, and an opaque record.
+/// misaligned. Two sequences later, a write of thread 8 of process 7 on the greatest device, with a
+/// transaction at 196 whose flags are 0x82, and an opaque record.
 const CAPTURE: &[u8] = b"BNDRCAP2\x08\0\0\0\0\0\0\0\
     \x01\0\0\0\0\0\0\0\x64\0\0\0\x65\0\0\0\
     \x02\0\0\0\x44\0\0\0\x30\0\0\0\x05\0\0\0\
@@ -225,7 +226,8 @@ fn check_report<R: Abort + Threads + Sync>(
     check_found(rt, alloc, found, report).map_err(Fail::from)
 }
 
-/// The findings end here: they are large, and dear to prove where a test may end beside them.
+/// The findings are dropped here: they are large, and costly to prove in a function that can end
+/// the test.
 fn check_found<R: Abort + Threads + Sync>(
     rt: &R,
     alloc: Global,

@@ -1,4 +1,4 @@
-//! A gate that shows that so many threads are under way at one time.
+//! A gate that shows that several threads are at work at the same time, and captures for it.
 
 use claim_board::Gate;
 use std::array;
@@ -17,7 +17,7 @@ pub(crate) fn is_set_in_time(flag: &AtomicBool) -> bool {
     false
 }
 
-/// Each of the first `N` jobs waits until all of these are entered.
+/// A gate at which each of the first `N` jobs waits until all of them are entered.
 #[derive(Drop)]
 pub(crate) struct Meeting<const N: usize> {
     flags: [AtomicBool; N],
@@ -49,7 +49,7 @@ impl<const N: usize> Meeting<N> {
         }
     }
 
-    /// Whether all were entered, and none had to wait too long.
+    /// Whether all were entered, and none waited too long.
     pub(crate) fn was_held(&self) -> bool {
         self.flags.iter().all(|flag| flag.load(Ordering::SeqCst))
             && !self.late.load(Ordering::SeqCst)

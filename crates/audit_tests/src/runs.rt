@@ -1,4 +1,5 @@
-//! From a reader to a writer: devices that fail, the gate that is handed on, and want of memory.
+//! Tests of `audit_run`: devices that fail, the gate that is handed on, refused memory, captures in
+//! parts, and how many bytes a read asks for.
 
 mod devices;
 mod gate;

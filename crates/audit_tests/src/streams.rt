@@ -1,4 +1,5 @@
-//! A reader read whole, a text written whole, byte by byte, also where a device fails, and what is told of errors.
+//! Tests of `audit_streams`: a reader read whole and a text written whole, byte by byte, also with
+//! devices that fail; and the lines of errors.
 
 use crate::devices::{Drip, Sink};
 use audit_streams::{Failure, RunError, read_capture, write_text};
@@ -23,20 +24,20 @@ fn reads_up_to_the_limit(rt: HostRuntime) -> Result<(), Fail> {
 type Reading = (u64, u64, usize, Result<usize, RunError>, u64);
 
 const READINGS: &[Reading] = &[
-    // It asks once more than the limit.
+    // There is one read more than the limit.
     (64, 0, 64, Ok(64), 65),
     (u64::MAX, 0, 64, Err(RunError::TooLarge), 65),
-    // A read can fail anywhere, and is not tried again.
+    // Any read can fail, and is not tried again.
     (5, 1, 5, Err(RunError::Read), 1),
     (5, 2, 5, Err(RunError::Read), 2),
     (5, 5, 5, Err(RunError::Read), 5),
     (5, 6, 5, Err(RunError::Read), 6),
-    // What happens first is answered.
+    // The error that happens first is the answer.
     (9, 5, 3, Err(RunError::TooLarge), 4),
     (9, 4, 3, Err(RunError::Read), 4),
 ];
 
-/// Holds what is read of a reader that gives a byte a read against the row.
+/// Reads a reader that gives one byte a read, and compares with the row.
 fn expect_reading<T: Abort>(rt: &T, alloc: Global, row: &Reading, kind: ErrorKind) {
     let (bytes, fails_at, limit, outcome, reads) = *row;
     let mut reader = Drip::of_letters(bytes, fails_at, kind);
@@ -57,8 +58,8 @@ fn reads_byte_by_byte(rt: HostRuntime) {
 
 const TEXT: &[u8] = b"text\n";
 
-/// Holds a write of five bytes against what is due, by a writer that takes a byte a write: the
-/// outcome, the number of writes, how many bytes of the text were taken, and the flushes.
+/// Writes five bytes to a writer that takes one byte a write, and compares with what is due: the
+/// outcome, and how many writes, bytes of the text that were taken, and flushes there were.
 fn expect_writing<T: Abort>(
     rt: &T,
     mut sink: Sink<'_>,

@@ -4,7 +4,7 @@ use Rattle.std.specs.List.{find, list_any}
 use Rattle.std.specs.Option.{option_map_or}
 use Rattle.std.proofs.lemmas.List.Folds.{Any-from_list_any}
 use Rattle.binder_code.specs.Code.{number, letter, size, direction}
-use Rattle.binder_code.specs.Commands.{AreWords, Row, row_of, listed, letter_of, direction_of, IsOf, HasCode, ListsCode, ListsNumber, same_protocol, is_of, has_number, has_size, judged, kind_of}
+use Rattle.binder_code.specs.Commands.{AreWords, Row, row_of, listed, letter_of, direction_of, IsOfProtocol, HasCode, ListsCode, ListsNumber, same_protocol, is_of, has_number, has_size, judged, kind_of}
 use Rattle.binder_code.specs.declared.protocol.Protocol.{Protocol}
 use Rattle.binder_code.specs.declared.protocol.Protocol.TheVariants.{Command, Return}
 use Rattle.binder_code.specs.declared.code.CodeFault.{CodeFault}
@@ -30,7 +30,7 @@ and_both : (a b : Bool) → a ≡ true → b ≡ true → (a && b) ≡ true
 and_both true b left right = right
 and_both false b left right = cc
 
--- protocols that pass the test are one
+-- protocols that pass the test are the same
 same_protocol-true : (a b : Protocol) → same_protocol a b ≡ true → a ≡ b
 same_protocol-true Command Command passed = refl
 same_protocol-true Command Return passed = cc
@@ -38,7 +38,7 @@ same_protocol-true Return Command passed = cc
 same_protocol-true Return Return passed = refl
 
 -- the test that a code is of the protocol, and the fact
-is_of-true : (protocol : Protocol) (code : ℕ) → is_of protocol code ≡ true → IsOf protocol code
+is_of-true : (protocol : Protocol) (code : ℕ) → is_of protocol code ≡ true → IsOfProtocol protocol code
 is_of-true protocol code passed =
     let parts = and_parts (letter code == letter_of protocol) (direction code == direction_of protocol (size code)) passed in
     record {
@@ -46,7 +46,7 @@ is_of-true protocol code passed =
       right_direction = eqb-true (direction code) (direction_of protocol (size code)) parts.1;
     }
 
-is_of-from : (protocol : Protocol) (code : ℕ) → IsOf protocol code → is_of protocol code ≡ true
+is_of-from : (protocol : Protocol) (code : ℕ) → IsOfProtocol protocol code → is_of protocol code ≡ true
 is_of-from protocol code fits =
     and_both (letter code == letter_of protocol) (direction code == direction_of protocol (size code))
     (eq-eqb (letter code) (letter_of protocol) fits.right_letter)
@@ -208,32 +208,32 @@ found_code protocol code kind found =
     (find-true (has_size protocol (number code) (size code)) listed kind found)
 
 -- `Direction` exactly where the code is not of the protocol
-pub kind_of-direction : (protocol : Protocol) (code : ℕ) → (kind_of protocol code ≡ Err Direction) ↔ ¬ IsOf protocol code
+pub kind_of-direction : (protocol : Protocol) (code : ℕ) → (kind_of protocol code ≡ Err Direction) ↔ ¬ IsOfProtocol protocol code
 unfolding answer
 kind_of-direction protocol code =
     answer-direction (is_of protocol code)
     (find (has_size protocol (number code) (size code)) listed) (list_any (has_number protocol (number code)) listed)
-    (IsOf protocol code) (is_of-true protocol code) (is_of-from protocol code)
+    (IsOfProtocol protocol code) (is_of-true protocol code) (is_of-from protocol code)
 
 -- a listed kind exactly where its line has the protocol, the number and the size
 pub kind_of-listed : (protocol : Protocol) (code : ℕ) (kind : Kind) → IsSome (row_of kind)
-    → (kind_of protocol code ≡ Ok kind) ↔ (IsOf protocol code × HasCode kind protocol code)
+    → (kind_of protocol code ≡ Ok kind) ↔ (IsOfProtocol protocol code × HasCode kind protocol code)
 unfolding answer
 kind_of-listed protocol code kind known =
     answer-listed (is_of protocol code)
     (find (has_size protocol (number code) (size code)) listed) (list_any (has_number protocol (number code)) listed)
-    (IsOf protocol code) (HasCode kind protocol code) kind (listed_not_opaque kind known)
+    (IsOfProtocol protocol code) (HasCode kind protocol code) kind (listed_not_opaque kind known)
     (is_of-true protocol code) (is_of-from protocol code)
     (found_code protocol code kind) (find-has_size protocol (number code) (size code) kind)
 
 -- `Opaque` exactly where no line of the protocol has the number
 pub kind_of-opaque : (protocol : Protocol) (code : ℕ)
-    → (kind_of protocol code ≡ Ok Opaque) ↔ (IsOf protocol code × ¬ ListsNumber protocol (number code))
+    → (kind_of protocol code ≡ Ok Opaque) ↔ (IsOfProtocol protocol code × ¬ ListsNumber protocol (number code))
 unfolding answer
 kind_of-opaque protocol code =
     answer-opaque (is_of protocol code)
     (find (has_size protocol (number code) (size code)) listed) (list_any (has_number protocol (number code)) listed)
-    (IsOf protocol code) (ListsNumber protocol (number code))
+    (IsOfProtocol protocol code) (ListsNumber protocol (number code))
     (is_of-true protocol code) (is_of-from protocol code)
     (lists_number protocol (number code)) (list_any-has_number protocol (number code))
     (λ kind found.
@@ -243,12 +243,12 @@ kind_of-opaque protocol code =
 -- `Size` exactly where a line of the protocol has the number, and none has it with this size
 pub kind_of-size : (protocol : Protocol) (code : ℕ)
     → (kind_of protocol code ≡ Err Size) ↔
-    (IsOf protocol code × ListsNumber protocol (number code) × ¬ ListsCode protocol code)
+    (IsOfProtocol protocol code × ListsNumber protocol (number code) × ¬ ListsCode protocol code)
 unfolding answer
 kind_of-size protocol code =
     answer-size (is_of protocol code)
     (find (has_size protocol (number code) (size code)) listed) (list_any (has_number protocol (number code)) listed)
-    (IsOf protocol code) (ListsNumber protocol (number code)) (λ kind. HasCode kind protocol code)
+    (IsOfProtocol protocol code) (ListsNumber protocol (number code)) (λ kind. HasCode kind protocol code)
     (is_of-true protocol code) (is_of-from protocol code)
     (lists_number protocol (number code)) (list_any-has_number protocol (number code))
     (found_code protocol code) (find-has_size protocol (number code) (size code))

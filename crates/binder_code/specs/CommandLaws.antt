@@ -60,6 +60,7 @@ pub record MakesStatedWords : Type 0 where
   pub in_order : map (λ stated. stated.0) stated_words ≡ listed
   pub words : IsTrue (list_all makes_word stated_words)
 
+-- they do
 pub words-stated : MakesStatedWords
 words-stated = record { in_order = refl; words = refl }
 
@@ -67,6 +68,7 @@ words-stated = record { in_order = refl; words = refl }
 abbrev pub MeansItsKind : Kind → Type 0
 MeansItsKind kind = IfSome (row_of kind) (λ row. kind_of row.protocol (word_of row) ≡ Ok kind)
 
+-- the code word of every listed kind does
 pub kind_of-word : (kind : Kind) → MeansItsKind kind
 kind_of-word Opaque = tt
 kind_of-word _ = refl

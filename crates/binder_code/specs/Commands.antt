@@ -9,7 +9,8 @@ use Rattle.binder_code.specs.declared.code.CodeFault.TheVariants.{Direction, Siz
 use Rattle.binder_code.specs.declared.record_kind.Kind.{Kind}
 use Rattle.binder_code.specs.declared.record_kind.Kind.TheVariants.{BcTransaction, BcReply, BcAcquireResult, BcFreeBuffer, BcIncrefs, BcAcquire, BcRelease, BcDecrefs, BcIncrefsDone, BcAcquireDone, BcAttemptAcquire, BcRegisterLooper, BcEnterLooper, BcExitLooper, BcRequestDeathNotification, BcClearDeathNotification, BcDeadBinderDone, BcTransactionSg, BcReplySg, BrError, BrOk, BrTransaction, BrTransactionSecCtx, BrReply, BrAcquireResult, BrDeadReply, BrTransactionComplete, BrIncrefs, BrAcquire, BrRelease, BrDecrefs, BrAttemptAcquire, BrNoop, BrSpawnLooper, BrFinished, BrDeadBinder, BrClearDeathNotificationDone, BrFailedReply, BrFrozenReply, BrOnewaySpamSuspect, BrTransactionPendingFrozen, Opaque}
 
--- a line of one of the header's two lists of commands (`linux/android/binder.h`)
+-- a line of one of the header's two tables: its protocol, number, payload size in bytes and name
+-- (`linux/android/binder.h`)
 pub record Row : Type 0 where
   pub protocol : Protocol
   pub number : ℕ
@@ -24,7 +25,8 @@ command_row n bytes text = Some (record { protocol = Command; number = n; size =
 abbrev pub return_row : ℕ → ℕ → List ℕ → Option Row
 return_row n bytes text = Some (record { protocol = Return; number = n; size = bytes; name = text })
 
--- the table: each kind's number, payload size in bytes and name (`linux/android/binder.h`)
+-- the tables: each kind's number, payload size in bytes and name (`linux/android/binder.h`); an opaque record has no
+-- line
 abbrev pub row_of : Kind → Option Row
 row_of BcTransaction = command_row 0 64 (codes "BC_TRANSACTION")
 row_of BcReply = command_row 1 64 (codes "BC_REPLY")
@@ -115,7 +117,7 @@ listed =
     BrTransactionPendingFrozen ∷
     []
 
--- a kind's name: the header's own, or `OPAQUE` where the table lists none (`linux/android/binder.h`)
+-- a kind's name: the header's own (`linux/android/binder.h`), or `OPAQUE` for an opaque record
 abbrev pub name_of : Kind → List ℕ
 name_of kind = option_map_or (λ row. row.name) (row_of kind) (codes "OPAQUE")
 
@@ -124,46 +126,47 @@ abbrev pub letter_of : Protocol → ℕ
 letter_of Command = 0x63
 letter_of Return = 0x72
 
--- the direction bits of a protocol's code with a payload: 1 writes it, 2 reads it (`asm-generic/ioctl.h`)
+-- the direction bits of a code word with a payload: 1 for a command, 2 for a return (`asm-generic/ioctl.h`)
 abbrev pub payload_direction : Protocol → ℕ
 payload_direction Command = 1
 payload_direction Return = 2
 
--- the direction bits of a protocol's code with a payload of so many bytes, or none (`asm-generic/ioctl.h`)
+-- the direction bits of a code word with so many payload bytes: 0 if there are none (`asm-generic/ioctl.h`)
 abbrev pub direction_of : Protocol → ℕ → ℕ
 direction_of protocol bytes = if bytes == 0 then 0 else payload_direction protocol
 
--- the code word of a line: its direction, size, letter and number side by side (`asm-generic/ioctl.h`, `_IOC`)
+-- the code word of a line: direction × 2^30 + size × 2^16 + letter × 2^8 + number (`asm-generic/ioctl.h`, `_IOC`)
 abbrev pub word_of : Row → ℕ
 word_of row =
     direction_of row.protocol row.size * 2 ^ 30 + row.size * 2 ^ 16 + letter_of row.protocol * 2 ^ 8 + row.number
 
--- a code is of the protocol: it has its letter, and the direction bits that go with its size (`asm-generic/ioctl.h`)
-pub record IsOf (protocol : Protocol) (code : ℕ) : Type 0 where
+-- a code word is of the protocol: its letter is the protocol's, and its direction bits go with its size
+-- (`asm-generic/ioctl.h`)
+pub record IsOfProtocol (protocol : Protocol) (code : ℕ) : Type 0 where
   pub right_letter : letter code ≡ letter_of protocol
   pub right_direction : direction code ≡ direction_of protocol (size code)
 
--- the kind's line is of this protocol and has the code's number and size (`linux/android/binder.h`)
+-- the kind's line is of this protocol and has the code word's number and size (`linux/android/binder.h`)
 abbrev pub HasCode : Kind → Protocol → ℕ → Type 0
 HasCode kind protocol code =
     IsSomeAnd (row_of kind) (λ row. (row.protocol ≡ protocol) × (row.number ≡ number code) × (row.size ≡ size code))
 
--- some line of the protocol has the code's number and size (`linux/android/binder.h`)
+-- the protocol lists the code word's number with its size (`linux/android/binder.h`)
 abbrev pub ListsCode : Protocol → ℕ → Type 0
 ListsCode protocol code = (kind : Kind) × HasCode kind protocol code
 
--- some line of the protocol has this number (`linux/android/binder.h`)
+-- the protocol lists this number (`linux/android/binder.h`)
 abbrev pub ListsNumber : Protocol → ℕ → Type 0
 ListsNumber protocol n =
     (kind : Kind) × IsSomeAnd (row_of kind) (λ row. (row.protocol ≡ protocol) × (row.number ≡ n))
 
--- whether two protocols are one
+-- whether two protocols are the same
 abbrev pub same_protocol : Protocol → Protocol → Bool
 same_protocol Command Command = true
 same_protocol Return Return = true
 same_protocol _ _ = false
 
--- whether a code is of the protocol (`asm-generic/ioctl.h`)
+-- whether a code word is of the protocol (`asm-generic/ioctl.h`)
 abbrev pub is_of : Protocol → ℕ → Bool
 is_of protocol code = (letter code == letter_of protocol) && (direction code == direction_of protocol (size code))
 
@@ -177,26 +180,29 @@ abbrev pub has_size : Protocol → ℕ → ℕ → Kind → Bool
 has_size protocol n bytes kind =
     has_number protocol n kind && option_map_or (λ row. row.size == bytes) (row_of kind) false
 
--- the kind that was found; else `Size` where the number is listed, and `Opaque` where it is not
+-- the kind if one was found; otherwise Size if the number is listed, and Opaque if it is not
 abbrev pub judged : Option Kind → Bool → Result Kind CodeFault
 judged (Some kind) numbered = Ok kind
 judged None true = Err Size
 judged None false = Ok Opaque
 
--- what a number and a size of the protocol mean in the header's list (`linux/android/binder.h`)
+-- what a number and a payload size of the protocol mean: the kind that is listed with both; or Size, if the number is
+-- listed, but not with this size; or Opaque, if the number is not listed (`linux/android/binder.h`)
 abbrev pub listing_of : Protocol → ℕ → ℕ → Result Kind CodeFault
 listing_of protocol n bytes = judged (find (has_size protocol n bytes) listed) (list_any (has_number protocol n) listed)
 
--- what a code means in a frame of the protocol (`linux/android/binder.h`)
+-- what a code word means in a frame of the protocol: Direction, if its letter or its direction bits are not the
+-- protocol's; otherwise what its number and its size mean (`linux/android/binder.h`)
 abbrev pub kind_of : Protocol → ℕ → Result Kind CodeFault
 kind_of protocol code =
     if is_of protocol code then listing_of protocol (number code) (size code) else Err Direction
 
--- each of these words means the kind beside it
+-- each of these code words means the kind beside it
 abbrev pub AreWords : Protocol → List (ℕ × Kind) → Type 0
 AreWords protocol [] = ⊤
 AreWords protocol (line ∷ lines) = (kind_of protocol line.0 ≡ Ok line.1) × AreWords protocol lines
 
--- the protocol that a code word's letter names; `Return` where it names none
+-- the protocol that the letter of a code word names: commands for `c`, returns for any other letter. So a good code
+-- word says its kind by itself.
 abbrev pub protocol_of_word : ℕ → Protocol
 protocol_of_word word = if letter word == letter_of Command then Command else Return

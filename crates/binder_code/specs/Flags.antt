@@ -13,11 +13,12 @@ flag_table =
     (codes "TF_UPDATE_TXN", 0x40) ∷
     []
 
--- the bits that some flag of a transaction has (`linux/android/binder.h`, `enum transaction_flags`)
+-- the bits of all six flags of a transaction (`linux/android/binder.h`, `enum transaction_flags`)
 abbrev pub known_flags : ℕ
 known_flags = fold bit_or 0 (map (λ flag. flag.1) flag_table)
 
--- the bits of a flags word that no flag of a transaction has (`linux/android/binder.h`, `enum transaction_flags`)
+-- the unknown bits of a flags word: those that none of the six flags has
+-- (`linux/android/binder.h`, `enum transaction_flags`)
 abbrev pub unknown_of : ℕ → ℕ
 unknown_of flags = bit_and flags (2 ^ 32 - 1 - known_flags)
 

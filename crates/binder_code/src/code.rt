@@ -35,7 +35,7 @@ impl Code {
     }
 }
 
-/// Why a code cannot stand in a frame of its protocol.
+/// Why a code word is bad in a frame of a protocol.
 #[derive(Clone, Copy, Debug, PartialEq, Eq)]
 pub enum CodeFault {
     /// The letter is not the protocol's, or the direction bits do not go with the size.

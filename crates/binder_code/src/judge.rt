@@ -1,5 +1,5 @@
 ghost use Rattle.std.specs.Prelude.{◌≡◌, ◌↔◌, ◌==◌, if◌then◌else◌, IfSome, IsSome};
-ghost use Rattle.binder_code.specs.Commands.{AreWords, IsOf, HasCode, ListsCode, ListsNumber, row_of, listing_of, kind_of, letter_of, is_of, payload_direction};
+ghost use Rattle.binder_code.specs.Commands.{AreWords, IsOfProtocol, HasCode, ListsCode, ListsNumber, row_of, listing_of, kind_of, letter_of, is_of, payload_direction};
 ghost use Rattle.binder_code.specs.Code.{number};
 ghost use Rattle.binder_code.specs.declared.protocol.Protocol.TheVariants.{Command, Return};
 ghost use Rattle.binder_code.specs.declared.record_kind.Kind.{Kind};
@@ -143,8 +143,8 @@ const COMMANDS: [(u32, Kind); 19] = [
     (0x40486312, Kind::BcReplySg),
 ];
 
-// The code words of the listed returns, each with its kind, by number; of the two words of number 2
-// the commoner.
+// The code words of the listed returns, each with its kind, by number; for number 2 the more common
+// one of its two words.
 const RETURNS: [(u32, Kind); 21] = [
     (0x80047200, Kind::BrError),
     (0x00007201, Kind::BrOk),
@@ -189,7 +189,7 @@ fn of_word(protocol: Protocol, code: Code) -> Option<Kind>
     }
 }
 
-// What a code means in a frame of the protocol, by its fields.
+// What a code word means in a frame of the protocol, by its fields.
 fn by_fields(protocol: Protocol, code: Code) -> Result<Kind, CodeFault>
     ensures { result ≡ kind_of protocol code.0 }
 {
@@ -200,7 +200,8 @@ fn by_fields(protocol: Protocol, code: Code) -> Result<Kind, CodeFault>
     }
 }
 
-// What a code means in a frame of the protocol: by its word, else by its fields.
+// What a code word means in a frame of the protocol: by the word as a whole, otherwise by its
+// fields.
 fn meaning(protocol: Protocol, code: Code) -> Result<Kind, CodeFault>
     ensures { result ≡ kind_of protocol code.0 }
 {
@@ -210,18 +211,18 @@ fn meaning(protocol: Protocol, code: Code) -> Result<Kind, CodeFault>
     }
 }
 
-/// What a code means in a frame of the protocol.
+/// What a code word means in a frame of the protocol.
 pub fn kind(protocol: Protocol, code: Code) -> Result<Kind, CodeFault>
     ensures exact { result ≡ kind_of protocol code.0 }
 
     // The same four outcomes, each by the table's lines alone.
-    ensures direction { (result ≡ Err CodeFault.Direction) ↔ ¬ IsOf protocol code.0 }
+    ensures direction { (result ≡ Err CodeFault.Direction) ↔ ¬ IsOfProtocol protocol code.0 }
     ensures listed { (listed : Kind) → IsSome (row_of listed) →
-        ((result ≡ Ok listed) ↔ (IsOf protocol code.0 × HasCode listed protocol code.0)) }
+        ((result ≡ Ok listed) ↔ (IsOfProtocol protocol code.0 × HasCode listed protocol code.0)) }
     ensures opaque { (result ≡ Ok Kind.Opaque) ↔
-        (IsOf protocol code.0 × ¬ ListsNumber protocol (number code.0)) }
+        (IsOfProtocol protocol code.0 × ¬ ListsNumber protocol (number code.0)) }
     ensures size { (result ≡ Err CodeFault.Size) ↔
-        (IsOf protocol code.0 × ListsNumber protocol (number code.0)
+        (IsOfProtocol protocol code.0 × ListsNumber protocol (number code.0)
         × ¬ ListsCode protocol code.0) }
 {
     meaning(protocol, code)

@@ -1,7 +1,7 @@
 ghost use Rattle.std.specs.Prelude.{◌≡◌, ◌≤◌, length, IsAscii};
 
-/// What a record is: one of the 41 commands that the header `linux/android/binder.h` lists
-/// (protocol 8), in its order, or a record whose number it does not list.
+/// What a record is: one of the 41 commands and returns that the header `linux/android/binder.h`
+/// lists (protocol 8), in its order, or a record whose number it does not list.
 #[derive(Clone, Copy, Debug, PartialEq, Eq)]
 pub enum Kind {
     BcTransaction,
@@ -45,7 +45,7 @@ pub enum Kind {
     BrFrozenReply,
     BrOnewaySpamSuspect,
     BrTransactionPendingFrozen,
-    /// A record whose number stands in no line of its protocol.
+    /// A record whose number the header does not list for its protocol.
     Opaque,
 }
 
@@ -62,7 +62,7 @@ impl Kind {
         self.table_name()
     }
 
-    // The name alone: what else is known of names is shown once, and not at each of them.
+    // The name alone. The other clauses of `name` are proved once, and not for each name.
     fn table_name(self) -> &'static str
         ensures { result.now ≡ name_of self }
     {

@@ -1,4 +1,4 @@
--- Matches by counting: the closer of an opener is where closers first outnumber the openers behind it.
+-- Matches by counting: the closer of an opener is the one with which closers first outnumber the openers after it.
 use Rattle.std.proofs.Common.{◌≡◌, ℕ, zero, suc, ◌+◌, ◌-◌, ◌<◌, ◌≤◌, cond, Some, refl, sym, ap, subst, ◌∙◌, ⊎_elim, arith}
 use Rattle.std.proofs.Common.{List, [], ◌∷◌, ◌++◌, take, drop}
 use Rattle.std.specs.Prelude.{slice_get, slice_range}
@@ -6,7 +6,7 @@ use Rattle.std.proofs.lemmas.Bool.{cases_lt}
 use Rattle.std.proofs.lemmas.List.Recursion.{is_count_by}
 use Rattle.call_stacks.specs.Matching.{Side, opener, closer, neither, is_opener, is_closer, opened, closed, Match, IsStray}
 
--- how many calls one opens, and how many it closes
+-- how many calls a record opens, and how many it closes
 abbrev pub opens : Side → ℕ
 opens opener = 1
 opens closer = 0
@@ -49,30 +49,30 @@ pub all_closes-append : (first second : List Side) → all_closes (first ++ seco
 all_closes-append [] second = omega arith
 all_closes-append (s ∷ first) second = let rest = all_closes-append first second in omega arith
 
--- this is the first position at which so many more close than open
+-- this is the first position at which the closers outnumber the openers by this many
 pub record Reaches (more : ℕ) (sides : List Side) (q : ℕ) : Type 0 where
   pub closer_there : slice_get sides q ≡ Some closer
   pub reached : all_closes (take (suc q) sides) ≡ all_opens (take (suc q) sides) + more
   pub not_before : (t : ℕ) → t ≤ q → all_closes (take t sides) < all_opens (take t sides) + more
 
-later_before : (s : Side) (more behind : ℕ) (sides : List Side) (q : ℕ) → behind + closes s ≡ more + opens s → 0 < more → Reaches behind sides q
+later_before : (s : Side) (more after : ℕ) (sides : List Side) (q : ℕ) → after + closes s ≡ more + opens s → 0 < more → Reaches after sides q
     → (t : ℕ) → t ≤ suc q → all_closes (take t (s ∷ sides)) < all_opens (take t (s ∷ sides)) + more
-later_before s more behind sides q e some reaches zero within = omega arith
-later_before s more behind sides q e some reaches (suc t) within = let before = reaches.not_before t (omega arith) in omega arith
+later_before s more after sides q e some reaches zero within = omega arith
+later_before s more after sides q e some reaches (suc t) within = let before = reaches.not_before t (omega arith) in omega arith
 
-pub reaches_later : (s : Side) (more behind : ℕ) (sides : List Side) (q : ℕ) → behind + closes s ≡ more + opens s → 0 < more
-    → Reaches behind sides q → Reaches more (s ∷ sides) (suc q)
-reaches_later s more behind sides q e some reaches =
+pub reaches_later : (s : Side) (more after : ℕ) (sides : List Side) (q : ℕ) → after + closes s ≡ more + opens s → 0 < more
+    → Reaches after sides q → Reaches more (s ∷ sides) (suc q)
+reaches_later s more after sides q e some reaches =
     let reached = reaches.reached in
     record {
       closer_there = reaches.closer_there;
       reached = omega arith;
-      not_before = later_before s more behind sides q e some reaches;
+      not_before = later_before s more after sides q e some reaches;
     }
 
-pub reaches_back : (s : Side) (more behind : ℕ) (sides : List Side) (q : ℕ) → behind + closes s ≡ more + opens s
-    → Reaches more (s ∷ sides) (suc q) → Reaches behind sides q
-reaches_back s more behind sides q e reaches =
+pub reaches_back : (s : Side) (more after : ℕ) (sides : List Side) (q : ℕ) → after + closes s ≡ more + opens s
+    → Reaches more (s ∷ sides) (suc q) → Reaches after sides q
+reaches_back s more after sides q e reaches =
     let reached = reaches.reached in
     record {
       closer_there = reaches.closer_there;
@@ -102,7 +102,7 @@ get-drop (x ∷ xs) (suc a) q =
     let next : suc a + q ≡ suc (a + q) = omega arith in
     get-drop xs a q ∙ sym (ap (slice_get (x ∷ xs)) next)
 
--- the stretch from an opener on
+-- the stretch that begins with an opener
 range_from : (sides : List Side) (i t : ℕ) → slice_get sides i ≡ Some opener
     → slice_range sides i (i + 1 + t) ≡ opener ∷ take t (drop (suc i) sides)
 range_from sides i t e =
@@ -121,7 +121,7 @@ range_counts sides i t k e same =
 
 pub match_reaches : (sides : List Side) (i j : ℕ) → Match sides i j → (q : ℕ) × (j ≡ i + 1 + q) × Reaches 1 (drop (suc i) sides) q
 match_reaches sides i j found =
-    let behind = found.behind in
+    let after = found.after in
     let q = j - (i + 1) in
     let place : j ≡ i + 1 + q = omega arith in
     let whole = range_counts sides i (suc q) (j + 1) found.opens (omega arith) in
@@ -151,9 +151,9 @@ reaches_match sides i q e reaches =
     record {
       opens = e;
       closes = ap (slice_get sides) (let n : i + 1 + q ≡ suc i + q = omega arith in n) ∙ sym (get-drop sides (suc i) q) ∙ reaches.closer_there;
-      behind = omega arith;
+      after = omega arith;
       equal = omega arith;
-      more = λ k after within.
+      more = λ k past within.
           let part = range_counts sides i (k - (i + 1)) k e (omega arith) in
           let open_part = part.0 in
           let close_part = part.1 in
@@ -199,7 +199,7 @@ take_split (x ∷ xs) (suc a) (suc b) le =
     let n : b - a ≡ suc b - suc a = omega arith in
     ap (λ t. x ∷ t) (take_split xs a b (omega arith) ∙ ap (λ k. take a xs ++ take k (drop a xs)) n)
 
--- how many open and close up to a match
+-- how many open and close up to k: as many as up to i, and those from i to k
 pub counted_to : (sides : List Side) (i k : ℕ) → i ≤ k
     → (all_opens (take k sides) ≡ all_opens (take i sides) + opened (slice_range sides i k))
     × (all_closes (take k sides) ≡ all_closes (take i sides) + closed (slice_range sides i k))
@@ -210,10 +210,10 @@ counted_to sides i k le =
           ∙ ap (λ n. all_closes (take i sides) + n) (closed_is (slice_range sides i k)),
     )
 
--- two openers of one closer: none stands before the other
+-- two openers with one closer: neither comes before the other
 not_inside : (sides : List Side) (i j k : ℕ) → Match sides i k → Match sides j k → i < j → ⊥
 not_inside sides i j k outer inner lt =
-    let behind = inner.behind in
+    let after = inner.after in
     let a = counted_to sides i (k + 1) (omega arith) in
     let b = counted_to sides j (k + 1) (omega arith) in
     let c = counted_to sides i j (omega arith) in
@@ -236,12 +236,12 @@ one_opener sides i j k first second =
     ⊎_elim (λ (lt : j < i). absurd (not_inside sides j i k second first lt)) (λ (back : i ≤ j). omega arith) (cases_lt j i))
     (cases_lt i j)
 
--- a closer at which closers outnumber openers as never before matches none
+-- a closer with which the closers first outnumber the openers by more than k matches no opener
 pub reached_strays : (sides : List Side) (k q : ℕ) → Reaches (k + 1) sides q → IsStray sides q
 reached_strays sides k q reaches = (
   reaches.closer_there,
   λ i found.
-      let behind = found.behind in
+      let after = found.after in
       let counted = counted_to sides i (q + 1) (omega arith) in
       let opens_to = counted.0 in
       let closes_to = counted.1 in

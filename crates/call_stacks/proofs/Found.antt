@@ -1,4 +1,4 @@
--- The openers and the unmatched closers of judged events, as they are defined and as they are read from the end.
+-- The openers and the unmatched closers of bracketed events, as they are defined and as they are read from the end.
 use Rattle.std.proofs.Common.{◌≡◌, ℕ, zero, suc, ◌+◌, ◌-◌, ◌==◌, ◌&&◌, Bool, true, false, cond, Option, Some, None, refl, sym, ap, ap₂, ◌∙◌, arith, ne_eqb}
 use Rattle.std.proofs.Common.{List, [], ◌∷◌, ◌++◌, map, drop}
 use Rattle.std.proofs.lemmas.List.{map-append}
@@ -8,10 +8,10 @@ use Rattle.std.specs.List.{cons_option, fold}
 use Rattle.std.specs.Prelude.{slice_get, option_map}
 use Rattle.call_stacks.specs.declared.opener.Opener.{Opener}
 use Rattle.event_core.specs.declared.marks.Mark.{Mark}
-use Rattle.call_stacks.specs.Calls.{Reads, Bracketed, as_judged, bracket_read, bracketed_with, judged_of, mark_behind_by, is_unmatched, open_after, open_count, opener_by, opener_read, openers_in, sides_of, strays_in, unmatched_closers}
+use Rattle.call_stacks.specs.Calls.{Reads, Bracketed, as_bracketed, bracket_read, bracketed_with, bracketed_of, mark_after, is_unmatched, open_after, open_count, opener_by, opener_read, openers_in, sides_of, strays_in, unmatched_closers}
 use Rattle.call_stacks.specs.Matching.{Side, opener, closer, neither, is_closer, is_opener}
 use Rattle.call_stacks.specs.Verdicts.{side_of}
-use Rattle.call_stacks.proofs.Judging.{judged-append, pair, side}
+use Rattle.call_stacks.proofs.Bracketing.{bracketed-append, pair, side}
 use Rattle.call_stacks.proofs.Lists.{event_of, found, openers_found, strays_found}
 use Rattle.call_stacks.proofs.Model.{both, entry, first_of, openers, openers-map, put, strays, strays-map}
 use Rattle.summary_law.proofs.ReadingLaws.{read-made}
@@ -26,26 +26,26 @@ module _ {E : Type 0} where
   count-more before x =
       ap (fold open_after 0) (map-append own_side before (x ∷ [])) ∙ fold-append open_after 0 (sides_of before) (own_side x ∷ [])
 
-  -- of the unmatched closers those are left that the open calls before them do not take
-  left : (s : Side) (n : ℕ) (x : Bracketed E) (later behind : List (Bracketed E)) → drop (open_after n s) later ≡ behind
-      → drop n (put s x later) ≡ cons_option (cond (is_closer s && (n == 0)) (Some x) None) behind
-  left opener n x [] behind same = drop-nil n ∙ sym (drop-nil (n + 1)) ∙ same
+  -- the open calls take the first of the later unmatched closers, and the others are left
+  left : (s : Side) (n : ℕ) (x : Bracketed E) (later after : List (Bracketed E)) → drop (open_after n s) later ≡ after
+      → drop n (put s x later) ≡ cons_option (cond (is_closer s && (n == 0)) (Some x) None) after
+  left opener n x [] after same = drop-nil n ∙ sym (drop-nil (n + 1)) ∙ same
     where
       drop-nil : (n : ℕ) → drop {A = Bracketed E} n [] ≡ []
       drop-nil zero = refl
       drop-nil (suc n) = refl
-  left opener n x (y ∷ later) behind same = ap (λ (k : ℕ). drop k (y ∷ later)) (add-one-is n) ∙ same
+  left opener n x (y ∷ later) after same = ap (λ (k : ℕ). drop k (y ∷ later)) (add-one-is n) ∙ same
     where
       add-one-is : (n : ℕ) → suc n ≡ n + 1
       add-one-is n = omega arith
-  left closer zero x later behind same = ap (λ (t : List (Bracketed E)). x ∷ t) same
-  left closer (suc n) x later behind same =
+  left closer zero x later after same = ap (λ (t : List (Bracketed E)). x ∷ t) same
+  left closer (suc n) x later after same =
       ap (λ (k : ℕ). drop k later) (less-one-is n) ∙ same
-      ∙ ap (λ (b : Bool). cons_option (cond b (Some x) None) behind) (sym (ne_eqb (suc n) 0 (λ zero_is. absurd (omega (arith, zero_is)))))
+      ∙ ap (λ (b : Bool). cons_option (cond b (Some x) None) after) (sym (ne_eqb (suc n) 0 (λ zero_is. absurd (omega (arith, zero_is)))))
     where
       less-one-is : (n : ℕ) → n ≡ suc n - 1
       less-one-is n = omega arith
-  left neither n x later behind same = same
+  left neither n x later after same = same
 
   unmatched-left : (before items : List (Bracketed E)) → drop (open_count before) (strays own_side items) ≡ read_each (chosen is_unmatched) before items
   unmatched-left before [] = nothing (open_count before)
@@ -98,17 +98,17 @@ module _ {E : Type 0} (reads : Reads E) where
       each-found [] items
       ∙ sym (ap (map (found reads)) (openers-map pair side items) ∙ map-map (found reads) (both pair) (openers own_side items))
 
--- what is read of judged events is read of the events
-pub judged-read : {E Y : Type 0} (reads : Reads E) (read : List (Bracketed E) → Bracketed E → List (Bracketed E) → Option Y) (before events : List E)
-    → read_each read (judged_of reads before) (bracketed_with reads (bracket_read reads) (fold (mark_behind_by reads) None before) events)
-    ≡ read_each (as_judged reads read) before events
-judged-read reads read before [] = refl
-judged-read {E} {Y} reads read before (event ∷ later) =
-    let mark = fold (mark_behind_by reads) None before in
+-- what is read of bracketed events is what is read of the events
+pub bracketed-read : {E Y : Type 0} (reads : Reads E) (read : List (Bracketed E) → Bracketed E → List (Bracketed E) → Option Y) (before events : List E)
+    → read_each read (bracketed_of reads before) (bracketed_with reads (bracket_read reads) (fold (mark_after reads) None before) events)
+    ≡ read_each (as_bracketed reads read) before events
+bracketed-read reads read before [] = refl
+bracketed-read {E} {Y} reads read before (event ∷ later) =
+    let mark = fold (mark_after reads) None before in
     let next = before ++ event ∷ [] in
     let found : Bracketed E = record { event = event; before = mark; bracket = bracket_read reads mark event } in
-    let behind : Option Mark → List (Bracketed E) = λ m. bracketed_with reads (bracket_read reads) m later in
-    let marks : fold (mark_behind_by reads) None next ≡ mark_behind_by reads mark event = fold-append (mark_behind_by reads) None before (event ∷ []) in
-    let judged : judged_of reads next ≡ judged_of reads before ++ found ∷ [] = judged-append reads (bracket_read reads) None before (event ∷ []) in
-    ap (cons_option (read (judged_of reads before) found (behind (mark_behind_by reads mark event))))
-    (ap₂ (λ (b : List (Bracketed E)) (m : Option Mark). read_each read b (behind m)) (sym judged) (sym marks) ∙ judged-read reads read next later)
+    let after : Option Mark → List (Bracketed E) = λ m. bracketed_with reads (bracket_read reads) m later in
+    let marks : fold (mark_after reads) None next ≡ mark_after reads mark event = fold-append (mark_after reads) None before (event ∷ []) in
+    let bracketed : bracketed_of reads next ≡ bracketed_of reads before ++ found ∷ [] = bracketed-append reads (bracket_read reads) None before (event ∷ []) in
+    ap (cons_option (read (bracketed_of reads before) found (after (mark_after reads mark event))))
+    (ap₂ (λ (b : List (Bracketed E)) (m : Option Mark). read_each read b (after m)) (sym bracketed) (sym marks) ∙ bracketed-read reads read next later)

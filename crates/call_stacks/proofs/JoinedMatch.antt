@@ -1,4 +1,4 @@
--- The matches of a list followed by another.
+-- The matches in two lists joined.
 use Rattle.std.proofs.Common.{◌≡◌, ℕ, zero, suc, ◌+◌, ◌≤◌, ◌⊎◌, Option, Some, None, refl, sym, ap, subst, ◌∙◌, inl, inr, arith}
 use Rattle.std.proofs.Common.{List, [], ◌∷◌, ◌++◌, map, drop, length, reverse}
 use Rattle.std.proofs.lemmas.List.{drop-drop, map-id, map-append, reverse-append, length-reverse}
@@ -70,7 +70,7 @@ item_at f [] k y e = absurd (some_is_some y (sym e))
 item_at f (z ∷ xs) zero y e = (z, refl, same_some (f z) y e)
 item_at f (z ∷ xs) (suc k) y e = item_at f xs k y e
 
--- the k-th from the end, with one more in front
+-- the k-th opener without a closer, counted from the end, stays the k-th if one more item precedes the list
 kept_place : {A : Type 0} (s : Side) (x y : A) (mine : List A) (calls : List (A × Option A)) (k : ℕ)
     → slice_get (reverse (left calls)) k ≡ Some y → slice_get (reverse (left (entry s x mine calls))) k ≡ Some y
 kept_place opener x y [] calls k e = ap (λ l. slice_get l k) (reverse_cons x (left calls)) ∙ get_left (reverse (left calls)) (x ∷ []) k y e
@@ -78,7 +78,7 @@ kept_place opener x y (z ∷ mine) calls k e = e
 kept_place closer x y mine calls k e = e
 kept_place neither x y mine calls k e = e
 
--- ---- the entries of both lists
+-- ---- the entries of the joined list
 
 data InJoined {A : Type 0} (side : A → Side) (first second : List A) (x : A) (h : Option A) : Type 0 where
   of_first : (c : A) → h ≡ Some c → In (x, Some c) (openers side first) → InJoined side first second x h
@@ -126,7 +126,7 @@ in_joined side [] second x h there = of_second there
 in_joined side (y ∷ first) second x h there =
     joined_step side y first second x h (side y) refl (λ here. in_joined side first second x h here) there
 
--- ---- and back
+-- ---- the other way round
 
 second_in : {A : Type 0} (side : A → Side) (first second : List A) (p : A × Option A) → In p (openers side second) → In p (openers side (first ++ second))
 second_in side [] second p there = there
@@ -283,7 +283,7 @@ strays_listed sides =
 
 -- ---- a match as an entry, and an entry as a match
 
--- an entry of the sides from n on
+-- an opener and its closer are an entry of the sides, numbered from n on
 record EntryOf (n : ℕ) (sides : List Side) (i j : ℕ) : Type 0 where
   from : ℕ × Side
   to : ℕ × Side
@@ -314,7 +314,7 @@ match_at n sides x y there =
       found = from_itself (λ l. Match l found.from found.to) sides found.found;
     }
 
--- an entry of both lists is a match of theirs
+-- an entry of the joined list is a match of it
 match_both : (first second : List Side) (i j : ℕ) (x y : ℕ × Side) → x.0 ≡ i → y.0 ≡ j
     → In (x, Some y) (openers (numbered itself) (at_positions 0 first ++ at_positions (length first) second)) → Match (first ++ second) i j
 match_both first second i j x y from_is to_is there =
@@ -326,7 +326,7 @@ match_both first second i j x y from_is to_is there =
     let to_same : found.to ≡ j = omega arith in
     subst (λ (k : ℕ). Match (first ++ second) k j) from_same (subst (λ (k : ℕ). Match (first ++ second) found.from k) to_same found.found)
 
--- the k-th unmatched closer, from two numbers on
+-- the k-th unmatched closer is at the same position, whatever number the sides are numbered from
 record SameStray (second : List Side) (n k : ℕ) (y : ℕ × Side) : Type 0 where
   position : ℕ
   number : y.0 ≡ n + position

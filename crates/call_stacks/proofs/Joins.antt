@@ -1,4 +1,4 @@
--- What a value holds after a join, and what it comes to at the end.
+-- What a value holds after a join, and what is found in the end.
 use Rattle.std.proofs.Common.{◌≡◌, ◌<◌, ◌⊎◌, Bool, true, false, cond, Option, Some, None, refl, sym, ap, subst, ◌∙◌, inl, inr, arith}
 use Rattle.std.proofs.Common.{List, [], ◌∷◌, ◌++◌, map, append_assoc, length-append, get_or}
 use Rattle.std.proofs.lemmas.List.{append-nil, map-append}
@@ -11,18 +11,18 @@ use Rattle.std.specs.Option.{option_or, option_to_list, option_and_then}
 use Rattle.event_core.specs.declared.marks.Bracket.{Bracket}
 use Rattle.event_core.specs.declared.marks.Bracket.TheVariants.{Neither}
 use Rattle.event_core.specs.declared.marks.Mark.{Mark}
-use Rattle.summary_law.specs.Fits.{IsPlaced, rising_parts}
+use Rattle.summary_law.specs.Fits.{IsPlaced, rising_halves}
 use Rattle.summary_law.proofs.RisingLaws.{rising_apart}
 use Rattle.summary_law.specs.Summary.{Adds}
 use Rattle.call_stacks.specs.declared.findings.CallFindings.{CallFindings}
 use Rattle.call_stacks.specs.declared.findings.RefusedSend.{RefusedSend}
 use Rattle.call_stacks.specs.declared.calls.Calls.{Calls}
-use Rattle.call_stacks.specs.Calls.{Reads, bracketed_with, judged_of, bracketed_part, opener_place, bracket_read, bracket_in_part, mark_behind_by, last_mark, is_error, is_refused, if_error_reply, undecided_of, refused_of, openers_of, strays_in, CallsSum, AreFindings, how_many, kept_of, open_call}
+use Rattle.call_stacks.specs.Calls.{Reads, bracketed_with, bracketed_of, bracketed_piece, opener_place, bracket_read, bracket_in_piece, mark_after, last_mark, is_error, is_refused, if_error_reply, undecided_of, refused_of, openers_of, strays_in, CallsSum, AreFindings, how_many, kept_of, open_call}
 use Rattle.call_stacks.specs.Content.{Content, content_of, sum_64, ClosesAll, appended}
 use Rattle.call_stacks.specs.Matching.{Side}
 use Rattle.call_stacks.specs.Verdicts.{side_of, is_answered, is_replied}
 use Rattle.call_stacks.proofs.MarkLaws.{error_bracket, none_refused}
-use Rattle.call_stacks.proofs.Judging.{pair, side, paired, same_judging, decided, error_openers, decided_pairs, decided_refused}
+use Rattle.call_stacks.proofs.Bracketing.{pair, side, paired, same_bracketing, decided, error_openers, decided_pairs, decided_refused}
 use Rattle.call_stacks.proofs.Found.{openers-found, strays-found}
 use Rattle.call_stacks.proofs.Lists.{found, event_of, openers_found, openers_listed}
 use Rattle.summary_law.proofs.Members.{In, Rises, contained, rises_from_pairs}
@@ -40,7 +40,7 @@ find_in test (y ∷ xs) x e =
     ] e
 
 module _ {E : Type 0} (reads : Reads E) where
-  -- ---- the undecided one
+  -- ---- the undecided error reply
 
   from_error : (b : Bool) (x u : E) → cond b (Some x) None ≡ Some u → (b ≡ true) × (x ≡ u)
   from_error true x u e = (refl, same_some x u e)
@@ -56,20 +56,20 @@ module _ {E : Type 0} (reads : Reads E) where
   abbrev IsError : Option E → Type 0
   IsError undecided = (u : E) → undecided ≡ Some u → is_error (bracket_read reads None u) ≡ true
 
-  -- what the undecided one is, behind this mark
+  -- the undecided error reply with its side after this mark
   abbrev undecided_pairs : Option Mark → Option E → List (E × Side)
-  undecided_pairs before undecided = paired reads (bracket_in_part reads) before (option_to_list undecided)
+  undecided_pairs before undecided = paired reads (bracket_in_piece reads) before (option_to_list undecided)
 
   abbrev undecided_refused : Option Mark → Option E → List (RefusedSend E)
-  undecided_refused before undecided = refused_of (bracketed_with reads (bracket_in_part reads) before (option_to_list undecided))
+  undecided_refused before undecided = refused_of (bracketed_with reads (bracket_in_piece reads) before (option_to_list undecided))
 
-  part_error : (e : E) → is_error (bracket_read reads None e) ≡ true → bracket_in_part reads None e ≡ Neither
-  part_error e error = ap (λ b. cond b Neither (bracket_read reads None e)) error
+  piece_error : (e : E) → is_error (bracket_read reads None e) ≡ true → bracket_in_piece reads None e ≡ Neither
+  piece_error e error = ap (λ b. cond b Neither (bracket_read reads None e)) error
 
   error_entry : (before : Option Mark) (e : E) (tail : List (E × Side)) → is_error (bracket_read reads None e) ≡ true
-      → entry (side_of (bracket_in_part reads before e)) (e, side_of (bracket_in_part reads before e)) (strays side tail) (openers side tail) ≡ openers side tail
+      → entry (side_of (bracket_in_piece reads before e)) (e, side_of (bracket_in_piece reads before e)) (strays side tail) (openers side tail) ≡ openers side tail
   error_entry None e tail error =
-      ap (λ (b : Bracket). entry (side_of b) (e, side_of b) (strays side tail) (openers side tail)) (part_error e error)
+      ap (λ (b : Bracket). entry (side_of b) (e, side_of b) (strays side tail) (openers side tail)) (piece_error e error)
   error_entry (Some mark) e tail error = error_openers reads (Some mark) e tail error
 
   undecided_openers : (before : Option Mark) (undecided : Option E) (tail : List (E × Side)) → IsError undecided
@@ -80,90 +80,90 @@ module _ {E : Type 0} (reads : Reads E) where
   undecided_strays : (undecided : Option E) (tail : List (E × Side)) → IsError undecided
       → strays side (undecided_pairs None undecided ++ tail) ≡ strays side tail
   undecided_strays None tail error = refl
-  undecided_strays (Some u) tail error = ap (λ (b : Bracket). put (side_of b) (u, side_of b) (strays side tail)) (part_error u (error u refl))
+  undecided_strays (Some u) tail error = ap (λ (b : Bracket). put (side_of b) (u, side_of b) (strays side tail)) (piece_error u (error u refl))
 
   none_undecided_refused : (undecided : Option E) → IsError undecided → undecided_refused None undecided ≡ []
   none_undecided_refused None error = refl
-  none_undecided_refused (Some u) error = none_of_one (bracket_in_part reads None u) u None (ap is_refused (part_error u (error u refl)))
+  none_undecided_refused (Some u) error = none_of_one (bracket_in_piece reads None u) u None (ap is_refused (piece_error u (error u refl)))
 
-  -- ---- a later part, behind a mark
+  -- ---- a later piece, after a mark
 
-  record Behind (before : Option Mark) (later : List E) : Type 0 where
-    strays_are : strays side (paired reads (bracket_in_part reads) before later)
-        ≡ strays side (undecided_pairs before (undecided_of reads later) ++ strays side (paired reads (bracket_in_part reads) None later))
-    openers_are : openers side (paired reads (bracket_in_part reads) before later) ≡ openers side (paired reads (bracket_in_part reads) None later)
-    refused_are : refused_of (bracketed_with reads (bracket_in_part reads) before later) ≡ undecided_refused before (undecided_of reads later) ++ refused_of (bracketed_part reads later)
+  record AfterMark (before : Option Mark) (later : List E) : Type 0 where
+    strays_are : strays side (paired reads (bracket_in_piece reads) before later)
+        ≡ strays side (undecided_pairs before (undecided_of reads later) ++ strays side (paired reads (bracket_in_piece reads) None later))
+    openers_are : openers side (paired reads (bracket_in_piece reads) before later) ≡ openers side (paired reads (bracket_in_piece reads) None later)
+    refused_are : refused_of (bracketed_with reads (bracket_in_piece reads) before later) ≡ undecided_refused before (undecided_of reads later) ++ refused_of (bracketed_piece reads later)
 
   is_error_of : (later : List E) → IsError (undecided_of reads later)
   is_error_of later u e = error_found _ u e
 
-  behind : (before : Option Mark) (later : List E) → Behind before later
-  behind None later =
-      let part = paired reads (bracket_in_part reads) None later in
+  after_mark : (before : Option Mark) (later : List E) → AfterMark before later
+  after_mark None later =
+      let part = paired reads (bracket_in_piece reads) None later in
       record {
         strays_are = sym (strays-strays side part) ∙ sym (undecided_strays (undecided_of reads later) (strays side part) (is_error_of later));
         openers_are = refl;
-        refused_are = ap (λ t. t ++ refused_of (bracketed_part reads later)) (sym (none_undecided_refused (undecided_of reads later) (is_error_of later)));
+        refused_are = ap (λ t. t ++ refused_of (bracketed_piece reads later)) (sym (none_undecided_refused (undecided_of reads later) (is_error_of later)));
       }
-  behind (Some mark) later =
+  after_mark (Some mark) later =
       let settled = decided reads (Some mark) later in
-      let whole = same_judging reads mark later in
-      let one = same_judging reads mark (option_to_list (undecided_of reads later)) in
-      let part = paired reads (bracket_in_part reads) None later in
+      let whole = same_bracketing reads mark later in
+      let one = same_bracketing reads mark (option_to_list (undecided_of reads later)) in
+      let part = paired reads (bracket_in_piece reads) None later in
       record {
         strays_are = ap (λ l. strays side (map pair l)) whole ∙ settled.strays_are ∙ ap (λ l. strays side (map pair l ++ strays side part)) (sym one);
         openers_are = ap (λ l. openers side (map pair l)) whole ∙ settled.openers_are;
-        refused_are = ap refused_of whole ∙ settled.refused_are ∙ ap (λ l. refused_of l ++ refused_of (bracketed_part reads later)) (sym one);
+        refused_are = ap refused_of whole ∙ settled.refused_are ∙ ap (λ l. refused_of l ++ refused_of (bracketed_piece reads later)) (sym one);
       }
 
-  -- ---- the sides of both parts
+  -- ---- the sides of both pieces
 
   closers_same : (items : List (E × Side)) → AllClosers side items → as_closers (map event_of items) ≡ items
   closers_same [] all = refl
   closers_same (p ∷ items) all =
       ap (λ (s : Side). (p.0, s) ∷ as_closers (map event_of items)) (sym all.0) ∙ ap (λ t. p ∷ t) (closers_same items all.1)
 
-  -- the first part with the undecided one, and then the unmatched closers of the second
+  -- the first piece with the undecided error reply, and then the unmatched closers of the second
   abbrev with_closers : List E → List E → List (E × Side)
   with_closers first second =
-      paired reads (bracket_in_part reads) None (first ++ option_to_list (undecided_of reads second))
-      ++ as_closers (map event_of (strays side (paired reads (bracket_in_part reads) None second)))
+      paired reads (bracket_in_piece reads) None (first ++ option_to_list (undecided_of reads second))
+      ++ as_closers (map event_of (strays side (paired reads (bracket_in_piece reads) None second)))
 
   with_closers_are : (first second : List E) → with_closers first second
-      ≡ paired reads (bracket_in_part reads) None first ++ (undecided_pairs (last_mark reads first) (undecided_of reads second) ++ strays side (paired reads (bracket_in_part reads) None second))
+      ≡ paired reads (bracket_in_piece reads) None first ++ (undecided_pairs (last_mark reads first) (undecided_of reads second) ++ strays side (paired reads (bracket_in_piece reads) None second))
   with_closers_are first second =
-      let part = paired reads (bracket_in_part reads) None second in
-      let front = paired reads (bracket_in_part reads) None first in
+      let part = paired reads (bracket_in_piece reads) None second in
+      let front = paired reads (bracket_in_piece reads) None first in
       let one = undecided_pairs (last_mark reads first) (undecided_of reads second) in
-      ap (λ t. t ++ as_closers (map event_of (strays side part))) (paired-append reads (bracket_in_part reads) None first (option_to_list (undecided_of reads second)))
+      ap (λ t. t ++ as_closers (map event_of (strays side part))) (paired-append reads (bracket_in_piece reads) None first (option_to_list (undecided_of reads second)))
       ∙ ap (λ t. front ++ one ++ t) (closers_same (strays side part) (strays_closers side part))
       ∙ append_assoc front one (strays side part)
 
-  joined_strays : (first second : List E) → strays side (paired reads (bracket_in_part reads) None (first ++ second)) ≡ strays side (with_closers first second)
+  joined_strays : (first second : List E) → strays side (paired reads (bracket_in_piece reads) None (first ++ second)) ≡ strays side (with_closers first second)
   joined_strays first second =
-      let after = behind (last_mark reads first) second in
-      let front = paired reads (bracket_in_part reads) None first in
-      let back = paired reads (bracket_in_part reads) (last_mark reads first) second in
-      let closing = undecided_pairs (last_mark reads first) (undecided_of reads second) ++ strays side (paired reads (bracket_in_part reads) None second) in
-      ap (strays side) (paired-append reads (bracket_in_part reads) None first second)
+      let after = after_mark (last_mark reads first) second in
+      let front = paired reads (bracket_in_piece reads) None first in
+      let back = paired reads (bracket_in_piece reads) (last_mark reads first) second in
+      let closing = undecided_pairs (last_mark reads first) (undecided_of reads second) ++ strays side (paired reads (bracket_in_piece reads) None second) in
+      ap (strays side) (paired-append reads (bracket_in_piece reads) None first second)
       ∙ strays-append side front back
       ∙ ap (λ t. strays side (front ++ t)) after.strays_are
       ∙ sym (strays-append side front closing)
       ∙ ap (strays side) (sym (with_closers_are first second))
 
-  joined_openers : (first second : List E) → openers side (paired reads (bracket_in_part reads) None (first ++ second))
-      ≡ openers side (with_closers first second) ++ openers side (paired reads (bracket_in_part reads) None second)
+  joined_openers : (first second : List E) → openers side (paired reads (bracket_in_piece reads) None (first ++ second))
+      ≡ openers side (with_closers first second) ++ openers side (paired reads (bracket_in_piece reads) None second)
   joined_openers first second =
-      let after = behind (last_mark reads first) second in
-      let front = paired reads (bracket_in_part reads) None first in
-      let back = paired reads (bracket_in_part reads) (last_mark reads first) second in
-      let part = paired reads (bracket_in_part reads) None second in
+      let after = after_mark (last_mark reads first) second in
+      let front = paired reads (bracket_in_piece reads) None first in
+      let back = paired reads (bracket_in_piece reads) (last_mark reads first) second in
+      let part = paired reads (bracket_in_piece reads) None second in
       let closing = undecided_pairs (last_mark reads first) (undecided_of reads second) ++ strays side part in
       let none : openers side closing ≡ []
       = undecided_openers (last_mark reads first) (undecided_of reads second) (strays side part) (is_error_of second)
       ∙ openers_of_closers side (strays side part) (strays_closers side part)
       in
-      ap (openers side) (paired-append reads (bracket_in_part reads) None first second)
+      ap (openers side) (paired-append reads (bracket_in_piece reads) None first second)
       ∙ openers-append side front back
       ∙ ap (λ t. openers side (front ++ t) ++ openers side back) after.strays_are
       ∙ ap (λ t. openers side (front ++ strays side closing) ++ t) after.openers_are
@@ -186,7 +186,7 @@ module _ {E : Type 0} (reads : Reads E) where
       undecided_kept reads mark first (option_to_list (undecided_of reads second)) (sym is) ∙ sym (undecided_kept reads mark first second (sym is))
 
   last_both : (first second : List E) → last_mark reads (first ++ second) ≡ option_or (last_mark reads second) (last_mark reads first)
-  last_both first second = fold-append (mark_behind_by reads) None first second ∙ fold_mark reads (last_mark reads first) second
+  last_both first second = fold-append (mark_after reads) None first second ∙ fold_mark reads (last_mark reads first) second
 
   joined_last : (mark : Option Mark) (first second : List E) → last_mark reads second ≡ mark
       → option_or mark (last_mark reads (first ++ option_to_list (undecided_of reads second))) ≡ last_mark reads (first ++ second)
@@ -210,7 +210,7 @@ module _ {E : Type 0} (reads : Reads E) where
   whole_refused None error = refl
   whole_refused (Some u) error = none_of_one (bracket_read reads None u) u None (none_refused (reads.kind u) (reads.oneway u))
 
-  -- ---- the first part with the undecided one
+  -- ---- the first piece with the undecided error reply
 
   error_is : (o : Option E) (u : E) → option_and_then (if_error_reply reads) o ≡ Some u → o ≡ Some u
   error_is None u e = e
@@ -224,7 +224,7 @@ module _ {E : Type 0} (reads : Reads E) where
   placed_undecided first second u placed e =
       let there = contained second u (undecided_in second u e) in
       let within = there.1 in
-      let parts = rising_parts reads.place first second placed.1 in
+      let parts = rising_halves reads.place first second placed.1 in
       let apart = rising_apart reads.place first second placed.1 in
       let few = placed.0 in
       let a = length-append first second in
@@ -249,20 +249,20 @@ module _ {E : Type 0} (reads : Reads E) (all_kept : Bool) where
       → Holds reads all_kept later second
       → ClosesAll reads all_kept joined later.strays closed → Models reads all_kept closed (with_closers reads first second)
   closed_models joined later closed first second front back closes =
-      closes_all_models reads all_kept joined closed (paired reads (bracket_in_part reads) None (first ++ option_to_list (undecided_of reads second)))
-      (map event_of (strays side (paired reads (bracket_in_part reads) None second))) front.models
+      closes_all_models reads all_kept joined closed (paired reads (bracket_in_piece reads) None (first ++ option_to_list (undecided_of reads second)))
+      (map event_of (strays side (paired reads (bracket_in_piece reads) None second))) front.models
       (subst (λ (l : List E). ClosesAll reads all_kept joined l closed) back.models.strays_are closes)
 
   joined_models : (later closed new : Content E) (first second : List E) → Models reads all_kept closed (with_closers reads first second)
-      → Models reads all_kept later (paired reads (bracket_in_part reads) None second) → new.unmatched ≡ closed.unmatched ++ later.unmatched
+      → Models reads all_kept later (paired reads (bracket_in_piece reads) None second) → new.unmatched ≡ closed.unmatched ++ later.unmatched
       → new.closed ≡ closed.closed ++ later.closed → new.answered ≡ sum_64 closed.answered later.answered
       → new.replied ≡ sum_64 closed.replied later.replied → new.strays ≡ closed.strays
-      → Models reads all_kept new (paired reads (bracket_in_part reads) None (first ++ second))
+      → Models reads all_kept new (paired reads (bracket_in_piece reads) None (first ++ second))
   joined_models later closed new first second front back unmatched_are closed_are answered_are replied_are strays_are =
       let a = openers side (with_closers reads first second) in
-      let b = openers side (paired reads (bracket_in_part reads) None second) in
+      let b = openers side (paired reads (bracket_in_piece reads) None second) in
       record {
-        calls = holds_same reads all_kept new (a ++ b) (openers side (paired reads (bracket_in_part reads) None (first ++ second)))
+        calls = holds_same reads all_kept new (a ++ b) (openers side (paired reads (bracket_in_piece reads) None (first ++ second)))
             (sym (joined_openers reads first second))
             (subst (HoldsCalls reads all_kept new) (sym (map-append (found reads) a b))
             (holds_both reads all_kept closed later new (map (found reads) a) (map (found reads) b) front.calls back.calls
@@ -287,11 +287,11 @@ module _ {E : Type 0} (reads : Reads E) (all_kept : Bool) where
             (ap (λ (c : Content E). c.unmatched) is) (ap (λ (c : Content E). c.closed) is) (ap (λ (c : Content E). c.answered) is)
             (ap (λ (c : Content E). c.replied) is) (ap (λ (c : Content E). c.strays) is);
         refused = ap (λ (c : Content E). c.refused) is
-            ∙ ap (λ l. l ++ later.refused) (kept.2 ∙ front.refused ∙ refused-append reads (bracket_in_part reads) None first (option_to_list (undecided_of reads second)))
-            ∙ ap (λ l. refused_of (bracketed_part reads first) ++ undecided_refused reads (last_mark reads first) (undecided_of reads second) ++ l) back.refused
-            ∙ append_assoc (refused_of (bracketed_part reads first)) (undecided_refused reads (last_mark reads first) (undecided_of reads second)) (refused_of (bracketed_part reads second))
-            ∙ ap (λ l. refused_of (bracketed_part reads first) ++ l) (sym (behind reads (last_mark reads first) second).refused_are)
-            ∙ sym (refused-append reads (bracket_in_part reads) None first second);
+            ∙ ap (λ l. l ++ later.refused) (kept.2 ∙ front.refused ∙ refused-append reads (bracket_in_piece reads) None first (option_to_list (undecided_of reads second)))
+            ∙ ap (λ l. refused_of (bracketed_piece reads first) ++ undecided_refused reads (last_mark reads first) (undecided_of reads second) ++ l) back.refused
+            ∙ append_assoc (refused_of (bracketed_piece reads first)) (undecided_refused reads (last_mark reads first) (undecided_of reads second)) (refused_of (bracketed_piece reads second))
+            ∙ ap (λ l. refused_of (bracketed_piece reads first) ++ l) (sym (after_mark reads (last_mark reads first) second).refused_are)
+            ∙ sym (refused-append reads (bracket_in_piece reads) None first second);
       }
 
   -- ---- the end
@@ -305,18 +305,18 @@ module _ {E : Type 0} (reads : Reads E) (all_kept : Bool) where
   finished calls findings events held moved sorted answered replied strays_same refused_same =
       let rises = rises_from_pairs reads.place events held.placed.1 in
       let settled = decided reads None events in
-      let part = paired reads (bracket_in_part reads) None events in
+      let part = paired reads (bracket_in_piece reads) None events in
       let openers_are : all_found reads part ≡ openers_of reads events
-      = ap (map (found reads)) (sym settled.openers_are) ∙ sym (openers-found reads (judged_of reads events)) in
+      = ap (map (found reads)) (sym settled.openers_are) ∙ sym (openers-found reads (bracketed_of reads events)) in
       let listed = openers_listed reads (bracket_read reads) None events rises in
-      let rising = rises_from_pairs (opener_place reads) (openers_found reads (judged_of reads events)) listed.rising in
-      let strays_are : findings.strays.items ≡ strays_in (judged_of reads events)
+      let rising = rises_from_pairs (opener_place reads) (openers_found reads (bracketed_of reads events)) listed.rising in
+      let strays_are : findings.strays.items ≡ strays_in (bracketed_of reads events)
       = strays_same
       ∙ ap (λ o. option_to_list o ++ calls.strays.items) held.undecided
       ∙ ap (λ l. option_to_list (undecided_of reads events) ++ l) held.models.strays_are
       ∙ sym (whole_strays reads (undecided_of reads events) (strays side part) (strays_closers side part) (is_error_of reads events))
       ∙ ap (map event_of) (sym settled.strays_are)
-      ∙ sym (strays-found (judged_of reads events))
+      ∙ sym (strays-found (bracketed_of reads events))
       in
       record {
         kept = kept_in_place (opener_place reads) all_kept (all_found reads part) calls.closed.items (map open_call calls.unmatched.items) findings.openers.items
@@ -327,11 +327,11 @@ module _ {E : Type 0} (reads : Reads E) (all_kept : Bool) where
         replied = replied ∙ held.models.calls.replied_are ∙ exact_count reads events is_replied held.placed ∙ ap (how_many is_replied) openers_are;
         strays = strays_are;
         refused = refused_same ∙ held.refused
-            ∙ ap (λ l. l ++ refused_of (bracketed_part reads events)) (sym (whole_refused reads (undecided_of reads events) (is_error_of reads events)))
+            ∙ ap (λ l. l ++ refused_of (bracketed_piece reads events)) (sym (whole_refused reads (undecided_of reads events) (is_error_of reads events)))
             ∙ sym settled.refused_are;
       }
 
-  -- the undecided one of the second part is added to the first, if there is one
+  -- if the second piece has an undecided error reply, that is added to the first
   abbrev pub AddsUndecided : Calls E → Calls E → Calls E → Type 0
   AddsUndecided mine later joined =
       ((later.undecided ≡ None) × (joined ≡ mine))

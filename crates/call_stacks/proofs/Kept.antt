@@ -11,7 +11,7 @@ use Rattle.call_stacks.specs.Calls.{with_verdict, kept_of}
 use Rattle.call_stacks.specs.Verdicts.{is_open, is_closed, lacks_reply}
 use Rattle.summary_law.proofs.Members.{In, Rises, in_place}
 
--- ---- of rising things
+-- ---- lists whose places rise
 
 kept_in : {X : Type 0} (test : X → Bool) (xs : List X) (x : X) → In x (filter test xs) → In x xs
 kept_in test [] x here = absurd here
@@ -47,7 +47,7 @@ module _ {E : Type 0} where
   open_kept true call is = refl
   open_kept false call is = ap (λ (b : Bool). cond b (call ∷ []) []) (open_lacks call.verdict is)
 
-  -- the kept ones are those that are closed, with the open ones
+  -- the calls that are kept are the closed ones that are kept and the open ones
   parted : (all_kept : Bool) (calls : List (Opener E))
       → IsPermutation (kept_of all_kept calls) (kept_of all_kept (with_verdict is_closed calls) ++ with_verdict is_open calls)
   parted true [] = IsPermutation-refl []
@@ -78,7 +78,7 @@ module _ {E : Type 0} where
   kept_rises rank true calls rises = rises
   kept_rises rank false calls rises = rises-filter rank (λ (o : Opener E). lacks_reply o.verdict) calls rises
 
-  -- the closed ones that are kept and the open ones, sorted, are what is kept
+  -- the closed calls that are kept and the open ones, sorted, are the calls that are kept
   pub kept_in_place : (rank : Opener E → ℕ) (all_kept : Bool) (calls closed left sorted : List (Opener E)) → Rises rank calls
       → IsPermutation (kept_of all_kept (with_verdict is_closed calls)) closed → left ≡ with_verdict is_open calls
       → IsPermutation (closed ++ left) sorted → IsNonDecreasingBy rank sorted → sorted ≡ kept_of all_kept calls

@@ -2,7 +2,7 @@ pub mod Model
 pub mod Counting
 pub mod Numbered
 pub mod MarkLaws
-pub mod Judging
+pub mod Bracketing
 pub mod Kept
 pub mod Lists
 pub mod Found

@@ -1,4 +1,4 @@
--- What a value holds, read from the end of the events' sides; and that these are the lists of the definitions.
+-- What a value holds, read from the end of the events' sides, is the lists of the definitions.
 use Rattle.std.proofs.Common.{◌≡◌, ℕ, ◌+◌, ◌<◌, ◌⊎◌, Option, Some, None, refl, sym, ap, subst, ◌∙◌, inl, inr}
 use Rattle.std.proofs.Common.{List, [], ◌∷◌, map}
 use Rattle.std.specs.List.{enumerate_from}
@@ -8,12 +8,12 @@ use Rattle.event_core.specs.declared.marks.Mark.{Mark}
 use Rattle.call_stacks.specs.declared.opener.Opener.{Opener}
 use Rattle.call_stacks.specs.declared.verdict.Verdict.{Verdict}
 use Rattle.call_stacks.specs.declared.verdict.Verdict.TheVariants.{Open}
-use Rattle.call_stacks.specs.Calls.{Reads, Bracketed, bracketed_with, opener_place, mark_behind_by, sides_of, verdict_read}
+use Rattle.call_stacks.specs.Calls.{Reads, Bracketed, bracketed_with, opener_place, mark_after, sides_of, verdict_read}
 use Rattle.call_stacks.specs.Matched.{IsOpener, IsStrayEvent, HasVerdict, closed_by, left_open}
 use Rattle.call_stacks.specs.Matching.{Side, opener, closer, neither}
 use Rattle.summary_law.specs.Ranked.{ListsInOrder}
 use Rattle.call_stacks.specs.Verdicts.{side_of}
-use Rattle.call_stacks.proofs.Judging.{pair, side}
+use Rattle.call_stacks.proofs.Bracketing.{pair, side}
 use Rattle.summary_law.proofs.Members.{In, in-map, map-in, Rises, rises-map, map-rises, listed}
 use Rattle.call_stacks.proofs.Model.{strays, openers, put, entry, both, strays-map, openers-map}
 use Rattle.call_stacks.proofs.Numbered.{numbered, match_of, has_match, unmatched_of, has_unmatched, stray_in, has_stray, side_there}
@@ -68,16 +68,16 @@ openers_rise side rank (x ∷ items) rises =
     entry_rises rank (side x) x (strays side items) (openers side items) (λ p there. rises.0 p.0 (openers_in side items p there))
     (openers_rise side rank items rises.1)
 
-pub judged_events : {E : Type 0} (reads : Reads E) (judge : Option Mark → E → Bracket) (before : Option Mark) (events : List E)
-    → map (λ j. j.event) (bracketed_with reads judge before events) ≡ events
-judged_events reads judge before [] = refl
-judged_events reads judge before (e ∷ events) = ap (λ rest. e ∷ rest) (judged_events reads judge (mark_behind_by reads before e) events)
+pub bracketed_events : {E : Type 0} (reads : Reads E) (bracket_by : Option Mark → E → Bracket) (before : Option Mark) (events : List E)
+    → map (λ j. j.event) (bracketed_with reads bracket_by before events) ≡ events
+bracketed_events reads bracket_by before [] = refl
+bracketed_events reads bracket_by before (e ∷ events) = ap (λ rest. e ∷ rest) (bracketed_events reads bracket_by (mark_after reads before e) events)
 
 module _ {E : Type 0} where
   abbrev pub event_of : E × Side → E
   event_of p = p.0
 
-  -- the unmatched closers of judged events
+  -- the unmatched closers of bracketed events
   abbrev pub strays_found : List (Bracketed E) → List E
   strays_found items = map event_of (strays side (map pair items))
 
@@ -109,11 +109,11 @@ module _ {E : Type 0} where
   one_item items i x y first second = let same : Some x ≡ Some y = sym first ∙ second in let e : x ≡ y = cc in e
 
   side_at : (items : List (Bracketed E)) (i : ℕ) (x : Bracketed E) (s : Side) → slice_get items i ≡ Some x → side_of x.bracket ≡ s → slice_get (sides_of items) i ≡ Some s
-  side_at items i x s stands e = side_there item_side items i x stands ∙ ap Some e
+  side_at items i x s is_at e = side_there item_side items i x is_at ∙ ap Some e
 
   side_is : (items : List (Bracketed E)) (i : ℕ) (x : Bracketed E) (s : Side) → slice_get items i ≡ Some x → slice_get (sides_of items) i ≡ Some s → side_of x.bracket ≡ s
-  side_is items i x s stands e =
-      let same : Some (side_of x.bracket) ≡ Some s = sym (side_there item_side items i x stands) ∙ e in
+  side_is items i x s is_at e =
+      let same : Some (side_of x.bracket) ≡ Some s = sym (side_there item_side items i x is_at) ∙ e in
       let is : side_of x.bracket ≡ s = cc in
       is
 
@@ -127,7 +127,7 @@ module _ {E : Type 0} where
       record {
         position = at_x.position;
         there = x.0.1;
-        stands = at_x.stands;
+        is_at = at_x.is_at;
         stray = at_x.stray;
         event = p.2 ∙ ap (λ (q : E × Side). q.0) x.2;
       }
@@ -135,7 +135,7 @@ module _ {E : Type 0} where
   stray_whole : (items : List (Bracketed E)) (event : E) → IsStrayEvent items event → In event (strays_found items)
   stray_whole items event is =
       let here = has_stray item_side 0 items is.position is.stray in
-      let same : is.there ≡ here.item = one_item items is.position is.there here.item is.stands here.stands in
+      let same : is.there ≡ here.item = one_item items is.position is.there here.item is.is_at here.is_at in
       let listed_there = map-in item_pair (strays_numbered items) (0 + is.position, here.item) here.there in
       let in_pairs = subst (λ (l : List (E × Side)). In (pair here.item) l) (sym (strays_are items)) listed_there in
       subst (λ (e : E). In e (strays_found items)) (sym (is.event ∙ ap (λ (j : Bracketed E). j.event) same))
@@ -150,7 +150,7 @@ module _ {E : Type 0} where
       ap (λ e. opener_of e verdict place) (sym a) ∙ ap (λ v. opener_of call.event v place) (sym b) ∙ ap (opener_of call.event call.verdict) (sym c)
 
 module _ {E : Type 0} (reads : Reads E) where
-  -- ---- an opener with its closer, as it is found
+  -- ---- an opener as a call, by its closer
 
   abbrev pub verdict_found : E → Option (E × Side) → Verdict
   verdict_found call None = Open
@@ -163,7 +163,7 @@ module _ {E : Type 0} (reads : Reads E) where
   abbrev pub found : (E × Side) × Option (E × Side) → Opener E
   found p = record { event = p.0.0; verdict = verdict_found p.0.0 p.1; closer = closer_found p.1 }
 
-  -- the openers of judged events
+  -- the calls of bracketed events
   abbrev pub openers_found : List (Bracketed E) → List (Opener E)
   openers_found items = map found (openers side (map pair items))
 
@@ -176,8 +176,8 @@ module _ {E : Type 0} (reads : Reads E) where
       record {
         position = at_x.position;
         there = x.1;
-        stands = at_x.stands;
-        opens = side_is items at_x.position x.1 opener at_x.stands at_x.unmatched.0;
+        is_at = at_x.is_at;
+        opens = side_is items at_x.position x.1 opener at_x.is_at at_x.unmatched.0;
         event = refl;
         verdict = left_open at_x.unmatched.1 refl refl;
       }
@@ -186,10 +186,10 @@ module _ {E : Type 0} (reads : Reads E) where
       record {
         position = at_x.from;
         there = x.1;
-        stands = at_x.from_stands;
-        opens = side_is items at_x.from x.1 opener at_x.from_stands at_x.found.opens;
+        is_at = at_x.from_at;
+        opens = side_is items at_x.from x.1 opener at_x.from_at at_x.found.opens;
         event = refl;
-        verdict = closed_by at_x.to y.1 at_x.found at_x.to_stands refl refl;
+        verdict = closed_by at_x.to y.1 at_x.found at_x.to_at refl refl;
       }
 
   opener_sound : (items : List (Bracketed E)) (call : Opener E) → In call (openers_found items) → IsOpener reads items call
@@ -210,47 +210,47 @@ module _ {E : Type 0} (reads : Reads E) where
 
   opener_whole_at : (items : List (Bracketed E)) (call : Opener E) (position : ℕ) (there : Bracketed E) → slice_get items position ≡ Some there
       → side_of there.bracket ≡ opener → call.event ≡ there.event → HasVerdict reads items position call → In call (openers_found items)
-  opener_whole_at items call position there stands opens event (closed_by j answer matched answer_stands verdict place) =
+  opener_whole_at items call position there is_at opens event (closed_by j answer matched answer_at verdict place) =
       let here = has_match item_side 0 items position j matched in
-      let call_same : there ≡ here.opener = one_item items position there here.opener stands here.opener_stands in
-      let answer_same : answer ≡ here.closer = one_item items j answer here.closer answer_stands here.closer_stands in
+      let call_same : there ≡ here.opener = one_item items position there here.opener is_at here.opener_is_at in
+      let answer_same : answer ≡ here.closer = one_item items j answer here.closer answer_at here.closer_at in
       let event_same : call.event ≡ here.opener.event = event ∙ ap (λ (x : Bracketed E). x.event) call_same in
       opener_listed items call (0 + position, here.opener) (Some (0 + j, here.closer)) here.there
       (opener_is call here.opener.event (verdict_read reads here.opener.event here.closer.event) (Some (reads.place here.closer.event)) event_same
       (verdict ∙ ap (λ e. verdict_read reads e answer.event) event_same ∙ ap (λ (x : Bracketed E). verdict_read reads here.opener.event x.event) answer_same)
       (place ∙ ap (λ (x : Bracketed E). Some (reads.place x.event)) answer_same))
-  opener_whole_at items call position there stands opens event (left_open none verdict place) =
-      let here = has_unmatched item_side 0 items position (side_at items position there opener stands opens, none) in
-      let call_same : there ≡ here.item = one_item items position there here.item stands here.stands in
+  opener_whole_at items call position there is_at opens event (left_open none verdict place) =
+      let here = has_unmatched item_side 0 items position (side_at items position there opener is_at opens, none) in
+      let call_same : there ≡ here.item = one_item items position there here.item is_at here.is_at in
       opener_listed items call (0 + position, here.item) None here.there
       (opener_is call here.item.event Open None (event ∙ ap (λ (x : Bracketed E). x.event) call_same) verdict place)
 
   opener_whole : (items : List (Bracketed E)) (call : Opener E) → IsOpener reads items call → In call (openers_found items)
-  opener_whole items call is = opener_whole_at items call is.position is.there is.stands is.opens is.event is.verdict
+  opener_whole items call is = opener_whole_at items call is.position is.there is.is_at is.opens is.event is.verdict
 
-  pairs_rise : (judge : Option Mark → E → Bracket) (before : Option Mark) (events : List E) → Rises reads.place events
-      → Rises (λ p. reads.place p.0) (map pair (bracketed_with reads judge before events))
-  pairs_rise judge before events rises =
-      rises-map pair (λ p. reads.place p.0) (bracketed_with reads judge before events)
-      (map-rises (λ (j : Bracketed E). j.event) reads.place (bracketed_with reads judge before events)
-      (subst (λ (l : List E). Rises reads.place l) (sym (judged_events reads judge before events)) rises))
+  pairs_rise : (bracket_by : Option Mark → E → Bracket) (before : Option Mark) (events : List E) → Rises reads.place events
+      → Rises (λ p. reads.place p.0) (map pair (bracketed_with reads bracket_by before events))
+  pairs_rise bracket_by before events rises =
+      rises-map pair (λ p. reads.place p.0) (bracketed_with reads bracket_by before events)
+      (map-rises (λ (j : Bracketed E). j.event) reads.place (bracketed_with reads bracket_by before events)
+      (subst (λ (l : List E). Rises reads.place l) (sym (bracketed_events reads bracket_by before events)) rises))
 
   -- ---- the lists of the definitions
 
-  pub strays_listed : (judge : Option Mark → E → Bracket) (before : Option Mark) (events : List E) → Rises reads.place events
-      → ListsInOrder reads.place (IsStrayEvent (bracketed_with reads judge before events)) (strays_found (bracketed_with reads judge before events))
-  strays_listed judge before events rises =
-      let items = bracketed_with reads judge before events in
+  pub strays_listed : (bracket_by : Option Mark → E → Bracket) (before : Option Mark) (events : List E) → Rises reads.place events
+      → ListsInOrder reads.place (IsStrayEvent (bracketed_with reads bracket_by before events)) (strays_found (bracketed_with reads bracket_by before events))
+  strays_listed bracket_by before events rises =
+      let items = bracketed_with reads bracket_by before events in
       listed reads.place (IsStrayEvent items) (strays_found items)
       (rises-map event_of reads.place (strays side (map pair items)) (strays_rise side (λ p. reads.place p.0) (map pair items)
-      (pairs_rise judge before events rises)))
+      (pairs_rise bracket_by before events rises)))
       (stray_sound items) (stray_whole items)
 
-  pub openers_listed : (judge : Option Mark → E → Bracket) (before : Option Mark) (events : List E) → Rises reads.place events
-      → ListsInOrder (opener_place reads) (IsOpener reads (bracketed_with reads judge before events)) (openers_found (bracketed_with reads judge before events))
-  openers_listed judge before events rises =
-      let items = bracketed_with reads judge before events in
+  pub openers_listed : (bracket_by : Option Mark → E → Bracket) (before : Option Mark) (events : List E) → Rises reads.place events
+      → ListsInOrder (opener_place reads) (IsOpener reads (bracketed_with reads bracket_by before events)) (openers_found (bracketed_with reads bracket_by before events))
+  openers_listed bracket_by before events rises =
+      let items = bracketed_with reads bracket_by before events in
       listed (opener_place reads) (IsOpener reads items) (openers_found items)
       (rises-map found (opener_place reads) (openers side (map pair items)) (openers_rise side (λ p. reads.place p.0) (map pair items)
-      (pairs_rise judge before events rises)))
+      (pairs_rise bracket_by before events rises)))
       (opener_sound items) (opener_whole items)

@@ -1,4 +1,4 @@
--- What an event is by the marks before it: only of an error reply does that depend on them.
+-- The bracket of an event by the mark before it. Only the bracket of an error reply depends on that mark.
 use Rattle.std.proofs.Common.{◌≡◌, Bool, true, false, cond, Option, Some, None, refl}
 use Rattle.binder_code.specs.declared.record_kind.Kind.{Kind}
 use Rattle.binder_code.specs.declared.record_kind.Kind.TheVariants.{BcTransaction, BcReply, BcTransactionSg, BcReplySg, BrTransaction, BrTransactionSecCtx, BrReply, BrDeadReply, BrTransactionComplete, BrFailedReply, BrFrozenReply, BrOnewaySpamSuspect, BrTransactionPendingFrozen}
@@ -14,7 +14,7 @@ received : (b : Bool) → cond b None (Some Other) ≡ None → cond b Neither S
 received true e = refl
 received false e = absurd cc
 
--- a record that leaves no mark is no bracket
+-- a record that leaves no mark neither opens nor closes a call
 pub no_mark : (before : Option Mark) (kind : Kind) (oneway : Bool) → mark_of kind oneway ≡ None → bracket_of before kind oneway ≡ Neither
 no_mark before BcTransaction oneway e = absurd cc
 no_mark before BcTransactionSg oneway e = absurd cc
@@ -31,7 +31,7 @@ no_mark before BrFailedReply oneway e = absurd cc
 no_mark before BrFrozenReply oneway e = absurd cc
 no_mark before _ oneway e = refl
 
--- what is no error reply is the same behind every mark
+-- after every mark, what is not an error reply has the same bracket
 pub same_bracket : (before : Option Mark) (kind : Kind) (oneway : Bool) → is_error (bracket_of None kind oneway) ≡ false
     → bracket_of before kind oneway ≡ bracket_of None kind oneway
 same_bracket before BrDeadReply oneway e = absurd cc
@@ -47,7 +47,7 @@ not_both : (b : Bool) → b ≡ false → b ≡ true → ⊥
 not_both true first second = cc
 not_both false first second = cc
 
--- an error reply is what the mark before it says
+-- an error reply has the bracket that the mark before it gives
 pub error_bracket : (before : Option Mark) (kind : Kind) (oneway : Bool) → is_error (bracket_of None kind oneway) ≡ true
     → bracket_of before kind oneway ≡ error_reply before
 error_bracket before BcTransaction oneway e = absurd (not_both _ (no_error oneway Call refl) e)
@@ -63,7 +63,7 @@ not_refused : (b : Bool) (bracket : Bracket) → is_refused bracket ≡ false �
 not_refused true bracket e = refl
 not_refused false bracket e = e
 
--- nothing is refused where there is no mark before
+-- without a mark before it, no record is a refused send
 pub none_refused : (kind : Kind) (oneway : Bool) → is_refused (bracket_of None kind oneway) ≡ false
 none_refused BcTransaction oneway = not_refused (oneway) Call refl
 none_refused BcTransactionSg oneway = not_refused (oneway) Call refl

@@ -1,5 +1,5 @@
--- The unmatched closers of a list and its openers with their closers, from the end of the list: an opener takes the
--- first closer behind it that is unmatched there.
+-- The unmatched closers of a list, and its openers with their closers, from the end of the list. An opener takes the
+-- first closer after it that is still unmatched.
 use Rattle.std.proofs.Common.{◌≡◌, Option, Some, None, refl, sym, ap, subst, ◌∙◌}
 use Rattle.std.proofs.Common.{List, [], ◌∷◌, ◌++◌, map, drop}
 use Rattle.std.specs.Prelude.{slice_get, option_map}
@@ -8,13 +8,13 @@ use Rattle.call_stacks.specs.Matching.{Side, opener, closer, neither}
 abbrev pub first_of : {A : Type 0} → List A → Option A
 first_of items = slice_get items 0
 
--- the unmatched closers with one item more in front
+-- the unmatched closers of a list that one more item precedes
 abbrev pub put : {A : Type 0} → Side → A → List A → List A
 put opener x later = drop 1 later
 put closer x later = x ∷ later
 put neither x later = later
 
--- the openers with one item more in front of these unmatched closers
+-- the openers of a list that one more item precedes, by the unmatched closers of the list
 abbrev pub entry : {A : Type 0} → Side → A → List A → List (A × Option A) → List (A × Option A)
 entry opener x later rest = (x, first_of later) ∷ rest
 entry closer x later rest = rest
@@ -82,7 +82,7 @@ openers-append side (x ∷ first) second =
     ∙ ap (entry (side x) x (strays side (first ++ strays side second))) (openers-append side first second)
     ∙ entry-append (side x) x (strays side (first ++ strays side second)) (openers side (first ++ strays side second)) (openers side second)
 
--- ---- items that are seen through a function
+-- ---- items under a function
 
 put-map : {A B : Type 0} (f : A → B) (s : Side) (x : A) (later : List A) → put s (f x) (map f later) ≡ map f (put s x later)
 put-map f opener x [] = refl
@@ -96,7 +96,7 @@ strays-map f side [] = refl
 strays-map f side (x ∷ items) =
     ap (put (side (f x)) (f x)) (strays-map f side items) ∙ put-map f (side (f x)) x (strays (λ y. side (f y)) items)
 
--- an opener with its closer, through a function
+-- an opener and its closer, under a function
 abbrev pub both : {A B : Type 0} → (A → B) → A × Option A → B × Option B
 both f p = (f p.0, option_map f p.1)
 
@@ -117,7 +117,7 @@ openers-map f side (x ∷ items) =
 
 -- ---- one more closer
 
--- each of the openers has its closer
+-- each of the openers has a closer
 abbrev pub AllClosed : {A : Type 0} → List (A × Option A) → Type 0
 AllClosed [] = Unit {0}
 AllClosed ((x, None) ∷ rest) = ⊥
@@ -135,7 +135,7 @@ none_step closer x c later new rest more all ih =
     (both.0, ap (λ t. x ∷ t) both.1)
 none_step neither x c later new rest more all ih = ih all
 
--- where each opener has its closer, one more closer is unmatched
+-- if each opener has a closer, one more closer is unmatched
 pub closes_none : {A : Type 0} (side : A → Side) (items : List A) (c : A) → side c ≡ closer → AllClosed (openers side items)
     → (openers side (items ++ c ∷ []) ≡ openers side items) × (strays side (items ++ c ∷ []) ≡ strays side items ++ c ∷ [])
 closes_none side [] c e all = (ap (λ (s : Side). entry s c [] []) e, ap (λ (s : Side). put s c []) e)
@@ -157,7 +157,7 @@ some_is_some x e = cc
 pub nil_is_nil : {A : Type 0} (x : A) (xs : List A) → [] ≡ (x ∷ xs) → ⊥
 nil_is_nil x xs e = cc
 
--- ---- one closer behind an opener that has none
+-- ---- one more closer after an opener that has none
 
 last_step : {A : Type 0} (s : Side) (y c : A) (later new : List A) (rest more front : List (A × Option A)) (x : A) (back : List (A × Option A))
     → entry s y later rest ≡ front ++ (x, None) ∷ back → AllClosed back

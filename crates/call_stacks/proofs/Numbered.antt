@@ -1,4 +1,4 @@
--- Lists read from their end, with each item's position: what matches there is what matches by counting.
+-- Lists read from their end, each item with its position: what is paired there is what matches by counting.
 use Rattle.std.proofs.Common.{◌≡◌, ℕ, zero, suc, ◌+◌, Option, Some, None, refl, sym, ap, subst, ◌∙◌, inl, inr, arith}
 use Rattle.std.proofs.Common.{List, [], ◌∷◌, map, drop}
 use Rattle.std.specs.List.{enumerate_from}
@@ -28,24 +28,24 @@ item_there side [] i s e = absurd cc
 item_there side (x ∷ items) zero s e = (x, refl, let same : side x ≡ s = cc in same)
 item_there side (x ∷ items) (suc i) s e = item_there side items i s e
 
--- ---- the k-th unmatched closer is where closers first outnumber openers by one more than k
+-- ---- the k-th unmatched closer is the one with which closers first outnumber openers by one more than k
 
--- what stands at a position, and that so many more close there
+-- the item is at this position, and there closers first outnumber openers by one more than k
 pub record StrayAt {B : Type 0} (side : B → Side) (n : ℕ) (items : List B) (k : ℕ) (x : ℕ × B) : Type 0 where
   pub position : ℕ
   pub number : x.0 ≡ n + position
-  pub stands : slice_get items position ≡ Some x.1
+  pub is_at : slice_get items position ≡ Some x.1
   pub reaches : Reaches (k + 1) (map side items) position
 
-stray_behind : {B : Type 0} (side : B → Side) (n : ℕ) (b : B) (items : List B) (k behind : ℕ) (x : ℕ × B)
-    → behind + closes (side b) ≡ k + opens (side b) → StrayAt side (n + 1) items behind x → StrayAt side n (b ∷ items) k x
-stray_behind side n b items k behind x e found =
+stray_after : {B : Type 0} (side : B → Side) (n : ℕ) (b : B) (items : List B) (k after : ℕ) (x : ℕ × B)
+    → after + closes (side b) ≡ k + opens (side b) → StrayAt side (n + 1) items after x → StrayAt side n (b ∷ items) k x
+stray_after side n b items k after x e found =
     let number = found.number in
     record {
       position = suc found.position;
       number = omega arith;
-      stands = found.stands;
-      reaches = reaches_later (side b) (k + 1) (behind + 1) (map side items) found.position (omega arith) (omega arith) found.reaches;
+      is_at = found.is_at;
+      reaches = reaches_later (side b) (k + 1) (after + 1) (map side items) found.position (omega arith) (omega arith) found.reaches;
     }
 
 stray_step : {B : Type 0} (side : B → Side) (n : ℕ) (b : B) (items : List B) (later : List (ℕ × B)) (s : Side) (k : ℕ) (x : ℕ × B)
@@ -54,24 +54,24 @@ stray_step : {B : Type 0} (side : B → Side) (n : ℕ) (b : B) (items : List B)
 stray_step side n b items later opener k x e ih there =
     let o : opens (side b) ≡ 1 = ap opens e in
     let c : closes (side b) ≡ 0 = ap closes e in
-    stray_behind side n b items k (suc k) x (omega arith) (ih (suc k) (sym (get_drop_one later k) ∙ there))
+    stray_after side n b items k (suc k) x (omega arith) (ih (suc k) (sym (get_drop_one later k) ∙ there))
 stray_step side n b items later closer zero x e ih there =
     let same : (n, b) ≡ x = cc in
     let number : n ≡ x.0 = ap (λ p. p.0) same in
     record {
       position = 0;
       number = omega arith;
-      stands = ap (λ p. Some p.1) same;
+      is_at = ap (λ p. Some p.1) same;
       reaches = reaches_here (side b) (map side items) e;
     }
 stray_step side n b items later closer (suc k) x e ih there =
     let o : opens (side b) ≡ 0 = ap opens e in
     let c : closes (side b) ≡ 1 = ap closes e in
-    stray_behind side n b items (suc k) k x (omega arith) (ih k there)
+    stray_after side n b items (suc k) k x (omega arith) (ih k there)
 stray_step side n b items later neither k x e ih there =
     let o : opens (side b) ≡ 0 = ap opens e in
     let c : closes (side b) ≡ 0 = ap closes e in
-    stray_behind side n b items k k x (omega arith) (ih k there)
+    stray_after side n b items k k x (omega arith) (ih k there)
 
 pub stray_at : {B : Type 0} (side : B → Side) (n : ℕ) (items : List B) (k : ℕ) (x : ℕ × B)
     → slice_get (strays (numbered side) (enumerate_from n items)) k ≡ Some x → StrayAt side n items k x
@@ -80,10 +80,10 @@ stray_at side n (b ∷ items) k x there =
     stray_step side n b items (strays (numbered side) (enumerate_from (n + 1) items)) (side b) k x refl
     (λ m here. stray_at side (n + 1) items m x here) there
 
--- the unmatched closer at a position, in its order
+-- the k-th unmatched closer is the item at position q
 pub record IsStrayOf {B : Type 0} (side : B → Side) (n : ℕ) (items : List B) (k q : ℕ) : Type 0 where
   pub item : B
-  pub stands : slice_get items q ≡ Some item
+  pub is_at : slice_get items q ≡ Some item
   pub there : slice_get (strays (numbered side) (enumerate_from n items)) k ≡ Some (n + q, item)
 
 not_here : (s : Side) (sides : List Side) (k : ℕ) → Reaches (k + 1) (s ∷ sides) 0 → s ≡ closer → k ≡ 0
@@ -99,21 +99,21 @@ closer_first side n b items k e none =
     let later = strays (numbered side) (enumerate_from (n + 1) items) in
     record {
       item = b;
-      stands = refl;
+      is_at = refl;
       there = ap (slice_get (put (side b) (n, b) later)) none ∙ ap (λ (s : Side). slice_get (put s (n, b) later) 0) e
           ∙ ap (λ m. Some (m, b)) (sym number);
     }
 
-later_stray : {B : Type 0} (side : B → Side) (n : ℕ) (b : B) (items : List B) (q k behind : ℕ) → (s : Side) → side b ≡ s
-    → ((x : ℕ × B) → slice_get (strays (numbered side) (enumerate_from (n + 1) items)) behind ≡ Some x
+later_stray : {B : Type 0} (side : B → Side) (n : ℕ) (b : B) (items : List B) (q k after : ℕ) → (s : Side) → side b ≡ s
+    → ((x : ℕ × B) → slice_get (strays (numbered side) (enumerate_from (n + 1) items)) after ≡ Some x
     → slice_get (put s (n, b) (strays (numbered side) (enumerate_from (n + 1) items))) k ≡ Some x)
-    → IsStrayOf side (n + 1) items behind q → IsStrayOf side n (b ∷ items) k (suc q)
-later_stray side n b items q k behind s e moves found =
+    → IsStrayOf side (n + 1) items after q → IsStrayOf side n (b ∷ items) k (suc q)
+later_stray side n b items q k after s e moves found =
     let number : n + 1 + q ≡ n + suc q = omega arith in
     let later = strays (numbered side) (enumerate_from (n + 1) items) in
     record {
       item = found.item;
-      stands = found.stands;
+      is_at = found.is_at;
       there = ap (λ (t : Side). slice_get (put t (n, b) later) k) e ∙ moves (n + 1 + q, found.item) found.there
           ∙ ap (λ m. Some (m, found.item)) number;
     }
@@ -153,19 +153,19 @@ stray_of side n (b ∷ items) k (suc q) reaches =
 
 -- ---- the openers
 
--- an opener at its position, with the first unmatched closer behind it
+-- an opener at its position, with the first unmatched closer after it
 pub record OpenerAt {B : Type 0} (side : B → Side) (n : ℕ) (items : List B) (x : ℕ × B) (h : Option (ℕ × B)) : Type 0 where
   pub position : ℕ
   pub next : ℕ
   pub number : x.0 ≡ n + position
   pub follows : next ≡ n + position + 1
-  pub stands : slice_get items position ≡ Some x.1
+  pub is_at : slice_get items position ≡ Some x.1
   pub opens : side x.1 ≡ opener
   pub closed_by : h ≡ first_of (strays (numbered side) (enumerate_from next (drop (suc position) items)))
 
-opener_behind : {B : Type 0} (side : B → Side) (n : ℕ) (b : B) (items : List B) (x : ℕ × B) (h : Option (ℕ × B))
+opener_after : {B : Type 0} (side : B → Side) (n : ℕ) (b : B) (items : List B) (x : ℕ × B) (h : Option (ℕ × B))
     → OpenerAt side (n + 1) items x h → OpenerAt side n (b ∷ items) x h
-opener_behind side n b items x h found =
+opener_after side n b items x h found =
     let number = found.number in
     let follows = found.follows in
     record {
@@ -173,7 +173,7 @@ opener_behind side n b items x h found =
       next = found.next;
       number = omega arith;
       follows = omega arith;
-      stands = found.stands;
+      is_at = found.is_at;
       opens = found.opens;
       closed_by = found.closed_by;
     }
@@ -191,13 +191,13 @@ opener_step side n b items rest opener x h e ih (inl here) =
       next = n + 1;
       number = omega arith;
       follows = omega arith;
-      stands = ap Some (sym item);
+      is_at = ap Some (sym item);
       opens = ap side item ∙ e;
       closed_by = ap (λ p. p.1) here;
     }
-opener_step side n b items rest opener x h e ih (inr there) = opener_behind side n b items x h (ih there)
-opener_step side n b items rest closer x h e ih there = opener_behind side n b items x h (ih there)
-opener_step side n b items rest neither x h e ih there = opener_behind side n b items x h (ih there)
+opener_step side n b items rest opener x h e ih (inr there) = opener_after side n b items x h (ih there)
+opener_step side n b items rest closer x h e ih there = opener_after side n b items x h (ih there)
+opener_step side n b items rest neither x h e ih there = opener_after side n b items x h (ih there)
 
 pub opener_at : {B : Type 0} (side : B → Side) (n : ℕ) (items : List B) (x : ℕ × B) (h : Option (ℕ × B))
     → In (x, h) (openers (numbered side) (enumerate_from n items)) → OpenerAt side n items x h
@@ -206,7 +206,7 @@ opener_at side n (b ∷ items) x h there =
     opener_step side n b items (openers (numbered side) (enumerate_from (n + 1) items)) (side b) x h refl
     (λ here. opener_at side (n + 1) items x h here) there
 
--- an opener's entry
+-- the opener at a position has an entry
 pub record HasEntry {B : Type 0} (side : B → Side) (n : ℕ) (items : List B) (i : ℕ) (b : B) : Type 0 where
   pub next : ℕ
   pub follows : next ≡ n + i + 1
@@ -220,8 +220,8 @@ in_rest neither x later rest p there = there
 
 pub has_entry : {B : Type 0} (side : B → Side) (n : ℕ) (items : List B) (i : ℕ) (b : B) → slice_get items i ≡ Some b → side b ≡ opener
     → HasEntry side n items i b
-has_entry side n [] i b stands e = absurd cc
-has_entry {B} side n (x ∷ items) zero b stands e =
+has_entry side n [] i b is_at e = absurd cc
+has_entry {B} side n (x ∷ items) zero b is_at e =
     let same : x ≡ b = cc in
     let number : n + 0 ≡ n = omega arith in
     let later = strays (numbered side) (enumerate_from (n + 1) items) in
@@ -232,8 +232,8 @@ has_entry {B} side n (x ∷ items) zero b stands e =
       there = subst (λ (s : Side). In ((n + 0, b), first_of later) (entry s (n, x) later rest)) (sym (ap side same ∙ e))
           (inl (ap (λ m. ((m, b), first_of later)) number ∙ ap (λ (t : B). ((n, t), first_of later)) (sym same)));
     }
-has_entry side n (x ∷ items) (suc i) b stands e =
-    let found = has_entry side (n + 1) items i b stands e in
+has_entry side n (x ∷ items) (suc i) b is_at e =
+    let found = has_entry side (n + 1) items i b is_at e in
     let follows = found.follows in
     let number : n + 1 + i ≡ n + suc i = omega arith in
     let later = strays (numbered side) (enumerate_from (n + 1) items) in
@@ -251,8 +251,8 @@ has_entry side n (x ∷ items) (suc i) b stands e =
 pub record HasMatch {B : Type 0} (side : B → Side) (n : ℕ) (items : List B) (i j : ℕ) : Type 0 where
   pub opener : B
   pub closer : B
-  pub opener_stands : slice_get items i ≡ Some opener
-  pub closer_stands : slice_get items j ≡ Some closer
+  pub opener_is_at : slice_get items i ≡ Some opener
+  pub closer_at : slice_get items j ≡ Some closer
   pub there : In ((n + i, opener), Some (n + j, closer)) (openers (numbered side) (enumerate_from n items))
 
 reaches_dropped : {B : Type 0} (side : B → Side) (items : List B) (i q : ℕ) → Reaches 1 (drop (suc i) (map side items)) q
@@ -280,8 +280,8 @@ has_match side n items i j found =
     record {
       opener = call.0;
       closer = answer.item;
-      opener_stands = call.1;
-      closer_stands = ap (slice_get items) (sym position) ∙ sym (get-drop items (suc i) q) ∙ answer.stands;
+      opener_is_at = call.1;
+      closer_at = ap (slice_get items) (sym position) ∙ sym (get-drop items (suc i) q) ∙ answer.is_at;
       there = subst (λ (h : Option (ℕ × _)). In ((n + i, call.0), h) entries) closing here.there;
     }
 
@@ -291,8 +291,8 @@ pub record MatchOf {B : Type 0} (side : B → Side) (n : ℕ) (items : List B) (
   pub to : ℕ
   pub from_number : x.0 ≡ n + from
   pub to_number : y.0 ≡ n + to
-  pub from_stands : slice_get items from ≡ Some x.1
-  pub to_stands : slice_get items to ≡ Some y.1
+  pub from_at : slice_get items from ≡ Some x.1
+  pub to_at : slice_get items to ≡ Some y.1
   pub found : Match (map side items) from to
 
 pub match_of : {B : Type 0} (side : B → Side) (n : ℕ) (items : List B) (x y : ℕ × B)
@@ -304,15 +304,15 @@ match_of side n items x y there =
     let q = answer.position in
     let follows = call.follows in
     let number = answer.number in
-    let opens_there = side_there side items i x.1 call.stands ∙ ap Some call.opens in
+    let opens_there = side_there side items i x.1 call.is_at ∙ ap Some call.opens in
     let position : suc i + q ≡ i + 1 + q = omega arith in
     record {
       from = i;
       to = i + 1 + q;
       from_number = call.number;
       to_number = omega arith;
-      from_stands = call.stands;
-      to_stands = ap (slice_get items) (sym position) ∙ sym (get-drop items (suc i) q) ∙ answer.stands;
+      from_at = call.is_at;
+      to_at = ap (slice_get items) (sym position) ∙ sym (get-drop items (suc i) q) ∙ answer.is_at;
       found = reaches_match (map side items) i q opens_there (dropped_reaches side items i q answer.reaches);
     }
 
@@ -320,7 +320,7 @@ match_of side n items x y there =
 pub record UnmatchedOf {B : Type 0} (side : B → Side) (n : ℕ) (items : List B) (x : ℕ × B) : Type 0 where
   pub position : ℕ
   pub number : x.0 ≡ n + position
-  pub stands : slice_get items position ≡ Some x.1
+  pub is_at : slice_get items position ≡ Some x.1
   pub unmatched : IsUnmatched (map side items) position
 
 pub unmatched_of : {B : Type 0} (side : B → Side) (n : ℕ) (items : List B) (x : ℕ × B)
@@ -331,9 +331,9 @@ unmatched_of side n items x there =
     record {
       position = i;
       number = call.number;
-      stands = call.stands;
+      is_at = call.is_at;
       unmatched = (
-        side_there side items i x.1 call.stands ∙ ap Some call.opens,
+        side_there side items i x.1 call.is_at ∙ ap Some call.opens,
         λ j found.
             let counted = match_reaches (map side items) i j found in
             let answer = stray_of side call.next (drop (suc i) items) 0 counted.0 (reaches_dropped side items i counted.0 counted.2) in
@@ -344,7 +344,7 @@ unmatched_of side n items x there =
 
 pub record HasUnmatched {B : Type 0} (side : B → Side) (n : ℕ) (items : List B) (i : ℕ) : Type 0 where
   pub item : B
-  pub stands : slice_get items i ≡ Some item
+  pub is_at : slice_get items i ≡ Some item
   pub there : In ((n + i, item), None) (openers (numbered side) (enumerate_from n items))
 
 unmatched_first : {B : Type 0} (side : B → Side) (n : ℕ) (items : List B) (i : ℕ) (b : B) (h : Option (ℕ × B)) → ((j : ℕ) → ¬ (Match (map side items) i j))
@@ -362,7 +362,7 @@ has_unmatched side n items i unmatched =
     let here = has_entry side n items i call.0 call.1 call.2 in
     record {
       item = call.0;
-      stands = call.1;
+      is_at = call.1;
       there = unmatched_first side n items i call.0 (first_of (strays (numbered side) (enumerate_from here.next (drop (suc i) items)))) unmatched.1 here.there;
     }
 
@@ -371,7 +371,7 @@ has_unmatched side n items i unmatched =
 pub record StrayOf {B : Type 0} (side : B → Side) (n : ℕ) (items : List B) (x : ℕ × B) : Type 0 where
   pub position : ℕ
   pub number : x.0 ≡ n + position
-  pub stands : slice_get items position ≡ Some x.1
+  pub is_at : slice_get items position ≡ Some x.1
   pub stray : IsStray (map side items) position
 
 pub stray_in : {B : Type 0} (side : B → Side) (n : ℕ) (items : List B) (x : ℕ × B)
@@ -382,7 +382,7 @@ stray_in side n items x there =
     record {
       position = found.position;
       number = found.number;
-      stands = found.stands;
+      is_at = found.is_at;
       stray = reached_strays (map side items) at_k.0 found.position found.reaches;
     }
 
@@ -432,7 +432,7 @@ in_numbered n (x ∷ items) (suc j) b e =
 
 pub record HasStray {B : Type 0} (side : B → Side) (n : ℕ) (items : List B) (j : ℕ) : Type 0 where
   pub item : B
-  pub stands : slice_get items j ≡ Some item
+  pub is_at : slice_get items j ≡ Some item
   pub there : In (n + j, item) (strays (numbered side) (enumerate_from n items))
 
 pub has_stray : {B : Type 0} (side : B → Side) (n : ℕ) (items : List B) (j : ℕ) → IsStray (map side items) j → HasStray side n items j
@@ -440,7 +440,7 @@ has_stray {B} side n items j stray =
     let answer = item_there side items j closer stray.0 in
     record {
       item = answer.0;
-      stands = answer.1;
+      is_at = answer.1;
       there = elim (settled (numbered side) (enumerate_from n items) (n + j, answer.0) answer.2 (in_numbered n items j answer.0 answer.1)) [
         | is_stray there ↦ there
         | closes_one x there ↦

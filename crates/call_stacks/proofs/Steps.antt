@@ -14,15 +14,15 @@ use Rattle.call_stacks.specs.Calls.{Reads, bracket_read, with_verdict, how_many,
 use Rattle.call_stacks.specs.Content.{Content, closed_with, sum_64, one_more, taken, begun, refused_too, Closes, closes_last, closes_none, ClosesAll, Enters}
 use Rattle.call_stacks.specs.Matching.{Side, opener, closer, neither}
 use Rattle.call_stacks.specs.Verdicts.{side_of, verdict_of, is_answered, is_replied, is_open, is_closed}
-use Rattle.call_stacks.proofs.Judging.{side}
+use Rattle.call_stacks.proofs.Bracketing.{side}
 use Rattle.call_stacks.proofs.Kept.{kept-append}
 use Rattle.call_stacks.proofs.Lists.{found, event_of}
 use Rattle.call_stacks.proofs.Model as model
-use Rattle.call_stacks.proofs.Model.{strays, openers, strays-append, openers-append, AllClosed, first_is, nil_is_nil, some_is_some}
+use Rattle.call_stacks.proofs.Model.{strays, openers, strays-append, openers-append, AllClosed, first_is, nil_is_nil}
 
 -- ---- calls by their verdicts
 
--- what closes a call leaves it open no more
+-- a call that something closes is not open
 pub never_open : (call answer : Bracket) → is_open (verdict_of call answer) ≡ false
 never_open Call Reply = refl
 never_open Call Error = refl
@@ -33,23 +33,23 @@ module _ {E : Type 0} where
   how_many-append : (test : Verdict → Bool) (first second : List (Opener E)) → how_many test (first ++ second) ≡ how_many test first + how_many test second
   how_many-append test first second = sum_by-append _ first second
 
-  -- how many, with one call more among them
-  how_many_among : (test : Verdict → Bool) (before behind : List (Opener E)) (call : Opener E)
-      → how_many test (before ++ call ∷ behind) ≡ how_many test before + (cond (test call.verdict) 1 0 + how_many test behind)
-  how_many_among test before behind call =
-      how_many-append test before (call ∷ behind)
-      ∙ ap (λ (n : ℕ). how_many test before + n) (sum_by-cons (λ (o : Opener E). cond (test o.verdict) 1 0) call behind)
+  -- how many calls pass, with one call more among them
+  how_many_among : (test : Verdict → Bool) (before after : List (Opener E)) (call : Opener E)
+      → how_many test (before ++ call ∷ after) ≡ how_many test before + (cond (test call.verdict) 1 0 + how_many test after)
+  how_many_among test before after call =
+      how_many-append test before (call ∷ after)
+      ∙ ap (λ (n : ℕ). how_many test before + n) (sum_by-cons (λ (o : Opener E). cond (test o.verdict) 1 0) call after)
 
-  -- those of a list with one call more among them
-  with_among : (test : Verdict → Bool) (before behind : List (Opener E)) (call : Opener E) (b : Bool) → test call.verdict ≡ b
-      → with_verdict test (before ++ call ∷ behind) ≡ with_verdict test before ++ cond b (call ∷ with_verdict test behind) (with_verdict test behind)
-  with_among test before behind call b is =
-      filter-append (λ (o : Opener E). test o.verdict) before (call ∷ behind)
-      ∙ ap (λ (c : Bool). with_verdict test before ++ cond c (call ∷ with_verdict test behind) (with_verdict test behind)) is
+  -- the calls that pass, with one call more among them
+  with_among : (test : Verdict → Bool) (before after : List (Opener E)) (call : Opener E) (b : Bool) → test call.verdict ≡ b
+      → with_verdict test (before ++ call ∷ after) ≡ with_verdict test before ++ cond b (call ∷ with_verdict test after) (with_verdict test after)
+  with_among test before after call b is =
+      filter-append (λ (o : Opener E). test o.verdict) before (call ∷ after)
+      ∙ ap (λ (c : Bool). with_verdict test before ++ cond c (call ∷ with_verdict test after) (with_verdict test after)) is
 
-one_counted : (b : Bool) (old before behind : ℕ) → old ≡ sum_64 (before + (0 + behind)) 0 → one_more b old ≡ sum_64 (before + (cond b 1 0 + behind)) 0
-one_counted true old before behind is = omega (arith, is)
-one_counted false old before behind is = is
+one_counted : (b : Bool) (old before after : ℕ) → old ≡ sum_64 (before + (0 + after)) 0 → one_more b old ≡ sum_64 (before + (cond b 1 0 + after)) 0
+one_counted true old before after is = omega (arith, is)
+one_counted false old before after is = is
 
 sums_counted : (a b first second : ℕ) → a ≡ sum_64 first 0 → b ≡ sum_64 second 0 → sum_64 a b ≡ sum_64 (first + second) 0
 sums_counted a b first second is is_too = omega (arith, is, is_too)
@@ -64,11 +64,11 @@ push_is_nil f [] x e = nil_is_nil (f x) [] (sym e)
 push_is_nil f (y ∷ xs) x e = nil_is_nil (f y) (map f (xs ++ x ∷ [])) (sym e)
 
 module _ {E : Type 0} where
-  -- many more closers
+  -- these events, all as closers
   abbrev pub as_closers : List E → List (E × Side)
   as_closers events = map (λ event. (event, closer)) events
 
-  -- one more record that is no bracket
+  -- one more record that neither opens nor closes
   push_strays : (pairs : List (E × Side)) (p : E × Side) → strays side (p ∷ []) ≡ [] → strays side (pairs ++ p ∷ []) ≡ strays side pairs
   push_strays pairs p none =
       strays-append side pairs (p ∷ []) ∙ ap (λ t. strays side (pairs ++ t)) none ∙ ap (strays side) (append-nil pairs)
@@ -81,14 +81,14 @@ module _ {E : Type 0} where
       ∙ ap (λ t. openers side t ++ openers side (p ∷ [])) (append-nil pairs)
 
 module _ {E : Type 0} (reads : Reads E) where
-  -- the openers of these sides
+  -- the calls by these sides
   abbrev pub all_found : List (E × Side) → List (Opener E)
   all_found pairs = map (found reads) (openers side pairs)
 
   abbrev open_found : List ((E × Side) × Option (E × Side)) → List (Opener E)
   open_found items = with_verdict is_open (map (found reads) items)
 
-  -- one that has its closer is not open
+  -- a call that has its closer is not open
   closed_found : (x c : E × Side) (later : List ((E × Side) × Option (E × Side))) → open_found ((x, Some c) ∷ later) ≡ open_found later
   closed_found x c later =
       ap (λ (b : Bool). cond b (found reads (x, Some c) ∷ open_found later) (open_found later)) (never_open (bracket_read reads None x.0) (bracket_read reads None c.0))
@@ -103,13 +103,13 @@ module _ {E : Type 0} (reads : Reads E) where
   none_open ((x, None) ∷ later) all = absurd all
   none_open ((x, Some c) ∷ later) all = closed_found x c later ∙ none_open later all
 
-  -- the last opener without a closer
+  -- the last opener without a closer, and what comes before and after it
   record LastOpen (items : List ((E × Side) × Option (E × Side))) (front : List E) (event : E) : Type 0 where
     before : List ((E × Side) × Option (E × Side))
     call : E × Side
-    behind : List ((E × Side) × Option (E × Side))
-    split : items ≡ before ++ (call, None) ∷ behind
-    closed_behind : AllClosed behind
+    after : List ((E × Side) × Option (E × Side))
+    split : items ≡ before ++ (call, None) ∷ after
+    closed_later : AllClosed after
     call_is : call.0 ≡ event
     front_is : map open_call front ≡ open_found before
 
@@ -121,18 +121,18 @@ module _ {E : Type 0} (reads : Reads E) where
       record {
         before = (x, Some c) ∷ rest.before;
         call = rest.call;
-        behind = rest.behind;
+        after = rest.after;
         split = ap (λ t. (x, Some c) ∷ t) rest.split;
-        closed_behind = rest.closed_behind;
+        closed_later = rest.closed_later;
         call_is = rest.call_is;
         front_is = rest.front_is ∙ sym (closed_found x c rest.before);
       }
   last_open ((x, None) ∷ later) [] event e = record {
     before = [];
     call = x;
-    behind = later;
+    after = later;
     split = refl;
-    closed_behind = all_closed later (sym (ap (drop 1) e));
+    closed_later = all_closed later (sym (ap (drop 1) e));
     call_is = ap (λ (o : Opener E). o.event) (sym (first_is (open_call event) (found reads (x, None)) [] (open_found later) e));
     front_is = refl;
   }
@@ -141,9 +141,9 @@ module _ {E : Type 0} (reads : Reads E) where
       record {
         before = (x, None) ∷ rest.before;
         call = rest.call;
-        behind = rest.behind;
+        after = rest.after;
         split = ap (λ t. (x, None) ∷ t) rest.split;
-        closed_behind = rest.closed_behind;
+        closed_later = rest.closed_later;
         call_is = rest.call_is;
         front_is = ap (λ t. open_call f ∷ t) rest.front_is
             ∙ ap (λ (o : Opener E). o ∷ open_found rest.before)
@@ -151,7 +151,7 @@ module _ {E : Type 0} (reads : Reads E) where
       }
 
 module _ {E : Type 0} (reads : Reads E) (all_kept : Bool) where
-  -- ---- what a value holds of calls, and of these sides
+  -- ---- what a value holds of calls, and of a list of sides
 
   pub record HoldsCalls (content : Content E) (calls : List (Opener E)) : Type 0 where
     pub unmatched_are : map open_call content.unmatched ≡ with_verdict is_open calls
@@ -163,7 +163,7 @@ module _ {E : Type 0} (reads : Reads E) (all_kept : Bool) where
     pub calls : HoldsCalls content (all_found reads pairs)
     pub strays_are : content.strays ≡ map event_of (strays side pairs)
 
-  -- the calls of a list, and of one behind it
+  -- the calls of one list followed by those of another
   pub holds_both : (first second new : Content E) (front back : List (Opener E)) → HoldsCalls first front → HoldsCalls second back
       → new.unmatched ≡ first.unmatched ++ second.unmatched → new.closed ≡ first.closed ++ second.closed
       → new.answered ≡ sum_64 first.answered second.answered → new.replied ≡ sum_64 first.replied second.replied → HoldsCalls new (front ++ back)
@@ -202,51 +202,51 @@ module _ {E : Type 0} (reads : Reads E) (all_kept : Bool) where
   }
 
   -- the last open call is closed
-  holds_taken : (old : Content E) (front : List E) (before behind : List (Opener E)) (event answer : E)
-      → HoldsCalls old (before ++ open_call event ∷ behind) → map open_call front ≡ with_verdict is_open before → with_verdict is_open behind ≡ []
+  holds_taken : (old : Content E) (front : List E) (before after : List (Opener E)) (event answer : E)
+      → HoldsCalls old (before ++ open_call event ∷ after) → map open_call front ≡ with_verdict is_open before → with_verdict is_open after ≡ []
       → HoldsCalls (taken all_kept (closed_with reads answer (open_call event)) (record old { unmatched = front }))
-      (before ++ closed_with reads answer (open_call event) ∷ behind)
-  holds_taken old front before behind event answer held front_is none =
+      (before ++ closed_with reads answer (open_call event) ∷ after)
+  holds_taken old front before after event answer held front_is none =
       let call : Opener E = closed_with reads answer (open_call event) in
       let closed : is_open call.verdict ≡ false = never_open (bracket_read reads None event) (bracket_read reads None answer) in
       let kept = λ (calls : List (Opener E)). kept_of all_kept (with_verdict is_closed calls) in
       let one = kept_of all_kept (call ∷ []) in
-      let were : kept (before ++ open_call event ∷ behind) ≡ kept before ++ kept behind
-      = ap (kept_of all_kept) (with_among is_closed before behind (open_call event) false refl)
-      ∙ kept-append all_kept (with_verdict is_closed before) (with_verdict is_closed behind) in
-      let are : kept (before ++ call ∷ behind) ≡ kept before ++ (one ++ kept behind)
-      = ap (kept_of all_kept) (with_among is_closed before behind call true (ap not closed))
-      ∙ kept-append all_kept (with_verdict is_closed before) (call ∷ with_verdict is_closed behind)
-      ∙ ap (λ (l : List (Opener E)). kept before ++ l) (kept-append all_kept (call ∷ []) (with_verdict is_closed behind)) in
-      let old_closed : IsPermutation (kept before ++ kept behind) old.closed
+      let were : kept (before ++ open_call event ∷ after) ≡ kept before ++ kept after
+      = ap (kept_of all_kept) (with_among is_closed before after (open_call event) false refl)
+      ∙ kept-append all_kept (with_verdict is_closed before) (with_verdict is_closed after) in
+      let are : kept (before ++ call ∷ after) ≡ kept before ++ (one ++ kept after)
+      = ap (kept_of all_kept) (with_among is_closed before after call true (ap not closed))
+      ∙ kept-append all_kept (with_verdict is_closed before) (call ∷ with_verdict is_closed after)
+      ∙ ap (λ (l : List (Opener E)). kept before ++ l) (kept-append all_kept (call ∷ []) (with_verdict is_closed after)) in
+      let old_closed : IsPermutation (kept before ++ kept after) old.closed
       = subst (λ (l : List (Opener E)). IsPermutation l old.closed) were held.closed_are in
-      let last : IsPermutation (kept before ++ (one ++ kept behind)) ((kept before ++ kept behind) ++ one)
-      = subst (IsPermutation (kept before ++ (one ++ kept behind))) (sym (append_assoc (kept before) (kept behind) one))
-      (IsPermutation-append_right (kept before) (one ++ kept behind) (kept behind ++ one) (IsPermutation-append_comm one (kept behind))) in
+      let last : IsPermutation (kept before ++ (one ++ kept after)) ((kept before ++ kept after) ++ one)
+      = subst (IsPermutation (kept before ++ (one ++ kept after))) (sym (append_assoc (kept before) (kept after) one))
+      (IsPermutation-append_right (kept before) (one ++ kept after) (kept after ++ one) (IsPermutation-append_comm one (kept after))) in
       record {
         unmatched_are = front_is ∙ sym (append-nil (with_verdict is_open before))
             ∙ ap (λ (l : List (Opener E)). with_verdict is_open before ++ l) (sym none)
-            ∙ sym (with_among is_open before behind call false closed);
+            ∙ sym (with_among is_open before after call false closed);
         closed_are = subst (λ (l : List (Opener E)). IsPermutation l (old.closed ++ one)) (sym are)
-            (IsPermutation-trans (kept before ++ (one ++ kept behind)) ((kept before ++ kept behind) ++ one) (old.closed ++ one) last
-            (IsPermutation-append_left one (kept before ++ kept behind) old.closed old_closed));
+            (IsPermutation-trans (kept before ++ (one ++ kept after)) ((kept before ++ kept after) ++ one) (old.closed ++ one) last
+            (IsPermutation-append_left one (kept before ++ kept after) old.closed old_closed));
         answered_are =
-            one_counted (is_answered call.verdict) old.answered (how_many is_answered before) (how_many is_answered behind)
-            (held.answered_are ∙ ap (λ (n : ℕ). sum_64 n 0) (how_many_among is_answered before behind (open_call event)))
-            ∙ ap (λ (n : ℕ). sum_64 n 0) (sym (how_many_among is_answered before behind call));
+            one_counted (is_answered call.verdict) old.answered (how_many is_answered before) (how_many is_answered after)
+            (held.answered_are ∙ ap (λ (n : ℕ). sum_64 n 0) (how_many_among is_answered before after (open_call event)))
+            ∙ ap (λ (n : ℕ). sum_64 n 0) (sym (how_many_among is_answered before after call));
         replied_are =
-            one_counted (is_replied call.verdict) old.replied (how_many is_replied before) (how_many is_replied behind)
-            (held.replied_are ∙ ap (λ (n : ℕ). sum_64 n 0) (how_many_among is_replied before behind (open_call event)))
-            ∙ ap (λ (n : ℕ). sum_64 n 0) (sym (how_many_among is_replied before behind call));
+            one_counted (is_replied call.verdict) old.replied (how_many is_replied before) (how_many is_replied after)
+            (held.replied_are ∙ ap (λ (n : ℕ). sum_64 n 0) (how_many_among is_replied before after (open_call event)))
+            ∙ ap (λ (n : ℕ). sum_64 n 0) (sym (how_many_among is_replied before after call));
       }
 
-  -- the same of other sides with the same openers
+  -- the same openers give the same calls
   pub holds_same : (content : Content E) (items others : List ((E × Side) × Option (E × Side))) → items ≡ others
       → HoldsCalls content (map (found reads) items) → HoldsCalls content (map (found reads) others)
   holds_same content items others same held =
       subst (λ (l : List ((E × Side) × Option (E × Side))). HoldsCalls content (map (found reads) l)) same held
 
-  -- the same lists and numbers
+  -- a value with the same lists and numbers
   pub models_same : (old new : Content E) (pairs : List (E × Side)) → new.unmatched ≡ old.unmatched → new.closed ≡ old.closed
       → new.answered ≡ old.answered → new.replied ≡ old.replied → new.strays ≡ old.strays → Models old pairs → Models new pairs
   models_same old new pairs a b c d e models = record {
@@ -300,19 +300,19 @@ module _ {E : Type 0} (reads : Reads E) (all_kept : Bool) where
       let open_last = last_open reads (openers side pairs) front call (sym (ap (map open_call) last) ∙ models.calls.unmatched_are) in
       let before = open_last.before in
       let x = open_last.call in
-      let behind = open_last.behind in
-      let step = model.closes_last side pairs (event, closer) before x behind refl open_last.split open_last.closed_behind in
-      let were : all_found reads pairs ≡ map (found reads) before ++ open_call call ∷ map (found reads) behind
-      = ap (map (found reads)) open_last.split ∙ map-append (found reads) before ((x, None) ∷ behind)
-      ∙ ap (λ (e : E). map (found reads) before ++ open_call e ∷ map (found reads) behind) open_last.call_is in
-      let are : map (found reads) before ++ closed_with reads event (open_call call) ∷ map (found reads) behind ≡ all_found reads (pairs ++ (event, closer) ∷ [])
-      = ap (λ (e : E). map (found reads) before ++ closed_with reads event (open_call e) ∷ map (found reads) behind) (sym open_last.call_is)
-      ∙ sym (map-append (found reads) before ((x, Some (event, closer)) ∷ behind))
+      let after = open_last.after in
+      let step = model.closes_last side pairs (event, closer) before x after refl open_last.split open_last.closed_later in
+      let were : all_found reads pairs ≡ map (found reads) before ++ open_call call ∷ map (found reads) after
+      = ap (map (found reads)) open_last.split ∙ map-append (found reads) before ((x, None) ∷ after)
+      ∙ ap (λ (e : E). map (found reads) before ++ open_call e ∷ map (found reads) after) open_last.call_is in
+      let are : map (found reads) before ++ closed_with reads event (open_call call) ∷ map (found reads) after ≡ all_found reads (pairs ++ (event, closer) ∷ [])
+      = ap (λ (e : E). map (found reads) before ++ closed_with reads event (open_call e) ∷ map (found reads) after) (sym open_last.call_is)
+      ∙ sym (map-append (found reads) before ((x, Some (event, closer)) ∷ after))
       ∙ ap (map (found reads)) (sym step.0) in
       subst (λ (c : Content E). Models c (pairs ++ (event, closer) ∷ [])) (sym is) (record {
         calls = subst (HoldsCalls (taken all_kept (closed_with reads event (open_call call)) (record old { unmatched = front }))) are
-            (holds_taken old front (map (found reads) before) (map (found reads) behind) call event
-            (subst (HoldsCalls old) were models.calls) open_last.front_is (none_open reads behind open_last.closed_behind));
+            (holds_taken old front (map (found reads) before) (map (found reads) after) call event
+            (subst (HoldsCalls old) were models.calls) open_last.front_is (none_open reads after open_last.closed_later));
         strays_are = models.strays_are ∙ ap (map event_of) (sym step.1);
       })
 
@@ -324,7 +324,7 @@ module _ {E : Type 0} (reads : Reads E) (all_kept : Bool) where
       subst (λ (l : List (E × Side)). Models new l) (append_assoc pairs ((e, closer) ∷ []) (as_closers events))
       (closes_all_models step.0 new (pairs ++ (e, closer) ∷ []) events (closes_models old step.0 pairs e models step.1) step.2)
 
-  -- an event that is this bracket
+  -- an event with this bracket
   pub enters_models : (bracket : Bracket) (event : E) (old new : Content E) (pairs : List (E × Side)) → Models old pairs → Enters reads all_kept bracket event old new
       → Models new (pairs ++ (event, side_of bracket) ∷ [])
   enters_models Call event old new pairs models is =

@@ -2,7 +2,7 @@
 
 ghost use Rattle.std.specs.Prelude.{◌≡◌, ◌++◌, map, IfOk, OnOk};
 ghost use Rattle.std.specs.List.Sorted.{IsPermutation, IsNonDecreasingBy};
-ghost use Rattle.summary_law.specs.Fits.{IsPlaced, placed_parts};
+ghost use Rattle.summary_law.specs.Fits.{IsPlaced, placed_halves};
 ghost use Rattle.call_stacks.specs.Calls.{CallsSum, GivesFindings, open_call, opener_place};
 ghost use Rattle.call_stacks.specs.Content.{content_of, begun, counted, taken, refused_too, appended};
 ghost use Rattle.call_stacks.specs.Content.{Enters, Closes, ClosesAll};
@@ -15,18 +15,20 @@ use event_core::{Bracket, Event, Mark};
 use std::alloc::{AllocError, Global};
 use summary_law::Summary;
 
-/// The calls of one thread, over its events in rising place. A part of a thread's events can begin
-/// with an error reply that belongs to what stands before the part: it stays undecided until that
-/// is joined in front.
+/// The calls of one thread, by its events in rising place. The caller feeds it events of one thread
+/// only: no process and no thread is looked at here.
+/// The value may sum a piece of the thread's events. If the first mark of the piece is an error
+/// reply, what it is depends on the mark before the piece. So it stays undecided until the value of
+/// the earlier piece is joined with this one.
 #[derive(Drop)]
 pub struct Calls<E> {
     /// The mark of the latest event that left one.
     last: Option<Mark>,
-    /// The first event that left a mark, where that is an error reply.
+    /// The first event that left a mark, if that is an error reply.
     undecided: Option<E>,
-    /// The calls that nothing closes so far, in rising place.
+    /// The calls that nothing has closed so far, in rising place.
     unmatched: Vec<E>,
-    /// The closed calls, as they were closed: all of them, or those that lack their reply.
+    /// The closed calls, in any order: all of them, or only those that lack their reply.
     closed: Vec<Opener<E>>,
     /// How many calls are answered.
     answered: u64,
@@ -39,7 +41,8 @@ pub struct Calls<E> {
 }
 
 impl<E: CallRecord> Calls<E> {
-    /// The calls of the whole thread. An error reply that is still undecided closes nothing.
+    /// The calls of a whole thread. An error reply that is still undecided closes nothing: it is a
+    /// stray. Takes at most a step for each stray, and sorts the calls that it gives.
     pub fn finish(self) -> Result<CallFindings<E>, AllocError>
         ensures { IfOk result (GivesFindings E.reads E.all_kept self) }
     {
@@ -67,7 +70,7 @@ impl<E: CallRecord> Calls<E> {
         })
     }
 
-    /// Takes in an event that is this bracket.
+    /// Takes in an event with its bracket.
     fn enter(&mut self, event: E, bracket: Bracket) -> Result<(), AllocError>
         ensures { OnOk result
             (Enters E.reads E.all_kept bracket event (content_of self.old) (content_of self.new)) }
@@ -80,7 +83,7 @@ impl<E: CallRecord> Calls<E> {
         }
     }
 
-    /// A call begins.
+    /// Opens a call.
     fn begin(&mut self, event: E) -> Result<(), AllocError>
         ensures { OnOk result (content_of self.new ≡ begun event (content_of self.old)) }
     {
@@ -88,7 +91,7 @@ impl<E: CallRecord> Calls<E> {
         Ok(())
     }
 
-    /// A send is refused: the latest one.
+    /// Notes that the driver refused the latest send.
     fn refuse(&mut self, event: E) -> Result<(), AllocError>
         ensures { OnOk result
             (content_of self.new ≡ refused_too event (content_of self.old)) }
@@ -98,7 +101,7 @@ impl<E: CallRecord> Calls<E> {
         Ok(())
     }
 
-    /// Closes the innermost call that is open, if there is one.
+    /// Closes the innermost call that is open. If none is open, the closer is a stray.
     fn close(&mut self, closer: E) -> Result<(), AllocError>
         ensures { OnOk result
             (Closes E.reads E.all_kept (content_of self.old) closer (content_of self.new)) }
@@ -110,7 +113,8 @@ impl<E: CallRecord> Calls<E> {
         Ok(())
     }
 
-    /// Takes in a closed call. One that has its reply is only counted, if not all are kept.
+    /// Takes in a closed call. A call that has its reply is only counted, unless all calls are
+    /// kept.
     fn take(&mut self, call: Opener<E>) -> Result<(), AllocError>
         ensures { OnOk result
             (content_of self.new ≡ taken E.all_kept call (content_of self.old)) }
@@ -122,8 +126,8 @@ impl<E: CallRecord> Calls<E> {
         Ok(())
     }
 
-    /// Counts a call of this verdict. The numbers never get to 2^64, as there are not so many
-    /// events; that is known to the caller alone, so they are sums that stop there.
+    /// Counts a call with this verdict. There are too few events for a number to reach 2^64, but
+    /// only the caller knows that. So the sums here saturate.
     fn count(&mut self, verdict: Verdict)
         ensures { content_of self.new ≡ counted verdict (content_of self.old) }
     {
@@ -134,7 +138,7 @@ impl<E: CallRecord> Calls<E> {
         }
     }
 
-    /// Each of the closers closes the innermost call that is then open.
+    /// Each of the closers in turn closes the innermost call that is open then.
     fn close_all(&mut self, closers: &[E]) -> Result<(), AllocError>
         ensures { OnOk result
             (ClosesAll E.reads E.all_kept (content_of self.old) closers.now (content_of self.new)) }
@@ -145,7 +149,7 @@ impl<E: CallRecord> Calls<E> {
         Ok(())
     }
 
-    /// Takes over what a later part has, but for its strays and what is undecided there.
+    /// Appends what a later piece has, except its strays and its undecided error reply.
     fn append(&mut self, later: Calls<E>) -> Result<(), AllocError>
         ensures { OnOk result
             (content_of self.new ≡ appended (content_of later) (content_of self.old)) }
@@ -187,12 +191,12 @@ fn in_order<E: CallRecord>(
     Ok(openers)
 }
 
-/// The calls of one thread, where the events themselves are kept, and all calls.
+/// The calls of one thread over whole events. All calls are kept.
 pub type ThreadCalls<'c> = Calls<Event<'c>>;
 
 /// An `add` takes constant time, amortized. A `join` takes a step for each entry of the later
-/// value's lists, and walks through nothing of the earlier one beyond the calls that it closes. A
-/// thread without calls takes no heap.
+/// value's lists. Of the earlier value it touches only the calls that it closes. A thread without
+/// calls takes no heap.
 impl<E: CallRecord> Summary for Calls<E> {
     type Item = E;
 
@@ -234,5 +238,5 @@ impl<E: CallRecord> Summary for Calls<E> {
         Ok(joined)
     }
 
-    ghost fits_parts = { placed_parts E.reads.place };
+    ghost fits_halves = { placed_halves E.reads.place };
 }

@@ -1,21 +1,23 @@
-//! What the calls of a thread come to.
+//! What is found of a thread: its calls, its strays and its refused sends.
 
 use crate::opener::Opener;
 
-/// An error reply that refuses what its thread sent last.
+/// A oneway transaction or a reply that the thread sent and the driver answered with an error
+/// reply.
 #[derive(Clone, Copy)]
 pub struct RefusedSend<E> {
     /// The error reply.
     pub event: E,
-    /// Whether it refuses a oneway transaction; else it refuses a reply.
+    /// Whether the send was a oneway transaction; otherwise it was a reply.
     pub oneway: bool,
 }
 
-/// The calls of a thread by its events, each list in rising place.
+/// What is found of a thread. Each list is in rising place.
 #[derive(Drop)]
 pub struct CallFindings<E> {
-    /// The calls that the thread made or got to serve, with their verdicts: all of them where the
-    /// form of the events keeps all (`CallRecord::keeps_all`), or else those that lack their reply.
+    /// The calls that the thread made or got to serve, with their verdicts. These are all calls if
+    /// the form of the events keeps all (`CallRecord::keeps_all`), otherwise only those that lack
+    /// their reply.
     pub openers: Vec<Opener<E>>,
     /// How many of the calls that it made are answered, kept or not.
     pub answered: u64,
@@ -23,6 +25,6 @@ pub struct CallFindings<E> {
     pub replied: u64,
     /// The replies and error replies that close no call.
     pub strays: Vec<E>,
-    /// The error replies that refuse a send.
+    /// The refused sends, each with its error reply.
     pub refused: Vec<RefusedSend<E>>,
 }

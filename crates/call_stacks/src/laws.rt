@@ -3,7 +3,7 @@
 ghost use Rattle.std.specs.Prelude.{◌≡◌, ℕ, List};
 ghost use Rattle.summary_law.specs.Fits.{PlacesRise};
 ghost use Rattle.summary_law.specs.Ranked.{ListsInOrder};
-ghost use Rattle.call_stacks.specs.Calls.{Reads, judged_of, opener_place, openers_of, strays_in};
+ghost use Rattle.call_stacks.specs.Calls.{Reads, bracketed_of, opener_place, openers_of, strays_in};
 ghost use Rattle.call_stacks.specs.Matched.{IsOpener, IsStrayEvent};
 ghost use Rattle.call_stacks.specs.Matching.{Side, Match, JoinedMatches};
 
@@ -15,19 +15,21 @@ pub fn one_match()
         Match sides i k → Match sides j k → i ≡ j }
 {}
 
-/// The matches of a list followed by another: those of the first, those of the second, and the
-/// unmatched openers of the first, from its end, with the unmatched closers of the second.
+/// The matches in two lists joined are those of the first list, those of the second, and those
+/// across both. Across both, the unmatched openers of the first list, from its end, match the
+/// unmatched closers of the second, from its beginning.
 pub fn joined_match()
     ensures { (first second : List Side) → JoinedMatches first second }
 {}
 
-/// The closer that is found of an opener by counting open calls is the one that matches it, and the
-/// unmatched closers are those that match no opener.
+/// The definitions find a closer by counting the calls that are open. In events whose places rise
+/// it is the closer that matches the opener, and the strays are the closers that match no opener.
+/// The lists have each opener and each stray, and nothing else, in rising place.
 pub fn found_calls<E>()
     ensures openers { (reads : Reads E) (events : List E) → PlacesRise reads.place events →
-        ListsInOrder (opener_place reads) (IsOpener reads (judged_of reads events))
+        ListsInOrder (opener_place reads) (IsOpener reads (bracketed_of reads events))
         (openers_of reads events) }
     ensures strays { (reads : Reads E) (events : List E) → PlacesRise reads.place events →
-        ListsInOrder reads.place (IsStrayEvent (judged_of reads events))
-        (strays_in (judged_of reads events)) }
+        ListsInOrder reads.place (IsStrayEvent (bracketed_of reads events))
+        (strays_in (bracketed_of reads events)) }
 {}

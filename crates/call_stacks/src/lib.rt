@@ -1,4 +1,4 @@
-//! The calls of a thread: which of them got a reply, by brackets that match.
+//! The calls of a thread, matched as brackets are: which of them got a reply.
 #![tactic(auto)]
 
 mod call_record;

@@ -1,4 +1,4 @@
-//! A call with what became of it.
+//! A call, and what became of it.
 
 ghost use Rattle.std.specs.Prelude.{◌≡◌};
 ghost use Rattle.call_stacks.specs.Calls.{open_call};
@@ -14,12 +14,12 @@ pub struct Opener<E> {
     pub event: E,
     /// What became of it.
     pub verdict: Verdict,
-    /// The place of the record that closes it; None where nothing does.
+    /// The place of the record that closes it; None if nothing does.
     pub closer: Option<u64>,
 }
 
 impl<E: CallRecord> Opener<E> {
-    /// A call that nothing closes so far.
+    /// A call that nothing has closed so far.
     pub(crate) fn new(event: E) -> Self
         ensures { result ≡ open_call event }
     {
@@ -30,7 +30,7 @@ impl<E: CallRecord> Opener<E> {
         }
     }
 
-    /// The call with what closes it.
+    /// The call with its verdict and its closer's place, once this event closes it.
     pub(crate) fn closed_with(self, closer: E) -> Self
         ensures { result ≡ closed_with E.reads closer self }
     {

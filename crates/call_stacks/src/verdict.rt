@@ -10,19 +10,19 @@ use event_core::Bracket;
 pub enum Verdict {
     /// The thread got a reply to the call that it made.
     Answered,
-    /// The thread got an error in place of a reply.
+    /// The thread got an error reply in place of a reply to the call that it made.
     Failed,
     /// The thread sent a reply to the call that it served.
     Replied,
-    /// What closes it is not an answer to it: a reply sent where one was to come, or a reply or
-    /// an error got where one was to be sent.
+    /// What closes it can't be its answer: the thread sent a reply where it waited for one, or it
+    /// got a reply or an error reply where it was to send one.
     Crossed,
     /// Nothing closes it.
     Open,
 }
 
 impl Verdict {
-    /// Whether its reply closes the call.
+    /// Whether the call has its reply.
     pub(crate) fn has_reply(self) -> bool
         ensures { result ≡ has_reply self }
     {

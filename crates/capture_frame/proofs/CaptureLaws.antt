@@ -1,5 +1,5 @@
--- What holds of captures under every format of frames that are judged in one way: a capture is read in one way, or
--- has one first fault, and never both.
+-- What holds of captures under every format of frames that is decided: a capture is read in one way, or has one first
+-- fault, and never both.
 use Rattle.std.proofs.Common.{◌≡◌, ℕ, ◌+◌, ◌⊎◌, inl, inr, List, ◌++◌, drop, Option, None, refl, sym, ap, subst, ◌∙◌}
 use Rattle.capture_frame.specs.declared.fault.Fault.{Fault}
 use Rattle.capture_frame.specs.declared.fault.FaultKind.{FaultKind}
@@ -14,31 +14,31 @@ use Rattle.capture_frame.proofs.UnitLaws.{IsDecided, Outcome, read, failed, outc
 use Rattle.capture_frame.proofs.UnitLaws as units
 use Rattle.capture_frame.proofs.HeaderLaws.{header_judged, header_one_failure, header_never_both, header_one}
 
-behind_header : {U : Type 0} (format : Format Before U FaultKind) (last : Option ℕ) (version : Version) (part bytes : List ℕ)
+after_header : {U : Type 0} (format : Format Before U FaultKind) (last : Option ℕ) (version : Version) (part bytes : List ℕ)
     → part ≡ file_header version ++ bytes → Outcome format (in_version version last) bytes
     → ((frames : List U) × IsPart format last part frames) ⊎ ((fault : Fault) × IsFirstFaultIn format last part fault)
-behind_header format last version part bytes parts (read frames reads) = inl (frames, (version, bytes, parts, reads))
-behind_header format last version part bytes parts (failed kind place failure) =
+after_header format last version part bytes parts (read frames reads) = inl (frames, (version, bytes, parts, reads))
+after_header format last version part bytes parts (failed kind place failure) =
     let fault : Fault = record { kind = kind; place = 16 + place } in
     inr (fault, in_frames version bytes place parts failure refl)
 
--- a part is read, or has a first fault
+-- a part is frames, or has a first fault
 pub part_outcome : {U : Type 0} (format : Format Before U FaultKind) (decided : IsDecided format) (last : Option ℕ) (part : List ℕ) → IsBytes part
     → ((frames : List U) × IsPart format last part frames) ⊎ ((fault : Fault) × IsFirstFaultIn format last part fault)
 part_outcome format decided last part h = elim (header_judged part h) [
-  | inl good ↦ behind_header format last good.0 part (drop 16 part) good.1
+  | inl good ↦ after_header format last good.0 part (drop 16 part) good.1
       (outcome format decided (in_version good.0 last) (drop 16 part) (IsBytes-drop 16 part h))
   | inr bad ↦ (let fault : Fault = record { kind = bad.0; place = bad.1 } in inr (fault, in_header bad.2))
 ]
 
--- what is said of the bytes behind a part's file header is said of those behind it in any reading of the part
-behind_any : (P : Before → List ℕ → Type 0) (last : Option ℕ) (part : List ℕ) (version other : Version) (bytes others : List ℕ)
+-- what holds of the bytes after a part's file header, in one reading of the part, holds in any other
+after_any : (P : Before → List ℕ → Type 0) (last : Option ℕ) (part : List ℕ) (version other : Version) (bytes others : List ℕ)
     → part ≡ file_header version ++ bytes → part ≡ file_header other ++ others → P (in_version other last) others → P (in_version version last) bytes
-behind_any P last part version other bytes others parts parts_too said =
+after_any P last part version other bytes others parts parts_too said =
     let same = header_one other version others bytes (sym parts_too ∙ parts) in
     subst (λ (v : Version). P (in_version v last) bytes) same.0 (subst (λ (t : List ℕ). P (in_version other last) t) same.1 said)
 
--- one first fault
+-- a part has one first fault
 pub part_one_fault : {U : Type 0} (format : Format Before U FaultKind) (decided : IsDecided format) (last : Option ℕ) (part : List ℕ) (a b : Fault)
     → IsFirstFaultIn format last part a → IsFirstFaultIn format last part b → a ≡ b
 part_one_fault format decided last part a b (in_header x) (in_header y) =
@@ -49,26 +49,26 @@ part_one_fault format decided last part a b (in_frames version bytes place parts
     absurd (header_never_both version bytes b.kind b.place (subst (λ (t : List ℕ). HeaderFails t b.kind b.place) parts y))
 part_one_fault format decided last part a b (in_frames version bytes place parts failure at) (in_frames other others there parts_too failure_too at_too) =
     let same = units.one_failure format decided (in_version version last) bytes a.kind b.kind place there failure
-    (behind_any (λ (s : Before) (t : List ℕ). FirstFailure format s t b.kind there) last part version other bytes others parts parts_too failure_too) in
+    (after_any (λ (s : Before) (t : List ℕ). FirstFailure format s t b.kind there) last part version other bytes others parts parts_too failure_too) in
     same_fault a b same.0 (at ∙ ap (λ (n : ℕ). 16 + n) same.1 ∙ sym at_too)
 
--- never both
+-- a part that is frames has no fault
 pub part_never_both : {U : Type 0} (format : Format Before U FaultKind) (decided : IsDecided format) (last : Option ℕ) (part : List ℕ) (frames : List U)
     (fault : Fault) → IsPart format last part frames → IsFirstFaultIn format last part fault → ⊥
 part_never_both format decided last part frames fault (version, bytes, parts, reads) (in_header x) =
     header_never_both version bytes fault.kind fault.place (subst (λ (t : List ℕ). HeaderFails t fault.kind fault.place) parts x)
 part_never_both format decided last part frames fault (version, bytes, parts, reads) (in_frames other others place parts_too failure at) =
-    let there = behind_any (λ (s : Before) (t : List ℕ). FirstFailure format s t fault.kind place) last part version other bytes others parts parts_too failure in
+    let there = after_any (λ (s : Before) (t : List ℕ). FirstFailure format s t fault.kind place) last part version other bytes others parts parts_too failure in
     units.never_both format decided (in_version version last) bytes frames there.before there.rest fault.kind there.within reads there.splits there.fails
 
--- one reading
+-- a part is frames in one way
 pub part_one_reading : {U : Type 0} (format : Format Before U FaultKind) (decided : IsDecided format) (last : Option ℕ) (part : List ℕ) (us vs : List U)
     → IsPart format last part us → IsPart format last part vs → us ≡ vs
 part_one_reading format decided last part us vs (version, bytes, parts, reads) (other, others, parts_too, reads_too) =
     units.one_reading format decided (in_version version last) bytes us vs reads
-    (behind_any (λ (s : Before) (t : List ℕ). Reads format s t vs) last part version other bytes others parts parts_too reads_too)
+    (after_any (λ (s : Before) (t : List ℕ). Reads format s t vs) last part version other bytes others parts parts_too reads_too)
 
--- ---- a capture is a part behind no frame
+-- ---- a capture is a part with no frame before it
 
 pub capture_outcome : {U : Type 0} (format : Format Before U FaultKind) (decided : IsDecided format) (capture : List ℕ) → IsBytes capture
     → ((frames : List U) × IsCapture format capture frames) ⊎ ((fault : Fault) × IsFirstFault format capture fault)

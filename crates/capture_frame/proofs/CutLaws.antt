@@ -12,16 +12,16 @@ use Rattle.capture_frame.specs.Units.{placed_at, placed}
 use Rattle.capture_frame.specs.Envelope.{PlacedFrame, FrameText, MayCome, Before, in_version, file_header, frame_text, frame_bytes}
 use Rattle.capture_frame.specs.Parts.{last_after}
 use Rattle.capture_frame.specs.FirstFault.{HeaderFails, frame_format, in_header, in_frames}
-use Rattle.capture_frame.specs.Reading.{Reading, behind_header, frame_source, frames_after, Steps}
+use Rattle.capture_frame.specs.Reading.{Reading, after_header, frame_source, frames_after, Steps}
 use Rattle.capture_frame.specs.Cut.{AreAdded, IsPushed, IsPushedBefore, kept}
-use Rattle.capture_frame.specs.FrameList.{AreKept, HasFrameAt, StandInRow, bodies, frame_here, frames_at}
+use Rattle.capture_frame.specs.FrameList.{AreKept, HasFrameAt, AreInRow, bodies, frame_at_start, frames_at}
 use Rattle.capture_frame.specs.declared.frame_list.PartBytes.{PartBytes}
 use Rattle.capture_frame.proofs.HeaderLaws.{length-file_header}
 use Rattle.capture_frame.proofs.FrameListLaws.{all_there, bodies-push, frames_stay, has_still, read_back, row-push, starts_of}
 use Rattle.capture_frame.proofs.UnitLaws.{state_after-snoc}
 use Rattle.capture_frame.proofs.FrameLaws.{frames_decided}
 use Rattle.capture_frame.proofs.PartLaws.{IsWide}
-use Rattle.capture_frame.proofs.ReaderLaws.{HasGiven, stands_at_start, stands_behind_next, steps_from, units_end}
+use Rattle.capture_frame.proofs.ReaderLaws.{HasGiven, is_at_start, has_given_next, steps_from, units_end}
 use Rattle.capture_frame.proofs.ReaderLaws as readers
 
 pub placed-snoc : {U : Type 0} (spelling : U → List ℕ) (place : ℕ) (units : List U) (unit : U)
@@ -34,24 +34,24 @@ placed-snoc spelling place (u ∷ units) unit =
     ap (λ (l : List _). placed_at place u ∷ l) (placed-snoc spelling (place + length (spelling u)) units unit
     ∙ ap (λ (n : ℕ). placed spelling (place + length (spelling u)) units ++ placed_at n unit ∷ []) far)
 
-two_stands : (version : Version) (last : Option ℕ) (frame : FrameText) → MayCome (in_version version last) frame → MayCome (in_version Two last) frame
-two_stands version last frame stands = record { fits = stands.fits; above = stands.above; device = tt }
+two_may_come : (version : Version) (last : Option ℕ) (frame : FrameText) → MayCome (in_version version last) frame → MayCome (in_version Two last) frame
+two_may_come version last frame is_at = record { fits = is_at.fits; above = is_at.above; device = tt }
 
--- a version 1 frame may stand in version 2
+-- a frame that may come in version 1 may come in version 2
 pub frames_wide : IsWide frame_format
-frames_wide = record { after_in = λ version last frame. refl; stands_in_two = two_stands }
+frames_wide = record { after_in = λ version last frame. refl; two_is_at = two_may_come }
 
--- the reader of a part with a good file header stands behind these frames
+-- the reader of a part with a good file header has passed these frames
 pub record HasCut (part : List ℕ) (base : ℕ) (before : Option ℕ) (reader : Reading) (texts : List FrameText) : Type 0 where
   pub version : Version
   pub header : take 16 part ≡ file_header version
-  pub stands : HasGiven frame_source frame_format (behind_header part base) (in_version version before) reader texts
+  pub is_at : HasGiven frame_source frame_format (after_header part base) (in_version version before) reader texts
 
 -- where the frames of a part begin
 abbrev pub starts_in : ℕ → List FrameText → List ℕ
 starts_in base texts = starts_of (placed frame_bytes (base + 16) texts)
 
--- the places of the frames so far come behind the old ones; and the last sequence among them
+-- the places of the frames so far follow the old ones, and `last` is the last sequence so far
 pub record HasPushed (part : List ℕ) (base : ℕ) (before last : Option ℕ) (reader : Reading) (old new : List ℕ) : Type 0 where
   pub texts : List FrameText
   pub added : new ≡ old ++ starts_in base texts
@@ -67,22 +67,22 @@ pushed_start part base before reader old (version, header, is) = record {
   cut = record {
     version = version;
     header = header;
-    stands = stands_at_start frame_source frame_format (behind_header part base) (in_version version before) reader is;
+    is_at = is_at_start frame_source frame_format (after_header part base) (in_version version before) reader is;
   };
   last_is = refl;
 }
 
--- behind one frame more
+-- one frame more
 pub pushed_next : (part : List ℕ) (base : ℕ) (before last : Option ℕ) (reader : Reading) (old places : List ℕ) (found : Frame) (new : Reading)
     → HasPushed part base before last reader old places → Steps reader (Ok (Some found)) new
     → HasPushed part base before (Some found.sequence) new old (places ++ found.place ∷ [])
 pushed_next part base before last reader old places found new has steps =
-    let text = behind_header part base in
+    let text = after_header part base in
     let state = in_version has.cut.version before in
     let done = has.texts in
-    let stands = has.cut.stands in
-    let s = steps_from frame_source frame_format text state reader done stands (Ok (Some found)) new steps in
-    let place : found.place ≡ base + 16 + length (flat_map frame_bytes done) = s.0.view.place_is ∙ ap (λ (n : ℕ). base + 16 + n) stands.walks.length_is in
+    let is_at = has.cut.is_at in
+    let s = steps_from frame_source frame_format text state reader done is_at (Ok (Some found)) new steps in
+    let place : found.place ≡ base + 16 + length (flat_map frame_bytes done) = s.0.view.place_is ∙ ap (λ (n : ℕ). base + 16 + n) is_at.walks.length_is in
     let starts : starts_in base (done ++ frame_text found ∷ []) ≡ starts_in base done ++ found.place ∷ []
     = ap starts_of (placed-snoc frame_bytes (base + 16) done (frame_text found))
     ∙ map-append (λ (f : PlacedFrame). f.place) (placed frame_bytes (base + 16) done)
@@ -96,7 +96,7 @@ pushed_next part base before last reader old places found new has steps =
       cut = record {
         version = has.cut.version;
         header = has.cut.header;
-        stands = stands_behind_next frame_source frame_format text state reader done stands found new (frame_text found) steps s.0.may_stand refl refl;
+        is_at = has_given_next frame_source frame_format text state reader done is_at found new (frame_text found) steps s.0.may_come refl refl;
       };
       last_is = sym (ap (λ (s : Before). s.last) (state_after-snoc frame_format (in_version Two before) done (frame_text found)));
     }
@@ -104,19 +104,19 @@ pushed_next part base before last reader old places found new has steps =
 whole_part : (version : Version) (part : List ℕ) → take 16 part ≡ file_header version → part ≡ file_header version ++ drop 16 part
 whole_part version part header = sym (take-append-drop 16 part) ∙ ap (λ (t : List ℕ). t ++ drop 16 part) header
 
--- a part with a file header is as long as that at least
+-- a part with a file header is at least as long as the header
 pub header_long : (version : Version) (part : List ℕ) → take 16 part ≡ file_header version → 16 ≤ length part
 header_long version part header =
     let taken = ap length header ∙ length-file_header version in
     omega (arith, taken, length-take 16 part)
 
--- the frames so far, behind those of the parts before
+-- the frames so far, after those of the parts before
 module _ (part : List ℕ) (base : ℕ) (before last : Option ℕ) (reader : Reading) (row new_row : List PartBytes) (body : PartBytes)
     (old places : List ℕ) (has : HasPushed part base before last reader old places) (are : AreKept row old)
     (row_is : new_row ≡ row ++ body ∷ []) (start : body.start ≡ base + 16) (body_is : body.bytes.now ≡ drop 16 part)
     (base_is : base ≡ length (bodies row)) (fits : base + length part < 2 ^ 64) where
-  walked : body.bytes.now ≡ flat_map frame_bytes has.texts ++ drop has.cut.stands.offset (drop 16 part)
-  walked = body_is ∙ has.cut.stands.walks.splits.joined
+  walked : body.bytes.now ≡ flat_map frame_bytes has.texts ++ drop has.cut.is_at.offset (drop 16 part)
+  walked = body_is ∙ has.cut.is_at.walks.splits.joined
 
   pub longer : length (bodies new_row) ≡ length (bodies row) + (length part - 16)
   longer =
@@ -130,7 +130,7 @@ module _ (part : List ℕ) (base : ℕ) (before last : Option ℕ) (reader : Rea
       (All-append (HasFrameAt (row ++ body ∷ [])) old (starts_in base has.texts)
       (All-weaker (HasFrameAt row) (HasFrameAt (row ++ body ∷ [])) (λ at h. has_still row body at h) old are.frames)
       (all_there (row ++ body ∷ []) body (length row + 0, omega (arith, length-append row (body ∷ [])), get_or-append-add row (body ∷ []) 0 body) [] has.texts
-      (drop has.cut.stands.offset (drop 16 part)) walked has.cut.version before has.cut.stands.walks.splits.stand (base + 16) (omega (arith, start))))
+      (drop has.cut.is_at.offset (drop 16 part)) walked has.cut.version before has.cut.is_at.walks.splits.in_order (base + 16) (omega (arith, start))))
 
   pub are_added : AreAdded (kept row old) (kept new_row places) has.texts
   are_added =
@@ -138,17 +138,17 @@ module _ (part : List ℕ) (base : ℕ) (before last : Option ℕ) (reader : Rea
       let place : base + 16 ≡ 16 + length (bodies row) = omega (arith, base_is) in
       let more : frames_at (bodies (row ++ body ∷ [])) (starts_in base has.texts) ≡ placed frame_bytes (base + 16) has.texts
       = ap (λ (l : List ℕ). frames_at l (starts_in base has.texts)) (bodies-push row body ∙ ap (λ (l : List ℕ). bodies row ++ l) walked)
-      ∙ read_back (bodies row) has.texts (drop has.cut.stands.offset (drop 16 part)) has.cut.version before has.cut.stands.walks.splits.stand (base + 16) place in
+      ∙ read_back (bodies row) has.texts (drop has.cut.is_at.offset (drop 16 part)) has.cut.version before has.cut.is_at.walks.splits.in_order (base + 16) place in
       record {
         are_kept = record {
-          in_row = subst (StandInRow 16) (sym row_is) (row-push 16 row body are.in_row (omega (arith, start, base_is)));
+          in_row = subst (AreInRow 16) (sym row_is) (row-push 16 row body are.in_row (omega (arith, start, base_is)));
           fits = omega (arith, longer, long, fits, base_is);
           frames = subst (λ (l : List PartBytes). All (HasFrameAt l) places) (sym row_is) there;
         };
         added =
             ap (λ (l : List PartBytes). frames_at (bodies l) places) row_is
             ∙ ap (frames_at (bodies (row ++ body ∷ []))) has.added
-            ∙ map-append (λ (at : ℕ). placed_at at (frame_here (drop (at - 16) (bodies (row ++ body ∷ []))))) old (starts_in base has.texts)
+            ∙ map-append (λ (at : ℕ). placed_at at (frame_at_start (drop (at - 16) (bodies (row ++ body ∷ []))))) old (starts_in base has.texts)
             ∙ ap₂ (λ (x y : List PlacedFrame). x ++ y) (frames_stay row old body are)
             (more ∙ ap (λ (n : ℕ). placed frame_bytes n has.texts) place);
       }
@@ -161,7 +161,7 @@ module _ (part : List ℕ) (base : ℕ) (before last : Option ℕ) (reader : Rea
       has.cut.version,
       drop 16 part,
       whole_part has.cut.version part has.cut.header,
-      units_end frame_source frame_format (behind_header part base) (in_version has.cut.version before) reader has.texts has.cut.stands next steps,
+      units_end frame_source frame_format (after_header part base) (in_version has.cut.version before) reader has.texts has.cut.is_at next steps,
     );
     are_added = are_added;
     longer = longer;
@@ -172,27 +172,27 @@ module _ (part : List ℕ) (base : ℕ) (before last : Option ℕ) (reader : Rea
   pub pushed_fails : (fault : Fault) (next : Reading) → Steps reader (Err fault) next → (base ≤ fault.place)
       × IsPushedBefore part before (kept row old) (kept new_row places) (record { kind = fault.kind; place = fault.place - base })
   pushed_fails fault next steps =
-      let text = behind_header part base in
-      let stands = has.cut.stands in
-      let s = steps_from frame_source frame_format text (in_version has.cut.version before) reader has.texts stands (Err fault) next steps in
+      let text = after_header part base in
+      let is_at = has.cut.is_at in
+      let s = steps_from frame_source frame_format text (in_version has.cut.version before) reader has.texts is_at (Err fault) next steps in
       let place = s.1 in (
         omega (arith, place),
         record {
-          first = in_frames has.cut.version text.unit (stands.offset + 0) (whole_part has.cut.version part has.cut.header)
+          first = in_frames has.cut.version text.unit (is_at.offset + 0) (whole_part has.cut.version part has.cut.header)
               (record {
                 before = has.texts;
-                rest = drop stands.offset text.unit;
+                rest = drop is_at.offset text.unit;
                 within = 0;
-                splits = stands.walks.splits;
+                splits = is_at.walks.splits;
                 fails = s.0;
-                stands = ap (λ (n : ℕ). n + 0) stands.walks.length_is;
+                is_at = ap (λ (n : ℕ). n + 0) is_at.walks.length_is;
               })
               (omega (arith, place));
           are_added = are_added;
         },
       )
 
--- nothing before a fault of the file header
+-- before a fault of the file header no frame is added
 pub header_stops : (part : List ℕ) (before : Option ℕ) (row : List PartBytes) (places : List ℕ) (fault : Fault) → AreKept row places
     → HeaderFails part fault.kind fault.place → IsPushedBefore part before (kept row places) (kept row places) fault
 header_stops part before row places fault are fails = record {
@@ -205,4 +205,4 @@ abbrev pub left_of : Reading → ℕ
 left_of reader = readers.left_of frame_source reader
 
 pub left_falls : (reader : Reading) (found : Frame) (new : Reading) → Steps reader (Ok (Some found)) new → left_of new < left_of reader
-left_falls reader found new steps = readers.step_falls frame_source (λ bytes before f stands. frames_decided.longer before f stands) reader found new steps
+left_falls reader found new steps = readers.step_falls frame_source (λ bytes before f is_at. frames_decided.longer before f is_at) reader found new steps

@@ -1,4 +1,4 @@
--- Frames that are kept by their places: each is read back from the bytes that stand there.
+-- Frames that are kept by their places: each is read back from the bytes at its place.
 use Rattle.std.proofs.Common.{◌≡◌, ℕ, zero, suc, Option, ◌+◌, ◌-◌, ◌<◌, ◌≤◌, List, [], ◌∷◌, ◌++◌, length, drop, map, All, Some, None, get_or, Result, Ok, Err, refl, sym, ap, subst, ◌∙◌, append_assoc, append-nil, length-append, arith, inl, inr}
 use Rattle.std.specs.Prelude.{AllPairs, Contains, slice_get, slice_index_or, leb, true, false, option_map, IfErr}
 use Rattle.std.specs.Result.{IsOk}
@@ -19,12 +19,12 @@ use Rattle.capture_frame.specs.declared.frame.Frame.{Frame}
 use Rattle.capture_frame.specs.declared.frame_list.PartBytes.{PartBytes}
 use Rattle.capture_frame.specs.declared.version.Version.{Version}
 use Rattle.capture_frame.specs.declared.version.Version.TheVariants.{Two}
-use Rattle.capture_frame.specs.Units.{AllStand, placed_at, placed}
+use Rattle.capture_frame.specs.Units.{AllMayCome, placed_at, placed}
 use Rattle.capture_frame.specs.Envelope.{PlacedFrame, FrameText, FitsHeader, MayCome, in_version, frame_bytes, frame_text, placed_frame, direction_at, direction_number}
 use Rattle.capture_frame.specs.FirstFault.{FrameFails, frame_format}
 use Rattle.capture_frame.specs.Lookup.{AreApart, IsSplitAt}
 use Rattle.capture_frame.specs.Reading.{BeginsWithFrame}
-use Rattle.capture_frame.specs.FrameList.{direction_of, frame_here, bodies, frames_at, StandInRow, BeginWithSome, HasFrameAt, AreKept, StandFrom}
+use Rattle.capture_frame.specs.FrameList.{direction_of, frame_at_start, bodies, frames_at, AreInRow, BeginWithFrame, HasFrameAt, AreKept, AreBytesFrom}
 use Rattle.capture_frame.proofs.LookupLaws.{frames_in_order}
 use Rattle.capture_frame.proofs.FrameLaws.{frames_decided, header_said, text_at, text_at-spelled, length-frame_bytes}
 
@@ -34,23 +34,23 @@ named : (d : Direction) → direction_of (direction_number d) ≡ d
 named Write = refl
 named Read = refl
 
-pub frame_here-spelled : (f : FrameText) (rest : List ℕ) → FitsHeader f → frame_here (frame_bytes f ++ rest) ≡ f
-frame_here-spelled f rest fits =
+pub frame_at_start-spelled : (f : FrameText) (rest : List ℕ) → FitsHeader f → frame_at_start (frame_bytes f ++ rest) ≡ f
+frame_at_start-spelled f rest fits =
     let way : direction_of (direction_at (frame_bytes f ++ rest)) ≡ f.direction = ap direction_of (header_said f rest fits).direction ∙ named f.direction in
     ap (λ (d : Direction). text_at d (frame_bytes f ++ rest)) way ∙ text_at-spelled f rest fits
 
--- bytes that begin with a frame are its header at least
-pub some_long : (bytes : List ℕ) → BeginWithSome bytes → 32 ≤ length bytes
+-- bytes that begin with a frame are at least as long as a frame header
+pub some_long : (bytes : List ℕ) → BeginWithFrame bytes → 32 ≤ length bytes
 some_long bytes begins =
     let whole = ap length begins.are ∙ length-append (frame_bytes begins.frame) begins.rest in
     omega (arith, whole, length-frame_bytes begins.frame)
 
--- the frame is the same, whatever follows
-here_is : (bytes more : List ℕ) → (begins : BeginWithSome bytes) → frame_here (bytes ++ more) ≡ begins.frame
+-- the frame is the same, whatever follows it
+here_is : (bytes more : List ℕ) → (begins : BeginWithFrame bytes) → frame_at_start (bytes ++ more) ≡ begins.frame
 here_is bytes more begins =
-    ap (λ (l : List ℕ). frame_here (l ++ more)) begins.are
-    ∙ ap frame_here (append_assoc (frame_bytes begins.frame) begins.rest more)
-    ∙ frame_here-spelled begins.frame (begins.rest ++ more) begins.may_come.fits
+    ap (λ (l : List ℕ). frame_at_start (l ++ more)) begins.are
+    ∙ ap frame_at_start (append_assoc (frame_bytes begins.frame) begins.rest more)
+    ∙ frame_at_start-spelled begins.frame (begins.rest ++ more) begins.may_come.fits
 
 -- ---- parts in a row
 
@@ -65,17 +65,17 @@ bodies-push parts part =
     flat_map-append (λ (p : PartBytes). p.bytes.now) parts (part ∷ [])
     ∙ ap (λ (l : List ℕ). bodies parts ++ l) (bodies-cons part [] ∙ append-nil part.bytes.now)
 
-pub row-push : (place : ℕ) (parts : List PartBytes) (part : PartBytes) → StandInRow place parts → part.start ≡ place + length (bodies parts)
-    → StandInRow place (parts ++ part ∷ [])
+pub row-push : (place : ℕ) (parts : List PartBytes) (part : PartBytes) → AreInRow place parts → part.start ≡ place + length (bodies parts)
+    → AreInRow place (parts ++ part ∷ [])
 row-push place [] part row is = (let start : part.start ≡ place = omega (arith, is) in start, tt)
 row-push place (first ∷ parts) part row is =
     let long = ap length (bodies-cons first parts) ∙ length-append first.bytes.now (bodies parts) in
     (row.0, row-push (place + length first.bytes.now) parts part row.1 (omega (arith, is, long)))
 
--- a part of the row, and the bytes of the capture from a place within it on
+-- a part of the row that this place is in, and the bytes of the capture from the place on
 record IsInRow (place : ℕ) (parts : List PartBytes) (part : PartBytes) (at : ℕ) : Type 0 where
   before : place ≤ part.start
-  behind : part.start + length part.bytes.now ≤ place + length (bodies parts)
+  after : part.start + length part.bytes.now ≤ place + length (bodies parts)
   others : List ℕ
   are : drop (at - place) (bodies parts) ≡ drop (at - part.start) part.bytes.now ++ others
 
@@ -86,7 +86,7 @@ row_first place part parts at start within =
     let long = ap length whole ∙ length-append part.bytes.now (bodies parts) in
     record {
       before = omega (arith, start);
-      behind = omega (arith, start, long);
+      after = omega (arith, start, long);
       others = bodies parts;
       are = ap (drop (at - place)) whole
           ∙ ap (λ (n : ℕ). drop (at - n) (part.bytes.now ++ bodies parts)) (sym start)
@@ -99,11 +99,11 @@ row_later place first parts part at from later =
     let whole = bodies-cons first parts in
     let long = ap length whole ∙ length-append first.bytes.now (bodies parts) in
     let before = later.before in
-    let behind = later.behind in
+    let after = later.after in
     let width : at - place ≡ length first.bytes.now + (at - (place + length first.bytes.now)) = omega (arith, before, from) in
     record {
       before = omega (arith, before);
-      behind = omega (arith, behind, long);
+      after = omega (arith, after, long);
       others = later.others;
       are = ap (drop (at - place)) whole
           ∙ ap (λ (n : ℕ). drop n (first.bytes.now ++ bodies parts)) width
@@ -111,7 +111,7 @@ row_later place first parts part at from later =
           ∙ later.are;
     }
 
-row_from : (place : ℕ) (parts : List PartBytes) → StandInRow place parts → (part : PartBytes) → Contains parts part → (at : ℕ) → part.start ≤ at
+row_from : (place : ℕ) (parts : List PartBytes) → AreInRow place parts → (part : PartBytes) → Contains parts part → (at : ℕ) → part.start ≤ at
     → at - part.start ≤ length part.bytes.now → IsInRow place parts part at
 row_from place [] row part there at from within = absurd (omega (arith, there.1))
 row_from place (first ∷ parts) row part (zero, inside, is) at from within =
@@ -121,20 +121,20 @@ row_from place (first ∷ parts) row part (suc i, inside, is) at from within =
     row_later place first parts part at from
     (row_from (place + length first.bytes.now) parts row.1 part (i, omega (arith, inside), is) at from within)
 
--- ---- the part that a frame stands in
+-- ---- the part that a frame is in
 
 -- the earlier part ends before the later one begins
 abbrev PartsApart : PartBytes → PartBytes → Type 0
 PartsApart earlier later = earlier.start + length earlier.bytes.now ≤ later.start
 
-row_begins : (place : ℕ) (parts : List PartBytes) → StandInRow place parts → All (λ (p : PartBytes). place ≤ p.start) parts
+row_begins : (place : ℕ) (parts : List PartBytes) → AreInRow place parts → All (λ (p : PartBytes). place ≤ p.start) parts
 row_begins place [] row = λ i d inside. absurd (omega (arith, inside))
 row_begins place (first ∷ parts) row =
     let start = row.0 in
     All-cons (λ (p : PartBytes). place ≤ p.start) first parts (omega (arith, start))
     (λ i d inside. let far = row_begins (place + length first.bytes.now) parts row.1 i d inside in omega (arith, far))
 
-row_apart : (place : ℕ) (parts : List PartBytes) → StandInRow place parts → AllPairs PartsApart parts
+row_apart : (place : ℕ) (parts : List PartBytes) → AreInRow place parts → AllPairs PartsApart parts
 row_apart place [] row = λ i j d less inside. absurd (omega (arith, inside))
 row_apart place (first ∷ parts) row =
     let start = row.0 in
@@ -152,7 +152,7 @@ begin_in_order parts apart i j d upto within = elim (cases_lt i j) [
 ]
 
 -- the parts that begin at a place or before it are the first ones
-pub begun_first : (place : ℕ) (parts : List PartBytes) (at : ℕ) → StandInRow place parts → IsPartitionedBy (λ (p : PartBytes). leb p.start at) parts
+pub begun_first : (place : ℕ) (parts : List PartBytes) (at : ℕ) → AreInRow place parts → IsPartitionedBy (λ (p : PartBytes). leb p.start at) parts
 begun_first place parts at row = IsPartitionedBy-leb (λ (p : PartBytes). p.start) parts at (begin_in_order parts (row_apart place parts row))
 
 -- the number of parts that begin at a place or before it
@@ -166,8 +166,8 @@ within_part parts at has =
     let left = length-drop (at - has.part.start) has.part.bytes.now in
     omega (arith, long, left)
 
--- the last of them is the one with the frame
-module _ (parts : List PartBytes) (at : ℕ) (row : StandInRow 16 parts) (has : HasFrameAt parts at) (n : ℕ) (few : n ≤ length parts)
+-- of these parts the last one is the part with the frame
+module _ (parts : List PartBytes) (at : ℕ) (row : AreInRow 16 parts) (has : HasFrameAt parts at) (n : ℕ) (few : n ≤ length parts)
     (count : IsBegunCount parts at n) where
   abbrev number : ℕ
   number = has.there.0
@@ -203,24 +203,24 @@ module _ (parts : List PartBytes) (at : ℕ) (row : StandInRow 16 parts) (has : 
   last_begun d = ap (λ (k : ℕ). slice_index_or parts k d) (sym is_last) ∙ is_part d
 
 -- the bytes of the capture from a frame on
-pub stands_from : (parts : List PartBytes) (places : List ℕ) (at : ℕ) → AreKept parts places → (has : HasFrameAt parts at)
-    → StandFrom parts at (drop (at - has.part.start) has.part.bytes.now)
-stands_from parts places at are has =
+pub bytes_from_place : (parts : List PartBytes) (places : List ℕ) (at : ℕ) → AreKept parts places → (has : HasFrameAt parts at)
+    → AreBytesFrom parts at (drop (at - has.part.start) has.part.bytes.now)
+bytes_from_place parts places at are has =
     let bytes = drop (at - has.part.start) has.part.bytes.now in
     let long = some_long bytes has.begins in
     let left = length-drop (at - has.part.start) has.part.bytes.now in
     let in_row = row_from 16 parts are.in_row has.part has.there at has.from (omega (arith, long, left)) in
-    let behind = in_row.behind in
+    let after = in_row.after in
     let fits = are.fits in
     let from = has.from in
-    record { others = in_row.others; are = in_row.are; begins = has.begins; fits = omega (arith, behind, fits, from, left, long) }
+    record { others = in_row.others; are = in_row.are; begins = has.begins; fits = omega (arith, after, fits, from, left, long) }
 
 -- ---- reading again
 
--- the frame that is read where these bytes stand
-pub read_there : (parts : List PartBytes) (at : ℕ) (bytes : List ℕ) → (stand : StandFrom parts at bytes) → (begins : BeginWithSome bytes)
-    → frame_here (drop (at - 16) (bodies parts)) ≡ begins.frame
-read_there parts at bytes stand begins = ap frame_here stand.are ∙ here_is bytes stand.others begins
+-- the frame that is read from these bytes
+pub read_there : (parts : List PartBytes) (at : ℕ) (bytes : List ℕ) → (in_order : AreBytesFrom parts at bytes) → (begins : BeginWithFrame bytes)
+    → frame_at_start (drop (at - 16) (bodies parts)) ≡ begins.frame
+read_there parts at bytes in_order begins = ap frame_at_start in_order.are ∙ here_is bytes in_order.others begins
 
 same_map : {A B : Type 0} (f g : A → B) (xs : List A) → All (λ x. f x ≡ g x) xs → map f xs ≡ map g xs
 same_map f g [] all = refl
@@ -228,44 +228,44 @@ same_map f g (x ∷ xs) all =
     ap (λ (y : _). y ∷ map f xs) (All-head (λ x. f x ≡ g x) x xs all)
     ∙ ap (λ (l : List _). g x ∷ l) (same_map f g xs (All-tail (λ x. f x ≡ g x) x xs all))
 
--- the frames stay what they are where another part comes
+-- the frames stay the same when another part is added
 pub frames_stay : (parts : List PartBytes) (places : List ℕ) (part : PartBytes) → AreKept parts places
     → frames_at (bodies (parts ++ part ∷ [])) places ≡ frames_at (bodies parts) places
 frames_stay parts places part are =
-    same_map (λ at. placed_at at (frame_here (drop (at - 16) (bodies (parts ++ part ∷ []))))) (λ at. placed_at at (frame_here (drop (at - 16) (bodies parts)))) places
+    same_map (λ at. placed_at at (frame_at_start (drop (at - 16) (bodies (parts ++ part ∷ []))))) (λ at. placed_at at (frame_at_start (drop (at - 16) (bodies parts)))) places
     (λ i d inside.
     let at = get_or places i d in
     let has = are.frames i d inside in
-    let stand = stands_from parts places at are has in
+    let in_order = bytes_from_place parts places at are has in
     let bytes = drop (at - has.part.start) has.part.bytes.now in
     let long = some_long bytes has.begins in
     let rest = length-drop (at - 16) (bodies parts) in
-    let both = ap length stand.are ∙ length-append bytes stand.others in
-    let longer : frame_here (drop (at - 16) (bodies (parts ++ part ∷ []))) ≡ has.begins.frame
-    = ap (λ (l : List ℕ). frame_here (drop (at - 16) l)) (bodies-push parts part)
-    ∙ ap frame_here (drop-append-le (at - 16) (bodies parts) part.bytes.now (omega (arith, long, rest, both)))
-    ∙ ap (λ (l : List ℕ). frame_here (l ++ part.bytes.now)) stand.are
-    ∙ ap frame_here (append_assoc bytes stand.others part.bytes.now)
-    ∙ here_is bytes (stand.others ++ part.bytes.now) has.begins
+    let both = ap length in_order.are ∙ length-append bytes in_order.others in
+    let longer : frame_at_start (drop (at - 16) (bodies (parts ++ part ∷ []))) ≡ has.begins.frame
+    = ap (λ (l : List ℕ). frame_at_start (drop (at - 16) l)) (bodies-push parts part)
+    ∙ ap frame_at_start (drop-append-le (at - 16) (bodies parts) part.bytes.now (omega (arith, long, rest, both)))
+    ∙ ap (λ (l : List ℕ). frame_at_start (l ++ part.bytes.now)) in_order.are
+    ∙ ap frame_at_start (append_assoc bytes in_order.others part.bytes.now)
+    ∙ here_is bytes (in_order.others ++ part.bytes.now) has.begins
     in
-    ap (placed_at at) (longer ∙ sym (read_there parts at bytes stand has.begins)))
+    ap (placed_at at) (longer ∙ sym (read_there parts at bytes in_order has.begins)))
 
 pub has_still : (parts : List PartBytes) (part : PartBytes) (at : ℕ) → HasFrameAt parts at → HasFrameAt (parts ++ part ∷ []) at
 has_still parts part at has =
     record { part = has.part; there = Contains-append_left parts (part ∷ []) has.part has.there; from = has.from; begins = has.begins }
 
--- the frame that a single place is that of
+-- the part with the frame at a single place
 pub frame_in : (parts : List PartBytes) (at : ℕ) → All (HasFrameAt parts) (at ∷ []) → HasFrameAt parts at
 frame_in parts at all = All-head (HasFrameAt parts) at [] all
 
 same_some : {A : Type 0} (x y : A) → Some x ≡ Some y → x ≡ y
 same_some x y e = cc
 
--- the frame that stands at a place of the joined capture
+-- the frame at a place of the joined capture
 abbrev frame_from : List ℕ → ℕ → PlacedFrame
-frame_from body at = placed_at at (frame_here (drop (at - 16) body))
+frame_from body at = placed_at at (frame_at_start (drop (at - 16) body))
 
--- what stands at a number
+-- the frame with this number is read at the place with this number
 pub there_is : (body places : List ℕ) (frames : List PlacedFrame) (number : ℕ) → frames_at body places ≡ frames → number < length frames
     → slice_get frames number ≡ Some (frame_from body (get_or places number 0))
 there_is body places frames number is within =
@@ -280,22 +280,22 @@ start_there body places frames number frame is there =
     let here = there_is body places frames number is (slice_get_within frames number frame there) in
     ap (λ (f : PlacedFrame). f.place) (same_some (frame_from body (get_or places number 0)) frame (sym here ∙ there))
 
-abbrev as_some : (bytes : List ℕ) (place : ℕ) (found : Frame) → BeginsWithFrame bytes place (in_version Two None) found → BeginWithSome bytes
+abbrev as_some : (bytes : List ℕ) (place : ℕ) (found : Frame) → BeginsWithFrame bytes place (in_version Two None) found → BeginWithFrame bytes
 as_some bytes place found begins =
-    record { frame = frame_text found; rest = drop (length (frame_bytes (frame_text found))) bytes; may_come = begins.may_stand; are = begins.joined }
+    record { frame = frame_text found; rest = drop (length (frame_bytes (frame_text found))) bytes; may_come = begins.may_come; are = begins.joined }
 
--- the frame that is read again is the one that stands at the number
+-- the frame that is read again is the frame with this number
 pub read_at : (parts : List PartBytes) (places : List ℕ) (frames : List PlacedFrame) (number : ℕ) (bytes : List ℕ) (found : Frame)
-    → frames_at (bodies parts) places ≡ frames → number < length frames → StandFrom parts (get_or places number 0) bytes
+    → frames_at (bodies parts) places ≡ frames → number < length frames → AreBytesFrom parts (get_or places number 0) bytes
     → BeginsWithFrame bytes (get_or places number 0) (in_version Two None) found → slice_get frames number ≡ Some (placed_frame found)
-read_at parts places frames number bytes found is within stand begins =
+read_at parts places frames number bytes found is within in_order begins =
     let at = get_or places number 0 in
     there_is (bodies parts) places frames number is within
-    ∙ ap (λ (f : FrameText). Some (placed_at at f)) (read_there parts at bytes stand (as_some bytes at found begins))
+    ∙ ap (λ (f : FrameText). Some (placed_at at f)) (read_there parts at bytes in_order (as_some bytes at found begins))
     ∙ ap (λ (n : ℕ). Some (placed_at n (frame_text found))) (sym begins.view.place_is)
 
 -- and it can be read
-pub can_read : (bytes : List ℕ) (result : Result Frame FaultKind) → IfErr result (λ kind. FrameFails (in_version Two None) bytes kind) → BeginWithSome bytes
+pub can_read : (bytes : List ℕ) (result : Result Frame FaultKind) → IfErr result (λ kind. FrameFails (in_version Two None) bytes kind) → BeginWithFrame bytes
     → IsOk result
 can_read bytes (Ok found) fails begins = refl
 can_read bytes (Err kind) fails begins =
@@ -313,7 +313,7 @@ starts_in_order body places apart i j d upto within =
     let high = ap (λ (f : PlacedFrame). f.place) (get_or-map (frame_from body) places j d e within) in
     omega (arith, order, low, high)
 
--- the places at another one or before it are the first ones
+-- the places up to this one come first
 pub starts_first : (body places : List ℕ) (place : ℕ) → AllPairs AreApart (frames_at body places) → IsPartitionedBy (λ (n : ℕ). leb n place) places
 starts_first body places place apart = IsPartitionedBy-leb (λ (n : ℕ). n) places place (starts_in_order body places apart)
 
@@ -327,7 +327,7 @@ split_by_starts body places place n within point =
           let same = ap (λ (f : PlacedFrame). f.place) (get_or-map (frame_from body) places i 0 d (omega (arith, less, within))) in
           let begun = leb-true (get_or places i 0) place (point.0 i 0 (omega (arith, less)) less) in
           omega (arith, same, begun);
-      behind = λ i d from inside.
+      after = λ i d from inside.
           let same = ap (λ (f : PlacedFrame). f.place) (get_or-map (frame_from body) places i 0 d (omega (arith, inside, long))) in
           let late = leb-false (get_or places i 0) place (point.1 i 0 from (omega (arith, inside, long))) in
           omega (arith, same, late);
@@ -341,7 +341,7 @@ starts_of frames = map (λ f. f.place) frames
 as_second : (version : Version) (last : Option ℕ) (frame : FrameText) → MayCome (in_version version last) frame → MayCome (in_version Two None) frame
 as_second version last frame may = record { fits = may.fits; above = tt; device = tt }
 
--- a frame more in front of what is left of a part
+-- one frame more is taken from what is left of a part
 next_front : (front : List ℕ) (t : FrameText) (ts : List FrameText) (rest : List ℕ)
     → front ++ (flat_map frame_bytes (t ∷ ts) ++ rest) ≡ (front ++ frame_bytes t) ++ (flat_map frame_bytes ts ++ rest)
 next_front front t ts rest =
@@ -350,10 +350,10 @@ next_front front t ts rest =
     ∙ sym (append_assoc front (frame_bytes t) (flat_map frame_bytes ts ++ rest))
 
 pub read_back : (front : List ℕ) (texts : List FrameText) (rest : List ℕ) (version : Version) (last : Option ℕ)
-    → AllStand frame_format (in_version version last) texts → (place : ℕ) → place ≡ 16 + length front
+    → AllMayCome frame_format (in_version version last) texts → (place : ℕ) → place ≡ 16 + length front
     → frames_at (front ++ (flat_map frame_bytes texts ++ rest)) (starts_of (placed frame_bytes place texts)) ≡ placed frame_bytes place texts
-read_back front [] rest version last stand place is = refl
-read_back front (t ∷ ts) rest version last stand place is =
+read_back front [] rest version last in_order place is = refl
+read_back front (t ∷ ts) rest version last in_order place is =
     let body = front ++ (flat_map frame_bytes (t ∷ ts) ++ rest) in
     let far : place - 16 ≡ length front = omega (arith, is) in
     let here : drop (place - 16) body ≡ frame_bytes t ++ (flat_map frame_bytes ts ++ rest)
@@ -361,19 +361,19 @@ read_back front (t ∷ ts) rest version last stand place is =
     ∙ drop_at front (flat_map frame_bytes (t ∷ ts) ++ rest) (length front) refl
     ∙ ap (λ (l : List ℕ). l ++ rest) (flat_map-cons frame_bytes t ts)
     ∙ append_assoc (frame_bytes t) (flat_map frame_bytes ts) rest in
-    let said : frame_here (drop (place - 16) body) ≡ t = ap frame_here here ∙ frame_here-spelled t (flat_map frame_bytes ts ++ rest) stand.0.fits in
+    let said : frame_at_start (drop (place - 16) body) ≡ t = ap frame_at_start here ∙ frame_at_start-spelled t (flat_map frame_bytes ts ++ rest) in_order.0.fits in
     let long = length-append front (frame_bytes t) in
     ap (λ (f : FrameText). placed_at place f ∷ frames_at body (starts_of (placed frame_bytes (place + length (frame_bytes t)) ts))) said
     ∙ ap (λ (l : List PlacedFrame). placed_at place t ∷ l)
     (ap (λ (l : List ℕ). frames_at l (starts_of (placed frame_bytes (place + length (frame_bytes t)) ts))) (next_front front t ts rest)
-    ∙ read_back (front ++ frame_bytes t) ts rest version (Some t.sequence) stand.1 (place + length (frame_bytes t)) (omega (arith, is, long)))
+    ∙ read_back (front ++ frame_bytes t) ts rest version (Some t.sequence) in_order.1 (place + length (frame_bytes t)) (omega (arith, is, long)))
 
 pub all_there : (parts : List PartBytes) (part : PartBytes) → Contains parts part → (front : List ℕ) (texts : List FrameText) (rest : List ℕ)
     → part.bytes.now ≡ front ++ (flat_map frame_bytes texts ++ rest) → (version : Version) (last : Option ℕ)
-    → AllStand frame_format (in_version version last) texts → (place : ℕ) → place ≡ part.start + length front
+    → AllMayCome frame_format (in_version version last) texts → (place : ℕ) → place ≡ part.start + length front
     → All (HasFrameAt parts) (starts_of (placed frame_bytes place texts))
-all_there parts part there front [] rest are version last stand place is = λ i d inside. absurd (omega (arith, inside))
-all_there parts part there front (t ∷ ts) rest are version last stand place is =
+all_there parts part there front [] rest are version last in_order place is = λ i d inside. absurd (omega (arith, inside))
+all_there parts part there front (t ∷ ts) rest are version last in_order place is =
     let far : place - part.start ≡ length front = omega (arith, is) in
     let here : drop (place - part.start) part.bytes.now ≡ frame_bytes t ++ (flat_map frame_bytes ts ++ rest)
     = ap (λ (n : ℕ). drop n part.bytes.now) far ∙ ap (drop (length front)) are
@@ -386,7 +386,7 @@ all_there parts part there front (t ∷ ts) rest are version last stand place is
       part = part;
       there = there;
       from = omega (arith, is);
-      begins = record { frame = t; rest = flat_map frame_bytes ts ++ rest; may_come = as_second version last t stand.0; are = here };
+      begins = record { frame = t; rest = flat_map frame_bytes ts ++ rest; may_come = as_second version last t in_order.0; are = here };
     })
-    (all_there parts part there (front ++ frame_bytes t) ts rest (are ∙ next_front front t ts rest) version (Some t.sequence) stand.1
+    (all_there parts part there (front ++ frame_bytes t) ts rest (are ∙ next_front front t ts rest) version (Some t.sequence) in_order.1
     (place + length (frame_bytes t)) (omega (arith, is, long)))

@@ -1,4 +1,4 @@
--- Which of some frames that stand apart holds a place.
+-- Which of some frames, each of which ends before the next begins, a byte belongs to.
 use Rattle.std.proofs.Common.{◌≡◌, ℕ, ◌+◌, ◌-◌, ◌<◌, ◌≤◌, inl, inr, List, Option, Some, None, refl, sym, ap, ◌∙◌, arith}
 use Rattle.std.specs.Prelude.{AllPairs, Contains, IsSome, slice_get, slice_index_or}
 use Rattle.std.specs.List.Sorted.{IsNonDecreasingBy}
@@ -11,7 +11,7 @@ use Rattle.capture_frame.specs.Lookup.{span_of, AreApart, Holds, IsFrameAt, IsSp
 
 -- ---- the frames that have begun
 
--- each of frames that stand apart begins behind those before it
+-- each of these frames begins after those before it
 pub frames_in_order : (frames : List PlacedFrame) → AllPairs AreApart frames → IsNonDecreasingBy (λ (f : PlacedFrame). f.place) frames
 frames_in_order frames apart i j d upto within = elim (cases_lt i j) [
   | inl below ↦ let far = apart i j d below within in omega (arith, far)
@@ -21,15 +21,15 @@ frames_in_order frames apart i j d upto within = elim (cases_lt i j) [
       omega (arith, equal)
 ]
 
--- ---- the frame that holds a place
+-- ---- the frame that a byte belongs to
 
 pub none_before : (frames : List PlacedFrame) (place : ℕ) → IsSplitAt frames place 0 → IsFrameAt frames place None
 none_before frames place split i d within holds =
-    let behind = split.behind i d (omega arith) within in
+    let after = split.after i d (omega arith) within in
     let from = holds.0 in
-    absurd (omega (arith, behind, from))
+    absurd (omega (arith, after, from))
 
--- the last frame before the place ends before it, and so does every earlier one
+-- if the last frame that begins up to the place ends before it, so does every earlier one
 pub none_at : (frames : List PlacedFrame) (place count : ℕ) → AllPairs AreApart frames → IsSplitAt frames place count → (last : PlacedFrame)
     → ((d : PlacedFrame) → last ≡ slice_index_or frames (count - 1) d) → 0 < count → last.place + span_of last ≤ place → IsFrameAt frames place None
 none_at frames place count apart split last is some ended i d within holds =
@@ -45,11 +45,11 @@ none_at frames place count apart split last is some ended i d within holds =
             let alike = ap (λ (f : PlacedFrame). f.place) (is d) in
             let span : 0 ≤ span_of last = omega arith in
             absurd (omega (arith, far, alike, to, ended, span)))
-        | inr more ↦ (let behind = split.behind i d more within in absurd (omega (arith, behind, from)))
+        | inr more ↦ (let after = split.after i d more within in absurd (omega (arith, after, from)))
       ]
     ]
 
--- the last frame before the place, where it ends behind it
+-- if the last frame that begins up to the place ends after it, the byte belongs to that frame
 pub one_at : (frames : List PlacedFrame) (place count : ℕ) → AllPairs AreApart frames → IsSplitAt frames place count → (found : Frame)
     → ((d : PlacedFrame) → placed_frame found ≡ slice_index_or frames (count - 1) d) → 0 < count → place < found.place + span_of (placed_frame found)
     → IsFrameAt frames place (Some found)
@@ -70,25 +70,25 @@ one_at frames place count apart split found is some ends =
                   let alike = ap (λ (f : PlacedFrame). f.place) (is d) in
                   let begins = split.before (count - 1) d (omega (arith, some)) in
                   absurd (omega (arith, far, alike, to, begins)))
-              | inr more ↦ (let behind = split.behind i d more within in absurd (omega (arith, behind, above)))
+              | inr more ↦ (let after = split.after i d more within in absurd (omega (arith, after, above)))
             ]
           ],
     )
 
--- two frames that hold one place are one
+-- two frames that the same byte belongs to are the same
 pub one_held : (frames : List PlacedFrame) (place : ℕ) (found : Frame) (other : PlacedFrame) → IsFrameAt frames place (Some found)
     → Contains frames other → Holds place other → other ≡ placed_frame found
 one_held frames place found other is there holds =
     All-contains (λ (f : PlacedFrame). Holds place f → f ≡ placed_frame found) frames other is.2 there holds
 
--- and where one does there is a frame
+-- where a byte belongs to some frame, a frame is found
 pub some_held : (frames : List PlacedFrame) (place : ℕ) (result : Option Frame) (other : PlacedFrame) → IsFrameAt frames place result
     → Contains frames other → Holds place other → IsSome result
 some_held frames place None other is there holds =
     absurd (All-contains (λ (f : PlacedFrame). ¬ Holds place f) frames other is there holds)
 some_held frames place (Some found) other is there holds = refl
 
--- an element is the same whatever stands for one that is missing
+-- an element of the list is the same, whatever the default for a missing one
 pub element_is : (frames : List PlacedFrame) (n : ℕ) (frame : PlacedFrame) → slice_get frames n ≡ Some frame → (d : PlacedFrame)
     → frame ≡ slice_index_or frames n d
 element_is frames n frame is d = sym (get_or_from_slice_get frames n frame d is)

@@ -30,7 +30,7 @@ placed-append spelling place (u ∷ us) vs =
     ap (λ (l : List (Placed _)). placed_at place u ∷ l) (placed-append spelling (place + length (spelling u)) us vs
     ∙ ap (λ (n : ℕ). placed spelling (place + length (spelling u)) us ++ placed spelling n vs) far)
 
--- how long a part is, of these frames
+-- how long a part of these frames is
 part_length : (before : Option ℕ) (part : List ℕ) (texts : List FrameText) → IsPart frame_format before part texts
     → length part ≡ 16 + length (flat_map frame_bytes texts)
 part_length before part texts (version, rest, is, reads) =
@@ -44,7 +44,7 @@ pub record HasCutParts (parts : List (Bor (List ℕ))) (i base : ℕ) (before : 
   pub texts : List FrameText
   pub whole : AreParts frame_format None (texts_of (take i parts)) texts
   pub are_kept : AreKept row places
-  pub stand : frames_at (bodies row) places ≡ from_header texts
+  pub in_order : frames_at (bodies row) places ≡ from_header texts
   pub before_is : before ≡ last_after frame_format None texts
   pub base_is : base ≡ length (bodies row)
   pub spelled : base ≡ length (flat_map frame_bytes texts)
@@ -55,7 +55,7 @@ cut_none parts = record {
   texts = [];
   whole = refl;
   are_kept = record { in_row = tt; fits = omega arith; frames = λ i d inside. absurd (omega (arith, inside)) };
-  stand = refl;
+  in_order = refl;
   before_is = refl;
   base_is = refl;
   spelled = refl;
@@ -73,7 +73,7 @@ one_between parts i d within =
     ap texts_of (sym (take-append-drop i parts)) ∙ map-append (λ (part : Bor (List ℕ)). part.now) (take i parts) (drop i parts)
     ∙ ap (λ (t : List (List ℕ)). texts_of (take i parts) ++ t) (at_drop_more texts_of parts i d within)
 
--- the next part fits behind them
+-- the next part fits after them
 pub next_fits : (parts : List (Bor (List ℕ))) (i base : ℕ) (before : Option ℕ) (row : List PartBytes) (places : List ℕ) (d : Bor (List ℕ)) (most : ℕ)
     → i < length parts → HasCutParts parts i base before row places → sum_by length (texts_of parts) < most
     → base + length (get_or parts i d).now < most
@@ -85,12 +85,12 @@ next_fits parts i base before row places d most within cut fits =
     omega (arith, all, here, front, fits)
 
 -- frames that were added to those of the parts before
-added_stand : (row new_row : List PartBytes) (places new_places : List ℕ) (texts more : List FrameText) → frames_at (bodies row) places ≡ from_header texts
+added_in_order : (row new_row : List PartBytes) (places new_places : List ℕ) (texts more : List FrameText) → frames_at (bodies row) places ≡ from_header texts
     → length (bodies row) ≡ length (flat_map frame_bytes texts) → AreAdded (kept row places) (kept new_row new_places) more
     → frames_at (bodies new_row) new_places ≡ from_header (texts ++ more)
-added_stand row new_row places new_places texts more stand long are =
+added_in_order row new_row places new_places texts more in_order long are =
     are.added
-    ∙ ap₂ (λ (x y : List PlacedFrame). x ++ y) stand (ap (λ (n : ℕ). placed frame_bytes (16 + n) more) long)
+    ∙ ap₂ (λ (x y : List PlacedFrame). x ++ y) in_order (ap (λ (n : ℕ). placed frame_bytes (16 + n) more) long)
     ∙ sym (placed-append frame_bytes 16 texts more)
 
 module _ (parts : List (Bor (List ℕ))) (i base : ℕ) (before : Option ℕ) (row new_row : List PartBytes) (places new_places : List ℕ)
@@ -118,7 +118,7 @@ module _ (parts : List (Bor (List ℕ))) (i base : ℕ) (before : Option ℕ) (r
               (parts_next frame_format frames_wide None (texts_of (take i parts)) part cut.texts pushed.texts cut.whole
               (subst (λ (s : Option ℕ). IsPart frame_format s part pushed.texts) cut.before_is pushed.whole));
           are_kept = pushed.are_added.are_kept;
-          stand = added_stand row new_row places new_places cut.texts pushed.texts cut.stand long_row pushed.are_added;
+          in_order = added_in_order row new_row places new_places cut.texts pushed.texts cut.in_order long_row pushed.are_added;
           before_is = pushed.last_is ∙ ap (λ (s : Option ℕ). last_after frame_format s pushed.texts) cut.before_is
               ∙ sym (last_after-append frame_format frames_wide None cut.texts pushed.texts);
           base_is = omega (arith, base_is, longer);
@@ -137,14 +137,14 @@ module _ (parts : List (Bor (List ℕ))) (i base : ℕ) (before : Option ℕ) (r
         first = record {
           front = texts_of (take i parts);
           part = part;
-          behind = texts_of (drop (i + 1) parts);
+          after = texts_of (drop (i + 1) parts);
           are = one_between parts i d within;
           number = omega (arith, many, is);
           units = cut.texts;
           whole = cut.whole;
           first = pushed.first;
         };
-        stand = added_stand row new_row places new_places cut.texts (frames_before part fault pushed.first) cut.stand long_row pushed.are_added;
+        in_order = added_in_order row new_row places new_places cut.texts (frames_before part fault pushed.first) cut.in_order long_row pushed.are_added;
       }
 
 pub cut_all : (parts : List (Bor (List ℕ))) (i base : ℕ) (before : Option ℕ) (row : List PartBytes) (places : List ℕ) → take i parts ≡ parts
@@ -152,7 +152,7 @@ pub cut_all : (parts : List (Bor (List ℕ))) (i base : ℕ) (before : Option �
 cut_all parts i base before row places all cut = record {
   texts = cut.texts;
   whole = subst (λ (t : List (Bor (List ℕ))). AreParts frame_format None (texts_of t) cut.texts) all cut.whole;
-  stand = cut.stand;
+  in_order = cut.in_order;
 }
 
 -- ---- the frames of one part alone
@@ -161,27 +161,27 @@ pub one_cut : (capture : List ℕ) (frames : List PlacedFrame) → ArePartFrames
 one_cut capture frames are =
     let texts = are.whole.0 in
     let same : are.texts ≡ texts = are.whole.2 ∙ ap (λ (l : List FrameText). texts ++ l) are.whole.4 ∙ append-nil texts in
-    record { texts = texts; whole = are.whole.3; stand = are.stand ∙ ap from_header same }
+    record { texts = texts; whole = are.whole.3; in_order = are.in_order ∙ ap from_header same }
 
 none_is_some : {A : Type 0} (xs : List A) (x : A) (ys : List A) → [] ≡ xs ++ x ∷ ys → ⊥
 none_is_some xs x ys e = let none = ap length e ∙ length-append xs (x ∷ ys) in absurd (omega (arith, none))
 
--- the first fault of a part behind some frames, and the frames before it
+-- the first fault of a part that follows some frames, and the frames before the fault
 IsCutIn : Fault → List PlacedFrame → List FrameText → List ℕ → Type 0
 IsCutIn fault frames units part =
     (first : IsFirstFaultIn frame_format (last_after frame_format None units) part fault) × (frames ≡ from_header (units ++ frames_before part fault first))
 
-cut_in : (capture part : List ℕ) (front behind : List (List ℕ)) (units : List FrameText) (fault : Fault) (frames : List PlacedFrame)
-    → capture ∷ [] ≡ front ++ part ∷ behind → AreParts frame_format None front units → IsCutIn fault frames units part → AreFramesBefore capture fault frames
+cut_in : (capture part : List ℕ) (front after : List (List ℕ)) (units : List FrameText) (fault : Fault) (frames : List PlacedFrame)
+    → capture ∷ [] ≡ front ++ part ∷ after → AreParts frame_format None front units → IsCutIn fault frames units part → AreFramesBefore capture fault frames
 unfolding IsCutIn
-cut_in capture part [] behind units fault frames are whole cut =
+cut_in capture part [] after units fault frames are whole cut =
     let part_is : part ≡ capture = cc in
     let there = subst (IsCutIn fault frames []) part_is (subst (λ (u : List FrameText). IsCutIn fault frames u part) whole cut) in
-    record { first = there.0; stand = there.1 }
-cut_in capture part (f ∷ front) behind units fault frames are whole cut = absurd (none_is_some front part behind (ap (drop 1) are))
+    record { first = there.0; in_order = there.1 }
+cut_in capture part (f ∷ front) after units fault frames are whole cut = absurd (none_is_some front part after (ap (drop 1) are))
 
 pub one_cut_off : (capture : List ℕ) (found : PartFault) (frames : List PlacedFrame) → AreFramesBeforePart (capture ∷ []) found frames
     → AreFramesBefore capture found.fault frames
 unfolding IsCutIn
 one_cut_off capture found frames are =
-    cut_in capture are.first.part are.first.front are.first.behind are.first.units found.fault frames are.first.are are.first.whole (are.first.first, are.stand)
+    cut_in capture are.first.part are.first.front are.first.after are.first.units found.fault frames are.first.are are.first.whole (are.first.first, are.in_order)

@@ -1,4 +1,4 @@
--- That processes, and threads, are told apart as `==` does.
+-- Two processes, or two threads, are the same exactly as `==` says.
 use Rattle.std.proofs.Common.{◌≡◌, ◌&&◌, Bool, true, false, eqb, refl}
 use Rattle.std.proofs.lemmas.Bool.{eqb-true}
 use Rattle.std.proofs.lemmas.Cmp.{nat_eq_equiv, on_equiv, and_equiv}
@@ -18,7 +18,7 @@ both_true true true is = (refl, refl)
 both_true true false is = let no : ⊥ = cc in absurd no
 both_true false b is = let no : ⊥ = cc in absurd no
 
--- the processes that are told to be one are one
+-- processes that are said to be the same are the same
 pub same_process_eq : (process other : Process) → same_process process other ≡ true → process ≡ other
 same_process_eq process other same =
     let both = both_true (eqb process.device other.device) (eqb process.number other.number) same in
@@ -26,11 +26,11 @@ same_process_eq process other same =
     let number = eqb-true process.number other.number both.1 in
     λ i. record { device = device i; number = number i }
 
--- and a process is told to be itself
+-- and a process is said to be the same as itself
 pub same_process_self : (process : Process) → same_process process process ≡ true
 same_process_self process = same_process_equiv.refl process
 
--- the threads that are told to be one are one
+-- threads that are said to be the same are the same
 pub same_thread_eq : (thread other : Thread) → same_thread thread other ≡ true → thread ≡ other
 same_thread_eq thread other same =
     let both = both_true (same_process thread.process other.process) (eqb thread.number other.number) same in

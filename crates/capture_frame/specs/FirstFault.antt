@@ -1,4 +1,4 @@
--- The first fault of a capture, as far as its file header and its frame headers tell (docs/ENVELOPE.md).
+-- The first fault of a capture, as far as its file header and its frame headers say (docs/ENVELOPE.md).
 use Rattle.std.specs.Prelude.{◌≡◌, ◌≢◌, ℕ, ◌+◌, ◌<◌, ◌≤◌, List, ◌++◌, length, take, Option, Some, None}
 use Rattle.capture_frame.specs.declared.fault.Fault.{Fault}
 use Rattle.capture_frame.specs.declared.fault.FaultKind.{FaultKind}
@@ -7,11 +7,12 @@ use Rattle.capture_frame.specs.declared.version.Version.{Version}
 use Rattle.capture_frame.specs.Units.{Format, Reads, FirstFailure}
 use Rattle.capture_frame.specs.Envelope.{FrameText, Before, in_version, magic, file_header, frame_bytes, MayCome, IsAbove, IsDirection, AreZero, number_at, sequence_at, direction_at, command_length, attachment_length}
 
--- the bytes begin with those that name a version
+-- the first 8 bytes are the magic of a version
 abbrev pub NamesVersion : List ℕ → Type 0
 NamesVersion bytes = (version : Version) × (take 8 bytes ≡ magic version)
 
--- the file header fails by this kind at this place, and by none that is judged before it
+-- the file header has a fault of this kind at this place, and none of a kind that is judged before it. The order is
+-- HeaderShort, HeaderMagic, HeaderProtocol, HeaderReserved.
 abbrev pub HeaderFails : List ℕ → FaultKind → ℕ → Type 0
 HeaderFails bytes HeaderShort place = (place ≡ 0) × (length bytes < 16)
 HeaderFails bytes HeaderMagic place = (place ≡ 0) × (16 ≤ length bytes) × ¬ (NamesVersion bytes)
@@ -21,7 +22,8 @@ HeaderFails bytes HeaderReserved place =
     (place ≡ 12) × (16 ≤ length bytes) × NamesVersion bytes × (number_at 4 8 bytes ≡ 8) × (number_at 4 12 bytes ≢ 0)
 HeaderFails bytes _ place = ⊥
 
--- the bytes begin with no good frame header, by this kind and by none that is judged before it
+-- the bytes begin with no good frame header: they have a fault of this kind, and none of a kind that is judged before
+-- it. The order is FrameShort, FrameSequence, FrameDirection, FrameReserved, FrameLength.
 abbrev pub FrameFails : Before → List ℕ → FaultKind → Type 0
 FrameFails before bytes FrameShort = (0 < length bytes) × (length bytes < 32)
 FrameFails before bytes FrameSequence = (32 ≤ length bytes) × ¬ (IsAbove before.last (sequence_at bytes))
@@ -36,7 +38,8 @@ FrameFails before bytes FrameLength =
     × (length bytes < 32 + (command_length bytes + attachment_length bytes))
 FrameFails before bytes _ = ⊥
 
--- frames, judged by their headers alone: one after another, each above the one before it
+-- the format of frames, as far as their headers say: each sequence is above the one before, and a fault is at the start
+-- of its frame
 abbrev pub frame_format : Format Before FrameText FaultKind
 frame_format = record {
   spelling = frame_bytes;
@@ -45,19 +48,19 @@ frame_format = record {
   Fails = λ before bytes kind within. FrameFails before bytes kind × (within ≡ 0);
 }
 
--- the bytes behind a capture's file header begin with whole good frames, as far as their headers tell, and what stands
--- so far into them fails by this kind
+-- the bytes after a capture's file header begin with whole good frames, as far as their headers say, and then, at this
+-- distance from the file header, comes a fault of this kind
 abbrev pub FramesFail : Version → List ℕ → FaultKind → ℕ → Type 0
 FramesFail version bytes kind distance = FirstFailure frame_format (in_version version None) bytes kind distance
 
--- a part is a file header, and then these frames, as the format judges them; the first one stands behind the frame with
--- the sequence `last`, if there is one
+-- a part is a file header and then these frames, as the format judges them. The first of them comes after the frame
+-- with the sequence `last`, if there is one.
 abbrev pub IsPart : {U : Type 0} → Format Before U FaultKind → Option ℕ → List ℕ → List U → Type 0
 IsPart format last part units = (version : Version) × (bytes : List ℕ) × (part ≡ file_header version ++ bytes)
     × Reads format (in_version version last) bytes units
 
--- the first fault of a part, as far as the format judges, at its place in the part: that of its file header, or behind
--- a good one that of its frames
+-- the first fault of a part, as far as the format judges, at its place in the part: the fault of its file header, or,
+-- after a good one, the first failure of its frames
 pub data IsFirstFaultIn {U : Type 0} (format : Format Before U FaultKind) (last : Option ℕ) (part : List ℕ)
     (fault : Fault) : Type 0 where
   in_header : HeaderFails part fault.kind fault.place → IsFirstFaultIn format last part fault
@@ -65,7 +68,7 @@ pub data IsFirstFaultIn {U : Type 0} (format : Format Before U FaultKind) (last 
       → FirstFailure format (in_version version last) bytes fault.kind distance
       → fault.place ≡ 16 + distance → IsFirstFaultIn format last part fault
 
--- the capture is a file header, and then these frames: a part behind no frame
+-- the capture is a file header and then these frames: it is a part with no frame before it
 abbrev pub IsCapture : {U : Type 0} → Format Before U FaultKind → List ℕ → List U → Type 0
 IsCapture format capture units = IsPart format None capture units
 

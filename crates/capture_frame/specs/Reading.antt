@@ -9,7 +9,8 @@ use Rattle.capture_frame.specs.Readers as readers
 use Rattle.capture_frame.specs.Envelope.{FrameText, Before, in_version, frame_text, file_header_length, frame_header_length}
 use Rattle.capture_frame.specs.FirstFault.{frame_format}
 
--- the frame is a view of the bytes that it begins, which stand at that place: its slices are theirs
+-- the frame is a view of these bytes, which begin at this place: its command bytes are theirs after the 32 bytes of the
+-- header, and its attachment bytes are theirs after the command bytes
 pub record IsFrameView (bytes : List ℕ) (place : ℕ) (found : Frame) : Type 0 where
   pub place_is : found.place ≡ place
   pub commands : found.commands.now ≡ slice_range bytes frame_header_length
@@ -18,12 +19,12 @@ pub record IsFrameView (bytes : List ℕ) (place : ℕ) (found : Frame) : Type 0
       ≡ slice_range bytes (frame_header_length + length found.commands.now)
       (frame_header_length + length found.commands.now + length found.attachments.now)
 
--- the bytes, which stand at that place, begin with a frame that may stand there, and this is the view of it
+-- these bytes, which begin at this place, begin with a frame that may come next, and `found` is the view of it
 abbrev pub BeginsWithFrame : List ℕ → ℕ → Before → Frame → Type 0
 BeginsWithFrame bytes place before found =
     BeginsWith frame_format before bytes (frame_text found) (IsFrameView bytes place found)
 
--- the frames of a text that stands at its place
+-- how frames are read: the text is what follows a file header, with its place
 abbrev pub frame_source : Source (Placed (List ℕ)) Before FrameText Frame
 frame_source = record {
   format = λ text. frame_format;
@@ -33,6 +34,7 @@ frame_source = record {
   IsView = λ text bytes place found. IsFrameView bytes place found;
 }
 
+-- where a reader of frames is
 abbrev pub Reading : Type 0
 Reading = readers.Reading (Placed (List ℕ)) Before
 
@@ -40,19 +42,20 @@ Reading = readers.Reading (Placed (List ℕ)) Before
 abbrev pub Steps : Reading → Result (Option Frame) Fault → Reading → Type 0
 Steps reading result new = readers.Steps frame_source reading result new
 
--- what stands behind the file header of a part; its places are those in the part plus `base`
-abbrev pub behind_header : List ℕ → ℕ → Placed (List ℕ)
-behind_header part base = placed_at (base + file_header_length) (drop file_header_length part)
+-- what follows the file header of a part. Places are those in the part plus `base`.
+abbrev pub after_header : List ℕ → ℕ → Placed (List ℕ)
+after_header part base = placed_at (base + file_header_length) (drop file_header_length part)
 
--- a reader of a part, behind its file header, of this version, and behind the frame with that sequence, if there is one
+-- a reader of a part of this version, right after its file header; the frame before it has the sequence `last`, if
+-- there is one
 abbrev pub frames_after : Version → List ℕ → ℕ → Option ℕ → Reading
-frames_after version part base last = at (behind_header part base) 0 (in_version version last)
+frames_after version part base last = at (after_header part base) 0 (in_version version last)
 
--- a reader of a capture, behind its file header, of this version
+-- a reader of a capture of this version, right after its file header
 abbrev pub frames_start : Version → List ℕ → Reading
 frames_start version capture = frames_after version capture 0 None
 
--- the results of calls are these frames of the capture, one by one, and then `end` again and again
+-- the calls give these frames of the capture, one by one, and then `end` at every later call
 abbrev pub GiveFrames : List ℕ → List FrameText → Result (Option Frame) Fault → List (Result (Option Frame) Fault)
     → Type 0
-GiveFrames capture frames end results = GiveUnits frame_source (behind_header capture 0) frames end results
+GiveFrames capture frames end results = GiveUnits frame_source (after_header capture 0) frames end results

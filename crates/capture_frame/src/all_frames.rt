@@ -13,8 +13,10 @@ use crate::frames::Frames;
 use crate::header::FILE_HEADER;
 use std::alloc::Global;
 
-/// The frames of a capture in order, where its file header and all its frame headers are good. This
-/// and `cut_parts` are the calls here that take memory.
+/// All frames of a capture, in order, if its file header and all its frame headers are good.
+/// Otherwise the first fault as far as the headers say, with the frames before it; or `Memory`,
+/// about which the contract says nothing. Only this call, `cut_parts` and `FrameSlice::to_vec` take
+/// memory.
 pub fn cut<'c>(alloc: Global, capture: &'c [u8]) -> Result<Vec<Frame<'c>>, Cut<'c>>
     ensures { MatchResult result
         (λ frames. AreFrames capture.now (shown_by frames.items))
@@ -36,7 +38,10 @@ pub fn cut<'c>(alloc: Global, capture: &'c [u8]) -> Result<Vec<Frame<'c>>, Cut<'
     }
 }
 
-/// The frames of all parts of a capture in order, each at its place in the joined capture.
+/// All frames of all parts of a capture, in order, each at its place in the joined capture.
+/// Otherwise the first fault of the parts as far as the headers say, with the frames before it; or
+/// `Memory`, about which the contract says nothing. There must be fewer than 2^32 parts, and their
+/// lengths together must fit 64 bits.
 pub fn cut_parts<'c>(alloc: Global, parts: &[&'c [u8]]) -> Result<FrameList<'c>, PartCut<'c>>
     requires few { length parts.now < 2 ^ 32 }
     requires fits { sum_by length (map (λ part. part.now) parts.now) < 2 ^ 64 }
@@ -72,9 +77,9 @@ pub fn cut_parts<'c>(alloc: Global, parts: &[&'c [u8]]) -> Result<FrameList<'c>,
     Ok(FrameList::of(row, places))
 }
 
-/// Adds the frames of a part, which stands behind the frame with the sequence `before`, and gives
-/// the last sequence so far. The parts before it have `base` bytes behind their file headers; they
-/// are added to the places of its frames, and not to that of a fault.
+/// Adds the frames of a part, and gives the last sequence so far. The frame before the part has the
+/// sequence `before`. `base` is how many bytes the parts before it have without their file headers;
+/// it is added to the places of the part's frames, and not to the place of a fault.
 fn push_part<'c>(
     row: &mut Vec<PartBytes<'c>>,
     places: &mut Vec<u64>,

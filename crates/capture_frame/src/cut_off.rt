@@ -9,7 +9,7 @@ pub enum Cut<'c> {
     Memory,
     /// The capture has a fault.
     Bad {
-        /// Its first fault, as far as its file header and its frame headers tell.
+        /// Its first fault, as far as its file header and its frame headers say.
         fault: Fault,
         /// The frames before the fault.
         before: Vec<Frame<'c>>,
@@ -23,9 +23,9 @@ pub enum PartCut<'c> {
     Memory,
     /// A part has a fault.
     Bad {
-        /// The first fault, as far as file headers and frame headers tell.
+        /// The first fault, as far as file headers and frame headers say.
         found: PartFault,
-        /// The frames before the fault, also those of the parts before it.
+        /// The frames before the fault, those of earlier parts too.
         before: FrameList<'c>,
     },
 }

@@ -1,8 +1,9 @@
 //! What makes a capture malformed.
 
-/// The kinds of malformed units, in the order of their numbers: at one place the first that applies
-/// is named, but that a payload past the command bytes is judged after the code's direction and
-/// size. The names are those that the program prints.
+/// The fifteen kinds of fault, in the order of their numbers. The crates above judge those of
+/// records and entries. Where several apply at one place, the first is named, with one exception: a
+/// payload that passes the command bytes is judged after the direction and the size of the code
+/// word. The program prints these names.
 #[derive(Clone, Copy, Debug, PartialEq, Eq)]
 pub enum FaultKind {
     /// The file has fewer than 16 bytes.
@@ -11,27 +12,29 @@ pub enum FaultKind {
     HeaderMagic,
     /// The protocol is not 8.
     HeaderProtocol,
-    /// The last four bytes of the file header are not zero.
+    /// The last field of the file header is not 0.
     HeaderReserved,
-    /// Fewer than the 32 bytes of a frame header are left, and at least one.
+    /// 1 to 31 bytes are left for a frame header of 32.
     FrameShort,
     /// The sequence is not above that of the frame before.
     FrameSequence,
     /// The direction is neither 1, a write, nor 2, a read.
     FrameDirection,
-    /// The zero bytes of a frame header are not zero; in version 1 the device is one of them.
+    /// A reserved field of the frame header is not 0; in version 1 the device is reserved too.
     FrameReserved,
     /// The command and attachment bytes are more than what follows the frame header.
     FrameLength,
-    /// Fewer than the four bytes of a code are left, or the payload passes the command bytes.
+    /// 1 to 3 bytes are left for a code word, or the payload passes the end of the command bytes.
     RecordShort,
     /// The code's letter or direction bits are not those of the frame's direction.
     RecordDirection,
-    /// The code's number is listed, and its size is not.
+    /// The code's number is listed, with another size.
     RecordSize,
-    /// Fewer than the 12 bytes before an attachment are left, or it passes the attachment bytes.
+    /// 1 to 11 bytes are left for the first 12 of an entry, or its lengths pass the end of the
+    /// attachment bytes.
     AttachShort,
-    /// No transaction or reply record stands at the offset, or it is not above the entry before.
+    /// No transaction or reply record begins at the offset, or the offset is not above that of the
+    /// entry before.
     AttachRecord,
     /// The lengths are not the record's data_size and offsets_size.
     AttachSize,
@@ -49,7 +52,7 @@ pub struct Fault {
 /// A malformed unit of one of several parts of a capture.
 #[derive(Clone, Copy, Debug, PartialEq, Eq)]
 pub struct PartFault {
-    /// Which part it stands in; the first one is 1.
+    /// Which part it is in, counted from 1.
     pub part: u32,
     /// What is wrong, and where: in bytes from the part's first.
     pub fault: Fault,

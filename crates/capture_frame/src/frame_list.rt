@@ -1,7 +1,7 @@
 //! The frames of a capture, each kept by its place.
 
 ghost use Rattle.std.specs.Prelude.{◌≡◌, ◌+◌, ◌∷◌, [], length, leb};
-ghost use Rattle.capture_frame.specs.FrameList.{AreKept, HasFrameAt, StandFrom};
+ghost use Rattle.capture_frame.specs.FrameList.{AreKept, HasFrameAt, AreBytesFrom};
 ghost use Rattle.capture_frame.specs.Envelope.{placed_frame};
 ghost use Rattle.capture_frame.specs.Lookup.{span_of};
 
@@ -11,7 +11,7 @@ use crate::version::Version;
 use std::alloc::{AllocError, Global};
 use std::marker::Model;
 
-/// What stands behind the file header of a part of a capture.
+/// What follows the file header of a part of a capture.
 #[derive(Clone, Copy)]
 pub(crate) struct PartBytes<'c> {
     /// Where it begins in the joined capture.
@@ -19,8 +19,9 @@ pub(crate) struct PartBytes<'c> {
     pub bytes: &'c [u8],
 }
 
-/// The frames of a capture that is read in parts, in order. Of each only its place is kept, in eight
-/// bytes; the frame is read again from the capture where it is asked for.
+/// The frames of a capture that is read in parts, in order. Only the place of each frame is kept,
+/// in eight bytes; the frame is read again from the capture when it is asked for. In contracts the
+/// value is the list of frames: what each says, and where it begins (`PlacedFrame`).
 #[derive(Drop)]
 pub struct FrameList<'c> {
     parts: Vec<PartBytes<'c>>,
@@ -50,7 +51,7 @@ impl<'c> FrameList<'c> {
         FrameList { parts, places }
     }
 
-    /// All of them.
+    /// All frames of the list.
     pub fn as_slice(&self) -> FrameSlice<'_, 'c>
         ensures { result ≡ self.now }
     {
@@ -86,21 +87,21 @@ impl<'f, 'c> FrameSlice<'f, 'c> {
     ghost use Rattle.capture_frame.specs.Envelope.{PlacedFrame, placed_frame};
     ghost use Rattle.capture_frame.specs.Lookup.{AreApart, IsFrameAt, IsSplitAt};
 
-    /// How many they are.
+    /// How many frames there are.
     pub fn len(&self) -> usize
         ensures { result ≡ length self.now }
     {
         self.places.len()
     }
 
-    /// Whether there is none.
+    /// Whether there are none.
     pub fn is_empty(&self) -> bool
         ensures { IsTrue result ↔ (self.now ≡ []) }
     {
         self.places.is_empty()
     }
 
-    /// Where the frame with this number begins in the capture, in bytes.
+    /// Where the frame with this number begins in the capture, in bytes. Numbers count from 0.
     pub fn place(&self, number: usize) -> u64
         requires { number < length self.now }
         ensures { (frame : PlacedFrame) → slice_get self.now number ≡ Some frame →
@@ -110,7 +111,7 @@ impl<'f, 'c> FrameSlice<'f, 'c> {
         places[number]
     }
 
-    /// The frame with this number.
+    /// The frame with this number, from 0. It is read again.
     pub fn get(&self, number: usize) -> Frame<'c>
         requires { number < length self.now }
         ensures { slice_get self.now number ≡ Some (placed_frame result) }
@@ -118,12 +119,12 @@ impl<'f, 'c> FrameSlice<'f, 'c> {
         let places = self.places;
         let place = places[number];
         let bytes = bytes_from(self.parts, place);
-        // It was read before, so its header has no fault. What a frame tells of itself does not
+        // It was read before, so its header has no fault. What a frame says of itself does not
         // depend on the version, nor on the frame before it.
         read_frame(bytes, place, Version::Two, None).unwrap()
     }
 
-    /// The frames without the first ones, so many.
+    /// The frames without the first `count`.
     pub fn without_first(&self, count: usize) -> FrameSlice<'f, 'c>
         requires { count ≤ length self.now }
         ensures { result ≡ drop count self.now }
@@ -132,7 +133,7 @@ impl<'f, 'c> FrameSlice<'f, 'c> {
         others
     }
 
-    /// The first of them, so many, and the others.
+    /// The first `count` frames, and the others.
     pub fn split_at(&self, count: usize) -> (FrameSlice<'f, 'c>, FrameSlice<'f, 'c>)
         requires { count ≤ length self.now }
         ensures front { result.0 ≡ take count self.now }
@@ -152,7 +153,7 @@ impl<'f, 'c> FrameSlice<'f, 'c> {
         )
     }
 
-    /// All of them, read at once.
+    /// All of them, each read again.
     pub fn to_vec(&self, alloc: Global) -> Result<Vec<Frame<'c>>, AllocError>
         ensures { IfOk result (λ frames. shown_by frames.items ≡ self.now) }
     {
@@ -163,8 +164,8 @@ impl<'f, 'c> FrameSlice<'f, 'c> {
         Ok(frames)
     }
 
-    /// How many of these frames, each of which ends before every later one begins, begin at a place
-    /// of the capture or before it.
+    /// How many of these frames begin at a place of the capture or before it. Each must end before
+    /// every later one begins.
     pub fn count_begun(&self, place: u64) -> usize
         requires { AllPairs AreApart self.now }
         ensures { IsSplitAt self.now place result }
@@ -176,8 +177,8 @@ impl<'f, 'c> FrameSlice<'f, 'c> {
         )
     }
 
-    /// Which of these frames, each of which ends before every later one begins, holds the byte at a
-    /// place of the capture; None where none does.
+    /// The frame that the byte at a place of the capture belongs to; None where it belongs to none
+    /// of these frames. Each must end before every later one begins.
     pub fn frame_at(&self, place: u64) -> Option<Frame<'c>>
         requires { AllPairs AreApart self.now }
         ensures { IsFrameAt self.now place result }
@@ -205,7 +206,7 @@ fn end_of(frame: Frame<'_>) -> u64
 /// The bytes of a part from the frame at this place on.
 fn bytes_from<'c>(parts: &[PartBytes<'c>], place: u64) -> &'c [u8]
     requires { AreKept parts.now (place ∷ []) }
-    ensures { StandFrom parts.now place result.now }
+    ensures { AreBytesFrom parts.now place result.now }
 {
     let PartBytes { start, bytes } = part_with(parts, place);
     let (_, rest) = bytes.split_at((place - start) as usize);

@@ -17,8 +17,8 @@ use std::marker::Model;
 /// The length of a frame header, in bytes.
 pub(crate) const FRAME_HEADER: usize = 32;
 
-/// Where a reader stands: before a frame, so far behind the file header and after the frame with
-/// the sequence `last`; or at the fault that ended it.
+/// Where a reader is: before a frame, `offset` bytes after the file header, with `last` the
+/// sequence of the frame before; or failed, with its fault.
 #[derive(Clone, Copy)]
 enum State {
     At { offset: usize, last: Option<u64> },
@@ -29,9 +29,9 @@ enum State {
 /// later call, and one that has ended gives `None`.
 #[derive(Drop)]
 pub struct Frames<'c> {
-    /// What stands behind the file header.
+    /// What follows the file header.
     bytes: &'c [u8],
-    /// Where its first byte stands.
+    /// Where its first byte is in the capture.
     start: u64,
     /// The version that the file header names.
     version: Version,
@@ -53,7 +53,8 @@ impl<'c> Model for Frames<'c> {
 impl<'c> Frames<'c> {
     ghost use Rattle.capture_frame.specs.Reading.{Steps, frames_start, frames_after};
 
-    /// A reader of the capture's frames, where its file header is good.
+    /// A reader of the capture's frames, if its file header is good, of either version. Otherwise
+    /// the header's fault, by the first kind that applies.
     pub fn new(capture: &'c [u8]) -> Result<Frames<'c>, Fault>
         ensures { MatchResult result
             (λ reader. (version : Version) × (take 16 capture.now ≡ file_header version)
@@ -63,9 +64,10 @@ impl<'c> Frames<'c> {
         Frames::after(capture, 0, None)
     }
 
-    /// A reader of the frames of a part, where its file header is good. They stand behind the
-    /// frame with the sequence `before`, if there is one, and `base` is added to their places and
-    /// to those of their faults, but not to that of a fault of the file header.
+    /// A reader of the frames of a part, if its file header is good. The frame before the part has
+    /// the sequence `before`, if there is one. `base` is added to the places of the part's frames
+    /// and of their faults, but not to the place of a fault of the file header. All places must fit
+    /// 64 bits.
     pub fn after(part: &'c [u8], base: u64, before: Option<u64>) -> Result<Frames<'c>, Fault>
         requires fits { base + length part.now < 2 ^ 64 }
         ensures { MatchResult result
@@ -85,7 +87,8 @@ impl<'c> Frames<'c> {
         })
     }
 
-    /// The next frame, or the fault of the frame header that stands there.
+    /// The next frame, as a view of the capture's bytes; or `None` at the end; or the fault of its
+    /// header, by the first kind that applies. A fault is given again at every later call.
     pub fn next_frame(&mut self) -> Result<Option<Frame<'c>>, Fault>
         ensures { Steps self.old result self.new }
     {
@@ -126,7 +129,7 @@ fn is_above(sequence: u64, before: Option<u64>) -> bool
     }
 }
 
-/// Whether the bytes of a frame header that have to be zero are.
+/// Whether the reserved fields of a frame header are 0.
 fn are_zero(bytes: &[u8], version: Version) -> bool
     requires { 32 ≤ length bytes.now }
     ensures { IsTrue result ↔ AreZero version bytes.now }
@@ -138,8 +141,9 @@ fn are_zero(bytes: &[u8], version: Version) -> bool
     }
 }
 
-/// The frame at the front of the bytes, which stand at `place`, behind a file header of that
-/// version and behind the frame with the sequence `last`, if there is one.
+/// The frame that these bytes begin with, or the first kind of fault that applies. The bytes begin
+/// at `place`, after a file header of this version and after the frame with the sequence `last`, if
+/// there is one.
 pub(crate) fn read_frame(
     bytes: &[u8],
     place: u64,

@@ -1,5 +1,5 @@
-//! The frames of a capture: the file header, and then one frame for the consumed part of each
-//! write to the Binder driver and of each read from it.
+//! The file header and the frames of a capture, or of several parts that are read as one. It also
+//! has the shape that all readers of units share (`specs/Units.antt`, `specs/Readers.antt`).
 #![tactic(auto)]
 
 mod all_frames;

@@ -1,4 +1,4 @@
--- The law of the pure board, by what every list of steps from the opening keeps.
+-- The law of the board, by what every list of steps from the opening keeps.
 use Rattle.std.proofs.Common.{◌≡◌, ◌≢◌, ℕ, zero, suc, ◌+◌, ◌<◌, ◌≤◌, ◌⊎◌, ltb, min, Bool, true, false, cond, List, [], ◌∷◌, length, replicate, set, get_or, sym, refl, ap, ◌∙◌, subst, inl, inr, ⊎_elim, arith, Option, Some, None, IfSome, length-set}
 use native.Mathlib.Decide.{dec_le}
 use Rattle.std.specs.List.{All, slice_get}
@@ -18,7 +18,7 @@ use Rattle.claim_board.specs.Running.{bit, total, blank_job}
 use Rattle.claim_board.proofs.Lists.{get_set, get_set_else, get_replicate, got_replicate}
 use Rattle.claim_board.proofs.Totals.{total-put, total-replicate, total_few, bit_le}
 
--- the steps that led a job to its state
+-- how many steps led a job to its state
 abbrev pub progress : JobState → ℕ
 progress Untouched = 0
 progress (Held w) = 1
@@ -35,7 +35,7 @@ progress_few (Done w) = omega arith
 progress_few (Skipped w) = omega arith
 progress_few (Lowered w) = omega arith
 
--- what the state of the job i says of the worker that it names, of the job and of the least place
+-- what the state of the job i says of the worker that it names, of the job, and of the least place
 abbrev pub IsRight : List Job → List Bool → Option ℕ → ℕ → JobState → Type 0
 IsRight jobs stopped least i Untouched = Unit {0}
 IsRight jobs stopped least i (Held w) = slice_get stopped w ≡ Some false
@@ -50,7 +50,7 @@ IsRight jobs stopped least i (Lowered w) =
 abbrev pub HasFault : List Job → ℕ → Type 0
 HasFault jobs x = (i : ℕ) × (job : Job) × (slice_get jobs i ≡ Some job) × (job.fault ≡ Some x)
 
--- what that many steps from the opening keep
+-- what holds after this many steps from the opening
 pub record IsReached (jobs : List Job) (workers steps : ℕ) (t : BoardState) : Type 0 where
   pub same : t.jobs ≡ jobs
   pub crew : length t.stopped ≡ workers
@@ -119,7 +119,7 @@ module _ (jobs : List Job) (workers steps : ℕ) (s : BoardState) (old : IsReach
     least = from;
   }
 
-  -- a job that was touched is not among those that are next
+  -- a job that a worker has claimed is not among the jobs that are next
   apart_from : (i : ℕ) (q : JobState) → slice_get s.states i ≡ Some q → (q ≡ Untouched → ⊥) → (j : ℕ) → s.next ≤ j → j < length s.jobs → j ≢ i
   apart_from i q at not j le lt e =
       let there : slice_get s.states i ≡ Some Untouched = subst (λ k. slice_get s.states k ≡ Some Untouched) e (old.fresh j le lt) in
@@ -162,7 +162,7 @@ module _ (jobs : List Job) (workers steps : ℕ) (s : BoardState) (old : IsReach
   claim_if w may true is = hold_reached w may.works (ltb-true s.next (length s.jobs) is)
   claim_if w may false is = stop_reached w may (ltb-false s.next (length s.jobs) is)
 
-  -- what a look leaves of a job, by the least place and the fault
+  -- the state that a look leaves a job in
   abbrev IsLooked : ℕ → ℕ → JobState → Type 0
   IsLooked w i r = (progress r ≡ 2) × (r ≡ Untouched → ⊥) × IsRight s.jobs s.stopped s.least i r
 
@@ -215,10 +215,10 @@ module _ (jobs : List Job) (workers steps : ℕ) (s : BoardState) (old : IsReach
 
   lower_reached : (w i : ℕ) (job : Job) (x : ℕ) → slice_get s.jobs i ≡ Some job → job.fault ≡ Some x → slice_get s.states i ≡ Some (Faulty w)
       → IsReached jobs workers (steps + 1) (record s { least = Some (lesser_of s.least x); states = set s.states i (Lowered w) })
-  lower_reached w i job x at fault stands =
-      let works : slice_get s.stopped w ≡ Some false = old.right i (Faulty w) stands in
-      put s.next (Some (lesser_of s.least x)) i (Faulty w) (Lowered w) stands refl (λ e. cc)
-      (omega arith) old.next (apart_from i (Faulty w) stands (λ e. cc)) (λ j less ne. less) (right_lower x)
+  lower_reached w i job x at fault is_at =
+      let works : slice_get s.stopped w ≡ Some false = old.right i (Faulty w) is_at in
+      put s.next (Some (lesser_of s.least x)) i (Faulty w) (Lowered w) is_at refl (λ e. cc)
+      (omega arith) old.next (apart_from i (Faulty w) is_at (λ e. cc)) (λ j less ne. less) (right_lower x)
       (slice_get_within s.stopped w false works, job, at, x, fault, lesser_of s.least x, refl, lesser_least s.least x)
       (lesser_from x (i, job, at, fault) s.least old.least)
 
@@ -252,19 +252,19 @@ module _ (jobs : List Job) (workers steps : ℕ) (t : BoardState) (r : IsReached
       let not : get_or t.stopped w false ≡ false = get_or_from_slice_get t.stopped w false false e in
       cc
 
-  -- where the job i stands at the end
-  pub record Stands (i : ℕ) : Type 0 where
+  -- the state of the job i at the end
+  pub record IsThere (i : ℕ) : Type 0 where
     pub state : JobState
-    pub stands : slice_get t.states i ≡ Some state
+    pub is_at : slice_get t.states i ≡ Some state
     pub right : IsRight t.jobs t.stopped t.least i state
     pub touched : state ≢ Untouched
 
-  stands_at : (i : ℕ) → i < length t.jobs → Stands i
-  stands_at i lt =
+  state_at : (i : ℕ) → i < length t.jobs → IsThere i
+  state_at i lt =
       let s : JobState = get_or t.states i Untouched in
       let e : slice_get t.states i ≡ Some s = let l = r.states in slice_get-get_or t.states i Untouched (omega arith) in
       let n : length t.jobs ≤ t.next = r.late (let b = all_bits t.stopped all in let c = r.crew in omega arith) in
-      record { state = s; stands = e; right = r.right i s e; touched = λ q. r.touched i (omega arith) (e ∙ ap (λ x. Some x) q) }
+      record { state = s; is_at = e; right = r.right i s e; touched = λ q. r.touched i (omega arith) (e ∙ ap (λ x. Some x) q) }
 
   ends_by : (i : ℕ) (s : JobState) → slice_get t.states i ≡ Some s → IsRight t.jobs t.stopped t.least i s → s ≢ Untouched → EndsOnce workers t i
   ends_by i Untouched e h n = absurd (n refl)
@@ -272,18 +272,18 @@ module _ (jobs : List Job) (workers steps : ℕ) (t : BoardState) (r : IsReached
   ends_by i (Faulty w) e h n = absurd (works_not w h)
   ends_by i (Done w) e h n =
       let c = r.crew in let lt = h.0 in
-      record { state = Done w; stands = e; worker = w; is_worker = omega arith; by_worker = refl; by_no_other = λ u q. sym q }
+      record { state = Done w; is_at = e; worker = w; is_worker = omega arith; by_worker = refl; by_no_other = λ u q. sym q }
   ends_by i (Skipped w) e h n =
       let c = r.crew in let lt = h.0 in
-      record { state = Skipped w; stands = e; worker = w; is_worker = omega arith; by_worker = refl; by_no_other = λ u q. sym q }
+      record { state = Skipped w; is_at = e; worker = w; is_worker = omega arith; by_worker = refl; by_no_other = λ u q. sym q }
   ends_by i (Lowered w) e h n =
       let c = r.crew in let lt = h.0 in
-      record { state = Lowered w; stands = e; worker = w; is_worker = omega arith; by_worker = refl; by_no_other = λ u q. sym q }
+      record { state = Lowered w; is_at = e; worker = w; is_worker = omega arith; by_worker = refl; by_no_other = λ u q. sym q }
 
   once : (i : ℕ) → i < length t.jobs → EndsOnce workers t i
-  once i lt = let s = stands_at i lt in ends_by i s.state s.stands s.right s.touched
+  once i lt = let s = state_at i lt in ends_by i s.state s.is_at s.right s.touched
 
-  -- a job is Done, or some fault lies at the least place
+  -- a job is Done, or there is a least place
   done_or : (i : ℕ) (s : JobState) → slice_get t.states i ≡ Some s → IsRight t.jobs t.stopped t.least i s → s ≢ Untouched
       → ((w : ℕ) × (slice_get t.states i ≡ Some (Done w)) × (job : Job) × (slice_get t.jobs i ≡ Some job) × (job.fault ≡ None)) ⊎ ((y : ℕ) × (t.least ≡ Some y))
   done_or i Untouched e h n = absurd (n refl)
@@ -307,19 +307,19 @@ module _ (jobs : List Job) (workers steps : ℕ) (t : BoardState) (r : IsReached
 
   done_all : AreFaultless t.jobs → AreDone t.jobs t
   done_all none = record {
-    done = λ i lt. let s = stands_at i lt in ⊎_elim
+    done = λ i lt. let s = state_at i lt in ⊎_elim
         (λ (d : (w : ℕ) × (slice_get t.states i ≡ Some (Done w)) × (job : Job) × (slice_get t.jobs i ≡ Some job) × (job.fault ≡ None)). (d.0, d.1))
         (λ (l : (y : ℕ) × (t.least ≡ Some y)). absurd (no_least none l.0 l.1))
-        (done_or i s.state s.stands s.right s.touched);
+        (done_or i s.state s.is_at s.right s.touched);
     least = least_none none t.least refl;
   }
 
   faultless_if : t.least ≡ None → AreFaultless t.jobs
-  faultless_if e = All-from_get_or (λ (job : Job). job.fault ≡ None) t.jobs blank_job (λ i lt. let s = stands_at i lt in ⊎_elim
+  faultless_if e = All-from_get_or (λ (job : Job). job.fault ≡ None) t.jobs blank_job (λ i lt. let s = state_at i lt in ⊎_elim
       (λ (d : (w : ℕ) × (slice_get t.states i ≡ Some (Done w)) × (job : Job) × (slice_get t.jobs i ≡ Some job) × (job.fault ≡ None)).
       ap (λ (job : Job). job.fault) (get_or_from_slice_get t.jobs i d.2 blank_job d.3) ∙ d.4)
       (λ (l : (y : ℕ) × (t.least ≡ Some y)). absurd (no_some l.0 (sym e ∙ l.1)))
-      (done_or i s.state s.stands s.right s.touched))
+      (done_or i s.state s.is_at s.right s.touched))
 
   -- the least place is no higher than the fault of a job
   least_le : (x y i : ℕ) (job : Job) (s : JobState) → AreJobs t.jobs → t.least ≡ Some x → slice_get t.jobs i ≡ Some job → job.fault ≡ Some y
@@ -350,7 +350,7 @@ module _ (jobs : List Job) (workers steps : ℕ) (t : BoardState) (r : IsReached
     record {
       found = r.least x e;
       least = λ i job y at f.
-          let s = stands_at i (slice_get_within t.jobs i job at) in
+          let s = state_at i (slice_get_within t.jobs i job at) in
           least_le x y i job s.state a e at f s.right s.touched;
     },
   )

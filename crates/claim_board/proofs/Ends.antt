@@ -1,4 +1,4 @@
--- What holds once all workers of a table have stopped, and their seats are one seat.
+-- What holds once all workers of a table have stopped, and their seats are joined to one.
 use Rattle.std.proofs.Common.{◌≡◌, ℕ, zero, suc, ◌+◌, ◌*◌, ◌<◌, ◌≤◌, ◌≢◌, ◌==◌, min, true, List, [], ◌∷◌, map, length, set, get_or, sym, refl, ap, ◌∙◌, subst, inl, ⊎_elim, arith, Option, Some, None, IfSome, eq-eqb, ne_eqb}
 use mathlib.Core.Option.{some}
 use mathlib.Core.Logic.{dite}
@@ -165,7 +165,7 @@ module _ (jobs : List Job) (workers next least : ℕ) (views : List View) (k : I
       (record { copy = inl refl; claimed = All-nil (IsGood jobs least); one = λ u. omega arith; own = λ u gone. refl }) k.each in
       let none_left : All (λ w. crew_weight ones w.crew ≡ 0) others =
       zero_each (λ w. crew_weight ones w.crew) others
-      (let s = total-set (λ w. crew_weight ones w.crew) views id v spent_view at in let m = k.workers_once ones in let a = all ones in omega arith) in
+      (let s = total-set (λ w. crew_weight ones w.crew) views id v spent_view at in let m = k.each_worker_once ones in let a = all ones in omega arith) in
       λ i d lt. (each i d lt, none_left i d lt)
 
   no_claimed : (w : View) → Idle w → w.claimed ≡ []
@@ -175,7 +175,7 @@ module _ (jobs : List Job) (workers next least : ℕ) (views : List View) (k : I
   only f z e = let s = total-set f views id v spent_view at in let t = all_zero Idle f others z idle_others in omega arith
 
   weights_all : (h : ℕ → ℕ) → job_weight h v.claimed ≡ weight_below h (min next (length jobs))
-  weights_all h = sym (only (λ w. job_weight h w.claimed) (λ w i. ap (λ cs. job_weight h cs) (no_claimed w i)) refl) ∙ k.jobs_once h
+  weights_all h = sym (only (λ w. job_weight h w.claimed) (λ w i. ap (λ cs. job_weight h cs) (no_claimed w i)) refl) ∙ k.each_job_once h
 
   full : min next (length jobs) ≡ length jobs
   full =
@@ -209,7 +209,7 @@ module _ (jobs : List Job) (workers next least : ℕ) (views : List View) (k : I
   pub claimed_of : (i : ℕ) → i < length jobs → (c : ClaimedJob) × (c.job ≡ i) × Fine c
   claimed_of i lt = find_claimed Fine i v.claimed fine (let e = every (one_at i) in let b = weight_below-one i (length jobs) lt in omega arith)
 
-  -- no fault was lowered_count
+  -- no fault was lowered to
   module _ (high : least ≡ no_place) where
     places_at : (i : ℕ) → i < length jobs → ((job_at jobs i).start < no_place) × IfSome (job_at jobs i).fault (λ x. x < no_place)
     places_at i lt = All-get_or (λ (a : Job). (a.start < no_place) × IfSome a.fault (λ x. x < no_place)) jobs i blank_job lt k.key.listed.places
@@ -259,7 +259,7 @@ module _ (jobs : List Job) (workers next least : ℕ) (views : List View) (k : I
             absurd (omega arith)
         go i (no n) p = omega arith
 
-  -- a fault was lowered_count
+  -- a fault was lowered to
   module _ (low : least ≢ no_place) where
     le_fault : (i : ℕ) (s : JobState) (y : ℕ) → i < length jobs → IsGoodAt jobs least i s → ((u : ℕ) → open_weight u s ≡ 0) → (job_at jobs i).fault ≡ Some y
         → least ≤ y

@@ -1,4 +1,4 @@
--- A table that was closed with the seat of all its workers, each of which has stopped.
+-- A table that was closed with the seat of all its workers, once each of them has stopped.
 use Rattle.std.proofs.Common.{◌≡◌, ℕ, ◌<◌, List, length, ap, subst, ◌∙◌, arith}
 use Rattle.claim_board.specs.declared.job.Job.{Job}
 use Rattle.claim_board.specs.declared.view.View.{View}
@@ -24,12 +24,12 @@ module _ (jobs : List Job) (workers least : ℕ) (u v : View) (last : IsLast job
       → IsWhole gives (length jobs) list
   whole_at_end high gives list r = ends.whole jobs workers last.0 least last.1 last.3 last.2 v last.4 all stopped high gives list r
 
--- a table of jobs is one of the work's own jobs, where they are the same, from its opening
+-- the opening of a table over the same jobs is an opening over the work's jobs
 pub opened_at : (jobs jobs' : List Job) (workers : ℕ) (v : View) → jobs ≡ jobs' → v ≡ opening_view jobs workers
     → v ≡ opening_view jobs' workers
 opened_at jobs jobs' workers v a e = e ∙ ap (λ js. opening_view js workers) a
 
--- to its end, with their number of workers
+-- the end of a table over the same jobs, with as many workers, is an end over the work's jobs
 pub last_of : (jobs jobs' : List Job) (workers workers' least : ℕ) (v : View) → jobs ≡ jobs' → workers ≡ workers' → IsLast jobs workers v least
     → IsLast jobs' workers' v least
 last_of jobs jobs' workers workers' least v a b last = subst (λ m. IsLast jobs' m v least) b (subst (λ js. IsLast js workers v least) a last)

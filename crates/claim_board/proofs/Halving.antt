@@ -14,7 +14,7 @@ use Rattle.claim_board.specs.declared.view.ClaimedJob.{ClaimedJob}
 use Rattle.claim_board.specs.declared.view.SeatWorker.{SeatWorker}
 use Rattle.claim_board.specs.declared.view.View.{View}
 use Rattle.claim_board.specs.Steps.{IsSeatAt, left_view, right_view, joined_view}
-use Rattle.claim_board.specs.Work.{with_done, done_jobs, AreAllResults, AreResults, IsOneList, IsSameCrew, IsFresh, MayShare, StandsForSame, HaveStopped}
+use Rattle.claim_board.specs.Work.{with_done, done_jobs, AreAllResults, AreResults, IsOneList, IsSameCrew, IsFresh, MayShare, IsForSame, HaveStopped}
 
 with_done-append : (i : ℕ) (s : JobState) (a b : List ℕ) → with_done i s (a ++ b) ≡ a ++ with_done i s b
 with_done-append i Untouched a b = refl
@@ -67,27 +67,27 @@ module _ (v l0 r0 l r u : View) (cut : l0 ≡ left_view v) (other : r0 ≡ right
       let t = length-take (length v.crew / 2) v.crew in
       omega arith
 
--- the seat was cut from the old one with half of its workers, and the other one has the others
-abbrev pub IsCut : Seat (Unit {0}) View → Seat (Unit {0}) View → Seat (Unit {0}) View → Type 0
-IsCut old cut other =
+-- the seat was split from the old one with half of its workers, and the other seat has the other half
+abbrev pub IsSplit : Seat (Unit {0}) View → Seat (Unit {0}) View → Seat (Unit {0}) View → Type 0
+IsSplit old cut other =
     (cut.table_id ≡ old.table_id) × (cut.id ≡ old.id) × (cut.me ≡ (left_view old.me.0, old.me.1)) × (other.table_id ≡ old.table_id)
     × (other.me ≡ (right_view old.me.0, []))
 
--- the seat is the left one, which the right one joined
+-- the seat is the left one once the right one has been joined to it
 abbrev pub IsJoin : Seat (Unit {0}) View → Seat (Unit {0}) View → Seat (Unit {0}) View → Type 0
 IsJoin l r new = (new.table_id ≡ l.table_id) × (new.id ≡ l.id) × (new.me ≡ (joined_view l.me.0 r.me.0, l.me.1))
 
--- after the split, both halves' steps and the join the seat stands for the same workers
-pub same_again : (old cut other l r new : Seat (Unit {0}) View) → IsCut old cut other → StandsForSame cut l → StandsForSame other r → IsJoin l r new
-    → StandsForSame old new
+-- after the split, the steps of both halves and the join, the seat has the same workers
+pub same_again : (old cut other l r new : Seat (Unit {0}) View) → IsSplit old cut other → IsForSame cut l → IsForSame other r → IsJoin l r new
+    → IsForSame old new
 same_again old cut other l r new s low high j = (
   (j.0 ∙ (low.0.0 ∙ s.0), j.1 ∙ (low.0.1 ∙ s.1), ap (λ x. x.1) j.2 ∙ (low.0.2 ∙ ap (λ x. x.1) s.2)),
   crew_again old.me.0 cut.me.0 other.me.0 l.me.0 r.me.0 new.me.0 (ap (λ x. x.0) s.2) (ap (λ x. x.0) s.4) low.1 high.1 (ap (λ x. x.0) j.2),
 )
 
--- and the join may be made
-pub may_join : (table : TableId) (old cut other l r : Seat (Unit {0}) View) → IsSeatAt table old → 1 < length old.me.0.crew → IsCut old cut other
-    → StandsForSame cut l → StandsForSame other r
+-- the join is allowed
+pub may_join : (table : TableId) (old cut other l r : Seat (Unit {0}) View) → IsSeatAt table old → 1 < length old.me.0.crew → IsSplit old cut other
+    → IsForSame cut l → IsForSame other r
     → (l.table_id ≡ table) × (r.table_id ≡ table) × (r.me.1 ≡ []) × (0 < length l.me.0.crew)
 may_join table old cut other l r place more s low high = (
   low.0.0 ∙ (s.0 ∙ place.1),
@@ -96,7 +96,7 @@ may_join table old cut other l r place more s low high = (
   left_some old.me.0 cut.me.0 other.me.0 l.me.0 r.me.0 old.me.0 (ap (λ x. x.0) s.2) (ap (λ x. x.0) s.4) low.1 high.1 more,
 )
 
--- so the list of both has the results of the workers of both halves
+-- the joined list has the results of the workers of both halves
 pub both_joined : {X A E : Type 0} (gives : ℕ → X → Type 0) (l r new : Seat (Unit {0}) View) (front back result : Result (Vec (ℕ × X) A) E)
     → IsJoin l r new → IfOk front (λ list. AreAllResults gives l.me.0 list.items) → IfOk back (λ list. AreAllResults gives r.me.0 list.items)
     → IfOk result (λ all. IsOneList front back all) → IfOk result (λ all. AreAllResults gives new.me.0 all.items)
@@ -120,7 +120,7 @@ fresh_part v u crew e none some = record {
 
 -- each half of a seat whose workers have made no step may share the jobs in its turn
 pub halves_may_share : (table : TableId) (jobs : List Job) (n : ℕ) (old cut other : Seat (Unit {0}) View) → MayShare table jobs n old → n ≢ 1
-    → IsCut old cut other → MayShare table jobs (n / 2) cut × MayShare table jobs (n - n / 2) other
+    → IsSplit old cut other → MayShare table jobs (n / 2) cut × MayShare table jobs (n - n / 2) other
 halves_may_share table jobs n old cut other m more s =
     let v = old.me.0 in
     let half = length v.crew / 2 in

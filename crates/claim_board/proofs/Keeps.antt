@@ -1,4 +1,4 @@
--- Each step on the two words keeps the rule.
+-- Each step on the two words keeps the running rule.
 use Rattle.std.proofs.Common.{◌≡◌, ℕ, suc, ◌+◌, ◌%◌, ◌^◌, ◌<◌, ◌≤◌, ◌⊎◌, ltb, min, Bool, true, false, cond, List, [], ◌∷◌, length, set, slice_index, sym, refl, ap, ◌∙◌, subst, inl, inr, ⊎_elim, arith, eq-eqb, Option, Some, None, IfSome}
 use mathlib.Core.Option.{none, some}
 use lib.ListN.{get_elem?}
@@ -48,13 +48,13 @@ module _ (jobs : List Job) (workers next least : ℕ) (views : List View) (k : I
     key = k.key;
     each = All-set (IsView jobs workers least') views id w view
         (All-weaker (IsView jobs workers least) (IsView jobs workers least') (λ u r. view_down jobs workers least least' u low r) views k.each);
-    jobs_once = λ h. let s = total-set (λ u. job_weight h u.claimed) views id v w at in let c = k.jobs_once h in let j = jobs_same h in omega arith;
-    workers_once = λ h. let s = total-set (λ u. crew_weight h u.crew) views id v w at in let c = k.workers_once h in let j = crew_same h in omega arith;
+    each_job_once = λ h. let s = total-set (λ u. job_weight h u.claimed) views id v w at in let c = k.each_job_once h in let j = jobs_same h in omega arith;
+    each_worker_once = λ h. let s = total-set (λ u. crew_weight h u.crew) views id v w at in let c = k.each_worker_once h in let j = crew_same h in omega arith;
     claim_word = let s = total-set (λ u. length u.claimed + stopped_count u.crew) views id v w at in let c = k.claim_word in omega arith;
     fault_word = least_same;
   }
 
-  -- a view of one worker has the table's key
+  -- a view with one worker has the table's jobs and number of workers
   pub known : (id : ℕ) (v : View) (w : ℕ) (b : Bool) (cs : List ClaimedJob) → get_elem? views id ≡ some v → IsOne v w b → v.claimed ≡ cs
       → v ≡ solo jobs workers cs w b
   known id v w b cs at one is = ⊎_elim
@@ -65,19 +65,19 @@ module _ (jobs : List Job) (workers next least : ℕ) (views : List View) (k : I
   -- the claim word never passes the jobs and the workers
   pub bounded : next ≤ length jobs + workers
   bounded =
-      let c : total (λ v. job_weight (λ _. 1) v.claimed) views ≡ min next (length jobs) = k.jobs_once (λ _. 1) ∙ weight_below-ones (min next (length jobs)) in
-      let m : total (λ v. crew_weight (λ _. 1) v.crew) views ≡ workers = k.workers_once (λ _. 1) ∙ weight_below-ones workers in
+      let c : total (λ v. job_weight (λ _. 1) v.claimed) views ≡ min next (length jobs) = k.each_job_once (λ _. 1) ∙ weight_below-ones (min next (length jobs)) in
+      let m : total (λ v. crew_weight (λ _. 1) v.crew) views ≡ workers = k.each_worker_once (λ _. 1) ∙ weight_below-ones workers in
       let p = total-plus (λ v. job_weight (λ _. 1) v.claimed) (λ v. crew_weight (λ _. 1) v.crew) views in
       let l = total-le (λ v. length v.claimed + stopped_count v.crew) (λ v. job_weight (λ _. 1) v.claimed + crew_weight (λ _. 1) v.crew) views
       (λ v. let a = job_weight-ones v.claimed in let b = stopped_count-le v.crew in omega arith) in
       let n = k.claim_word in
       omega arith
 
-  -- the jobs of a view are weight_below the claim word
+  -- the jobs of a view are below the claim word
   pub under : (id : ℕ) (v : View) → get_elem? views id ≡ some v → All (λ c. c.job < next) v.claimed
   under id v at = claimed_below next v.claimed (λ x le.
       let t = total-at (λ u. job_weight (one_at x) u.claimed) views id v at in
-      let c = k.jobs_once (one_at x) in
+      let c = k.each_job_once (one_at x) in
       let b = weight_below-none x (min next (length jobs)) (omega arith) in
       omega arith)
 
@@ -85,7 +85,7 @@ module _ (jobs : List Job) (workers next least : ℕ) (views : List View) (k : I
   pub inside : (id : ℕ) (v : View) → get_elem? views id ≡ some v → All (λ c. c.job < length jobs) v.claimed
   inside id v at = claimed_below (length jobs) v.claimed (λ x le.
       let t = total-at (λ u. job_weight (one_at x) u.claimed) views id v at in
-      let c = k.jobs_once (one_at x) in
+      let c = k.each_job_once (one_at x) in
       let b = weight_below-none x (min next (length jobs)) (omega arith) in
       omega arith)
 
@@ -96,7 +96,7 @@ module _ (jobs : List Job) (workers next least : ℕ) (views : List View) (k : I
       go : Dec (workers ≤ w) → w < workers
       go (yes le) =
           let t = total-at (λ u. crew_weight (one_at w) u.crew) views id (solo jobs workers cs w false) at in
-          let m = k.workers_once (one_at w) in
+          let m = k.each_worker_once (one_at w) in
           let b = weight_below-none w workers le in
           let o = bit-same w in
           absurd (omega arith)
@@ -160,7 +160,7 @@ module _ (jobs : List Job) (workers next least : ℕ) (views : List View) (k : I
     had : IsView jobs workers least (solo jobs workers (claimed_job i s ∷ cs) w false)
     had = each-at (IsView jobs workers least) views id (solo jobs workers (claimed_job i s ∷ cs) w false) at k.each
 
-    -- the latest job goes to another state
+    -- the job that was claimed last goes to another state
     remarked : (t : JobState) (less : ℕ) → less ≤ least → IsGoodAt jobs less i t → ((u : ℕ) → open_weight u t ≤ open_weight u s)
         → ((u : ℕ) → name_weight u t ≡ name_weight u s)
         → (less ≡ no_place) ⊎ (0 < total (λ u. lowered_count jobs less u.claimed) (set views id (solo jobs workers (claimed_job i t ∷ cs) w false)))

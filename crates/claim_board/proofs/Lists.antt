@@ -1,4 +1,4 @@
--- Lists that were set at one place, or got one more element, read by `slice_get`.
+-- Lists in which one element was set, or which got one more element, read by `slice_get`.
 use Rattle.std.proofs.Common.{◌≡◌, ℕ, zero, suc, ◌≢◌, ◌⊎◌, List, [], ◌∷◌, ◌++◌, length, set, refl, ap, inl, inr, ⊎_elim, arith, replicate, ◌<◌, Some}
 use Rattle.std.specs.List.{slice_get}
 

@@ -1,4 +1,4 @@
--- A table at its start keeps the rule.
+-- A table at its start keeps the running rule.
 use Rattle.std.proofs.Common.{◌≡◌, ℕ, zero, suc, ◌+◌, ◌≤◌, min, false, List, [], ◌∷◌, length, map, refl, sym, ap, subst, inl, inr, arith}
 use Rattle.std.specs.List.{All}
 use Rattle.std.proofs.lemmas.List.Elements.{All-nil, All-cons}
@@ -45,16 +45,16 @@ opening_kept jobs workers listed low high = record {
         own = λ u gone. refl;
       })
       (All-nil (IsView jobs workers no_place));
-  jobs_once = λ h.
+  each_job_once = λ h.
       let z : min 0 (length jobs) ≡ 0 = omega arith in
       let b : weight_below h (min 0 (length jobs)) ≡ weight_below h 0 = ap (λ n. weight_below h n) z in
       omega arith;
-  workers_once = λ h. let m = crew_weight-crew h workers in omega arith;
+  each_worker_once = λ h. let m = crew_weight-crew h workers in omega arith;
   claim_word = let z = stopped_count-crew workers in omega arith;
   fault_word = inl refl;
 }
 
--- the seat of all workers
+-- the seat of all workers may share the jobs
 pub may_share : (table : TableId) (jobs : List Job) (workers : ℕ) (seat : Seat (Unit {0}) View) → IsSeatAt table seat
     → seat.me.0 ≡ opening_view jobs workers → 1 ≤ workers → MayShare table jobs workers seat
 may_share table jobs workers seat place is low = record {
@@ -65,7 +65,7 @@ may_share table jobs workers seat place is low = record {
   at_least_one = low;
 }
 
--- a crew of the same workers weighs as much
+-- two crews with the same workers weigh the same
 pub crew_weight-same : (h : ℕ → ℕ) (a b : List SeatWorker) → map (λ (m : SeatWorker). m.worker) a ≡ map (λ (m : SeatWorker). m.worker) b
     → crew_weight h a ≡ crew_weight h b
 crew_weight-same h [] [] e = refl

@@ -1,4 +1,4 @@
--- A seat may be cut in two, and two may be joined.
+-- A seat may be split in two, and two seats may be joined.
 use Rattle.std.proofs.Common.{◌≡◌, ℕ, ◌+◌, ◌*◌, ◌/◌, ◌<◌, ◌≤◌, ◌≢◌, List, [], ◌∷◌, ◌++◌, length, take, drop, set, sym, refl, ap, ◌∙◌, inl, inr, ⊎_elim, arith, length-append}
 use mathlib.Core.Option.{some}
 use mathlib.Core.Logic.{dite}
@@ -68,17 +68,17 @@ module _ (jobs : List Job) (workers next least : ℕ) (views : List View) (k : I
           each = All-push (IsView jobs workers least) (set views id left) right
               (All-set (IsView jobs workers least) views id left (part l (λ u. let b = both_halts u in omega arith)) k.each)
               (part r (λ u. let b = both_halts u in omega arith));
-          jobs_once = λ h.
+          each_job_once = λ h.
               let z : job_weight h v.claimed ≡ 0 = ap (λ cs. job_weight h cs) empty in
               let s = total-set (λ u. job_weight h u.claimed) views id v left at in
               let n = total-snoc (λ u. job_weight h u.claimed) (set views id left) right in
-              let c = k.jobs_once h in
+              let c = k.each_job_once h in
               omega arith;
-          workers_once = λ h.
+          each_worker_once = λ h.
               let m : crew_weight h l + crew_weight h r ≡ crew_weight h v.crew = sym (crew_weight-append h l r) ∙ ap (λ x. crew_weight h x) cut in
               let s = total-set (λ u. crew_weight h u.crew) views id v left at in
               let n = total-snoc (λ u. crew_weight h u.crew) (set views id left) right in
-              let c = k.workers_once h in
+              let c = k.each_worker_once h in
               omega arith;
           claim_word =
               let z : length v.claimed ≡ 0 = ap (λ cs. length cs) empty in
@@ -102,7 +102,7 @@ module _ (jobs : List Job) (workers next least : ℕ) (views : List View) (k : I
     few : (u : ℕ) → crew_weight (one_at u) v.crew + crew_weight (one_at u) w.crew ≤ 1
     few u =
         let t = total-two (λ x. crew_weight (one_at u) x.crew) views id other v w spent_view refl at apart there in
-        let m = k.workers_once (one_at u) in
+        let m = k.each_worker_once (one_at u) in
         let b = weight_below-one_at u workers in
         omega arith
 
@@ -141,8 +141,8 @@ module _ (jobs : List Job) (workers next least : ℕ) (views : List View) (k : I
       each = All-set (IsView jobs workers least) (set views id (joined_view v w)) other spent_view
           (record { copy = inl refl; claimed = All-nil (IsGood jobs least); one = λ u. omega arith; own = λ u gone. refl })
           (All-set (IsView jobs workers least) views id (joined_view v w) joined k.each);
-      jobs_once = λ h. same (λ u. job_weight h u.claimed) (let a = job_weight-append h w.claimed v.claimed in omega arith) refl ∙ k.jobs_once h;
-      workers_once = λ h. same (λ u. crew_weight h u.crew) (crew_weight-append h v.crew w.crew) refl ∙ k.workers_once h;
+      each_job_once = λ h. same (λ u. job_weight h u.claimed) (let a = job_weight-append h w.claimed v.claimed in omega arith) refl ∙ k.each_job_once h;
+      each_worker_once = λ h. same (λ u. crew_weight h u.crew) (crew_weight-append h v.crew w.crew) refl ∙ k.each_worker_once h;
       claim_word = k.claim_word ∙ sym (same (λ u. length u.claimed + stopped_count u.crew) (
           let a = length-append w.claimed v.claimed in
           let b = stopped_count-append v.crew w.crew in

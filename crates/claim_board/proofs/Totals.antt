@@ -1,4 +1,4 @@
--- Sums over views, claimed and crews.
+-- Sums over views, claimed jobs and crews.
 use Rattle.std.proofs.Common.{◌≡◌, ℕ, zero, suc, ◌+◌, ◌*◌, ◌<◌, ◌≤◌, ◌≢◌, ◌==◌, Bool, true, false, List, [], ◌∷◌, ◌++◌, length, set, sym, refl, ap, ◌∙◌, subst, arith, eq-eqb, ne_eqb, replicate, Some}
 use mathlib.Core.Option.{some, some-injective, some-ne-none}
 use mathlib.Core.Logic.{dite}
@@ -128,7 +128,7 @@ claimed_below n (c ∷ cs) z =
     All-cons (λ (c : ClaimedJob). c.job < n) c cs (head_below n c cs z (dec_le n c.job))
     (claimed_below n cs (λ x le. let e = z x le in omega arith))
 
--- two views job_weight no more than all
+-- two views weigh no more than all views
 pub total-two : (f : View → ℕ) (l : List View) (i j : ℕ) (v w e : View) → f e ≡ 0 → get_elem? l i ≡ some v → j ≢ i → get_elem? l j ≡ some w
     → f v + f w ≤ total f l
 total-two f l i j v w e z at ne there =

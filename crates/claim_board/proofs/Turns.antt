@@ -13,7 +13,7 @@ use Rattle.claim_board.specs.Board.{state_by_fault}
 use Rattle.claim_board.specs.Running.{claimed_job, job_at}
 use Rattle.atomic_table.specs.declared.shared.Seat.{Seat}
 use Rattle.claim_board.specs.Steps.{state_after_load, with_latest_state, view_after_look, view_after_lower, worker_of, IsSameSeat}
-use Rattle.claim_board.specs.Work.{AnswersJob, IsAt, HasEnded, AreResults, StandsForSame}
+use Rattle.claim_board.specs.Work.{AnswersJob, IsAt, HasEnded, AreResults, IsForSame}
 
 module _ (jobs : List Job) (i : ℕ) (rest : List ClaimedJob) (v : View) where
   look_at_last : (u : View) (found : ℕ) → u ≡ view_after_look v found → IsAt jobs i (Held (worker_of v)) rest v
@@ -83,8 +83,8 @@ module _ (jobs : List Job) (i : ℕ) (rest : List ClaimedJob) (v : View) where
 pub fault_of : {X : Type 0} (gives : X → Type 0) (job : Job) (r : Result X JobStop) (x : ℕ) → r ≡ Err (At x) → AnswersJob gives job r → job.fault ≡ Some x
 fault_of gives job r x e a = subst (λ r. AnswersJob gives job r) e a
 
--- neither a look nor a lower changes whom the seat stands for
-pub same_after_look : (old new : Seat (Unit {0}) View) (found : ℕ) → IsSameSeat old new → new.me.0 ≡ view_after_look old.me.0 found → StandsForSame old new
+-- neither a look nor a lower changes the workers of a seat
+pub same_after_look : (old new : Seat (Unit {0}) View) (found : ℕ) → IsSameSeat old new → new.me.0 ≡ view_after_look old.me.0 found → IsForSame old new
 same_after_look old new found s e = (
   s,
   record {
@@ -94,8 +94,8 @@ same_after_look old new found s e = (
   },
 )
 
-pub same_after_lower : (old mid new : Seat (Unit {0}) View) → StandsForSame old mid → IsSameSeat mid new → new.me.0 ≡ view_after_lower mid.me.0
-    → StandsForSame old new
+pub same_after_lower : (old mid new : Seat (Unit {0}) View) → IsForSame old mid → IsSameSeat mid new → new.me.0 ≡ view_after_lower mid.me.0
+    → IsForSame old new
 same_after_lower old mid new first s e = (
   (s.0 ∙ first.0.0, s.1 ∙ first.0.1, s.2 ∙ first.0.2),
   record {

@@ -1,4 +1,4 @@
--- Each step call is the step of its name on the view.
+-- Claim, look and lower on the two words are the steps of that name on the board as a view shows it.
 use Rattle.std.proofs.Common.{◌≡◌, ℕ, zero, suc, ◌+◌, ◌<◌, ◌≤◌, ◌≢◌, ◌==◌, ltb, min, Bool, true, false, cond, List, [], ◌∷◌, map, length, set, sym, refl, ap, ◌∙◌, subst, arith, Option, Some, None, eq-eqb, ne_eqb}
 use mathlib.Core.Logic.{dite}
 use native.Mathlib.Decide.{ℕ_discrete}
@@ -68,7 +68,7 @@ pending_in w i (c ∷ cs) = dite (ℕ_discrete c.job i)
     ap (λ q. open_weight w (cond q c.state (state_in cs i))) (ne_eqb c.job i ne) in
     omega arith)
 
--- a worker of the table is one of the board's
+-- a worker of the table is a worker of the board
 is_worker : (workers : ℕ) (crew : List SeatWorker) (w : ℕ) → w < workers → w < length (map (has_stopped_in crew) (numbers_from 0 workers))
 is_worker workers crew w lt = let e = count_of (has_stopped_in crew) 0 workers in omega arith
 
@@ -127,8 +127,8 @@ module _ (jobs : List Job) (workers : ℕ) (cs : List ClaimedJob) (w i next : �
       (let z : 0 + i ≡ i = omega arith in ap (λ x. cond (i == x) t (state_in cs x)) z ∙ if_same i t (state_in cs i))
       (λ x ne. if_other i x t (state_in cs x) (λ q. ne (omega arith)) ∙ sym (if_other i x s (state_in cs x) (λ q. ne (omega arith)))))
 
-  stands : (s : JobState) → slice_get (map (state_in (claimed_job i s ∷ cs)) (numbers_from 0 (length jobs))) i ≡ Some s
-  stands s = get_map (state_in (claimed_job i s ∷ cs)) 0 (length jobs) i in_range ∙ ap (λ q. Some q) (
+  is_at : (s : JobState) → slice_get (map (state_in (claimed_job i s ∷ cs)) (numbers_from 0 (length jobs))) i ≡ Some s
+  is_at s = get_map (state_in (claimed_job i s ∷ cs)) 0 (length jobs) i in_range ∙ ap (λ q. Some q) (
       let z : 0 + i ≡ i = omega arith in
       ap (λ x. cond (i == x) s (state_in cs x)) z ∙ if_same i s (state_in cs i))
 
@@ -149,7 +149,7 @@ module _ (jobs : List Job) (workers : ℕ) (cs : List ClaimedJob) (w i next : �
           i,
           job,
           slice_get-get_or jobs i blank_job in_range,
-          stands (Held w),
+          is_at (Held w),
           marked (Held w) (state_after_load job found w) (least_of found) (least_of found)
               ∙ ap (λ q. record (board_of (solo jobs workers (claimed_job i (Held w) ∷ cs) w false) next (least_of found)) {
                 states =
@@ -178,7 +178,7 @@ module _ (jobs : List Job) (workers : ℕ) (cs : List ClaimedJob) (w i next : �
       place,
       slice_get-get_or jobs i blank_job in_range,
       fault,
-      stands (Faulty w),
+      is_at (Faulty w),
       marked (Faulty w) (Lowered w) (least_of found) (least_of (min found place))
           ∙ ap (λ q. record (board_of (solo jobs workers (claimed_job i (Faulty w) ∷ cs) w false) next (least_of found)) {
             least = q;

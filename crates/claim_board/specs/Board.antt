@@ -9,18 +9,18 @@ use Rattle.claim_board.specs.declared.job.Step.{Step}
 use Rattle.claim_board.specs.declared.job.BoardFault.{BoardFault}
 use Rattle.claim_board.specs.declared.job.BoardFault.TheVariants.{Worker, Order}
 
--- the job starts below the next one, and so does its fault, if it has one
+-- the next job, if there is one, starts above the start of this job and above its fault, if it has one
 abbrev pub EndsBefore : Job → List Job → Type 0
 EndsBefore job [] = Unit {0}
 EndsBefore job (after ∷ rest) = (job.start < after.start) × IfSome job.fault (λ x. x < after.start)
 
--- starts rise strictly, and a fault lies at or above its job's start and below the next one
+-- starts rise strictly; a fault is at or above the start of its job, and below the start of the next one
 abbrev pub AreJobs : List Job → Type 0
 AreJobs [] = Unit {0}
 AreJobs (job ∷ rest) = IfSome job.fault (λ x. job.start ≤ x) × EndsBefore job rest × AreJobs rest
 
--- the jobs, the number of the next one to be claimed, the least fault that was lowered to, if any, where each job
--- stands, and whether each worker has stopped
+-- the jobs; the number of the next one to be claimed; the least fault that was lowered to, if any; the state of each
+-- job; and whether each worker has stopped
 pub record BoardState : Type 0 where
   pub jobs : List Job
   pub next : ℕ
@@ -28,7 +28,7 @@ pub record BoardState : Type 0 where
   pub states : List JobState
   pub stopped : List Bool
 
--- nothing is claimed, and no worker has stopped
+-- the opening: nothing is claimed, and no worker has stopped
 abbrev pub opening_of : List Job → ℕ → BoardState
 opening_of jobs workers = record {
   jobs = jobs;
@@ -43,27 +43,28 @@ pub record MayClaim (s : BoardState) (w : ℕ) : Type 0 where
   pub works : slice_get s.stopped w ≡ Some false
   pub free : (i : ℕ) → (slice_get s.states i ≢ Some (Held w)) × (slice_get s.states i ≢ Some (Faulty w))
 
--- `next` goes up by one; the worker holds the job of the old number, or has stopped where there is none
+-- the board after a claim: `next` is one more, and the worker holds the job of the old number, or has stopped if there
+-- is no such job
 abbrev pub after_claim : BoardState → ℕ → BoardState
 after_claim s w = cond (ltb s.next (length s.jobs))
     (record s { next = s.next + 1; states = slice_set s.states s.next (Held w) })
     (record s { next = s.next + 1; stopped = slice_set s.stopped w true })
 
--- whether there is a least place, and it is below this one
+-- whether there is a least place and it is below this place
 abbrev pub is_least_below : Option ℕ → ℕ → Bool
 is_least_below None start = false
 is_least_below (Some least) start = ltb least start
 
--- Done where there is no fault, else Faulty
+-- Done if the job has no fault, otherwise Faulty
 abbrev pub state_by_fault : Option ℕ → ℕ → JobState
 state_by_fault None w = Done w
 state_by_fault (Some x) w = Faulty w
 
--- Skipped where the least is below the job's start, else by the job's fault
+-- the state of a job after a look: Skipped if the least place is below its start, otherwise Done or Faulty
 abbrev pub state_after_look : Job → Option ℕ → ℕ → JobState
 state_after_look job least w = cond (is_least_below least job.start) (Skipped w) (state_by_fault job.fault w)
 
--- the worker looks at a job that it holds
+-- the worker looks at a job that is Held by it
 abbrev pub MakesLook : BoardState → ℕ → BoardState → Type 0
 MakesLook s w t = (i : ℕ) × (job : Job) × (slice_get s.jobs i ≡ Some job) × (slice_get s.states i ≡ Some (Held w))
     × (t ≡ record s { states = slice_set s.states i (state_after_look job s.least w) })
@@ -73,7 +74,7 @@ abbrev pub lesser_of : Option ℕ → ℕ → ℕ
 lesser_of None x = x
 lesser_of (Some least) x = min least x
 
--- the worker lowers the least place to the fault of a job that is Faulty by it
+-- the worker lowers the least place to the fault of a job that is Faulty by it, and the job is Lowered
 abbrev pub MakesLower : BoardState → ℕ → BoardState → Type 0
 MakesLower s w t = (i : ℕ) × (job : Job) × (x : ℕ) × (slice_get s.jobs i ≡ Some job) × (job.fault ≡ Some x)
     × (slice_get s.states i ≡ Some (Faulty w))
@@ -93,12 +94,12 @@ IsStep s x t = (x.worker < length s.stopped) × Acts x.act s x.worker t
 abbrev pub MayNot : Act → BoardState → ℕ → Type 0
 MayNot act s w = (t : BoardState) → Acts act s w t → ⊥
 
--- there is no such worker, or it is not that worker's next act
+-- why a step is refused: there is no such worker, or the worker may not do this act now
 abbrev pub IsRefused : BoardState → Step → BoardFault → Type 0
 IsRefused s x Worker = length s.stopped ≤ x.worker
 IsRefused s x Order = (x.worker < length s.stopped) × ((t : BoardState) → IsStep s x t → ⊥)
 
--- as many jobs and workers
+-- there are as many jobs and workers as before
 pub record IsSameSize (old new : BoardState) : Type 0 where
   pub jobs : length new.states ≡ length old.states
   pub workers : length new.stopped ≡ length old.stopped

@@ -1,4 +1,4 @@
--- What every list of steps of the board does, in whatever order the workers' steps fall.
+-- What every list of steps of the board leads to, whatever the order of the workers' steps.
 use Rattle.std.specs.Prelude.{◌≡◌, ℕ, ◌+◌, ◌*◌, ◌<◌, ◌≤◌, true, List, [], ◌∷◌, length, Some, None, All, slice_get}
 use Rattle.claim_board.specs.declared.job.Job.{Job}
 use Rattle.claim_board.specs.declared.job.JobState.{JobState}
@@ -23,12 +23,13 @@ IsEndedBy w (Lowered u) = u ≡ w
 -- the job i is Done, Skipped or Lowered by exactly one worker
 pub record EndsOnce (workers : ℕ) (t : BoardState) (i : ℕ) : Type 0 where
   pub state : JobState
-  pub stands : slice_get t.states i ≡ Some state
+  pub is_at : slice_get t.states i ≡ Some state
   pub worker : ℕ
   pub is_worker : worker < workers
   pub by_worker : IsEndedBy worker state
   pub by_no_other : (u : ℕ) → IsEndedBy u state → u ≡ worker
 
+-- all workers have stopped
 abbrev pub HaveAllStopped : BoardState → Type 0
 HaveAllStopped t = All (λ stopped. stopped ≡ true) t.stopped
 
@@ -46,8 +47,10 @@ pub record AreDone (jobs : List Job) (t : BoardState) : Type 0 where
   pub done : (i : ℕ) → i < length jobs → (w : ℕ) × (slice_get t.states i ≡ Some (Done w))
   pub least : t.least ≡ None
 
--- t, to which that many steps led: there were few of them, `next` stays low, and this is what all workers leave behind
--- once they have stopped
+-- The state t, after this many steps. There were at most three steps for each job and one for each worker, and `next`
+-- is at most jobs and workers together. Once all workers have stopped, each job was ended by exactly one of them. If no
+-- job has a fault, all jobs are then Done and there is no least place; otherwise the least place is the least fault of
+-- all jobs.
 pub record IsOrderly (jobs : List Job) (workers steps : ℕ) (t : BoardState) : Type 0 where
   pub few : steps ≤ 3 * length jobs + workers
   pub next_within : t.next ≤ length jobs + workers
@@ -55,7 +58,7 @@ pub record IsOrderly (jobs : List Job) (workers steps : ℕ) (t : BoardState) : 
   pub faultless : HaveAllStopped t → AreFaultless jobs → AreDone jobs t
   pub faulty : HaveAllStopped t → (AreFaultless jobs → ⊥) → (x : ℕ) × (t.least ≡ Some x) × IsLeastFault jobs x
 
--- every list of steps from the opening is orderly, for every list of jobs and number of workers from 1 on
+-- for all jobs and every number of workers from 1 on, every list of steps from the opening leads to such a state
 abbrev pub AllOrders : Type 0
 AllOrders = (jobs : List Job) (workers : ℕ) (steps : List Step) (t : BoardState)
     → AreJobs jobs → 1 ≤ workers → LeadsTo (opening_of jobs workers) steps t → IsOrderly jobs workers (length steps) t

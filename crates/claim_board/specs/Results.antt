@@ -2,7 +2,7 @@
 use Rattle.std.specs.Prelude.{◌≡◌, ℕ, ◌<◌, ◌≤◌, List, map, length, Option, Some, None, slice_get, All}
 use Rattle.claim_board.specs.Running.{one_at, total}
 
--- how often x stands in the list
+-- how often x is in the list
 abbrev pub times : ℕ → List ℕ → ℕ
 times x list = total (one_at x) list
 
@@ -12,7 +12,8 @@ pub record IsWhole {X : Type 0} (gives : ℕ → X → Type 0) (n : ℕ) (list :
   pub whole : (i : ℕ) → i < n → 0 < times i (map (λ p. p.0) list)
   pub given : All (λ p. gives p.0 p.1) list
 
--- of n places those that are taken have a result of their job, and the list has a result of each job whose place is not
+-- n places that are being filled: a filled place has a result of its job, and for each empty place the list has a
+-- result of its job
 pub record AreFilling {X : Type 0} (gives : ℕ → X → Type 0) (n : ℕ) (list : List (ℕ × X)) (places : List (Option X))
     : Type 0 where
   pub long : length places ≡ n
@@ -21,7 +22,8 @@ pub record AreFilling {X : Type 0} (gives : ℕ → X → Type 0) (n : ℕ) (lis
   pub within : All (λ p. p.0 < n) list
   pub given : All (λ p. gives p.0 p.1) list
 
--- the places from i on are taken, and the list has results of the jobs below i
+-- n places that are being emptied: the places from i on have a result of their job, and the list has the results of the
+-- jobs below i
 pub record AreTaken {X : Type 0} (gives : ℕ → X → Type 0) (n i : ℕ) (places : List (Option X)) (list : List X)
     : Type 0 where
   pub long : length places ≡ n

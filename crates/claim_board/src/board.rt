@@ -1,4 +1,4 @@
-//! The board of one thread.
+//! The board, for one thread.
 
 ghost use Rattle.std.specs.Prelude.{◌≡◌, ◌≢◌, ℕ, ◌<◌, ◌+◌, OnOk, OnErr, IfErr, length, slice_get, slice_set, Some, IfOk, IfSome, IfNone, false, true};
 ghost use Rattle.claim_board.specs.Board.{BoardState, opening_of, AreJobs, IsStep, Acts, MayNot, IsRefused, IsSameSize, state_after_look};
@@ -11,7 +11,7 @@ use crate::workers::Workers;
 use std::alloc::{AllocError, Global};
 use std::marker::Model;
 
-/// Jobs that workers claim, look at and lower, step by step.
+/// The board: jobs that workers claim, look at and lower, step by step.
 #[derive(Drop)]
 pub struct Board {
     jobs: Vec<Job>,
@@ -35,7 +35,8 @@ impl Model for Board {
       stopped = b.stopped.items;
     } };
 
-    // There is room for `next` to go on: it passes the jobs only as workers stop.
+    // `next` can't overflow: it passes the number of jobs only by one for each worker that has
+    // stopped.
     ghost invariant = { λ b. (length b.states.items ≡ length b.jobs.items)
         × (length b.stopped.items ≤ 64)
         × (b.next ≤ length b.jobs.items + count_by (λ x. x) b.stopped.items)
@@ -43,7 +44,7 @@ impl Model for Board {
 }
 
 impl Board {
-    /// The board on which nothing is claimed yet.
+    /// The board at the opening: nothing is claimed, and no worker has stopped.
     pub fn new(alloc: Global, jobs: Vec<Job>, workers: Workers) -> Result<Board, AllocError>
         requires { AreJobs jobs.items }
         ensures { IfOk result (λ board. board ≡ opening_of jobs.items workers.number) }
@@ -59,13 +60,14 @@ impl Board {
         })
     }
 
-    /// The least fault that was lowered to.
+    /// The least fault that was lowered to, if any.
     pub fn least(&self) -> Option<u64>
         ensures { result ≡ self.now.least }
     {
         self.least
     }
 
+    /// The state of job `i`.
     pub fn state(&self, i: u64) -> JobState
         requires { i < length self.now.states }
         ensures { slice_get self.now.states i ≡ Some result }
@@ -73,6 +75,7 @@ impl Board {
         self.states[i as usize]
     }
 
+    /// Whether worker `w` has stopped.
     pub fn stopped(&self, w: u64) -> bool
         requires { w < length self.now.stopped }
         ensures { slice_get self.now.stopped w ≡ Some result }
@@ -130,7 +133,7 @@ impl Board {
         self.next += 1;
     }
 
-    // No job is left for the worker.
+    // No job is left, and the worker stops.
     fn stop(&mut self, w: u64)
         requires { slice_get self.old.stopped w ≡ Some false }
         ensures { self.new ≡ record self.old {
@@ -174,7 +177,7 @@ impl Board {
     }
 }
 
-// The first job that stands so.
+// The first job in this state.
 fn place_of(states: &[JobState], state: JobState) -> Option<usize>
     ensures found { IfSome result (λ i. slice_get states.now i ≡ Some state) }
     ensures missing { IfNone result ((i : ℕ) → slice_get states.now i ≢ Some state) }

@@ -1,18 +1,18 @@
-//! A job, where it stands, and a worker's step.
+//! A job, its state, and a worker's step.
 
-/// A job starts at a place, and has a fault at a place or none.
+/// A job: the place where it starts, and the place of its fault, if it has one.
 #[derive(Clone, Copy, Debug, PartialEq, Eq)]
 pub struct Job {
     pub start: u64,
     pub fault: Option<u64>,
 }
 
-/// Where a job stands, with the worker that claimed it.
+/// The state of a job, with the worker that claimed it.
 #[derive(Clone, Copy, Debug, PartialEq, Eq)]
 pub enum JobState {
     /// No worker has claimed it.
     Untouched,
-    /// Claimed, and not looked at.
+    /// Claimed, and not looked at yet.
     Held(u64),
     /// Its fault is found, and the least place is not lowered to it yet.
     Faulty(u64),
@@ -32,7 +32,7 @@ pub enum Act {
     Lower,
 }
 
-/// One act of one worker, named by its number from 0 on.
+/// One act of one worker. Workers are numbered from 0.
 #[derive(Clone, Copy, Debug, PartialEq, Eq)]
 pub struct Step {
     pub worker: u64,

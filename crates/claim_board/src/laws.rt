@@ -1,5 +1,5 @@
-//! The steps of the workers that share the board, each of which is the pure board's, and the law
-//! of the pure board.
+//! The steps of workers that share the two words, each of which is a step of the board on the view
+//! of the worker's seat; and the law of the board.
 
 ghost use Rattle.std.specs.Prelude.{◌≡◌, length};
 ghost use Rattle.claim_board.specs.Orders.{AllOrders};
@@ -9,14 +9,16 @@ use crate::seat::{ClaimPlay, LookPlay, LowerPlay};
 pub use crate::seat::{BoardTable, JobList, WorkerSeat};
 pub use crate::share::share;
 
-/// Every list of steps of the pure board is short, and once all workers have stopped, each job has
-/// ended by one worker, and all are Done or the least place is the least fault.
+/// Whatever the order of the workers' steps on the board, at most three steps for each job and one
+/// for each worker are possible. Once all workers have stopped, each job is Done, Skipped or
+/// Lowered by exactly one of them. If no job has a fault, all jobs are Done. Otherwise the least
+/// place is the least fault of all jobs.
 pub fn all_orders()
     ensures { AllOrders }
 {}
 
-/// Claims the next job, by one `fetch_add` on the claim word; `None` where there is none, and the
-/// worker has stopped.
+/// Claims the next job, by one `fetch_add` on the claim word. `None` if no job is left; the worker
+/// has then stopped.
 pub fn claim<L: JobList>(table: &BoardTable<L>, seat: &mut WorkerSeat, jobs: u64) -> Option<u64>
     requires place { IsSeatAt table.now.table_id seat.old }
     requires worker { MayClaimNext seat.old.me.0 }
@@ -29,7 +31,7 @@ pub fn claim<L: JobList>(table: &BoardTable<L>, seat: &mut WorkerSeat, jobs: u64
 }
 
 /// Looks at the fault word, by one load, for the job that was claimed last, which starts at
-/// `start`; true means that the job is skipped.
+/// `start`. True means that the job is skipped.
 pub fn look<L: JobList>(table: &BoardTable<L>, seat: &mut WorkerSeat, start: u64) -> bool
     requires place { IsSeatAt table.now.table_id seat.old }
     requires worker { HoldsJob seat.old.me.0 start }

@@ -1,5 +1,5 @@
-//! Jobs that workers share through two atomic words, in whatever order their steps fall: all
-//! results in the order of the jobs, or the least fault.
+//! Jobs that workers share through two atomic words. Whatever the order of their steps, they give
+//! all results in the order of the jobs, or the least fault.
 #![tactic(auto)]
 
 mod board;

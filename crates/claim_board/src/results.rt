@@ -1,4 +1,4 @@
-//! Results in the order of their jobs, in time linear in the jobs.
+//! Results in the order of their jobs, in time linear in the number of jobs.
 
 ghost use Rattle.std.specs.Prelude.{◌≡◌, [], length, replicate, Some, None, IfOk};
 ghost use Rattle.claim_board.specs.Results.{IsWhole, AreFilling, AreTaken, AreInOrder};
@@ -6,7 +6,7 @@ ghost use Rattle.claim_board.specs.Results.{IsWhole, AreFilling, AreTaken, AreIn
 use crate::work::Work;
 use std::alloc::{AllocError, Global};
 
-// A place for each job.
+// An empty place for each job.
 fn empty_places<X: Drop>(alloc: Global, count: u64) -> Result<Vec<Option<X>>, AllocError>
     ensures { IfOk result (λ places. places.items ≡ replicate count None) }
 {
@@ -17,7 +17,7 @@ fn empty_places<X: Drop>(alloc: Global, count: u64) -> Result<Vec<Option<X>>, Al
     Ok(places)
 }
 
-// Each result into the place of its job.
+// Puts each result into the place of its job.
 fn put_in_places<W: Work>(work: &W, mut list: Vec<(u64, W::Out)>, places: &mut Vec<Option<W::Out>>)
 where
     W::Out: Drop,
@@ -30,7 +30,7 @@ where
     }
 }
 
-// What the places have, from the first to the last.
+// Takes the results out of the places, from the first to the last.
 fn take_from_places<W: Work>(
     alloc: Global,
     work: &W,

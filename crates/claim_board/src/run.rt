@@ -89,8 +89,8 @@ where
     Ok(all)
 }
 
-/// The results of all jobs, in the order of the jobs, by this many workers in threads. `Memory`
-/// where a worker or this function found none, also beside a fault.
+/// The results of all jobs, in the order of the jobs, by this many workers in threads. `Memory` if
+/// a worker or this function was refused memory, even where a fault was found.
 pub fn run_all<R: Threads + Sync, W: Work + Sync, G: Gate + Sync>(
     rt: &R,
     alloc: Global,

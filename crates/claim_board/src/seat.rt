@@ -7,12 +7,12 @@ use crate::view::View;
 use atomic_table::{Join, Play, Seat, Shared, Split, TableRule};
 use std::marker::{Brand, PhantomData};
 
-/// The jobs of a table. Clauses alone read them.
+/// The jobs of a table. Only clauses read them.
 pub trait JobList {
     ghost jobs: { List Job };
 }
 
-/// In place of these, `run_all` picks the jobs of its work.
+/// `run_all` uses a brand, and picks the jobs of its work for it in place of these.
 impl JobList for Brand {
     ghost jobs = { [] };
 }
@@ -22,7 +22,7 @@ pub struct BoardRule<L: JobList> {
     of: PhantomData<L>,
 }
 
-/// A table is told the number of workers when it is made.
+/// The number of workers is the table's key, which it gets when it is made.
 impl<L: JobList> TableRule<(), View, u64> for BoardRule<L> {
     ghost use Rattle.claim_board.specs.Running.{IsRuled, opening_view};
 
@@ -34,7 +34,7 @@ impl<L: JobList> TableRule<(), View, u64> for BoardRule<L> {
 /// The claim word and the fault word, under the running rule.
 pub type BoardTable<L> = Shared<(), View, u64, BoardRule<L>>;
 
-/// What one or more workers step with. It has no bytes.
+/// What one or more workers make their steps with. It takes no bytes.
 pub type WorkerSeat = Seat<(), View>;
 
 /// A step on the claim word.
@@ -64,7 +64,7 @@ impl Play<(), View> for LowerPlay {
     ghost then = { TellsLower };
 }
 
-/// A seat's workers are divided into halves.
+/// Splits a seat: each half of its workers gets a seat.
 pub struct HalfCrews;
 
 impl Split<View> for HalfCrews {
@@ -75,7 +75,7 @@ impl Split<View> for HalfCrews {
     ghost right = { right_view };
 }
 
-/// Two seats are one again.
+/// Joins two seats to one.
 pub struct WholeCrew;
 
 impl Join<View> for WholeCrew {

@@ -1,7 +1,7 @@
 //! Workers that share the jobs, each in a thread.
 
 ghost use Rattle.std.specs.Prelude.{IfOk};
-ghost use Rattle.claim_board.specs.Work.{AreAllResults, IsOneList, MayShare, StandsForSame};
+ghost use Rattle.claim_board.specs.Work.{AreAllResults, IsOneList, MayShare, IsForSame};
 ghost use denote.Param.Send.{IsSend, IsSync};
 
 use crate::seat::{BoardTable, HalfCrews, JobList, WholeCrew, WorkerSeat};
@@ -10,9 +10,9 @@ use crate::worker::work_alone;
 use std::alloc::{AllocError, Global};
 use std::thread::{Threads, join_mut};
 
-/// All steps of the workers that the seat stands for, until each has stopped, and the results of
-/// the jobs that are Done. A worker that finds no memory makes no further step; the others go on
-/// until they stop.
+/// Makes all steps of the seat's workers until each has stopped, and gives the results of the jobs
+/// that are Done. A worker that is refused memory makes no further step. The others go on until
+/// they stop, and the answer is the error.
 #[cycle(halves)]
 pub fn share<L: JobList + Sync, R: Threads + Sync, W: Work + Sync, G: Gate + Sync>(
     rt: &R,
@@ -26,7 +26,7 @@ pub fn share<L: JobList + Sync, R: Threads + Sync, W: Work + Sync, G: Gate + Syn
 where
     W::Out: Send + Drop,
     requires { MayShare table.now.table_id (W.listed work.now) workers seat.old }
-    ensures same { StandsForSame seat.old seat.new }
+    ensures same { IsForSame seat.old seat.new }
     ensures done { IfOk result
         (λ list. AreAllResults (W.gives work.now) seat.new.me.0 list.items) }
 {
@@ -41,7 +41,7 @@ where
     one_list(front, back)
 }
 
-// The results of both halves, where both are there.
+// The results of both halves, if both are there.
 fn one_list<T: Drop>(
     front: Result<Vec<T>, AllocError>,
     back: Result<Vec<T>, AllocError>,
@@ -74,23 +74,23 @@ where
     W::Out: Send + Drop,
     requires low { MayShare table.now.table_id (W.listed work.now) low seat.old }
     requires high { MayShare table.now.table_id (W.listed work.now) high other.old }
-    ensures low_same { StandsForSame seat.old seat.new }
+    ensures low_same { IsForSame seat.old seat.new }
     ensures low_done { IfOk result.0
         (λ list. AreAllResults (W.gives work.now) seat.new.me.0 list.items) }
-    ensures high_same { StandsForSame other.old other.new }
+    ensures high_same { IsForSame other.old other.new }
     ensures high_done { IfOk result.1
         (λ list. AreAllResults (W.gives work.now) other.new.me.0 list.items) }
 {
     let mut front = || -> Result<Vec<(u64, W::Out)>, AllocError>
         requires { IsSync L.row × IsSync R.row × IsSync W.row × IsSync G.row × IsSend W.Out.row
             × MayShare table.now.table_id (W.listed work.now) low seat.now }
-        ensures { StandsForSame seat.entry.now seat.exit.now × IfOk result
+        ensures { IsForSame seat.entry.now seat.exit.now × IfOk result
             (λ list. AreAllResults (W.gives work.entry.now) seat.exit.now.me.0 list.items) }
     { share(rt, alloc, table, seat, low, work, gate) };
     let mut back = || -> Result<Vec<(u64, W::Out)>, AllocError>
         requires { IsSync L.row × IsSync R.row × IsSync W.row × IsSync G.row × IsSend W.Out.row
             × MayShare table.now.table_id (W.listed work.now) high other.now }
-        ensures { StandsForSame other.entry.now other.exit.now × IfOk result
+        ensures { IsForSame other.entry.now other.exit.now × IfOk result
             (λ list. AreAllResults (W.gives work.entry.now) other.exit.now.me.0 list.items) }
     { share(rt, alloc, table, other, high, work, gate) };
     join_mut(rt, &mut front, &mut back)

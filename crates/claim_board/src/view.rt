@@ -1,22 +1,22 @@
-//! What a seat knows. No value of these types is made: proofs alone have them.
+//! What a seat knows. No value of these types is ever made: only proofs have them.
 
 use crate::job::{Job, JobState};
 use std::collections::LinkedList;
 
-/// A job that was claimed, and where it stands.
+/// A job that was claimed, and its state.
 pub struct ClaimedJob {
     pub job: u64,
     pub state: JobState,
 }
 
-/// A worker that a seat stands for, and whether it has stopped.
+/// A worker of a seat, and whether it has stopped.
 pub struct SeatWorker {
     pub worker: u64,
     pub stopped: bool,
 }
 
-/// The jobs and the number of workers of the table, the jobs that the seat's workers claimed, the
-/// last one first, and those workers.
+/// The table's jobs and number of workers; the jobs that the seat's workers claimed, the latest
+/// first; and those workers.
 pub struct View {
     pub jobs: LinkedList<Job>,
     pub workers: u64,

@@ -1,4 +1,4 @@
-//! What is done for each job, and what is told before and after.
+//! What the jobs do, and the gate that is told before and after each of them.
 
 ghost use Rattle.std.specs.Prelude.{◌≡◌, ◌<◌, ℕ, List, length};
 ghost use Rattle.claim_board.specs.declared.job.Job.{Job};
@@ -6,7 +6,7 @@ ghost use Rattle.claim_board.specs.Running.{job_at};
 
 use std::alloc::Global;
 
-/// Why a job gave no result: there was no memory, or it has a fault at a place.
+/// Why a job gave no result: memory was refused, or the job has a fault at a place.
 #[derive(Clone, Copy, Debug, PartialEq, Eq)]
 pub enum JobStop {
     Memory,
@@ -40,7 +40,7 @@ pub trait Work {
         ensures { AnswersJob (gives self.now i) (job_at (listed self.now) i) result };
 }
 
-/// Is told when a job is about to be run, and when it has been. Its calls touch neither word.
+/// Is told when a job is about to be run, and when it has been run. Its calls touch neither word.
 pub trait Gate {
     fn enter(&self, i: u64);
 

@@ -1,8 +1,8 @@
-//! One worker at the board.
+//! The steps of one worker.
 
 ghost use Rattle.std.specs.Prelude.{◌<◌, List, length, OnOk, IfOk};
 ghost use Rattle.claim_board.specs.Steps.{IsSeatAt, worker_of};
-ghost use Rattle.claim_board.specs.Work.{IsAt, HasEnded, AreResults, AreAllResults, StandsForSame, MayShare};
+ghost use Rattle.claim_board.specs.Work.{IsAt, HasEnded, AreResults, AreAllResults, IsForSame, MayShare};
 ghost use Rattle.claim_board.specs.declared.job.JobState.TheVariants.{Held};
 ghost use Rattle.claim_board.specs.declared.view.ClaimedJob.{ClaimedJob};
 
@@ -11,8 +11,8 @@ use crate::seat::{BoardTable, JobList, WorkerSeat};
 use crate::work::{Gate, JobStop, Work};
 use std::alloc::{AllocError, Global};
 
-// Looks at the job that was claimed last, runs it unless it is skipped, and lowers the fault word
-// where it has a fault.
+// Looks at the job that was claimed last. Unless the job is skipped, runs it, and lowers the fault
+// word if it has a fault.
 fn end_job<L: JobList, W: Work, G: Gate>(
     alloc: Global,
     table: &BoardTable<L>,
@@ -29,7 +29,7 @@ where
     requires held { IsAt (W.listed work.now) i (Held (worker_of seat.old.me.0)) rest seat.old.me.0 }
     requires job { i < length (W.listed work.now) }
     requires results { AreResults (W.gives work.now) rest results.old.items }
-    ensures same { StandsForSame seat.old seat.new }
+    ensures same { IsForSame seat.old seat.new }
     ensures ended { OnOk result
         (HasEnded (W.listed work.now) (W.gives work.now) i rest seat.new.me.0 results.new.items) }
 {
@@ -63,7 +63,7 @@ pub(crate) fn work_alone<L: JobList, W: Work, G: Gate>(
 where
     W::Out: Drop,
     requires { MayShare table.now.table_id (W.listed work.now) 1 seat.old }
-    ensures same { StandsForSame seat.old seat.new }
+    ensures same { IsForSame seat.old seat.new }
     ensures done { IfOk result
         (λ list. AreAllResults (W.gives work.now) seat.new.me.0 list.items) }
 {

@@ -27,7 +27,7 @@ at_end reading none (Some found) next steps =
     (drop (length (record_bytes r)) (drop reading.offset reading.frame.unit.commands)) in
     absurd (omega (arith, joined, length-record_bytes r))
 
--- a frame that is good has no failure, so `ended` is its end
+-- a good frame has no failure, so `ended` is its end
 abbrev event_reader : Placed FrameText → List EntryText → Reader (Unit {0}) RecordText FaultKind Reading (Option Event)
 event_reader frame entries = record {
   format = format_of frame.unit;
@@ -35,7 +35,7 @@ event_reader frame entries = record {
   base = commands_place frame.place;
   Steps = Steps;
   MayReach = λ x. Unit {0};
-  stand = λ _ x. reading_at frame x;
+  in_order = λ _ x. reading_at frame x;
   ended = λ x kind within. reading_at frame (length frame.unit.commands);
   Gives = λ result there. GivesEvent result (event_of frame entries there);
   at_end = None;
@@ -52,16 +52,16 @@ event_call frame records entries has_records has x (Some found) next steps =
     let view = steps.0.view in
     let same = one_reading frame.unit view.0 entries (records, has_records) view.1 has in
     let text = view.2 ∙ ap (λ (es : List EntryText). event_of frame es (placed_at (commands_place frame.place + x) r)) same in
-    gave r (drop (length (record_bytes r)) (drop x frame.unit.commands)) steps.0.may_stand steps.0.joined (ap Some text) steps.1
+    gave r (drop (length (record_bytes r)) (drop x frame.unit.commands)) steps.0.may_come steps.0.joined (ap Some text) steps.1
 
 events_go : (frame : Placed FrameText) (records : List RecordText) (entries : List EntryText) → HasRecords frame.unit records → HasEntries frame.unit entries
     → Goes (event_reader frame entries)
 events_go frame records entries has_records has = record {
   decided = frame_decided frame.unit;
   start = tt;
-  further = λ _ u x stands reach. tt;
+  further = λ _ u x is_at reach. tt;
   calls = λ _ x result next reach steps. event_call frame records entries has_records has x result next steps;
-  behind_end = λ x kind within result next steps. at_end (reading_at frame (length frame.unit.commands)) (all_dropped frame.unit.commands) result next steps;
+  after_end = λ x kind within result next steps. at_end (reading_at frame (length frame.unit.commands)) (all_dropped frame.unit.commands) result next steps;
 }
 
 pub events_given : (frame : Placed FrameText) (records : List RecordText) (entries : List EntryText) → HasRecords frame.unit records

@@ -8,29 +8,29 @@ use Rattle.capture_frame.specs.declared.frame.Frame.{Frame}
 use Rattle.capture_frame.specs.Envelope.{FrameText, frame_text, placed_frame, commands_place}
 use Rattle.capture_frame.specs.Units.{Format, Placed, placed_at, placed, Reads, BeginsWith}
 use Rattle.capture_frame.proofs.UnitLaws.{IsDecided, Splits-tail, no_unit_at_end}
-use Rattle.record_view.specs.Records.{RecordText, record_bytes, format_of, HasRecords, StandsAt, span_of}
+use Rattle.record_view.specs.Records.{RecordText, record_bytes, format_of, HasRecords, RecordIsAt, span_of}
 use Rattle.record_view.proofs.RecordLaws.{frame_decided, length-record_bytes, one_reading}
 use Rattle.transaction_view.specs.Attachments.{EntryText, HasEntries}
 use Rattle.transaction_view.proofs.EntryLaws as entry_laws
 use Rattle.transaction_view.specs.FirstFault.{HasGoodContent}
-use Rattle.transaction_view.proofs.RecordPlaces.{span_of-snoc, stands_behind, stands_within}
+use Rattle.transaction_view.proofs.RecordPlaces.{span_of-snoc, is_after, is_within}
 use Rattle.event_core.specs.declared.event.Event.{Event}
 use Rattle.event_core.specs.Events.{EventRead, event_of, events_of, event_at_place, HasRecordAt}
 use Rattle.event_core.specs.Reading.{Reading, reading_at, record_of, event_text, Steps, events_start, IsEventAt}
 
--- a reading whose first unit is known, and what is behind that unit
+-- a reading whose first unit is known, and what follows that unit
 first_ahead : {S U K : Type 0} (format : Format S U K) (decided : IsDecided format) (state : S) (bytes : List ℕ) (ahead : List U) (unit : U) (View : Type 0)
     → Reads format state bytes ahead → BeginsWith format state bytes unit View
     → (others : List U) × (ahead ≡ unit ∷ others) × Reads format (format.after state unit) (drop (length (format.spelling unit)) bytes) others
 first_ahead format decided state bytes [] unit View reads begins =
-    absurd (no_unit_at_end format decided state unit _ begins.may_stand (sym reads.joined ∙ begins.joined))
+    absurd (no_unit_at_end format decided state unit _ begins.may_come (sym reads.joined ∙ begins.joined))
 first_ahead {S} {U} {K} format decided state bytes (u ∷ us) unit View reads begins =
     let tail = Splits-tail format state bytes u us [] reads in
-    let same = decided.one_unit state u unit _ _ tail.1 begins.may_stand (sym tail.0 ∙ begins.joined) in
-    let behind = subst (λ (t : List ℕ). Reads format (format.after state u) t us) same.1 tail.2 in
-    (us, ap (λ (x : U). x ∷ us) same.0, subst (λ (x : U). Reads format (format.after state x) (drop (length (format.spelling unit)) bytes) us) same.0 behind)
+    let same = decided.one_unit state u unit _ _ tail.1 begins.may_come (sym tail.0 ∙ begins.joined) in
+    let after = subst (λ (t : List ℕ). Reads format (format.after state u) t us) same.1 tail.2 in
+    (us, ap (λ (x : U). x ∷ us) same.0, subst (λ (x : U). Reads format (format.after state x) (drop (length (format.spelling unit)) bytes) us) same.0 after)
 
--- the events of records that stand from there on
+-- the events of the records from there on
 abbrev events_from : Placed FrameText → List EntryText → ℕ → List RecordText → List EventRead
 events_from frame entries offset ahead = map (event_of frame entries) (placed record_bytes (commands_place frame.place + offset) ahead)
 
@@ -46,7 +46,7 @@ pub record Looks (frame : Frame) (place : ℕ) (reading : Reading) : Type 0 wher
   pub ahead : List RecordText
   pub records_are : records ≡ passed ++ ahead
   pub offset_is : offset ≡ span_of passed
-  pub none_stands : (there : ℕ) (r : RecordText) → StandsAt (frame_text frame) there r → place ≡ commands_place frame.place + there → offset ≤ there
+  pub none_is_there : (there : ℕ) (r : RecordText) → RecordIsAt (frame_text frame) there r → place ≡ commands_place frame.place + there → offset ≤ there
   pub reads : Reads (format_of (frame_text frame)) tt (drop offset frame.commands.now) ahead
   pub none_passed : event_at_place place (events_of (placed_frame frame) records entries)
       ≡ event_at_place place (events_from (placed_frame frame) entries offset ahead)
@@ -64,7 +64,7 @@ looks_at_start frame place reading good is = record {
   ahead = good.0.0;
   records_are = refl;
   offset_is = refl;
-  none_stands = λ there r stands at. omega arith;
+  none_is_there = λ there r is_at at. omega arith;
   reads = good.0.1;
   none_passed =
       let same : commands_place frame.place ≡ commands_place frame.place + 0 = omega arith in
@@ -111,17 +111,17 @@ gives_first frame place reading looks found new steps =
           ∙ ap (λ (n : ℕ). event_at_place place (event_text found ∷ others n)) far;
     }
 
--- it stands where the reader stood
+-- its place is where the reader was
 place_of : (frame : Frame) (place : ℕ) (reading : Reading) (looks : Looks frame place reading) (found : Event) (new : Reading)
     → GivesFirst frame place reading looks found new → found.place ≡ commands_place frame.place + looks.offset
 place_of frame place reading looks found new g = ap (λ (e : EventRead). e.place) g.text
 
--- and the frame's records are those passed, its own, and others
+-- the frame's records are those passed, the record of this event, and others
 records_with : (frame : Frame) (place : ℕ) (reading : Reading) (looks : Looks frame place reading) (found : Event) (new : Reading)
     (g : GivesFirst frame place reading looks found new) → HasRecords (frame_text frame) (looks.passed ++ record_of found ∷ g.others)
 records_with frame place reading looks found new g = subst (HasRecords (frame_text frame)) g.records_are looks.has_records
 
--- an event elsewhere is passed
+-- an event at another place is passed
 pub looks_on : (frame : Frame) (place : ℕ) (reading : Reading) (looks : Looks frame place reading) (found : Event) (new : Reading)
     → Steps reading (Some found) new → found.place ≢ place → Looks frame place new
 looks_on frame place reading looks found new steps other =
@@ -141,19 +141,19 @@ looks_on frame place reading looks found new steps other =
       ahead = g.others;
       records_are = g.records_are ∙ sym (append_assoc looks.passed (record_of found ∷ []) g.others);
       offset_is = let start = looks.offset_is in omega (arith, start, span_of-snoc looks.passed (record_of found));
-      none_stands = λ there r stands at.
+      none_is_there = λ there r is_at at.
           let start = looks.offset_is in
-          let not_before = looks.none_stands there r stands at in
+          let not_before = looks.none_is_there there r is_at at in
           let own = place_of frame place reading looks found new g in
           let apart : looks.offset ≢ there = λ same. other (own ∙ ap (λ (n : ℕ). commands_place frame.place + n) same ∙ sym at) in
-          let behind = stands_behind (frame_text frame) looks.passed g.others (record_of found) there r (records_with frame place reading looks found new g)
-          stands (omega (arith, start, not_before, apart)) in
-          omega (arith, start, behind, span_of-snoc looks.passed (record_of found));
+          let after = is_after (frame_text frame) looks.passed g.others (record_of found) there r (records_with frame place reading looks found new g)
+          is_at (omega (arith, start, not_before, apart)) in
+          omega (arith, start, after, span_of-snoc looks.passed (record_of found));
       reads = g.reads;
       none_passed = g.none_passed ∙ skip;
     }
 
--- what was found is the frame's, however its bytes are read
+-- what was found is right for every reading of the frame's bytes
 for_all_readings : (frame : Frame) (place : ℕ) (reading : Reading) (looks : Looks frame place reading) (result : Option Event)
     → option_map event_text result ≡ event_at_place place (events_of (placed_frame frame) looks.records looks.entries)
     → IsEventAt (placed_frame frame) place result
@@ -163,7 +163,7 @@ for_all_readings frame place reading looks result is records others has_records 
     is ∙ ap (λ (rs : List RecordText). event_at_place place (events_of (placed_frame frame) rs looks.entries)) same
     ∙ ap (λ (es : List EntryText). event_at_place place (events_of (placed_frame frame) records es)) same_entries
 
--- an event there is the one
+-- an event at the place is the one looked for
 pub looks_found : (frame : Frame) (place : ℕ) (reading : Reading) (looks : Looks frame place reading) (found : Event) (new : Reading)
     → Steps reading (Some found) new → found.place ≡ place → IsEventAt (placed_frame frame) place (Some found)
 looks_found frame place reading looks found new steps here =
@@ -181,7 +181,7 @@ found_there frame place reading looks found new steps here =
       record_of found,
       (
         looks.offset,
-        record { before = looks.passed; behind = g.others; has_records = records_with frame place reading looks found new g; offset_is = looks.offset_is },
+        record { before = looks.passed; after = g.others; has_records = records_with frame place reading looks found new g; offset_is = looks.offset_is },
         sym here ∙ place_of frame place reading looks found new g,
       ),
     )
@@ -194,7 +194,7 @@ nothing_ahead frame offset (r ∷ rs) reads none =
     let tail = Splits-tail format tt (drop offset frame.commands.now) r rs [] reads in
     absurd (no_unit_at_end format (frame_decided (frame_text frame)) tt r _ tail.1 (sym none ∙ tail.0))
 
--- at the end there is none
+-- at the end no event was found
 pub looks_ended : (frame : Frame) (place : ℕ) (reading : Reading) (looks : Looks frame place reading) (new : Reading) → Steps reading None new
     → IsEventAt (placed_frame frame) place None
 looks_ended frame place reading looks new steps =
@@ -211,12 +211,12 @@ ended_elsewhere frame place reading looks new steps has =
     let nothing = nothing_ahead frame looks.offset looks.ahead looks.reads s.0 in
     let all : looks.records ≡ looks.passed = looks.records_are ∙ ap (λ (l : List RecordText). looks.passed ++ l) nothing ∙ append-nil looks.passed in
     let records = subst (HasRecords (frame_text frame)) all looks.has_records in
-    let within = stands_within (frame_text frame) looks.passed has.1.0 has.0 records has.1.1 in
-    let not_before = looks.none_stands has.1.0 has.0 has.1.1 has.1.2 in
+    let within = is_within (frame_text frame) looks.passed has.1.0 has.0 records has.1.1 in
+    let not_before = looks.none_is_there has.1.0 has.0 has.1.1 has.1.2 in
     let start = looks.offset_is in
     absurd (omega (arith, within, not_before, start))
 
--- what is said of a record where an event was found, and where none was
+-- an event was found exactly if P holds: here both are so, and below neither is
 pub some_there : (P : Type 0) (found : Event) → P → IsSome (Some found) ↔ P
 some_there P found there = (λ _. there, λ _. refl)
 

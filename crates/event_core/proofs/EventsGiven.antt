@@ -1,4 +1,4 @@
--- The events that a reader has given from its start, for who goes through a frame by a loop.
+-- The events that a reader has given from its start, for a loop that goes through a frame.
 use Rattle.std.proofs.Common.{◌≡◌, List, [], ◌∷◌, ◌++◌, map, Option, Some, None, refl, sym, ap, subst, ◌∙◌, append_assoc}
 use Rattle.std.specs.Option.{unwrap_or}
 use Rattle.std.proofs.lemmas.List.{append-nil, map-append}
@@ -12,13 +12,13 @@ use Rattle.event_core.specs.Events.{EventRead, events_of}
 use Rattle.event_core.specs.Reading.{Reading, Steps, event_text, events_start, GiveEvents}
 use Rattle.event_core.proofs.EventCalls.{events_given}
 
--- a reader of the frame that stands there has given these events
+-- from its start in this frame the reader has given these events
 pub data Given (frame : Placed FrameText) : Reading → List Event → Type 0 where
   none_yet : (reading : Reading) (given : List Event) → reading ≡ events_start frame → given ≡ [] → Given frame reading given
   one_further : (before reading : Reading) (earlier given : List Event) (found : Event) → Given frame before earlier → Steps before (Some found) reading
       → given ≡ earlier ++ found ∷ [] → Given frame reading given
 
--- with the calls that follow they are calls from the start
+-- together with the calls that follow they are calls from the start
 calls_of : (frame : Placed FrameText) (reading : Reading) (given : List Event) → Given frame reading given → (results : List (Option Event))
     → Calls Steps reading results → Calls Steps (events_start frame) (map Some given ++ results)
 calls_of frame reading given (none_yet _ _ start none) results calls =
@@ -35,7 +35,7 @@ calls_of frame reading given (one_further before _ earlier _ found so_far steps 
 some_is : {A : Type 0} (x y : A) → Some x ≡ Some y → x ≡ y
 some_is x y same = ap (λ (o : Option _). unwrap_or o x) same
 
--- what was given is what the events begin with
+-- what was given are the first of the events
 begins : (events : List EventRead) (given : List Event) (results : List (Option Event)) → GiveEvents events (map Some given ++ results)
     → (rest : List EventRead) × (events ≡ map event_text given ++ rest) × GiveEvents rest results
 begins events [] results give = (events, refl, give)

@@ -11,46 +11,46 @@ use Rattle.capture_frame.specs.declared.fault.Fault.{Fault}
 use Rattle.capture_frame.specs.declared.frame.Frame.{Frame}
 use Rattle.capture_frame.specs.declared.direction.Direction.{Direction}
 use Rattle.capture_frame.specs.Envelope.{FrameText, frame_text, placed_frame, commands_place}
-use Rattle.capture_frame.specs.Units.{AllStand, placed_at}
+use Rattle.capture_frame.specs.Units.{AllMayCome, placed_at}
 use Rattle.record_view.specs.declared.record.Record.{Record}
-use Rattle.record_view.specs.Records.{RecordText, record_bytes, record_format, IsRecord, StandsAt, protocol_of}
+use Rattle.record_view.specs.Records.{RecordText, record_bytes, record_format, IsRecord, RecordIsAt, protocol_of}
 use Rattle.record_view.specs.Reading.{Reading, record_text, records_start, Steps}
 use Rattle.record_view.proofs.RecordLaws.{records_decided, length-record_bytes}
 use Rattle.event_core.specs.declared.event.Event.{Event}
-use Rattle.event_core.specs.Events.{RecordStandsAt, bare_event}
+use Rattle.event_core.specs.Events.{RecordIsAtPlace, bare_event}
 use Rattle.event_core.specs.Reading.{event_text, text_of_event}
 use Rattle.event_core.specs.Lookup.{IsCutAt}
 use Rattle.event_core.proofs.EventWalk.{event_is}
 
--- what stands where a record begins: its bytes, and those of the records behind it
-rest_at : (frame : FrameText) (offset : ℕ) (found : RecordText) (stands : StandsAt frame offset found) → drop offset frame.commands
-    ≡ record_bytes found ++ flat_map record_bytes stands.behind
-rest_at frame offset found stands =
-    let has = stands.has_records in
-    let whole : frame.commands ≡ flat_map record_bytes stands.before ++ flat_map record_bytes (found ∷ stands.behind) =
-    has.joined ∙ append-nil (flat_map record_bytes (stands.before ++ found ∷ stands.behind))
-    ∙ flat_map-append record_bytes stands.before (found ∷ stands.behind) in
-    ap (drop offset) whole ∙ drop_at (flat_map record_bytes stands.before) (flat_map record_bytes (found ∷ stands.behind)) offset (sym stands.offset_is)
-    ∙ flat_map-cons record_bytes found stands.behind
+-- the bytes where a record begins: its own, and those of the records after it
+rest_at : (frame : FrameText) (offset : ℕ) (found : RecordText) (is_at : RecordIsAt frame offset found) → drop offset frame.commands
+    ≡ record_bytes found ++ flat_map record_bytes is_at.after
+rest_at frame offset found is_at =
+    let has = is_at.has_records in
+    let whole : frame.commands ≡ flat_map record_bytes is_at.before ++ flat_map record_bytes (found ∷ is_at.after) =
+    has.joined ∙ append-nil (flat_map record_bytes (is_at.before ++ found ∷ is_at.after))
+    ∙ flat_map-append record_bytes is_at.before (found ∷ is_at.after) in
+    ap (drop offset) whole ∙ drop_at (flat_map record_bytes is_at.before) (flat_map record_bytes (found ∷ is_at.after)) offset (sym is_at.offset_is)
+    ∙ flat_map-cons record_bytes found is_at.after
 
 -- a record is within the command bytes
-pub stands_in : (frame : FrameText) (offset : ℕ) (found : RecordText) → StandsAt frame offset found → offset + 4 ≤ length frame.commands
-stands_in frame offset found stands =
-    let has = stands.has_records in
-    let whole : frame.commands ≡ flat_map record_bytes stands.before ++ flat_map record_bytes (found ∷ stands.behind) =
-    has.joined ∙ append-nil (flat_map record_bytes (stands.before ++ found ∷ stands.behind))
-    ∙ flat_map-append record_bytes stands.before (found ∷ stands.behind) in
-    let long = ap length whole ∙ length-append (flat_map record_bytes stands.before) (flat_map record_bytes (found ∷ stands.behind)) in
-    let more = ap length (flat_map-cons record_bytes found stands.behind) ∙ length-append (record_bytes found) (flat_map record_bytes stands.behind) in
-    let at = stands.offset_is in
+pub is_in : (frame : FrameText) (offset : ℕ) (found : RecordText) → RecordIsAt frame offset found → offset + 4 ≤ length frame.commands
+is_in frame offset found is_at =
+    let has = is_at.has_records in
+    let whole : frame.commands ≡ flat_map record_bytes is_at.before ++ flat_map record_bytes (found ∷ is_at.after) =
+    has.joined ∙ append-nil (flat_map record_bytes (is_at.before ++ found ∷ is_at.after))
+    ∙ flat_map-append record_bytes is_at.before (found ∷ is_at.after) in
+    let long = ap length whole ∙ length-append (flat_map record_bytes is_at.before) (flat_map record_bytes (found ∷ is_at.after)) in
+    let more = ap length (flat_map-cons record_bytes found is_at.after) ∙ length-append (record_bytes found) (flat_map record_bytes is_at.after) in
+    let at = is_at.offset_is in
     omega (arith, long, more, at, length-record_bytes found)
 
-is_record : (protocol : Protocol) (before : List RecordText) (r : RecordText) (behind : List RecordText)
-    → AllStand (record_format protocol) tt (before ++ r ∷ behind) → IsRecord protocol r
-is_record protocol [] r behind all = all.0
-is_record protocol (p ∷ before) r behind all = is_record protocol before r behind all.1
+is_record : (protocol : Protocol) (before : List RecordText) (r : RecordText) (after : List RecordText)
+    → AllMayCome (record_format protocol) tt (before ++ r ∷ after) → IsRecord protocol r
+is_record protocol [] r after all = all.0
+is_record protocol (p ∷ before) r after all = is_record protocol before r after all.1
 
--- what a reader gives that begins at a record
+-- what a reader that begins at a record gives
 pub record FoundAt (frame : Frame) (place : ℕ) (found : RecordText) (result : Result (Option Record) Fault) : Type 0 where
   pub given : Record
   pub result_is : result ≡ Ok (Some given)
@@ -59,34 +59,34 @@ pub record FoundAt (frame : Frame) (place : ℕ) (found : RecordText) (result : 
   pub kind : kind_of (protocol_of frame.direction) given.code.0 ≡ Ok given.kind
 
 -- the bytes that the reader begins with
-rest_of_cut : (frame cut : Frame) (place : ℕ) (found : RecordText) (stands : RecordStandsAt (placed_frame frame) place found) → IsCutAt frame place cut
-    → drop 0 cut.commands.now ≡ record_bytes found ++ flat_map record_bytes stands.1.behind
-rest_of_cut frame cut place found stands is =
-    let at = stands.2 in
-    let offset : place - commands_place frame.place ≡ stands.0 = omega (arith, at) in
+rest_of_cut : (frame cut : Frame) (place : ℕ) (found : RecordText) (is_at : RecordIsAtPlace (placed_frame frame) place found) → IsCutAt frame place cut
+    → drop 0 cut.commands.now ≡ record_bytes found ++ flat_map record_bytes is_at.1.after
+rest_of_cut frame cut place found is_at is =
+    let at = is_at.2 in
+    let offset : place - commands_place frame.place ≡ is_at.0 = omega (arith, at) in
     let same : drop 0 cut.commands.now ≡ cut.commands.now = refl in
-    is.commands ∙ ap (λ (n : ℕ). drop n frame.commands.now) offset ∙ rest_at (frame_text frame) stands.0 found stands.1
+    is.commands ∙ ap (λ (n : ℕ). drop n frame.commands.now) offset ∙ rest_at (frame_text frame) is_at.0 found is_at.1
 
-pub found_at : (frame cut : Frame) (place : ℕ) (found : RecordText) → RecordStandsAt (placed_frame frame) place found → IsCutAt frame place cut
+pub found_at : (frame cut : Frame) (place : ℕ) (found : RecordText) → RecordIsAtPlace (placed_frame frame) place found → IsCutAt frame place cut
     → (result : Result (Option Record) Fault) (new : Reading) → Steps (records_start (placed_frame cut)) result new → FoundAt frame place found result
-found_at frame cut place found stands is (Ok None) new steps =
-    let none = ap length (sym steps.0 ∙ rest_of_cut frame cut place found stands is)
-    ∙ length-append (record_bytes found) (flat_map record_bytes stands.1.behind) in
+found_at frame cut place found is_at is (Ok None) new steps =
+    let none = ap length (sym steps.0 ∙ rest_of_cut frame cut place found is_at is)
+    ∙ length-append (record_bytes found) (flat_map record_bytes is_at.1.after) in
     absurd (omega (arith, none, length-record_bytes found))
-found_at frame cut place found stands is (Err fault) new steps =
+found_at frame cut place found is_at is (Err fault) new steps =
     let protocol = protocol_of frame.direction in
     let format = record_format protocol in
-    let good = is_record protocol stands.1.before found stands.1.behind stands.1.has_records.stand in
+    let good = is_record protocol is_at.1.before found is_at.1.after is_at.1.has_records.in_order in
     let fails = subst (λ (d : Direction). (record_format (protocol_of d)).Fails tt (drop 0 cut.commands.now) fault.kind 0) is.direction steps.0 in
-    absurd ((records_decided protocol).never_both tt found (flat_map record_bytes stands.1.behind) fault.kind 0 good
-    (subst (λ (t : List ℕ). format.Fails tt t fault.kind 0) (rest_of_cut frame cut place found stands is) fails))
-found_at frame cut place found stands is (Ok (Some given)) new steps =
+    absurd ((records_decided protocol).never_both tt found (flat_map record_bytes is_at.1.after) fault.kind 0 good
+    (subst (λ (t : List ℕ). format.Fails tt t fault.kind 0) (rest_of_cut frame cut place found is_at is) fails))
+found_at frame cut place found is_at is (Ok (Some given)) new steps =
     let protocol = protocol_of frame.direction in
     let r = record_text given in
-    let good = is_record protocol stands.1.before found stands.1.behind stands.1.has_records.stand in
-    let good_too = subst (λ (d : Direction). IsRecord (protocol_of d) r) is.direction steps.0.may_stand in
-    let one = (records_decided protocol).one_unit tt r found _ (flat_map record_bytes stands.1.behind) good_too good
-    (sym steps.0.joined ∙ rest_of_cut frame cut place found stands is) in
+    let good = is_record protocol is_at.1.before found is_at.1.after is_at.1.has_records.in_order in
+    let good_too = subst (λ (d : Direction). IsRecord (protocol_of d) r) is.direction steps.0.may_come in
+    let one = (records_decided protocol).one_unit tt r found _ (flat_map record_bytes is_at.1.after) good_too good
+    (sym steps.0.joined ∙ rest_of_cut frame cut place found is_at is) in
     let begins = is.begins in
     let at = steps.0.view.place_is in
     record {

@@ -1,4 +1,4 @@
--- How long the payload of a record is that a step reads.
+-- The length of the payloads that the steps read.
 use Rattle.std.proofs.Common.{◌≡◌, ℕ, Option, Some, None, refl, subst, ◌∙◌}
 use Rattle.std.specs.Option.{ForSome, option_map}
 use Rattle.binder_code.specs.declared.record_kind.Kind.{Kind}
@@ -12,7 +12,7 @@ use Rattle.event_core.specs.Handles.{handle_effect}
 use Rattle.event_core.specs.Nodes.{node_effect}
 use Rattle.event_core.specs.Deaths.{death_change}
 
--- the payload of this kind is as long as its line says
+-- the payload of this kind is as long as the header's line says
 abbrev pub IsSized : Kind → ℕ → Type 0
 IsSized kind n = ForSome (row_of kind) (λ row. n ≡ row.size)
 
@@ -22,7 +22,7 @@ row_sized (Some row) n size listed sized =
     let same : row.size ≡ size = let some : Some row.size ≡ Some size = listed in cc in
     sized row refl ∙ same
 
--- a known kind's payload is as long as its line says
+-- the payload of a known kind is as long as the header's line says
 pub sized_as : (kind known : Kind) (n size : ℕ) → kind ≡ known → option_map (λ row. row.size) (row_of known) ≡ Some size → IsSized kind n → n ≡ size
 sized_as kind known n size is listed sized = row_sized (row_of known) n size listed (subst (λ (k : Kind). IsSized k n) is sized)
 

@@ -9,12 +9,12 @@ use Rattle.event_core.specs.declared.buffer.BufferItem.TheVariants.{Delivery, Fr
 use Rattle.event_core.specs.declared.pending.PendingItem.{PendingItem}
 use Rattle.event_core.specs.declared.pending.PendingChange.TheVariants.{Open, Close}
 
--- the delivery that a record at this place makes, whose payload is then a transaction or a reply
+-- the delivery by a transaction or reply at this place, at the address in its `buffer` and with its data_size
 abbrev pub delivery : ℕ → Kind → List ℕ → BufferItem
 delivery place kind payload = Delivery place (buffer payload) (data_size payload) kind
 
--- what a record at this place does to a buffer: the driver delivers it with the transaction or reply that it holds, and
--- the process frees it by its address; nothing for every other kind
+-- what a record at this place does to a buffer of its process: BR_TRANSACTION, BR_TRANSACTION_SEC_CTX and BR_REPLY
+-- deliver one, and BC_FREE_BUFFER frees the one at its address; other kinds do nothing
 abbrev pub buffer_item : ℕ → Kind → List ℕ → Option BufferItem
 buffer_item place BrTransaction payload = Some (delivery place BrTransaction payload)
 buffer_item place BrTransactionSecCtx payload = Some (delivery place BrTransactionSecCtx payload)

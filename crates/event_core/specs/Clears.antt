@@ -1,4 +1,4 @@
--- Requests that a process takes back, and that the driver confirms (docs/REPORT.md).
+-- Requests that a process takes back, and the confirmations of the driver (docs/REPORT.md).
 use Rattle.std.specs.Prelude.{ℕ, List, Option, Some, None}
 use Rattle.binder_code.specs.declared.record_kind.Kind.{Kind}
 use Rattle.binder_code.specs.declared.record_kind.Kind.TheVariants.{BcClearDeathNotification, BrClearDeathNotificationDone}
@@ -6,8 +6,8 @@ use Rattle.event_core.specs.declared.pending.PendingItem.{PendingItem}
 use Rattle.event_core.specs.declared.pending.PendingChange.TheVariants.{Open, Close}
 use Rattle.event_core.specs.Requests.{request_key, cookie_alone}
 
--- a record at this place that takes back a request opens its cookie, and one that confirms it closes the cookie;
--- nothing for every other kind
+-- what a record at this place does to its cookie: BC_CLEAR_DEATH_NOTIFICATION opens it, and
+-- BR_CLEAR_DEATH_NOTIFICATION_DONE, which confirms that, closes it; other kinds do nothing
 abbrev pub clear_item : ℕ → Kind → List ℕ → Option (PendingItem ℕ)
 clear_item place BcClearDeathNotification payload =
     Some (record { place = place; key = (request_key payload).cookie; change = Open })

@@ -1,4 +1,4 @@
--- Deaths that the driver tells a process of, and that the process acknowledges (docs/REPORT.md).
+-- Deaths that the driver reports to a process, and that the process acknowledges (docs/REPORT.md).
 use Rattle.std.specs.Prelude.{ℕ, List, Option, Some, None}
 use Rattle.std.specs.Option.{option_map}
 use Rattle.binder_code.specs.declared.record_kind.Kind.{Kind}
@@ -8,13 +8,14 @@ use Rattle.event_core.specs.declared.pending.PendingChange.{PendingChange}
 use Rattle.event_core.specs.declared.pending.PendingChange.TheVariants.{Open, Close}
 use Rattle.event_core.specs.Requests.{cookie_alone}
 
--- what a record of this kind does to the death of its cookie
+-- what a record of this kind does to its cookie: BR_DEAD_BINDER opens it, and BC_DEAD_BINDER_DONE, which acknowledges
+-- that, closes it; other kinds do nothing
 abbrev pub death_change : Kind → Option PendingChange
 death_change BrDeadBinder = Some Open
 death_change BcDeadBinderDone = Some Close
 death_change _ = None
 
--- the open or close that a record at this place makes, whose payload is then a cookie; none for every other kind
+-- the open or close of the cookie in the payload, by a record at this place; None for other kinds
 abbrev pub death_item : ℕ → Kind → List ℕ → Option (PendingItem ℕ)
 death_item place kind payload =
     option_map (λ change. record { place = place; key = cookie_alone payload; change = change }) (death_change kind)

@@ -10,18 +10,18 @@ use Rattle.capture_frame.specs.declared.process.Process.{Process}
 use Rattle.capture_frame.specs.declared.process.Thread.{Thread}
 use Rattle.capture_frame.specs.Units.{Placed, placed_at, placed}
 use Rattle.capture_frame.specs.Envelope.{FrameText, frame_bytes, file_header_length, commands_place, attachments_place}
-use Rattle.record_view.specs.Records.{RecordText, record_bytes, StandsAt, protocol_of}
+use Rattle.record_view.specs.Records.{RecordText, record_bytes, RecordIsAt, protocol_of}
 use Rattle.transaction_view.specs.Attachments.{EntryText, entry_bytes}
 use Rattle.transaction_view.specs.Grammar.{WholeFrame}
 
--- the attachment of a record: its place in the capture, the data, and the bytes of the list of offsets
+-- the attachment of a record: its place in the capture, the body bytes, and the offset bytes
 pub record AttachmentText : Type 0 where
   pub place : ℕ
   pub body : List ℕ
   pub offset_bytes : List ℕ
 
--- a record with its place in the capture, the device, the process and the thread of its frame, what its code stands
--- for, and its attachment if it has one
+-- what an event says: the place of its record, the device, the process and the thread of its frame, its kind, its code
+-- word, its payload, and its attachment if it has one
 pub record EventRead : Type 0 where
   pub place : ℕ
   pub device : ℕ
@@ -32,19 +32,20 @@ pub record EventRead : Type 0 where
   pub payload : List ℕ
   pub entry : Option AttachmentText
 
--- the process of an event
+-- the process of an event: its device and its process number together
 abbrev pub process_of : EventRead → Process
 process_of e = record { device = e.device; number = e.process }
 
--- the thread of an event
+-- the thread of an event: its process and its thread number together
 abbrev pub thread_of : EventRead → Thread
 thread_of e = record { process = process_of e; number = e.thread }
 
--- what a code stands for in a frame, whose own records' codes all stand for something
+-- the kind that a code word means in this frame. A code word without a meaning counts as Opaque here, but no good
+-- record has one.
 abbrev pub kind_in : FrameText → ℕ → Kind
 kind_in frame code = result_unwrap_or (kind_of (protocol_of frame.direction) code) Opaque
 
--- the event of a record of a frame, with the attachment left out
+-- the event of a record of a frame, without its attachment
 abbrev pub bare_event : FrameText → Placed RecordText → EventRead
 bare_event frame there = record {
   place = there.place;
@@ -57,7 +58,7 @@ bare_event frame there = record {
   entry = None;
 }
 
--- an entry with its place, as the attachment of the record that it belongs to
+-- an entry with its place, as the attachment of its record
 abbrev pub attachment_text : Placed EntryText → AttachmentText
 attachment_text there = record { place = there.place; body = there.unit.body; offset_bytes = there.unit.offset_bytes }
 
@@ -65,16 +66,17 @@ attachment_text there = record { place = there.place; body = there.unit.body; of
 abbrev pub placed_entries : Placed FrameText → List EntryText → List (Placed EntryText)
 placed_entries frame entries = placed entry_bytes (attachments_place frame.unit frame.place) entries
 
--- whether an entry, of a frame whose command bytes begin at the first place, belongs to the record at the second
+-- whether an entry belongs to the record at this place: its record offset, counted from where the command bytes of the
+-- frame begin, leads there
 abbrev pub belongs_to : ℕ → ℕ → Placed EntryText → Bool
 belongs_to commands_at place there = commands_at + there.unit.offset == place
 
--- the attachment of the record at a place: the entry that belongs to it
+-- the attachment of the record at a place: the entry that belongs to it, if there is one
 abbrev pub attachment_of : Placed FrameText → List EntryText → ℕ → Option AttachmentText
 attachment_of frame entries place =
     option_map attachment_text (find (belongs_to (commands_place frame.place) place) (placed_entries frame entries))
 
--- the event of a record of a frame that has these entries
+-- the event of a record of a frame with these entries
 abbrev pub event_of : Placed FrameText → List EntryText → Placed RecordText → EventRead
 event_of frame entries there = record (bare_event frame.unit there) { entry = attachment_of frame entries there.place }
 
@@ -86,7 +88,7 @@ placed_records frame records = placed record_bytes (commands_place frame.place) 
 abbrev pub events_of : Placed FrameText → List RecordText → List EntryText → List EventRead
 events_of frame records entries = map (event_of frame entries) (placed_records frame records)
 
--- where a whole frame stands, and what its header and its bytes tell
+-- what the frame of a whole frame says, with its place
 abbrev pub placed_text : Placed WholeFrame → Placed FrameText
 placed_text there = placed_at there.place there.unit.frame
 
@@ -94,23 +96,23 @@ placed_text there = placed_at there.place there.unit.frame
 abbrev pub events_of_whole : Placed WholeFrame → List EventRead
 events_of_whole there = events_of (placed_text there) there.unit.records there.unit.entries
 
--- the whole frames of a capture, with their places behind its file header
+-- the whole frames of a capture with their places: the first follows the file header
 abbrev pub wholes_of : List WholeFrame → List (Placed WholeFrame)
 wholes_of frames = placed (λ whole. frame_bytes whole.frame) file_header_length frames
 
--- the events of these whole frames: those of each frame, in rising place
+-- the events of these whole frames, frame after frame
 abbrev pub events_of_wholes : List (Placed WholeFrame) → List EventRead
 events_of_wholes wholes = flat_map events_of_whole wholes
 
--- the event at a place, where one of these stands there
+-- the event at this place, if one of these is there
 abbrev pub event_at_place : ℕ → List EventRead → Option EventRead
 event_at_place place events = find (λ e. e.place == place) events
 
 -- this record of the frame begins at this place of the capture
-abbrev pub RecordStandsAt : Placed FrameText → ℕ → RecordText → Type 0
-RecordStandsAt frame place found =
-    (offset : ℕ) × StandsAt frame.unit offset found × (place ≡ commands_place frame.place + offset)
+abbrev pub RecordIsAtPlace : Placed FrameText → ℕ → RecordText → Type 0
+RecordIsAtPlace frame place found =
+    (offset : ℕ) × RecordIsAt frame.unit offset found × (place ≡ commands_place frame.place + offset)
 
 -- some record of the frame begins at this place of the capture
 abbrev pub HasRecordAt : Placed FrameText → ℕ → Type 0
-HasRecordAt frame place = (found : RecordText) × RecordStandsAt frame place found
+HasRecordAt frame place = (found : RecordText) × RecordIsAtPlace frame place found

@@ -10,7 +10,9 @@ use Rattle.event_core.specs.declared.handle.HandleItem.{HandleItem}
 use Rattle.event_core.specs.declared.strength.Strength.{Strength}
 use Rattle.event_core.specs.declared.strength.Strength.TheVariants.{Strong, Weak}
 
--- which count a record of this kind changes, and how (`linux/android/binder.h`, `binder_driver_command_protocol`)
+-- which count of its handle a record of this kind changes, and how: BC_ACQUIRE raises the strong count and BC_RELEASE
+-- lowers it, BC_INCREFS raises the weak count and BC_DECREFS lowers it (`linux/android/binder.h`,
+-- `binder_driver_command_protocol`)
 abbrev pub handle_effect : Kind → Option (Strength × HandleChange)
 handle_effect BcAcquire = Some (Strong, Raise)
 handle_effect BcRelease = Some (Strong, Lower)
@@ -18,7 +20,7 @@ handle_effect BcIncrefs = Some (Weak, Raise)
 handle_effect BcDecrefs = Some (Weak, Lower)
 handle_effect _ = None
 
--- the change that a record makes, whose payload is then a handle; none for every other kind
+-- the change that a record makes to the handle in its payload; None for other kinds
 abbrev pub handle_item : Kind → List ℕ → Option HandleItem
 handle_item kind payload =
     option_map (λ effect. record { handle = number_at 4 0 payload; strength = effect.0; change = effect.1 })

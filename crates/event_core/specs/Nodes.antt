@@ -12,12 +12,13 @@ use Rattle.event_core.specs.declared.node.NodeKey.{NodeKey}
 use Rattle.event_core.specs.declared.strength.Strength.{Strength}
 use Rattle.event_core.specs.declared.strength.Strength.TheVariants.{Strong, Weak}
 
--- the node that a payload names (`linux/android/binder.h`, `struct binder_ptr_cookie`)
+-- the node that a payload names by its ptr and its cookie (`linux/android/binder.h`, `struct binder_ptr_cookie`)
 abbrev pub node_key : List ℕ → NodeKey
 node_key payload = record { ptr = number_at 8 0 payload; cookie = number_at 8 8 payload }
 
--- which references a record of this kind changes, and how (`linux/android/binder.h`, `binder_driver_return_protocol`,
--- and the two answers to it)
+-- which references to its node a record of this kind changes, and how: BR_ACQUIRE raises the strong ones, BR_RELEASE
+-- lowers them, and BC_ACQUIRE_DONE acknowledges one; BR_INCREFS, BR_DECREFS and BC_INCREFS_DONE do the same to the weak
+-- ones (`linux/android/binder.h`, `binder_driver_return_protocol`, and the two answers to it)
 abbrev pub node_effect : Kind → Option (Strength × NodeChange)
 node_effect BrAcquire = Some (Strong, Raise)
 node_effect BrRelease = Some (Strong, Lower)
@@ -27,7 +28,7 @@ node_effect BrDecrefs = Some (Weak, Lower)
 node_effect BcIncrefsDone = Some (Weak, Done)
 node_effect _ = None
 
--- the change that a record makes, whose payload then names a node; none for every other kind
+-- the change that a record makes to the node in its payload; None for other kinds
 abbrev pub node_item : Kind → List ℕ → Option NodeItem
 node_item kind payload =
     option_map (λ effect. record { node = node_key payload; strength = effect.0; change = effect.1 }) (node_effect kind)

@@ -7,19 +7,20 @@ use Rattle.event_core.specs.declared.oneway.OnewayItem.{OnewayItem}
 use Rattle.event_core.specs.declared.oneway.OnewayKey.{OnewayKey}
 use Rattle.event_core.specs.declared.oneway.OnewayKey.TheVariants.{Sent, Received}
 
--- the flags of a transaction have `TF_ONE_WAY`, their lowest bit (`linux/android/binder.h`, `enum transaction_flags`)
+-- whether the flags of a transaction have `TF_ONE_WAY`, their lowest bit
+-- (`linux/android/binder.h`, `enum transaction_flags`)
 abbrev pub has_one_way : List ℕ → Bool
 has_one_way payload = flags payload % 2 == 1
 
--- the item of a transaction under a key; none where it is no oneway one
-abbrev pub item_under : OnewayKey → List ℕ → Option OnewayItem
-item_under key payload =
+-- a transaction counted under this key, with its data_size; None if it is not oneway
+abbrev pub oneway_under : OnewayKey → List ℕ → Option OnewayItem
+oneway_under key payload =
     if has_one_way payload then Some (record { key = key; data_size = data_size payload }) else None
 
--- the item of a transaction that is sent or received with `TF_ONE_WAY`; none for a reply and for every other record
+-- a oneway transaction, counted as sent to its target handle or as received; None for a reply and every other record
 abbrev pub oneway_item : Kind → List ℕ → Option OnewayItem
-oneway_item BcTransaction payload = item_under (Sent (target_handle payload)) payload
-oneway_item BcTransactionSg payload = item_under (Sent (target_handle payload)) payload
-oneway_item BrTransaction payload = item_under Received payload
-oneway_item BrTransactionSecCtx payload = item_under Received payload
+oneway_item BcTransaction payload = oneway_under (Sent (target_handle payload)) payload
+oneway_item BcTransactionSg payload = oneway_under (Sent (target_handle payload)) payload
+oneway_item BrTransaction payload = oneway_under Received payload
+oneway_item BrTransactionSecCtx payload = oneway_under Received payload
 oneway_item _ payload = None

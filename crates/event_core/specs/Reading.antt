@@ -12,11 +12,11 @@ use Rattle.transaction_view.specs.Attachments.{EntryText, HasEntries}
 use Rattle.event_core.specs.declared.event.Event.{Event}
 use Rattle.event_core.specs.Events.{AttachmentText, EventRead, event_of, events_of, event_at_place}
 
--- what an attachment of the capture says
+-- what an attachment that was read says
 abbrev pub entry_attachment : Entry → AttachmentText
 entry_attachment found = record { place = found.place; body = found.body.now; offset_bytes = found.offsets.now }
 
--- what an event of the capture says
+-- what an event that was read says
 abbrev pub event_text : Event → EventRead
 event_text found = record {
   place = found.place;
@@ -29,7 +29,7 @@ event_text found = record {
   entry = option_map entry_attachment found.entry;
 }
 
--- what the event of a record of a frame says, with this attachment
+-- what the event of this record of a frame says, with this attachment
 abbrev pub text_of_event : Frame → Record → Option Entry → EventRead
 text_of_event frame found entry = record {
   place = found.place;
@@ -42,30 +42,31 @@ text_of_event frame found entry = record {
   entry = option_map entry_attachment entry;
 }
 
--- the record that an event of the capture is made of
+-- the record of an event that was read
 abbrev pub record_of : Event → RecordText
 record_of found = record { code = found.code.0; payload = found.payload.now }
 
--- a reader stands so far into the command bytes of a frame
+-- where a reader is: at an offset of the command bytes of a frame
 pub record Reading : Type 0 where
   pub frame : Placed FrameText
   pub offset : ℕ
 
+-- a reader of this frame at this offset
 abbrev pub reading_at : Placed FrameText → ℕ → Reading
 reading_at frame offset = record { frame = frame; offset = offset }
 
--- the event is that of the record that stands so far into a frame's command bytes, with its attachment
-abbrev pub StandsThere : Placed FrameText → ℕ → Event → Type 0
-StandsThere frame offset found =
+-- the event is that of the record at this offset of the frame's command bytes, with the record's attachment
+abbrev pub IsThere : Placed FrameText → ℕ → Event → Type 0
+IsThere frame offset found =
     BeginsWith (format_of frame.unit) tt (drop offset frame.unit.commands) (record_of found)
     ((entries : List EntryText) × HasEntries frame.unit entries
     × (event_text found ≡ event_of frame entries (placed_at (commands_place frame.place + offset) (record_of found))))
 
--- one call: it gives the event of the record that stands there and goes behind the record; or gives nothing at the end
--- of the command bytes and stays
+-- One call. It gives the event of the record there and goes on to the next record; or it gives `None` at the end of the
+-- command bytes and stays.
 abbrev pub Steps : Reading → Option Event → Reading → Type 0
 Steps reading (Some found) new =
-    StandsThere reading.frame reading.offset found
+    IsThere reading.frame reading.offset found
     × (new ≡ reading_at reading.frame (reading.offset + length (record_bytes (record_of found))))
 Steps reading None new = (drop reading.offset reading.frame.unit.commands ≡ []) × (new ≡ reading)
 
@@ -77,11 +78,11 @@ events_start frame = reading_at frame 0
 abbrev pub GivesEvent : Option Event → EventRead → Type 0
 GivesEvent result e = option_map event_text result ≡ Some e
 
--- the results of calls are these events, one by one, and then nothing again and again
+-- the calls give these events, one by one, and then `None` at every later call
 abbrev pub GiveEvents : List EventRead → List (Option Event) → Type 0
 GiveEvents events results = GiveInOrder GivesEvent None None events results
 
--- the event of a frame at a place of the capture, or none where no event of the frame stands there
+-- the event of the frame at this place of the capture, or None if no event of the frame is there
 abbrev pub IsEventAt : Placed FrameText → ℕ → Option Event → Type 0
 IsEventAt frame place result =
     (records : List RecordText) (entries : List EntryText) → HasRecords frame.unit records

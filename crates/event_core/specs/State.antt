@@ -1,4 +1,4 @@
--- What the values of the code's reader of events stand for.
+-- What the values of the code's reader of events mean.
 use Rattle.std.specs.Prelude.{◌≡◌, ◌≢◌, ◌<◌, ◌≤◌, ℕ, ◌+◌, List, [], ◌∷◌, ◌++◌, length, drop, All, Option, Some, None, Ok}
 use Rattle.capture_frame.specs.declared.frame.Frame.{Frame}
 use Rattle.capture_frame.specs.Envelope.{frame_text, placed_frame, commands_place, attachments_place}
@@ -13,12 +13,12 @@ use Rattle.transaction_view.specs.Reading as entries
 use Rattle.transaction_view.specs.FirstFault.{HasGoodContent}
 use Rattle.event_core.specs.Reading.{Reading, reading_at}
 
--- how far into the command bytes a reader of records stands
+-- at which offset of the command bytes a reader of records is
 abbrev pub offset_of : records.Reading → ℕ
 offset_of (at frame offset before) = offset
 offset_of (failed fault) = 0
 
--- the reader, as a reading of its frame
+-- the reader as a `Reading` of its frame
 abbrev pub reading_of : Frame → records.Reading → Reading
 reading_of frame reading = reading_at (placed_frame frame) (offset_of reading)
 
@@ -26,7 +26,7 @@ reading_of frame reading = reading_at (placed_frame frame) (offset_of reading)
 abbrev pub entries_span : Frame → List EntryText → ℕ
 entries_span frame given = length (spelling_of (entry_format (frame_text frame)) given)
 
--- the reader of entries stands behind these
+-- the reader of entries has passed these
 pub record HasRead (frame : Frame) (reading : entries.Reading) (done : List EntryText) : Type 0 where
   pub distance : ℕ
   pub reading_is : reading ≡ at (placed_frame frame) distance (state_after (entry_format (frame_text frame)) None done)
@@ -34,8 +34,8 @@ pub record HasRead (frame : Frame) (reading : entries.Reading) (done : List Entr
       (drop distance frame.attachments.now)
   pub distance_is : distance ≡ entries_span frame done
 
--- The entry at hand, of a frame that has given these: there is none, and they are all; or it is the next, its record is
--- not before the offset, and the reader of entries stands behind it.
+-- The entry ahead, in a frame that has given these entries. Either there is none, and these are all entries of the
+-- frame. Or it is the next entry, its record does not begin before the offset, and the reader of entries has passed it.
 pub data IsNext (frame : Frame) (offset : ℕ) (reading : entries.Reading) (given : List EntryText)
     (ahead : Option Entry) : Type 0 where
   all_given : ahead ≡ None → HasEntries (frame_text frame) given → IsNext frame offset reading given ahead
@@ -43,7 +43,7 @@ pub data IsNext (frame : Frame) (offset : ℕ) (reading : entries.Reading) (give
       → found.place ≡ attachments_place (frame_text frame) frame.place + entries_span frame given
       → HasRead frame reading (given ++ entry_text frame.place found ∷ []) → IsNext frame offset reading given ahead
 
--- the reader of records stands behind these records of a good frame, and the entries given out are those of passed
+-- the reader of records has passed some records of a good frame, and the entries that were given belong to these
 -- records
 pub record IsWithin (frame : Frame) (reading : records.Reading) (attachments : entries.Reading)
     (ahead : Option Entry) : Type 0 where
@@ -56,7 +56,8 @@ pub record IsWithin (frame : Frame) (reading : records.Reading) (attachments : e
   pub given_before : All (λ e. e.offset < span_of passed) given
   pub next : IsNext frame (span_of passed) attachments given ahead
 
--- the entry ahead is that of the record at this place, and is given out; or it is not, and all stays
+-- if the entry ahead belongs to the record at this place, it is given, and the next entry is ahead; otherwise no entry
+-- is given, and nothing changes
 abbrev pub TakesAt : ℕ → Option Entry → entries.Reading → Option Entry → Option Entry → entries.Reading → Type 0
 TakesAt place ahead reading (Some found) new_ahead new =
     (ahead ≡ Some found) × (found.owner ≡ place) × entries.Steps reading (Ok new_ahead) new

@@ -22,7 +22,7 @@ pub fn is_oneway(event: Event<'_>) -> bool
     }
 }
 
-/// The mark that an event leaves in its thread; None for an event that is no mark.
+/// The mark that an event leaves in its thread; None if it leaves none.
 pub fn mark(event: Event<'_>) -> Option<Mark>
     ensures { result ≡
         mark_of event.entry.kind (is_oneway event.entry.kind event.entry.payload.now) }
@@ -30,7 +30,7 @@ pub fn mark(event: Event<'_>) -> Option<Mark>
     mark_of(event.kind, is_oneway(event))
 }
 
-/// The mark that a record of this kind leaves, a oneway transaction or not.
+/// The mark that a record of this kind leaves; `oneway` says whether it is a oneway transaction.
 pub fn mark_of(kind: Kind, oneway: bool) -> Option<Mark>
     ensures { result ≡ mark_of kind oneway }
 {
@@ -67,7 +67,7 @@ fn received_mark(oneway: bool) -> Option<Mark>
     if oneway { None } else { Some(Mark::Other) }
 }
 
-/// What an event is, where `last` is the mark of its thread's latest earlier event that left one.
+/// What an event is among the calls of its thread, where `last` is the latest mark before it.
 pub fn bracket(last: Option<Mark>, event: Event<'_>) -> Bracket
     ensures { result ≡
         bracket_of last event.entry.kind (is_oneway event.entry.kind event.entry.payload.now) }
@@ -75,7 +75,8 @@ pub fn bracket(last: Option<Mark>, event: Event<'_>) -> Bracket
     bracket_of(last, event.kind, is_oneway(event))
 }
 
-/// What a record of this kind is behind the mark `last`, a oneway transaction or not.
+/// What a record of this kind is among the calls of its thread, where `last` is the latest mark
+/// before it; `oneway` says whether it is a oneway transaction.
 pub fn bracket_of(last: Option<Mark>, kind: Kind, oneway: bool) -> Bracket
     ensures { result ≡ bracket_of last kind oneway }
 {
@@ -89,14 +90,15 @@ pub fn bracket_of(last: Option<Mark>, kind: Kind, oneway: bool) -> Bracket
     }
 }
 
-/// The opener that a transaction is, unless it is a oneway one.
+/// The bracket of a transaction: this opener, unless it is a oneway one.
 fn opener(oneway: bool, bracket: Bracket) -> Bracket
     ensures { result ≡ opener bracket oneway }
 {
     if oneway { Bracket::Neither } else { bracket }
 }
 
-/// What an error reply is: it answers the thread's last send, or closes a call.
+/// The bracket of an error reply: it reports that the thread's last send was refused, or closes a
+/// call.
 fn error_reply(last: Option<Mark>) -> Bracket
     ensures { result ≡ error_reply last }
 {

@@ -29,7 +29,7 @@ pub enum BufferItem {
 }
 
 impl BufferItem {
-    /// The open or close of its address that it is.
+    /// The same, as an open or a close of its address.
     pub fn pending(self) -> PendingItem<u64>
         ensures { result ≡ buffer_pending self }
     {
@@ -48,8 +48,8 @@ impl BufferItem {
     }
 }
 
-/// The delivery that a BR_TRANSACTION, BR_TRANSACTION_SEC_CTX or BR_REPLY is, or the free that a
-/// BC_FREE_BUFFER is; None for every other event.
+/// The delivery of a BR_TRANSACTION, BR_TRANSACTION_SEC_CTX or BR_REPLY, or the free of a
+/// BC_FREE_BUFFER; None for every other event.
 pub fn buffer_step(event: Event<'_>) -> Option<BufferItem>
     ensures { result ≡ buffer_item event.entry.place event.entry.kind event.entry.payload.now }
 {

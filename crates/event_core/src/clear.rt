@@ -1,4 +1,4 @@
-//! Requests that a process takes back, and that the driver confirms.
+//! Requests that a process takes back, and the confirmations of the driver.
 
 ghost use Rattle.std.specs.Prelude.{◌≡◌};
 ghost use Rattle.event_core.specs.Clears.{clear_item};
@@ -9,8 +9,8 @@ use crate::request::RequestKey;
 use binder_code::Kind;
 use capture_frame::u64_at;
 
-/// The open of its cookie that a BC_CLEAR_DEATH_NOTIFICATION is, or the close that a
-/// BR_CLEAR_DEATH_NOTIFICATION_DONE is; None for every other event.
+/// A BC_CLEAR_DEATH_NOTIFICATION as an open of its cookie, or a BR_CLEAR_DEATH_NOTIFICATION_DONE as
+/// a close; None for every other event.
 pub fn clear_step(event: Event<'_>) -> Option<PendingItem<u64>>
     ensures { result ≡ clear_item event.entry.place event.entry.kind event.entry.payload.now }
 {

@@ -1,4 +1,4 @@
-//! Deaths that the driver tells a process of, and that the process acknowledges.
+//! Deaths that the driver reports to a process, and that the process acknowledges.
 
 ghost use Rattle.std.specs.Prelude.{◌≡◌};
 ghost use Rattle.event_core.specs.Deaths.{death_change, death_item};
@@ -19,8 +19,8 @@ fn death_change(kind: Kind) -> Option<PendingChange>
     }
 }
 
-/// The open of its cookie that a BR_DEAD_BINDER is, or the close that a BC_DEAD_BINDER_DONE is;
-/// None for every other event.
+/// A BR_DEAD_BINDER as an open of its cookie, or a BC_DEAD_BINDER_DONE as a close; None for every
+/// other event.
 pub fn death_step(event: Event<'_>) -> Option<PendingItem<u64>>
     ensures { result ≡ death_item event.entry.place event.entry.kind event.entry.payload.now }
 {

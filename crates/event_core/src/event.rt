@@ -8,7 +8,7 @@ use capture_frame::{Process, Thread};
 use transaction_view::{Entry, Transaction};
 
 /// A record of a capture, with the process and the thread that wrote or read it. The payload and
-/// the attachment are the capture's own bytes.
+/// the attachment are the capture's own bytes. All places in the record fit 64 bits (`fits`).
 #[derive(Clone, Copy)]
 pub struct Event<'c> {
     /// Where the record's code begins in the capture, in bytes.
@@ -19,9 +19,9 @@ pub struct Event<'c> {
     pub process: u32,
     /// The thread of its frame.
     pub thread: u32,
-    /// What the record's code stands for.
+    /// What the code word means.
     pub kind: Kind,
-    /// The code word as read; it tells opaque records apart.
+    /// The code word as read. Opaque records differ in it.
     pub code: Code,
     /// The bytes after the code.
     pub payload: &'c [u8],
@@ -34,13 +34,14 @@ pub struct Event<'c> {
     ghost by_code: { kind_of (protocol_of_word code.0) code.0 ≡ Ok kind },
     // The payload of a listed kind is as long as the header says.
     ghost sized: { ForSome (row_of kind) (λ row. length payload.now ≡ row.size) },
-    // The seven kinds that have the fields have them here, and they are those of this very record.
+    // Exactly the seven kinds of transactions and replies have the fields, and they are this
+    // record's.
     ghost carries: { IsSome transaction ↔ IsTrue (has_transaction_data kind) },
     ghost same_place: { ForSome transaction (λ found. found.carrier.place ≡ place) },
     ghost same_kind: { ForSome transaction (λ found. found.carrier.kind ≡ kind) },
     ghost same_code: { ForSome transaction (λ found. found.carrier.code.0 ≡ code.0) },
     ghost same_payload: { ForSome transaction (λ found. found.carrier.payload.now ≡ payload.now) },
-    // An attachment belongs to this very record.
+    // The attachment is this record's.
     ghost owned: { ForSome entry (λ found. found.owner ≡ place) },
 }
 

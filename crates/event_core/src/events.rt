@@ -12,9 +12,9 @@ use record_view::Records;
 use std::marker::Model;
 use transaction_view::{Entry, GoodEntries};
 
-/// Reads the events of a frame in order: its records, each with its attachment. Records and
-/// attachments are passed once, side by side: the next attachment is that of the record at whose
-/// place it has its owner. One that has ended gives nothing more.
+/// Reads the events of a frame in order: its records, each with its attachment. Records and entries
+/// are each passed once, side by side; the next entry belongs to the record at its `owner`. A
+/// reader that has ended gives `None`.
 #[derive(Drop)]
 pub struct Events<'c> {
     frame: Frame<'c>,
@@ -41,7 +41,8 @@ impl<'c> Events<'c> {
     ghost use Rattle.capture_frame.specs.Envelope.{placed_frame};
     ghost use Rattle.event_core.specs.Reading.{Steps, events_start};
 
-    /// A reader of the frame's events, where its records and its entries have no fault.
+    /// A reader before the first event of a frame whose records and entries have no fault, which
+    /// `check_frame` says.
     pub fn of(frame: Frame<'c>) -> Events<'c>
         requires { HasGoodContent (frame_text frame) }
         ensures { result ≡ events_start (placed_frame frame.entry) }
@@ -56,7 +57,7 @@ impl<'c> Events<'c> {
         }
     }
 
-    /// The next event, or the end.
+    /// The next event, with its attachment, or `None` at the end.
     // Inlined, since an event is large and would be copied once more.
     #[inline(always)]
     pub fn next_event(&mut self) -> Option<Event<'c>>
@@ -71,7 +72,7 @@ impl<'c> Events<'c> {
     }
 }
 
-/// The attachment ahead, where it is that of the record at this place; then the next one is ahead.
+/// The attachment ahead, if it is that of the record at this place; then the next one is ahead.
 #[inline(always)]
 fn take_at<'c>(
     ahead: &mut Option<Entry<'c>>,

@@ -10,9 +10,9 @@ ghost use Rattle.event_core.specs.declared.event.Event.{Event};
 ghost use Rattle.event_core.specs.Events.{events_of};
 ghost use Rattle.event_core.specs.Reading.{Reading, Steps, events_start, GiveEvents};
 
-/// A reader of a frame without a fault, called again and again from its start, gives the frame's
-/// events in order and then nothing at every later call. Any reader that has ended gives nothing
-/// for ever.
+/// Take a reader of a frame without a fault and call it again and again. It gives the frame's
+/// events in order, and then `None` at every later call. Any reader that has ended gives `None` for
+/// ever.
 pub fn all_calls()
     ensures whole { (frame : Placed FrameText) →
         (records : List RecordText) (entries : List EntryText) →

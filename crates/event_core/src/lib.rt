@@ -1,5 +1,5 @@
 //! The events of a frame: each record with its thread and its attachment; and what an event does to
-//! the things that the audit counts.
+//! each thing that the auditor counts.
 #![tactic(auto)]
 
 mod brackets;

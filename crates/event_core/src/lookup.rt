@@ -5,7 +5,7 @@ ghost use Rattle.capture_frame.specs.Units.{placed_at};
 ghost use Rattle.capture_frame.specs.Envelope.{frame_text, placed_frame, commands_place};
 ghost use Rattle.record_view.specs.Records.{RecordText};
 ghost use Rattle.transaction_view.specs.FirstFault.{HasGoodContent};
-ghost use Rattle.event_core.specs.Events.{bare_event, RecordStandsAt, HasRecordAt};
+ghost use Rattle.event_core.specs.Events.{bare_event, RecordIsAtPlace, HasRecordAt};
 ghost use Rattle.event_core.specs.Reading.{event_text, IsEventAt};
 ghost use Rattle.event_core.specs.Lookup.{IsCutAt};
 
@@ -15,8 +15,8 @@ use crate::record_event::event_of;
 use capture_frame::Frame;
 use record_view::Records;
 
-/// The event of a frame at a place of the capture; None where no record of the frame begins there.
-/// The frame's records and its entries have no fault.
+/// The event of a frame at a place of the capture; None if no record of the frame begins there. The
+/// frame's records and entries must have no fault. The program does not use this call.
 pub fn event_at<'c>(frame: Frame<'c>, place: u64) -> Option<Event<'c>>
     requires { HasGoodContent (frame_text frame) }
     ensures exact { IsEventAt (placed_frame frame.entry) place result }
@@ -31,11 +31,12 @@ pub fn event_at<'c>(frame: Frame<'c>, place: u64) -> Option<Event<'c>>
     None
 }
 
-/// The event of the record of a frame that begins at a place of the capture, with the attachment
-/// left out. Unlike `event_at` it does not pass the records before.
+/// The event of the record of a frame that begins at a place of the capture, without its
+/// attachment. A record must begin there. Unlike `event_at` this call does not go through the
+/// records before.
 pub fn event_without_attachment_at<'c>(frame: Frame<'c>, place: u64) -> Event<'c>
     requires { HasRecordAt (placed_frame frame) place }
-    ensures { (found : RecordText) → RecordStandsAt (placed_frame frame.entry) place found →
+    ensures { (found : RecordText) → RecordIsAtPlace (placed_frame frame.entry) place found →
         event_text result ≡ bare_event (frame_text frame.entry) (placed_at place found) }
 {
     let mut records = Records::of(from_place(frame, place));
@@ -44,8 +45,7 @@ pub fn event_without_attachment_at<'c>(frame: Frame<'c>, place: u64) -> Event<'c
     event_of(frame, record, None)
 }
 
-/// The frame without the records before a place and without its attachments: a reader of its
-/// records begins there.
+/// The frame from a place on, without its attachments: a reader of its records begins at the place.
 fn from_place<'c>(frame: Frame<'c>, place: u64) -> Frame<'c>
     requires from { commands_place frame.place ≤ place }
     requires to { place ≤ commands_place frame.place + length frame.commands.now }

@@ -1,7 +1,7 @@
-//! What an event is to its thread: a mark, which says where the thread stands among its calls; and
-//! an opener or a closer of a call.
+//! What an event is to its thread: the mark that it leaves, by which a later error reply is
+//! understood, and whether it opens or closes a call.
 
-/// What an error reply that follows next in the thread would answer.
+/// What the next error reply of the thread would answer.
 #[derive(Clone, Copy, Debug, PartialEq, Eq)]
 pub enum Mark {
     /// A oneway transaction that the thread has sent.
@@ -28,6 +28,6 @@ pub enum Bracket {
     /// The driver has refused a oneway transaction or a reply that the thread sent: neither an
     /// opener nor a closer.
     Refused,
-    /// No record of a call.
+    /// Not a record of a call.
     Neither,
 }

@@ -1,7 +1,7 @@
 //! Oneway transactions, and how many bytes of data they say that they have.
 
 ghost use Rattle.std.specs.Prelude.{◌≡◌};
-ghost use Rattle.event_core.specs.Oneway.{has_one_way, item_under, oneway_item};
+ghost use Rattle.event_core.specs.Oneway.{has_one_way, oneway_under, oneway_item};
 
 use crate::event::Event;
 use binder_code::Kind;
@@ -33,7 +33,7 @@ pub(crate) fn has_one_way(transaction: Transaction<'_>) -> bool
 
 /// The item of a transaction under this key, if it is a oneway one.
 fn item_of(transaction: Transaction<'_>, key: OnewayKey) -> Option<OnewayItem>
-    ensures { result ≡ item_under key transaction.entry.carrier.payload.now }
+    ensures { result ≡ oneway_under key transaction.entry.carrier.payload.now }
 {
     if has_one_way(transaction) {
         Some(OnewayItem {

@@ -1,4 +1,4 @@
-//! Requests to be told of the death of what a handle refers to.
+//! Requests for a death notification: the driver then reports when what a handle refers to dies.
 
 ghost use Rattle.std.specs.Prelude.{◌≡◌, ◌≤◌, length};
 ghost use Rattle.event_core.specs.Requests.{request_item, request_key};
@@ -35,7 +35,7 @@ pub enum RequestChange {
     Request(RequestKey),
     /// The process takes back those of this handle and cookie.
     Clear(RequestKey),
-    /// The driver tells of a death, and so answers those of this cookie, whatever their handle.
+    /// The driver reports a death, and so answers those of this cookie, whatever their handle.
     Dead { cookie: u64 },
 }
 

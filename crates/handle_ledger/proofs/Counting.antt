@@ -1,4 +1,4 @@
--- What items do to a count, and to a sum: of one item more, and of one list followed by another.
+-- What items do to a count and to a sum: with one more item, and in one list followed by another.
 use Rattle.std.proofs.Common.{◌≡◌, ◌-◌, ◌^◌, ℤ, pos, negsuc, List, [], ◌∷◌, ◌++◌, length, map, sym, ap, ◌∙◌, length-append, arith}
 use Rattle.std.proofs.lemmas.Int.{ints}
 use Rattle.std.proofs.lemmas.List.{length-map, map-append}
@@ -7,8 +7,8 @@ use mir.Syntax.{w64}
 use mir.Val.{to_z, of_z}
 use Rattle.handle_ledger.specs.Nodes.{IsSumOf}
 use Rattle.summary_law.proofs.CountLaws.{items_within, total-append, total_low, total_high}
-use Rattle.summary_law.specs.Count.{Change, total, IsCount, IsCountOf, CountsOneMore, CountsBoth}
-use Rattle.summary_law.specs.Fits.{IsShort, short_parts}
+use Rattle.summary_law.specs.Count.{Change, total, IsCountOf, CountsOneMore, CountsBoth}
+use Rattle.summary_law.specs.Fits.{IsShort, short_halves}
 use Rattle.summary_law.specs.declared.count.Count.{Count}
 
 -- two counts that can be joined
@@ -50,7 +50,7 @@ module _ {I : Type 0} (change : I → Change) where
       (joined ∙ ap (λ (sum : ℤ). sum +ℤ later) mine ∙ ap (λ (sum : ℤ). total (map change first) +ℤ sum) theirs
       ∙ sym (total-append (map change first) (map change second)))
 
-  -- the count of few items has room for one more
+  -- the count of few items has room for one more item
   pub can_raise : (count : Count) (items : List I) (item : I) → IsCountOf change count items → IsShort (items ++ item ∷ [])
       → count.sum <ℤ pos (2 ^ 63 - 1)
   can_raise count items item counts short =
@@ -88,9 +88,9 @@ module _ {I : Type 0} (change : I → Change) where
       let long : length (map change items) ≡ length items = length-map items change in
       record { above = omega (arith, ints); below = omega (arith, ints) }
 
-  -- the sums of both parts of a short list, added
+  -- the sums of both halves of a short list, added
   pub sums_added : (earlier later : ℤ) (first second : List I) → IsSumOf change earlier first → IsSumOf change later second → IsShort (first ++ second)
       → to_z w64 (of_z w64 (to_z w64 (of_z w64 earlier) +ℤ to_z w64 (of_z w64 later))) ≡ earlier +ℤ later
   sums_added earlier later first second mine theirs short =
-      let few = short_parts first second short in
+      let few = short_halves first second short in
       wrapped_sum earlier later (sum_small earlier first mine few.0) (sum_small later second theirs few.1)

@@ -1,5 +1,5 @@
--- The handles that have a row, and their rows, where references are held beside those that were taken.
-use Rattle.std.proofs.Common.{◌≡◌, ◌||◌, ◌<◌, ◌+◌, ℕ, suc, Bool, true, false, cond, inl, inr, List, [], ◌∷◌, length, take, map, refl, sym, ap, subst, ◌∙◌, ⊎_elim, arith}
+-- The handles that have a row, and their rows, with the references that deliveries hold.
+use Rattle.std.proofs.Common.{◌≡◌, ◌||◌, ◌<◌, ◌+◌, ℕ, suc, Bool, true, false, cond, List, [], ◌∷◌, length, take, map, refl, sym, ap, subst, ◌∙◌, ⊎_elim, arith}
 use Rattle.std.proofs.Math.ListN.{get_or}
 use Rattle.std.proofs.Math.Seq.{take-suc}
 use Rattle.std.proofs.lemmas.Bool.{cases_Bool}
@@ -60,7 +60,7 @@ either_last x false c false false e g = e ∙ g
 turned : (a b : ℕ) → eq_by_cmp nat_cmp a b ≡ eq_by_cmp nat_cmp b a
 turned a b = (eq_by_cmp_equiv nat_cmp_total).symm a b
 
--- a key more in a set
+-- one more key in a set
 pub inserted : (old new : BTreeSet ℕ) (k q : ℕ) (rest : Bool) → Updates nat_cmp old new k true
     → (contains nat_cmp new q || rest) ≡ (contains nat_cmp old q || (eq_by_cmp nat_cmp q k || rest))
 inserted old new k q rest updates =
@@ -75,7 +75,7 @@ HeldTallyRow = Held × ℕ × ℕ
 abbrev pub is_of : ℕ → HeldTallyRow → Bool
 is_of handle row = eq_by_cmp nat_cmp handle row.0.0
 
--- the handle of the next row more in a set
+-- the handle of the next row, once it is in a set
 pub next_inserted : (old new : BTreeSet ℕ) (first : Bool) (q : ℕ) (rows : List HeldTallyRow) (i : ℕ) (d : HeldTallyRow) → i < length rows
     → Updates nat_cmp old new (get_or rows i d).0.0 true → contains nat_cmp old q ≡ (first || list_any (is_of q) (take i rows))
     → contains nat_cmp new q ≡ (first || list_any (is_of q) (take (i + 1) rows))
@@ -101,7 +101,7 @@ or_true : (b : Bool) → (b || true) ≡ true
 or_true true = refl
 or_true false = refl
 
--- keys that compare as one have one handle
+-- keys that compare as equal have the same handle
 same_handle : (key other : Held) → eq_by_cmp held_cmp key other ≡ true → eq_by_cmp nat_cmp key.0 other.0 ≡ true
 same_handle key other same =
     elim (nat_cmp key.0 other.0) as (λ o. is_eq (ordering_then o (bool_cmp key.1 other.1)) ≡ true → is_eq o ≡ true) [
@@ -110,7 +110,7 @@ same_handle key other same =
       | Greater ↦ λ h. h
     ] same
 
--- the handle of a key of rows is that of some row
+-- the handle of a key among the rows is the handle of some row
 found_among : (key : Held) (rows : List HeldTallyRow) → list_any (eq_by_cmp held_cmp key) (map (λ (r : HeldTallyRow). r.0) rows) ≡ true
     → list_any (is_of key.0) rows ≡ true
 found_among key [] any = any
@@ -122,7 +122,7 @@ found_among key (r ∷ rs) any =
     ap (λ b. is_of key.0 r || b) rest ∙ or_true (is_of key.0 r))
     (cases_Bool (eq_by_cmp held_cmp key r.0))
 
--- the handles of the rows of a tally are those that are held
+-- the handles of the rows of a tally are the handles to which references are held
 pub held_handles : (held : List (Held × ℕ)) (rows : List HeldTallyRow) → AreTallyRows held_cmp held rows → (q : ℕ)
     → list_any (is_of q) rows ≡ list_any (eq_by_cmp nat_cmp q) (map (λ reference. reference.0.0) held)
 held_handles held rows are q =

@@ -1,6 +1,6 @@
--- The items of each key of a list: they are few where all are, and their count is that of all items, of which those of
--- other keys leave it as it is.
-use Rattle.std.proofs.Common.{◌≡◌, ◌≢◌, ℤ, true, false, cond, ◌||◌, List, [], ◌∷◌, ◌++◌, length, map, Option, Some, None, refl, sym, ap, subst, ◌∙◌, arith}
+-- The items of each key of a list: they are few if all items are, and their count is the count over all items, in which
+-- items of other keys keep it.
+use Rattle.std.proofs.Common.{◌≡◌, ℤ, true, false, cond, List, [], ◌∷◌, ◌++◌, length, map, Option, Some, None, refl, sym, ap, subst, ◌∙◌, arith}
 use Rattle.std.proofs.lemmas.List.{length-map, map-append}
 use Rattle.std.specs.List.{cons_option, filter_map}
 use Rattle.std.specs.Option.{option_map_or}
@@ -34,7 +34,7 @@ module _ {K I : Type 0} (cmp : K → K → Ordering) (key_of : I → K) where
       subst (λ (items : List (K × I)). EachFits (eq_by_cmp cmp) IsShort items) (keyed_both first second)
       (each_short (eq_by_cmp cmp) (keyed (first ++ second)) few)
 
-  -- the item, if it is of the key
+  -- the item, if it has the key
   abbrev under_key : K → I → Option I
   under_key key item = under (eq_by_cmp cmp) key (key_of item, item)
 

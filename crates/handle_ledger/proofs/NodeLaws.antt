@@ -18,7 +18,7 @@ use Rattle.handle_ledger.specs.declared.node_row.NodeRow.{NodeRow}
 use Rattle.summary_law.proofs.SortedLaws.{map_rows}
 use Rattle.summary_law.specs.ByKey.{SumsByKey}
 use Rattle.summary_law.specs.Count.{total, CountsOneMore}
-use Rattle.summary_law.specs.Fits.{IsShort, short_parts}
+use Rattle.summary_law.specs.Fits.{IsShort, short_halves}
 use Rattle.summary_law.specs.Sorted.{sorted}
 use Rattle.summary_law.specs.Summary.{CanAdd, Adds}
 
@@ -52,7 +52,7 @@ rows_are m ordered items sums =
     ∙ ap (λ (keys : List NodeKey). map (node_row items) (sorted node_cmp keys))
     (map-map (λ (e : NodeKey × NodeItem). e.0) (λ (item : NodeItem). (node_of item, item)) items)
 
--- one item more, of which this is what it does to each count and to what is due
+-- one more item, by what it does to each count and to what is due
 pub node_more : (old new : NodeCounts) (item : NodeItem) → CountsOneMore (node_change Strong item) old.strong new.strong
     → CountsOneMore (node_change Weak item) old.weak new.weak → new.strong_due ≡ old.strong_due +ℤ total (node_due_change Strong item ∷ [])
     → new.weak_due ≡ old.weak_due +ℤ total (node_due_change Weak item ∷ []) → Adds NodeCountsSum IsShort old item new
@@ -63,10 +63,10 @@ node_more old new item strong weak strong_due weak_due = λ items sums fits. rec
   weak_due = sum_more (node_due_change Weak) old.weak_due new.weak_due items item weak_due sums.weak_due;
 }
 
--- what is due before one item more, over few items
+-- what is due before one more item is small, if there are few items
 pub dues_small : (counts : NodeCounts) (item : NodeItem) → CanAdd NodeCountsSum IsShort counts item → IsSmall counts.strong_due × IsSmall counts.weak_due
 dues_small counts item can =
-    let few = (short_parts can.0 (item ∷ []) can.2).0 in (
+    let few = (short_halves can.0 (item ∷ []) can.2).0 in (
       sum_small (node_due_change Strong) counts.strong_due can.0 can.1.strong_due few,
       sum_small (node_due_change Weak) counts.weak_due can.0 can.1.weak_due few,
     )

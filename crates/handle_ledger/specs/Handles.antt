@@ -16,12 +16,12 @@ use Rattle.summary_law.specs.Count.{Change, count_of, raises, lowers, IsCountOf}
 use Rattle.summary_law.specs.Sorted.{sorted}
 use Rattle.summary_law.specs.declared.count.Count.{Count}
 
--- what a change does to the count of its strength
+-- what a change does to the count of its own strength
 abbrev pub handle_count_change : HandleChange → Change
 handle_count_change Raise = raises
 handle_count_change Lower = lowers
 
--- what an item does to the count of this strength of the handle that it names
+-- what an item does to the count of this strength of its handle: nothing if it changes the other strength
 abbrev pub handle_change : Strength → HandleItem → Change
 handle_change strength item = change_of strength item.strength (handle_count_change item.change)
 
@@ -29,11 +29,11 @@ handle_change strength item = change_of strength item.strength (handle_count_cha
 abbrev pub handle_of : HandleItem → ℕ
 handle_of item = item.handle
 
--- the count of this strength of this handle
+-- the count of this strength of this handle, over all items
 abbrev pub handle_count : List HandleItem → ℕ → Strength → Count
 handle_count items handle strength = count_of (map (change_at nat_cmp handle_of (handle_change strength) handle) items)
 
--- the row of a handle
+-- the row of a handle: its strong count and its weak count
 abbrev pub handle_row : List HandleItem → ℕ → HandleRow
 handle_row items handle =
     record { handle = handle; strong = handle_count items handle Strong; weak = handle_count items handle Weak }
@@ -42,7 +42,11 @@ handle_row items handle =
 abbrev pub handle_rows : List HandleItem → List HandleRow
 handle_rows items = map (handle_row items) (sorted nat_cmp (map handle_of items))
 
--- the counts of these items, which all name one handle
+-- the row of the handle that has these counts
+abbrev pub counts_row : ℕ → HandleCounts → HandleRow
+counts_row handle counts = record { handle = handle; strong = counts.strong; weak = counts.weak }
+
+-- the counts are those of these items, which all name one handle
 pub record HandleCountsSum (counts : HandleCounts) (items : List HandleItem) : Type 0 where
   pub strong : IsCountOf (handle_change Strong) counts.strong items
   pub weak : IsCountOf (handle_change Weak) counts.weak items
@@ -51,11 +55,11 @@ pub record HandleCountsSum (counts : HandleCounts) (items : List HandleItem) : T
 abbrev pub by_handle : List HandleItem → List (ℕ × HandleItem)
 by_handle items = map (λ item. (handle_of item, item)) items
 
--- the ledger has the counts of each handle that an item names
+-- the ledger has the counts of each handle that an item names, and of no other
 abbrev pub HandleLedgerSums : HandleLedger → List HandleItem → Type 0
 HandleLedgerSums ledger items = SumsByKey nat_cmp HandleCountsSum ledger.handles.entries (by_handle items)
 
--- the rows of whatever items the ledger sums
+-- for whatever items the ledger sums, these are the rows
 abbrev pub GivesHandleRows : HandleLedger → List HandleRow → Type 0
 GivesHandleRows ledger rows =
     (items : List HandleItem) → HandleLedgerSums ledger items → rows ≡ handle_rows items

@@ -1,5 +1,4 @@
--- The references that a process holds by handle, and beside them those that its deliveries hold for it
--- (docs/REPORT.md).
+-- The references that a process holds by handle, and those that its deliveries hold for it (docs/REPORT.md).
 use Rattle.std.specs.Prelude.{◌≡◌, ℕ, Bool, true, false, List, ◌++◌, map}
 use Rattle.std.specs.BTreeSet.{BTreeSet, contains}
 use Rattle.std.specs.List.{list_any}
@@ -18,15 +17,15 @@ use Rattle.summary_law.specs.declared.tally.Tally.{Tally}
 abbrev pub Held : Type 0
 Held = ℕ × Bool
 
--- held references are ordered by handle, and those of one handle with the strong before the weak
+-- held references are ordered by handle; of one handle, the strong ones come before the weak ones
 abbrev pub held_cmp : Held → Held → Ordering
 held_cmp one other = ordering_then (nat_cmp one.0 other.0) (bool_cmp one.1 other.1)
 
--- how many references to the handle are held: of the weak ones, or of the strong ones; their weights are passed over
+-- how many strong references to the handle are held, or how many weak ones; their weights do not matter
 abbrev pub held_count : List (Held × ℕ) → ℕ → Bool → ℕ
 held_count held handle weak = count_of held_cmp (handle, weak) held
 
--- the row of a handle, with how many references to it are held
+-- the row of a handle: its counts, and how many strong and weak references to it are held
 abbrev pub held_row : List HandleItem → List (Held × ℕ) → ℕ → HeldRow
 held_row items held handle = record {
   taken = handle_row items handle;
@@ -34,7 +33,7 @@ held_row items held handle = record {
   held_weak = held_count held handle true;
 }
 
--- the handles that an item names or to which a reference is held
+-- the handles that an item names, and those to which a reference is held
 abbrev pub handles_of : List HandleItem → List (Held × ℕ) → List ℕ
 handles_of items held = map handle_of items ++ map (λ reference. reference.0.0) held
 
@@ -42,28 +41,28 @@ handles_of items held = map handle_of items ++ map (λ reference. reference.0.0)
 abbrev pub held_rows : List HandleItem → List (Held × ℕ) → List HeldRow
 held_rows items held = map (held_row items held) (sorted nat_cmp (handles_of items held))
 
--- it is so of all items that the ledger may have summed and all held references that the tally may have summed
-abbrev pub OfSums : HandleLedger → Tally Held → (List HandleItem → List (Held × ℕ) → Type 0) → Type 0
-OfSums ledger tally IsHere =
+-- `IsHere` holds of whatever items the ledger sums and whatever held references the tally sums
+abbrev pub ForWhateverIsSummed : HandleLedger → Tally Held → (List HandleItem → List (Held × ℕ) → Type 0) → Type 0
+ForWhateverIsSummed ledger tally IsHere =
     (items : List HandleItem) (held : List (Held × ℕ)) → HandleLedgerSums ledger items
     → TallySums held_cmp tally held → IsHere items held
 
--- these are the rows of the items and the held references that were summed
+-- for whatever items and held references are summed, these are the rows
 abbrev pub GivesHeldRows : HandleLedger → Tally Held → List HeldRow → Type 0
-GivesHeldRows ledger tally rows = OfSums ledger tally (λ items held. rows ≡ held_rows items held)
+GivesHeldRows ledger tally rows = ForWhateverIsSummed ledger tally (λ items held. rows ≡ held_rows items held)
 
--- the row is that of the handle over the items that were summed
+-- for whatever items the ledger sums, this is the row of the handle
 abbrev pub GivesHandleRow : HandleLedger → ℕ → HandleRow → Type 0
 GivesHandleRow ledger handle row =
     (items : List HandleItem) → HandleLedgerSums ledger items → row ≡ handle_row items handle
 
--- and it has besides how many of the held references that were summed are to its handle
+-- for whatever items and held references are summed, this is the row of the handle with what is held
 abbrev pub GivesHeldRow : HandleLedger → Tally Held → ℕ → HeldRow → Type 0
-GivesHeldRow ledger tally handle row = OfSums ledger tally (λ items held. row ≡ held_row items held handle)
+GivesHeldRow ledger tally handle row = ForWhateverIsSummed ledger tally (λ items held. row ≡ held_row items held handle)
 
--- the set has the handles that an item names or to which a reference is held, and no other
+-- the set has the handles that an item names or to which a reference is held, and no others
 abbrev pub HasHandles : HandleLedger → Tally Held → BTreeSet ℕ → Type 0
 HasHandles ledger tally handles =
-    OfSums ledger tally
+    ForWhateverIsSummed ledger tally
     (λ items held. (handle : ℕ) →
     contains nat_cmp handles handle ≡ list_any (eq_by_cmp nat_cmp handle) (handles_of items held))

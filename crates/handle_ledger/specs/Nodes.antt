@@ -23,23 +23,24 @@ use Rattle.summary_law.specs.declared.count.Count.{Count}
 abbrev pub node_cmp : NodeKey → NodeKey → Ordering
 node_cmp = then_cmp (on (λ key. key.ptr) nat_cmp) (on (λ key. key.cookie) nat_cmp)
 
--- what a change does to the count of its strength
+-- what a change does to the count of its own strength; an acknowledgement keeps the count
 abbrev pub node_count_change : NodeChange → Change
 node_count_change Raise = raises
 node_count_change Lower = lowers
 node_count_change Done = keeps
 
--- what a change does to the number of references of its strength that are asked for and not yet acknowledged
+-- what a change does to what is due of its own strength, which is what the driver asked for and the process has not
+-- acknowledged
 abbrev pub due_change : NodeChange → Change
 due_change Raise = raises
 due_change Lower = keeps
 due_change Done = lowers
 
--- what an item does to the count of this strength of the node that it names
+-- what an item does to the count of this strength of its node: nothing if it changes the other strength
 abbrev pub node_change : Strength → NodeItem → Change
 node_change strength item = change_of strength item.strength (node_count_change item.change)
 
--- what an item does to the references of this strength that are due to the node that it names
+-- what an item does to what is due of this strength of its node: nothing if it changes the other strength
 abbrev pub node_due_change : Strength → NodeItem → Change
 node_due_change strength item = change_of strength item.strength (due_change item.change)
 
@@ -47,19 +48,19 @@ node_due_change strength item = change_of strength item.strength (due_change ite
 abbrev pub node_of : NodeItem → NodeKey
 node_of item = item.node
 
--- the sum of what these items do
+-- the sum is the total of what these items do
 abbrev pub IsSumOf : {I : Type 0} → (I → Change) → ℤ → List I → Type 0
 IsSumOf change sum items = sum ≡ total (map change items)
 
--- the count of this strength of this node
+-- the count of this strength of this node, over all items
 abbrev pub node_count : List NodeItem → NodeKey → Strength → Count
 node_count items key strength = count_of (map (change_at node_cmp node_of (node_change strength) key) items)
 
--- how many references of this strength are due to this node
+-- how many references of this strength to this node are due, over all items
 abbrev pub due_count : List NodeItem → NodeKey → Strength → ℤ
 due_count items key strength = total (map (change_at node_cmp node_of (node_due_change strength) key) items)
 
--- the row of a node
+-- the row of a node: its strong count and its weak count, and what is due of each strength
 abbrev pub node_row : List NodeItem → NodeKey → NodeRow
 node_row items key = record {
   key = key;
@@ -73,7 +74,7 @@ node_row items key = record {
 abbrev pub node_rows : List NodeItem → List NodeRow
 node_rows items = map (node_row items) (sorted node_cmp (map node_of items))
 
--- the counts of these items, which all name one node
+-- the counts, and what is due, are those of these items, which all name one node
 pub record NodeCountsSum (counts : NodeCounts) (items : List NodeItem) : Type 0 where
   pub strong : IsCountOf (node_change Strong) counts.strong items
   pub weak : IsCountOf (node_change Weak) counts.weak items
@@ -84,11 +85,11 @@ pub record NodeCountsSum (counts : NodeCounts) (items : List NodeItem) : Type 0 
 abbrev pub by_node : List NodeItem → List (NodeKey × NodeItem)
 by_node items = map (λ item. (node_of item, item)) items
 
--- the ledger has the counts of each node that an item names
+-- the ledger has the counts of each node that an item names, and of no other
 abbrev pub NodeLedgerSums : NodeLedger → List NodeItem → Type 0
 NodeLedgerSums ledger items = SumsByKey node_cmp NodeCountsSum ledger.nodes.entries (by_node items)
 
--- the rows of whatever items the ledger sums
+-- for whatever items the ledger sums, these are the rows
 abbrev pub GivesNodeRows : NodeLedger → List NodeRow → Type 0
 GivesNodeRows ledger rows =
     (items : List NodeItem) → NodeLedgerSums ledger items → rows ≡ node_rows items

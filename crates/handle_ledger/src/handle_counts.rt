@@ -1,8 +1,10 @@
 //! The counts of one handle.
 
-ghost use Rattle.handle_ledger.specs.Handles.{HandleCountsSum};
-ghost use Rattle.summary_law.specs.Fits.{IsShort, short_parts};
+ghost use Rattle.handle_ledger.specs.Handles.{HandleCountsSum, counts_row};
+ghost use Rattle.std.specs.Prelude.{◌≡◌};
+ghost use Rattle.summary_law.specs.Fits.{IsShort, short_halves};
 
+use crate::handle_row::HandleRow;
 use event_core::{HandleChange, HandleItem, Strength};
 use std::alloc::{AllocError, Global};
 use summary_law::{Count, Summary};
@@ -12,6 +14,19 @@ use summary_law::{Count, Summary};
 pub(crate) struct HandleCounts {
     pub(crate) strong: Count,
     pub(crate) weak: Count,
+}
+
+impl HandleCounts {
+    /// The row of the handle that these are the counts of.
+    pub(crate) fn row(&self, handle: u32) -> HandleRow
+        ensures { result ≡ counts_row handle self.now }
+    {
+        HandleRow {
+            handle,
+            strong: self.strong,
+            weak: self.weak,
+        }
+    }
 }
 
 impl Summary for HandleCounts {
@@ -45,5 +60,5 @@ impl Summary for HandleCounts {
         })
     }
 
-    ghost fits_parts = { short_parts };
+    ghost fits_halves = { short_halves };
 }

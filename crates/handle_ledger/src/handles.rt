@@ -2,7 +2,7 @@
 
 ghost use Rattle.handle_ledger.specs.Handles.{HandleLedgerSums, GivesHandleRows};
 ghost use Rattle.std.specs.Prelude.{IfOk};
-ghost use Rattle.summary_law.specs.Fits.{IsShort, short_parts};
+ghost use Rattle.summary_law.specs.Fits.{IsShort, short_halves};
 
 use crate::handle_counts::HandleCounts;
 use crate::handle_row::HandleRow;
@@ -17,17 +17,13 @@ pub struct HandleLedger {
 }
 
 impl HandleLedger {
-    /// A row for each handle that an item names, also where its counts are 0, handles rising.
+    /// A row for each handle that an item names, even if its counts are 0, handles rising.
     pub fn rows(&self) -> Result<Vec<HandleRow>, AllocError>
         ensures { IfOk result (λ rows. GivesHandleRows self.now rows.items) }
     {
         let mut rows = Vec::new(self.handles.allocator());
         for (handle, counts) in &self.handles.entries {
-            rows.push(HandleRow {
-                handle: *handle,
-                strong: counts.strong,
-                weak: counts.weak,
-            })?;
+            rows.push(counts.row(*handle))?;
         }
         Ok(rows)
     }
@@ -56,5 +52,5 @@ impl Summary for HandleLedger {
         Ok(HandleLedger { handles })
     }
 
-    ghost fits_parts = { short_parts };
+    ghost fits_halves = { short_halves };
 }

@@ -2,12 +2,12 @@
 
 use crate::handle_row::HandleRow;
 
-/// A handle that a process named, or that a delivery holds which it never frees.
+/// A handle that a process named, or that is held by a delivery which the process never frees.
 #[derive(Clone, Copy, Debug, PartialEq, Eq)]
 pub struct HeldRow {
-    /// The references that the process took and let go itself.
+    /// The references that the process itself took and let go.
     pub taken: HandleRow,
-    /// How many strong references the deliveries hold that it never frees.
+    /// How many strong references are held by deliveries that the process never frees.
     pub held_strong: u64,
     /// How many weak references they hold.
     pub held_weak: u64,

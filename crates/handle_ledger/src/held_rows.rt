@@ -8,17 +8,18 @@ ghost use Rattle.std.specs.Map.{keys_of};
 ghost use Rattle.std.specs.Ordering.{eq_by_cmp, nat_cmp};
 ghost use Rattle.std.specs.Prelude.{◌≡◌, ℕ, IfOk};
 
+use crate::handle_counts::HandleCounts;
 use crate::handle_row::HandleRow;
 use crate::handles::HandleLedger;
 use crate::held_row::HeldRow;
 use std::alloc::AllocError;
 use std::collections::BTreeSet;
-use summary_law::{Count, Tally};
+use summary_law::{Summary, Tally};
 
 impl HandleLedger {
-    /// A row for each handle that an item names or that is held, also where all its counts are 0,
-    /// handles rising. A held reference is a handle with whether it is a weak one; its weight does
-    /// not count.
+    /// A row for each handle that an item names or to which a reference is held, even if all its
+    /// counts are 0, handles rising. A held reference is a handle and whether the reference is
+    /// weak; its weight does not matter. Takes a set of these handles, and three look-ups for each.
     pub fn rows_held(&self, held: &Tally<(u32, bool)>) -> Result<Vec<HeldRow>, AllocError>
         ensures { IfOk result (λ rows. GivesHeldRows self.now held.now rows.items) }
     {
@@ -55,7 +56,7 @@ impl HandleLedger {
         Ok(handles)
     }
 
-    /// The row of a handle, whether or not it has one.
+    /// The row of a handle, even if no item names it and no reference to it is held.
     fn held_row(&self, handle: u32, held: &Tally<(u32, bool)>) -> HeldRow
         ensures { GivesHeldRow self.now held.now handle result }
     {
@@ -66,21 +67,13 @@ impl HandleLedger {
         }
     }
 
-    /// What the process took of a handle itself: nothing where no item names it.
+    /// What the process itself took of a handle: nothing if no item names it.
     fn row(&self, handle: u32) -> HandleRow
         ensures { GivesHandleRow self.now handle result }
     {
         match self.handles.entries.get(&handle) {
-            Some(counts) => HandleRow {
-                handle,
-                strong: counts.strong,
-                weak: counts.weak,
-            },
-            None => HandleRow {
-                handle,
-                strong: Count::new(),
-                weak: Count::new(),
-            },
+            Some(counts) => counts.row(handle),
+            None => HandleCounts::empty(self.handles.allocator()).row(handle),
         }
     }
 }

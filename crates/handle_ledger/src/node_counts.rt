@@ -1,7 +1,7 @@
 //! The counts of one node.
 
 ghost use Rattle.handle_ledger.specs.Nodes.{NodeCountsSum};
-ghost use Rattle.summary_law.specs.Fits.{IsShort, short_parts};
+ghost use Rattle.summary_law.specs.Fits.{IsShort, short_halves};
 
 use event_core::{NodeChange, NodeItem, Strength};
 use std::alloc::{AllocError, Global};
@@ -60,5 +60,5 @@ impl Summary for NodeCounts {
         })
     }
 
-    ghost fits_parts = { short_parts };
+    ghost fits_halves = { short_halves };
 }

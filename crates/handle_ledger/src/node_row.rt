@@ -11,8 +11,8 @@ pub struct NodeRow {
     pub strong: Count,
     /// BR_INCREFS raises it, and BR_DECREFS lowers it.
     pub weak: Count,
-    /// How many BR_ACQUIRE more than BC_ACQUIRE_DONE.
+    /// How many strong references are due: BR_ACQUIRE less BC_ACQUIRE_DONE.
     pub strong_due: i64,
-    /// How many BR_INCREFS more than BC_INCREFS_DONE.
+    /// How many weak references are due: BR_INCREFS less BC_INCREFS_DONE.
     pub weak_due: i64,
 }

@@ -2,7 +2,7 @@
 
 ghost use Rattle.handle_ledger.specs.Nodes.{NodeLedgerSums, GivesNodeRows};
 ghost use Rattle.std.specs.Prelude.{IfOk};
-ghost use Rattle.summary_law.specs.Fits.{IsShort, short_parts};
+ghost use Rattle.summary_law.specs.Fits.{IsShort, short_halves};
 
 use crate::node_counts::NodeCounts;
 use crate::node_row::NodeRow;
@@ -18,8 +18,8 @@ pub struct NodeLedger {
 }
 
 impl NodeLedger {
-    /// A row for each node that an item names, also where its counts are 0, by rising ptr and then
-    /// by rising cookie.
+    /// A row for each node that an item names, even if its counts are 0, by rising ptr and then by
+    /// rising cookie.
     pub fn rows(&self) -> Result<Vec<NodeRow>, AllocError>
         ensures { IfOk result (λ rows. GivesNodeRows self.now rows.items) }
     {
@@ -60,5 +60,5 @@ impl Summary for NodeLedger {
         Ok(NodeLedger { nodes })
     }
 
-    ghost fits_parts = { short_parts };
+    ghost fits_halves = { short_halves };
 }

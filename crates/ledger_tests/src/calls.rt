@@ -1,8 +1,8 @@
-//! Threads that are written out record by record, in one piece and in every two parts: against
-//! answers from outside, and against matching pair by pair.
+//! Threads that are written out record by record, summed at once and in every two pieces. They are
+//! compared with answers typed by hand, and with matching pair by pair.
 
 ghost use Rattle.summary_law.specs.Fits.{IsPlaced};
-ghost use Rattle.call_stacks.specs.Calls.{view_reads};
+ghost use Rattle.call_stacks.specs.Calls.{capture_event_reads};
 
 mod captures;
 mod found;
@@ -19,7 +19,7 @@ use std::test::Fail;
 use summary_law::summary_of;
 use test_kit::{in_two, is_placed};
 
-/// A part of a thread in each of two frames, the places of its events, and its calls.
+/// A piece of a thread in each of two frames, the places of its events, and its calls.
 #[derive(Clone, Copy)]
 struct Joined {
     first: &'static [Record],
@@ -35,17 +35,17 @@ struct Thread {
     found: Found<'static>,
 }
 
-/// What is not named is not there.
+/// Nothing is found: what a row does not name.
 const NONE: Found<'static> = Found {
     openers: &[],
     strays: &[],
     refused: &[],
 };
 
-/// 17 records that are no record of a call, as long together as a transaction.
+/// 17 records that have nothing to do with calls, together as long as a transaction.
 const NOOPS: &[Record] = &[Record::Noop; 17];
 
-/// The same with a record in front that leaves a mark.
+/// The same after a record that leaves a mark.
 const COMPLETE_AND_NOOPS: &[Record] = &[
     Record::Complete,
     Record::Noop,
@@ -119,7 +119,7 @@ const JOINED: &[Joined] = &[
     },
 ];
 
-/// An error reply behind each kind of mark, and behind none.
+/// An error reply after each kind of mark, and after none.
 const ERRORS: &[Thread] = &[
     Thread {
         records: &[Record::DeadReply],
@@ -287,7 +287,7 @@ const NESTED: &[Thread] = &[
     },
 ];
 
-/// The records of short lists.
+/// The records that short lists are made of.
 const EIGHT: [Record; 8] = [
     Record::Call,
     Record::Oneway,
@@ -299,7 +299,7 @@ const EIGHT: [Record; 8] = [
     Record::Complete,
 ];
 
-/// The calls of the events in two parts.
+/// The calls of the events, in two pieces.
 fn expect_in_two(
     rt: &impl Abort,
     alloc: Global,
@@ -307,15 +307,15 @@ fn expect_in_two(
     found: Found<'_>,
     index: usize,
 ) -> Result<(), Fail>
-    requires placed { IsPlaced view_reads.place events.now }
+    requires placed { IsPlaced capture_event_reads.place events.now }
 {
     let calls: ThreadCalls<'_> = in_two(alloc, events, index)?;
     expect_found(rt, events, found, &calls.finish()?);
     Ok(())
 }
 
-/// The calls of the events in one piece, and in all pairs of parts.
-fn expect_in_parts(
+/// The calls of the events, summed at once and in every two pieces.
+fn expect_in_pieces(
     rt: &impl Abort,
     alloc: Global,
     events: &[Event<'_>],
@@ -334,7 +334,7 @@ fn expect_in_parts(
 fn expect_thread(rt: &impl Abort, alloc: Global, thread: &Thread) -> Result<(), Fail> {
     let capture = a_frame_each(alloc, thread.records)?;
     let events = events_of(alloc, &capture)?;
-    expect_in_parts(rt, alloc, &events, thread.found)
+    expect_in_pieces(rt, alloc, &events, thread.found)
 }
 
 /// The places of the events.
@@ -350,7 +350,7 @@ fn expect_joined(rt: &impl Abort, alloc: Global, row: &Joined) -> Result<(), Fai
     let capture = two_frames(alloc, row.first, row.second)?;
     let events = events_of(alloc, &capture)?;
     expect_places(rt, &events, row.places);
-    expect_in_parts(rt, alloc, &events, row.found)
+    expect_in_pieces(rt, alloc, &events, row.found)
 }
 
 /// The list of this number among those of this length, over the eight records.
@@ -369,7 +369,7 @@ fn expect_plain(rt: &impl Abort, alloc: Global, records: &[Record]) -> Result<()
     let capture = a_frame_each(alloc, records)?;
     let events = events_of(alloc, &capture)?;
     let plain = plain_calls(alloc, &events)?;
-    expect_in_parts(rt, alloc, &events, plain.found())
+    expect_in_pieces(rt, alloc, &events, plain.found())
 }
 
 #[test]

@@ -1,6 +1,6 @@
-//! Tests of the ledgers, of the calls of a thread, and of the summaries that they are made of: of
-//! their public calls, against answers from outside. They stand here, since a crate with tests is
-//! proved twice.
+//! Tests of the public calls of the ledgers, of the calls of a thread, and of the summaries that
+//! they are made of, against answers typed by hand. They are in a crate of their own, since a crate
+//! with tests is proved twice.
 #![tactic(auto)]
 
 #[cfg(test)]

@@ -1,4 +1,4 @@
-//! Opens and closes, requests, and their joins, at lists written by hand and at large ones.
+//! Opens and closes, requests, and their joins, in lists written by hand and in large ones.
 
 use binder_code::Kind;
 use event_core::{BufferItem, PendingChange, PendingItem, RequestChange, RequestItem, RequestKey};
@@ -95,7 +95,7 @@ const DOZEN: Pairs = Pairs {
     strays: &[0, 5, 8, 10],
 };
 
-/// Changes of requests, whose places are 0, 1 and so on, and the places of those that stand.
+/// Changes of requests, whose places are 0, 1 and so on, and the places of the standing requests.
 #[derive(Clone, Copy)]
 struct Asked {
     changes: &'static [RequestChange],
@@ -241,7 +241,7 @@ fn expect_deaths(rt: &impl Abort, deaths: &Deaths, pairs: &Pairs) -> Result<(), 
     Ok(())
 }
 
-/// The buffers do.
+/// The buffers leave what is expected.
 fn expect_buffers(rt: &impl Abort, buffers: &Buffers, pairs: &Pairs) -> Result<(), AllocError> {
     let outstanding = buffers.outstanding()?;
     assert!(rt; outstanding.as_slice() == pairs.outstanding);
@@ -250,7 +250,7 @@ fn expect_buffers(rt: &impl Abort, buffers: &Buffers, pairs: &Pairs) -> Result<(
     Ok(())
 }
 
-/// The requests that stand are those that are expected.
+/// The standing requests are those that are expected.
 fn expect_requests(rt: &impl Abort, requests: &Requests, asked: &Asked) -> Result<(), AllocError> {
     let standing = requests.outstanding()?;
     assert!(rt; standing.as_slice() == asked.standing);
@@ -290,7 +290,7 @@ fn lists_of_short_lists(rt: HostRuntime) -> Result<(), Fail> {
     Ok(())
 }
 
-/// So many deliveries, none of which is freed, and then their frees in reverse.
+/// This many deliveries, none of which is freed, and then their frees in reverse.
 fn deliveries_and_frees(
     alloc: Global,
     count: u64,
@@ -309,7 +309,7 @@ fn deliveries_and_frees(
     Ok(items)
 }
 
-/// So many requests of one cookie, each of a handle of its own, and then its death.
+/// This many requests of one cookie, each of a handle of its own, and then its death.
 fn requests_and_death(alloc: Global, count: u32) -> Result<Vec<RequestItem>, AllocError> {
     let mut items = Vec::new(alloc);
     for handle in 0..count {
@@ -334,7 +334,7 @@ fn leaked(rt: &impl Abort, alloc: Global, items: &[BufferItem]) -> Result<usize,
     Ok(buffers.outstanding()?.len())
 }
 
-/// How many of the requests stand.
+/// How many requests are standing.
 fn standing(rt: &impl Abort, alloc: Global, items: &[RequestItem]) -> Result<usize, AllocError> {
     assert!(rt; is_placed(items));
     let requests: Requests = summary_of(alloc, items)?;

@@ -1,3 +1,3 @@
-//! What no clause says, at values typed from outside.
+//! What no clause says, tested on values typed by hand.
 
 mod tallied;

@@ -16,7 +16,7 @@ impl Write for Refusing {
     }
 }
 
-/// A reader of some bytes, which then fails if it is to.
+/// A reader of some bytes. After them it ends, or fails if `fails` is set.
 #[derive(Drop)]
 pub(crate) struct Source {
     pub bytes: &'static [u8],

@@ -43,7 +43,7 @@ fn sources(
     Ok(sources)
 }
 
-/// Holds a listing of two parts against what is due.
+/// Compares a listing of two parts with the outcome and the text that are due.
 fn expect<T: Abort>(
     rt: &T,
     alloc: Global,
@@ -110,7 +110,7 @@ fn ends_where_the_side_list_fails(rt: HostRuntime) -> Result<(), Fail> {
     Ok(())
 }
 
-/// Holds a listing to a writer that fails against what is due.
+/// Compares the outcome of a listing to a writer that fails with the error that is due.
 fn expect_refused<T: Abort>(
     rt: &T,
     alloc: Global,

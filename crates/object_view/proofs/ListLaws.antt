@@ -1,4 +1,4 @@
--- The objects of an attachment are judged in one way, and are one list.
+-- The format of objects is decided, and an attachment has one list of objects.
 use Rattle.std.proofs.Common.{◌≡◌, ◌≢◌, ℕ, ◌+◌, ◌*◌, ◌%◌, ◌^◌, ◌<◌, ◌≤◌, inl, inr, List, [], ◌∷◌, ◌++◌, length, take, drop, Option, Some, None, refl, sym, ap, subst, ◌∙◌, length-append, arith}
 use Rattle.std.proofs.lemmas.Bool.{cases_lt, cases_eq}
 use Rattle.std.proofs.lemmas.List.{drop_at}
@@ -17,7 +17,7 @@ use Rattle.object_view.specs.declared.bad_object.BadObject.{BadObject}
 use Rattle.object_view.specs.declared.bad_object.Cause.{Cause}
 use Rattle.object_view.specs.declared.bad_object.Cause.TheVariants.{ListLength, Misaligned, Overlap, Short, UnknownSort}
 use Rattle.object_view.specs.Fields.{sort_number, sort_length}
-use Rattle.object_view.specs.Objects.{ObjectText, sort_at, MayStandObject, IsCutShort, FailsAt, first_offset, ObjectFails, object_format, IsWholeList, AreObjects, all_good, until_bad, no_list}
+use Rattle.object_view.specs.Objects.{ObjectText, sort_at, MayComeObject, IsCutShort, FailsAt, first_offset, ObjectFails, object_format, IsWholeList, AreObjects, all_good, until_bad, no_list}
 use Rattle.object_view.proofs.SortLaws.{Named, known, unknown, named, one_sort}
 
 -- ---- an offset is read back
@@ -34,7 +34,7 @@ offset_fits : (list : List ℕ) → IsBytes list → first_offset list < 2 ^ 64
 unfolding number_at
 offset_fits list h = little_from-lt 0 8 list h
 
--- ---- what stands at an offset fails by one cause
+-- ---- bytes at an offset fail by one cause
 
 pub object_fails : (body : List ℕ) (end : ℕ) (list : List ℕ) (cause : Cause) → 8 ≤ length list → FailsAt body end (first_offset list) cause
     → ObjectFails body end list cause
@@ -83,41 +83,41 @@ four_or_more Fda = omega arith
 four_or_more Ptr = omega arith
 four_or_more _ = omega arith
 
-good_not_cut : (body : List ℕ) (end : ℕ) (o : ObjectText) → MayStandObject body end o → IsCutShort body o.offset → ⊥
-good_not_cut body end o stands (inl cut) = absurd (omega (arith, cut, stands.within, four_or_more o.sort))
-good_not_cut body end o stands (inr cut) =
-    let same : sort_length cut.1.0 ≡ sort_length o.sort = ap sort_length (one_sort cut.1.0 o.sort (sym cut.1.1 ∙ stands.named)) in
-    absurd (omega (arith, cut.1.2, stands.within, same))
+good_not_cut : (body : List ℕ) (end : ℕ) (o : ObjectText) → MayComeObject body end o → IsCutShort body o.offset → ⊥
+good_not_cut body end o is_at (inl cut) = absurd (omega (arith, cut, is_at.within, four_or_more o.sort))
+good_not_cut body end o is_at (inr cut) =
+    let same : sort_length cut.1.0 ≡ sort_length o.sort = ap sort_length (one_sort cut.1.0 o.sort (sym cut.1.1 ∙ is_at.named)) in
+    absurd (omega (arith, cut.1.2, is_at.within, same))
 
-good_at : (body : List ℕ) (end : ℕ) (o : ObjectText) (k : Cause) → MayStandObject body end o → FailsAt body end o.offset k → ⊥
-good_at body end o ListLength stands fails = fails
-good_at body end o Misaligned stands fails = fails stands.aligned
-good_at body end o Overlap stands fails = absurd (omega (arith, fails.1, stands.behind))
-good_at body end o Short stands fails = good_not_cut body end o stands fails.2
-good_at body end o UnknownSort stands fails = fails.3 o.sort stands.named
+good_at : (body : List ℕ) (end : ℕ) (o : ObjectText) (k : Cause) → MayComeObject body end o → FailsAt body end o.offset k → ⊥
+good_at body end o ListLength is_at fails = fails
+good_at body end o Misaligned is_at fails = fails is_at.aligned
+good_at body end o Overlap is_at fails = absurd (omega (arith, fails.1, is_at.after))
+good_at body end o Short is_at fails = good_not_cut body end o is_at fails.2
+good_at body end o UnknownSort is_at fails = fails.3 o.sort is_at.named
 
-good_object : (body : List ℕ) (end : ℕ) (o : ObjectText) (rest : List ℕ) (k : Cause) → MayStandObject body end o
+good_object : (body : List ℕ) (end : ℕ) (o : ObjectText) (rest : List ℕ) (k : Cause) → MayComeObject body end o
     → ObjectFails body end (little_bytes 8 o.offset ++ rest) k → ⊥
-good_object body end o rest ListLength stands fails = absurd (omega (arith, fails.1, length-append (little_bytes 8 o.offset) rest))
-good_object body end o rest Misaligned stands fails = good_at body end o Misaligned stands
-    (subst (λ (n : ℕ). FailsAt body end n Misaligned) (offset_said o.offset rest stands.fits) fails.1)
-good_object body end o rest Overlap stands fails = good_at body end o Overlap stands
-    (subst (λ (n : ℕ). FailsAt body end n Overlap) (offset_said o.offset rest stands.fits) fails.1)
-good_object body end o rest Short stands fails = good_at body end o Short stands
-    (subst (λ (n : ℕ). FailsAt body end n Short) (offset_said o.offset rest stands.fits) fails.1)
-good_object body end o rest UnknownSort stands fails = good_at body end o UnknownSort stands
-    (subst (λ (n : ℕ). FailsAt body end n UnknownSort) (offset_said o.offset rest stands.fits) fails.1)
+good_object body end o rest ListLength is_at fails = absurd (omega (arith, fails.1, length-append (little_bytes 8 o.offset) rest))
+good_object body end o rest Misaligned is_at fails = good_at body end o Misaligned is_at
+    (subst (λ (n : ℕ). FailsAt body end n Misaligned) (offset_said o.offset rest is_at.fits) fails.1)
+good_object body end o rest Overlap is_at fails = good_at body end o Overlap is_at
+    (subst (λ (n : ℕ). FailsAt body end n Overlap) (offset_said o.offset rest is_at.fits) fails.1)
+good_object body end o rest Short is_at fails = good_at body end o Short is_at
+    (subst (λ (n : ℕ). FailsAt body end n Short) (offset_said o.offset rest is_at.fits) fails.1)
+good_object body end o rest UnknownSort is_at fails = good_at body end o UnknownSort is_at
+    (subst (λ (n : ℕ). FailsAt body end n UnknownSort) (offset_said o.offset rest is_at.fits) fails.1)
 
--- ---- at an offset stands a good object, or it fails
+-- ---- at an offset a good object begins, or the bytes there fail
 
 of_sort : (body : List ℕ) (end : ℕ) (list : List ℕ) → IsBytes list → 8 ≤ length list → first_offset list % 4 ≡ 0 → end ≤ first_offset list
     → first_offset list + 4 ≤ length body
     → Named (sort_at body (first_offset list)) → Judged (object_format body) end list
-of_sort body end list h long aligned behind four (unknown none) = units.bad UnknownSort 0 ((long, (aligned, behind, four, none)), refl)
-of_sort body end list h long aligned behind four (known sort is) = elim (cases_lt (length body) (first_offset list + sort_length sort)) [
-  | inl cut ↦ units.bad Short 0 ((long, (aligned, behind, inr (four, (sort, is, cut)))), refl)
+of_sort body end list h long aligned after four (unknown none) = units.bad UnknownSort 0 ((long, (aligned, after, four, none)), refl)
+of_sort body end list h long aligned after four (known sort is) = elim (cases_lt (length body) (first_offset list + sort_length sort)) [
+  | inl cut ↦ units.bad Short 0 ((long, (aligned, after, inr (four, (sort, is, cut)))), refl)
   | inr within ↦ good (record { offset = first_offset list; sort = sort; bytes = take (sort_length sort) (drop (first_offset list) body) }) (drop 8 list)
-      (record { fits = offset_fits list h; aligned = aligned; behind = behind; named = is; within = within; bytes = refl }) (offset_spelled list h long)
+      (record { fits = offset_fits list h; aligned = aligned; after = after; named = is; within = within; bytes = refl }) (offset_spelled list h long)
 ]
 
 of_offset : (body : List ℕ) (end : ℕ) (list : List ℕ) → IsBytes list → 8 ≤ length list → Judged (object_format body) end list
@@ -125,9 +125,9 @@ of_offset body end list h long = elim (cases_eq (first_offset list % 4) 0) [
   | inr other ↦ units.bad Misaligned 0 ((long, other), refl)
   | inl aligned ↦ elim (cases_lt (first_offset list) end) [
     | inl below ↦ units.bad Overlap 0 ((long, (aligned, below)), refl)
-    | inr behind ↦ elim (cases_lt (length body) (first_offset list + 4)) [
-      | inl cut ↦ units.bad Short 0 ((long, (aligned, behind, inl cut)), refl)
-      | inr four ↦ of_sort body end list h long aligned behind four (named (sort_at body (first_offset list)))
+    | inr after ↦ elim (cases_lt (length body) (first_offset list + 4)) [
+      | inl cut ↦ units.bad Short 0 ((long, (aligned, after, inl cut)), refl)
+      | inr four ↦ of_sort body end list h long aligned after four (named (sort_at body (first_offset list)))
     ]
   ]
 ]
@@ -139,7 +139,7 @@ object_judged body end (b ∷ list) h = elim (cases_lt (length (b ∷ list)) 8) 
   | inr long ↦ of_offset body end (b ∷ list) h long
 ]
 
-same_object : (body : List ℕ) (end : ℕ) (u v : ObjectText) → MayStandObject body end u → MayStandObject body end v → u.offset ≡ v.offset → u ≡ v
+same_object : (body : List ℕ) (end : ℕ) (u v : ObjectText) → MayComeObject body end u → MayComeObject body end v → u.offset ≡ v.offset → u ≡ v
 same_object body end u v a b same =
     let made : ℕ → Sort → List ℕ → ObjectText = λ o s t. record { offset = o; sort = s; bytes = t } in
     let sorts : u.sort ≡ v.sort = one_sort u.sort v.sort (sym a.named ∙ ap (sort_at body) same ∙ b.named) in
@@ -147,7 +147,7 @@ same_object body end u v a b same =
     ∙ ap (λ (o : ℕ). take (sort_length v.sort) (drop o body)) same ∙ sym b.bytes in
     ap (λ (o : ℕ). made o u.sort u.bytes) same ∙ ap (λ (s : Sort). made v.offset s u.bytes) sorts ∙ ap (made v.offset v.sort) bytes
 
-one_object : (body : List ℕ) (end : ℕ) (u v : ObjectText) (rest others : List ℕ) → MayStandObject body end u → MayStandObject body end v
+one_object : (body : List ℕ) (end : ℕ) (u v : ObjectText) (rest others : List ℕ) → MayComeObject body end u → MayComeObject body end v
     → little_bytes 8 u.offset ++ rest ≡ little_bytes 8 v.offset ++ others
     → (u ≡ v) × (rest ≡ others)
 one_object body end u v rest others a b e = (
@@ -162,14 +162,14 @@ end_is_good body end Overlap fails = absurd (omega (arith, fails.0))
 end_is_good body end Short fails = absurd (omega (arith, fails.0))
 end_is_good body end UnknownSort fails = absurd (omega (arith, fails.0))
 
--- objects are judged in one way
+-- the format of objects is decided
 pub objects_decided : (body : List ℕ) → IsDecided (object_format body)
 objects_decided body = record {
   judged = object_judged body;
-  longer = λ end o stands. omega arith;
+  longer = λ end o is_at. omega arith;
   one_unit = one_object body;
   one_failure = λ end list k j x y a b. (one_cause body end list k j a.0 b.0, a.1 ∙ sym b.1);
-  never_both = λ end o rest k x stands fails. good_object body end o rest k stands fails.0;
+  never_both = λ end o rest k x is_at fails. good_object body end o rest k is_at fails.0;
   end_is_good = λ end k x fails. end_is_good body end k fails.0;
 }
 
@@ -195,7 +195,7 @@ objects_short body list objects bad (no_list never none is) = let e : length obj
 
 -- ---- an attachment has one list of objects
 
--- behind whole offsets a whole list has whole offsets
+-- after whole offsets the rest of a whole list is whole offsets
 rest_whole : (body list rest : List ℕ) (objects : List ObjectText) → IsWholeList list → Splits (object_format body) 0 list objects rest → IsWholeList rest
 rest_whole body list rest objects whole splits =
     let parts = ap length splits.joined ∙ length-append (spelling_of (object_format body) objects) rest in

@@ -14,7 +14,7 @@ use Rattle.object_view.specs.Reading.{Reading, at, ended, object_text, IsBadAt, 
 use Rattle.object_view.specs.Reading as reading
 use Rattle.object_view.proofs.ListLaws.{object_fails, objects_decided, spelled_long}
 
--- a reader stands before whole offsets alone
+-- the reader of objects, which is always before a whole offset or at the end of the list
 abbrev object_reader : List ℕ → List ℕ → Reader ℕ ObjectText Cause Reading (Option (Result Object BadObject))
 object_reader body list = record {
   format = object_format body;
@@ -22,7 +22,7 @@ object_reader body list = record {
   base = 0;
   Steps = Steps;
   MayReach = λ x. x % 8 ≡ 0;
-  stand = λ end x. at body list (x / 8) end;
+  in_order = λ end x. at body list (x / 8) end;
   ended = λ x cause within. ended;
   Gives = λ result there. GivesObject result there.unit;
   at_end = None;
@@ -56,9 +56,9 @@ objects_go : (body list : List ℕ) → IsWholeList list → Goes (object_reader
 objects_go body list whole = record {
   decided = objects_decided body;
   start = refl;
-  further = λ end o x stands reach. omega (arith, reach);
+  further = λ end o x is_at reach. omega (arith, reach);
   calls = λ end x result next reach steps. object_call body list whole end x result next (omega (arith, reach)) steps;
-  behind_end = λ x cause within result next steps. steps;
+  after_end = λ x cause within result next steps. steps;
 }
 
 ended_gives : (results : List (Option (Result Object BadObject))) → Calls Steps ended results → GiveObjects [] None results

@@ -1,4 +1,4 @@
--- The number of a sort is no other's.
+-- No two sorts have the same number.
 use Rattle.std.proofs.Common.{◌≡◌, ◌≢◌, ℕ, ◌≤◌, inl, inr, List, take, drop, refl, sym, ap, ◌∙◌, arith}
 use Rattle.std.specs.Prelude.{◌==◌, if◌then◌else◌}
 use Rattle.std.proofs.lemmas.Bool.{cases_eq}
@@ -74,7 +74,7 @@ named number = elim (cases_eq number (sort_number Binder)) [
       ]
 ]
 
--- an object has the four bytes that name its sort
+-- an object has at least the four bytes that name its sort
 sort_length-long : (sort : Sort) → 4 ≤ sort_length sort
 sort_length-long Fda = omega arith
 sort_length-long Ptr = omega arith

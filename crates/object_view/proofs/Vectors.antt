@@ -4,9 +4,9 @@ use Rattle.transaction_view.specs.Envelope.{number_at}
 use Rattle.object_view.specs.declared.bad_object.Cause.TheVariants.{ListLength, Misaligned, Overlap}
 use Rattle.object_view.specs.declared.sort.Sort.TheVariants.{Handle, Fda}
 use Rattle.object_view.specs.Fields.{field, binder_position, handle_position, num_fds_position, parent_position}
-use Rattle.object_view.specs.Objects.{ObjectText, MayStandObject, bad_at, AreObjects, all_good, until_bad, no_list}
+use Rattle.object_view.specs.Objects.{ObjectText, MayComeObject, bad_at, AreObjects, all_good, until_bad, no_list}
 
--- a HANDLE for the handle 7, and the object that it is at the offset 0
+-- a HANDLE for handle 7, and the object that it is at offset 0
 handle_bytes : List ℕ
 handle_bytes = 0x85 ∷ 0x2a ∷ 0x68 ∷ 0x73 ∷ 0 ∷ 0 ∷ 0 ∷ 0 ∷ 7 ∷ replicate 15 0
 
@@ -17,25 +17,25 @@ handle = record { offset = 0; sort = Handle; bytes = handle_bytes }
 two_handles : List ℕ
 two_handles = handle_bytes ++ handle_bytes
 
-handle_stands : MayStandObject two_handles 0 handle
+handle_there : MayComeObject two_handles 0 handle
 unfolding handle two_handles handle_bytes number_at
-handle_stands = record { fits = omega arith; aligned = refl; behind = omega arith; named = refl; within = omega arith; bytes = refl }
+handle_there = record { fits = omega arith; aligned = refl; after = omega arith; named = refl; within = omega arith; bytes = refl }
 
--- offsets 0 and 20: the second is inside the first object, and none behind it is looked at
+-- offsets 0 and 20: the second is inside the first object, and no later offset is looked at
 overlapping : AreObjects two_handles (replicate 8 0 ++ 20 ∷ replicate 7 0 ++ 24 ∷ replicate 7 0) (handle ∷ []) (Some (bad_at 1 20 Overlap))
 unfolding handle number_at
-overlapping = until_bad refl (20 ∷ replicate 7 0 ++ 24 ∷ replicate 7 0) Overlap (record { joined = refl; stand = (handle_stands, tt) }) (omega arith)
+overlapping = until_bad refl (20 ∷ replicate 7 0 ++ 24 ∷ replicate 7 0) Overlap (record { joined = refl; in_order = (handle_there, tt) }) (omega arith)
     (refl, omega arith) refl
 
 -- offset 0 alone
 alone : AreObjects two_handles (replicate 8 0) (handle ∷ []) None
 unfolding handle
-alone = all_good refl (record { joined = refl; stand = (handle_stands, tt) }) refl
+alone = all_good refl (record { joined = refl; in_order = (handle_there, tt) }) refl
 
 -- offset 2
 misaligned : AreObjects two_handles (2 ∷ replicate 7 0) [] (Some (bad_at 0 2 Misaligned))
 unfolding number_at
-misaligned = until_bad refl (2 ∷ replicate 7 0) Misaligned (record { joined = refl; stand = tt }) (omega arith) (omega arith) refl
+misaligned = until_bad refl (2 ∷ replicate 7 0) Misaligned (record { joined = refl; in_order = tt }) (omega arith) (omega arith) refl
 
 -- nine bytes are no list of offsets
 nine_bytes : AreObjects two_handles (replicate 9 0) [] (Some (bad_at 0 0 ListLength))
@@ -49,7 +49,7 @@ handle_read = refl
 no_binder : field 8 (binder_position Handle) handle_bytes ≡ None
 no_binder = refl
 
--- an FDA of 3 descriptors in the buffer 5
+-- an FDA of 3 file descriptors, with parent 5
 array_bytes : List ℕ
 array_bytes = 0x85 ∷ 0x61 ∷ 0x64 ∷ 0x66 ∷ replicate 4 0 ++ 3 ∷ replicate 7 0 ++ 5 ∷ replicate 15 0
 

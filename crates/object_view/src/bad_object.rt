@@ -1,9 +1,10 @@
-/// Why what stands at an offset is no good object, in the order in which it is judged.
+/// Why no good object begins at an offset, in the order in which causes are looked for. `Short` is
+/// looked for twice, before `UnknownSort` and after it.
 #[derive(Clone, Copy, Debug, PartialEq, Eq)]
 pub enum Cause {
-    /// The length of the list of offsets is no multiple of 8.
+    /// The length of the list of offsets is not a multiple of 8.
     ListLength,
-    /// The offset is no multiple of 4.
+    /// The offset is not a multiple of 4.
     Misaligned,
     /// The offset is below the end of the object before.
     Overlap,
@@ -13,7 +14,7 @@ pub enum Cause {
     UnknownSort,
 }
 
-/// The first bad object of an attachment. The objects behind it are not read.
+/// The first bad object of an attachment. The objects after it are not read.
 #[derive(Clone, Copy, Debug, PartialEq, Eq)]
 pub struct BadObject {
     /// Its number in the list of offsets, from 0; 0 where the list's length is wrong.

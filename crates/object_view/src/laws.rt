@@ -8,8 +8,8 @@ ghost use Rattle.object_view.specs.declared.object.Object.{Object};
 ghost use Rattle.object_view.specs.Objects.{ObjectText, AreObjects};
 ghost use Rattle.object_view.specs.Reading.{Reading, Steps, objects_start, GiveObjects};
 
-/// The data and the list of offsets of any attachment have their objects, and one bad object or
-/// none, and they have no others.
+/// The data and the list of offsets of any attachment, whatever their bytes, have one list of
+/// objects, and one bad object or none.
 pub fn one_list()
     ensures some { (body list : List ℕ) → IsBytes list →
         (objects : List ObjectText) × (bad : Option BadObject) × AreObjects body list objects bad }
@@ -19,9 +19,9 @@ pub fn one_list()
         (objects ≡ others) × (bad ≡ other_bad) }
 {}
 
-/// A reader of an attachment, called again and again from its start, gives its objects in order,
-/// then its bad object once if there is one, then nothing at every later call. Any reader that has
-/// given a bad object, or has ended, gives nothing for ever.
+/// Take a reader of an attachment and call it again and again. It gives the objects in order, then
+/// the bad object once if there is one, then `None` at every later call. Any reader that has given
+/// a bad object, or has ended, gives `None` for ever.
 pub fn all_calls()
     ensures whole { (body list : List ℕ) (objects : List ObjectText) (bad : Option BadObject) →
         AreObjects body list objects bad →

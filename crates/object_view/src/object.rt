@@ -7,7 +7,8 @@ ghost use Rattle.object_view.specs.Fields.{sort_number, sort_length};
 use crate::sort::Sort;
 use transaction_view::{u32_at, u64_at};
 
-/// An object of an attachment. Its bytes are the capture's own.
+/// An object of an attachment. Its bytes are the capture's own. Whether what it points to, or
+/// counts, is there is not promised.
 #[derive(Clone, Copy)]
 pub struct Object<'c> {
     /// What it is.
@@ -34,7 +35,7 @@ impl<'c> Object<'c> {
         }
     }
 
-    /// The address of a node, of a BINDER or a WEAK_BINDER.
+    /// The address of the node of a BINDER or a WEAK_BINDER.
     pub fn binder(self) -> Option<u64>
         ensures { result ≡ field 8 (binder_position self.entry.sort) self.entry.bytes.now }
     {
@@ -104,8 +105,9 @@ impl<'c> Object<'c> {
         }
     }
 
-    /// `parent`: meant as the number of the object whose buffer holds the pointer to a PTR's
-    /// buffer, or an FDA's array. A PTR has it also where its flags name no parent.
+    /// `parent` of a PTR or an FDA. It is meant as the number of an object: its buffer has the
+    /// pointer to the PTR's buffer, or the FDA's array. A PTR has the field even if its flags name
+    /// no parent.
     pub fn parent(self) -> Option<u64>
         ensures { result ≡ field 8 (parent_position self.entry.sort) self.entry.bytes.now }
     {
@@ -116,7 +118,8 @@ impl<'c> Object<'c> {
         }
     }
 
-    /// `parent_offset`: meant as where in the parent's buffer that is, in bytes.
+    /// `parent_offset` of a PTR or an FDA. It is meant as where in the parent's buffer that pointer
+    /// or array is, in bytes.
     pub fn parent_offset(self) -> Option<u64>
         ensures { result ≡ field 8 (parent_offset_position self.entry.sort) self.entry.bytes.now }
     {

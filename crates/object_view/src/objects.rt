@@ -2,7 +2,7 @@
 
 ghost use Rattle.std.specs.Prelude.{◌≡◌, ◌≤◌, ◌++◌, length, drop, IfOk, IfErr};
 ghost use Rattle.byteorder.specs.Endian.{little_bytes};
-ghost use Rattle.object_view.specs.Objects.{MayStandObject, FailsAt, first_offset};
+ghost use Rattle.object_view.specs.Objects.{MayComeObject, FailsAt, first_offset};
 ghost use Rattle.object_view.specs.Reading.{object_text};
 
 use crate::bad_object::{BadObject, Cause};
@@ -17,16 +17,16 @@ const OFFSET: usize = 8;
 /// The length of the number that names an object's sort, in bytes.
 const SORT: usize = 4;
 
-/// Where a reader stands: before the offset of this number, behind an object that ends there in the
-/// data; or behind a bad object, where it has ended.
+/// Where a reader is: before the offset with the number `index`, with `end` where the object before
+/// ends in the data; or ended, after a bad object.
 #[derive(Clone, Copy)]
 enum State {
     At { index: usize, end: usize },
     Ended,
 }
 
-/// Reads the objects of an attachment in the order of its offsets, up to the first bad one. One
-/// that has ended gives nothing more.
+/// Reads the objects of an attachment in the order of its offsets, up to the first bad one. A
+/// reader that has ended gives `None`.
 #[derive(Drop)]
 pub struct Objects<'c> {
     body: &'c [u8],
@@ -49,7 +49,7 @@ impl<'c> Model for Objects<'c> {
 impl<'c> Objects<'c> {
     ghost use Rattle.object_view.specs.Reading.{objects_start, Steps};
 
-    /// A reader of the attachment's objects.
+    /// A reader before the first offset of the attachment's list.
     pub fn of(entry: Entry<'c>) -> Objects<'c>
         ensures { result ≡ objects_start entry.entry.body.now entry.entry.offsets.now }
     {
@@ -60,7 +60,8 @@ impl<'c> Objects<'c> {
         }
     }
 
-    /// The next object, or the first bad one, behind which nothing is given.
+    /// The next object, as a view of the data's bytes; or the bad one, once, by the first cause
+    /// that applies; or `None`, at the end of the list and after a bad object.
     pub fn next_object(&mut self) -> Option<Result<Object<'c>, BadObject>>
         ensures { Steps self.old result self.new }
     {
@@ -109,9 +110,10 @@ fn first_offset(list: &[u8]) -> u64
     u64_at(list, 0)
 }
 
-/// The object that begins at an offset of the data, behind one that ends at `end`.
+/// The object that begins at an offset of the data, after one that ends at `end`; or the first
+/// cause that applies.
 fn object_at(body: &[u8], offset: u64, end: usize) -> Result<Object<'_>, Cause>
-    ensures found { IfOk result (λ found. MayStandObject body.now end (object_text offset found)) }
+    ensures found { IfOk result (λ found. MayComeObject body.now end (object_text offset found)) }
     ensures fails { IfErr result (FailsAt body.now end offset) }
 {
     if offset % 4 != 0 {

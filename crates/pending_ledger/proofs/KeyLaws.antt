@@ -1,13 +1,13 @@
--- The opens and closes of one key: one list followed by another, and as they are read.
+-- The opens and closes of one key: in one list followed by another, and as readings.
 use Rattle.std.proofs.Common.{◌≡◌, ℕ, ◌&&◌, ◌||◌, not, Bool, true, false, cond, List, [], ◌∷◌, ◌++◌, map, drop}
 use Rattle.std.proofs.Common.{Option, Some, None, refl, sym, ap, ◌∙◌}
 use Rattle.std.proofs.lemmas.List.{map-append}
 use Rattle.std.specs.List.{cons_option, last_or, list_any}
 use Rattle.event_core.specs.declared.pending.PendingChange.{PendingChange}
 use Rattle.event_core.specs.declared.pending.PendingChange.TheVariants.{Open, Close}
-use Rattle.pending_ledger.proofs.LastLaws.{behind_last-append, behind_last-anew, behind_last-none}
+use Rattle.pending_ledger.proofs.LastLaws.{after_last-append, after_last-anew, after_last-none}
 use Rattle.pending_ledger.specs.declared.key_event.KeyEvent.{KeyEvent}
-use Rattle.pending_ledger.specs.KeyEvents.{event_place, event_change, is_closing, behind_last, open_places, is_unmet, unmet_places, first_change, met_count}
+use Rattle.pending_ledger.specs.KeyEvents.{event_place, event_change, is_closing, after_last, open_places, is_unmet, unmet_places, first_change, met_count}
 use Rattle.pending_ledger.specs.Pending.{is_close, is_open}
 use Rattle.summary_law.specs.Readings.{chosen, read_each}
 
@@ -15,15 +15,15 @@ use Rattle.summary_law.specs.Readings.{chosen, read_each}
 pub open_places-append : (first second : List KeyEvent) → list_any is_closing second ≡ false
     → open_places (first ++ second) ≡ open_places first ++ open_places second
 open_places-append first second none =
-    ap (map event_place) (behind_last-append is_closing first second none)
-    ∙ map-append event_place (behind_last is_closing first) second
-    ∙ ap (λ t. open_places first ++ map event_place t) (sym (behind_last-none is_closing second none))
+    ap (map event_place) (after_last-append is_closing first second none)
+    ∙ map-append event_place (after_last is_closing first) second
+    ∙ ap (λ t. open_places first ++ map event_place t) (sym (after_last-none is_closing second none))
 
--- and by events with one
+-- opens followed by events with a close
 pub open_places-anew : (first second : List KeyEvent) → list_any is_closing second ≡ true → open_places (first ++ second) ≡ open_places second
-open_places-anew first second some = ap (map event_place) (behind_last-anew is_closing first second some)
+open_places-anew first second some = ap (map event_place) (after_last-anew is_closing first second some)
 
--- the last change of one list followed by another
+-- the last element of one list followed by another
 pub last_or-append : {X : Type 0} (o : Option X) (first second : List X) → last_or o (first ++ second) ≡ last_or (last_or o first) second
 last_or-append o [] second = refl
 last_or-append o (x ∷ first) second = last_or-append (Some x) first second
@@ -40,7 +40,7 @@ unmet_places-append before (event ∷ first) second =
     ++ unmet_places (last_or (Some event.change) (map event_change first)) second)
     [ true ↦ ap (λ t. event.place ∷ t) rest | false ↦ rest ]
 
--- behind an open, a first close is met
+-- a close right after an open is met
 unmet_at : (before : Option PendingChange) (place : ℕ) (change : PendingChange) (rest : List ℕ)
     → cond (is_unmet before change) (place ∷ rest) rest ≡ drop (met_count before (Some change)) (cond (is_unmet None change) (place ∷ rest) rest)
 unmet_at (Some Open) place Open rest = refl
@@ -55,10 +55,10 @@ met_none (Some Open) = refl
 met_none (Some Close) = refl
 met_none None = refl
 
-pub unmet_behind : (before : Option PendingChange) (events : List KeyEvent)
+pub unmet_after : (before : Option PendingChange) (events : List KeyEvent)
     → unmet_places before events ≡ drop (met_count before (first_change events)) (unmet_places None events)
-unmet_behind before [] = ap (λ (n : ℕ). drop {A = ℕ} n []) (sym (met_none before))
-unmet_behind before (event ∷ events) = unmet_at before event.place event.change (unmet_places (Some event.change) events)
+unmet_after before [] = ap (λ (n : ℕ). drop {A = ℕ} n []) (sym (met_none before))
+unmet_after before (event ∷ events) = unmet_at before event.place event.change (unmet_places (Some event.change) events)
 
 unmet_is : (before : Option PendingChange) (change : PendingChange) → is_unmet before change ≡ (is_close change && not (is_open before))
 unmet_is (Some Open) Open = refl
@@ -90,16 +90,16 @@ module _ {X : Type 0} (event : X → KeyEvent) where
       let later = read_each (chosen is_last_open) (before ++ x ∷ []) xs in
       let events = map event xs in
       let place : X → ℕ = λ x. event_place (event x) in
-      elim (is_closing (event x)) as (λ c. map event_place (cond (c || list_any is_closing events) (behind_last is_closing events) (event x ∷ events))
+      elim (is_closing (event x)) as (λ c. map event_place (cond (c || list_any is_closing events) (after_last is_closing events) (event x ∷ events))
       ≡ map place (cons_option (cond (not c && not (list_any (λ y. is_closing (event y)) xs)) (Some x) None) later)) [
         | true ↦ rest
         | false ↦
-            ap (λ (b : Bool). map event_place (cond b (behind_last is_closing events) (event x ∷ events))) (any_closing xs)
+            ap (λ (b : Bool). map event_place (cond b (after_last is_closing events) (event x ∷ events))) (any_closing xs)
             ∙ elim (list_any (λ y. is_closing (event y)) xs) as (λ d. (list_any (λ y. is_closing (event y)) xs ≡ d)
-            → map event_place (cond d (behind_last is_closing events) (event x ∷ events)) ≡ map place (cons_option (cond (not d) (Some x) None) later)) [
+            → map event_place (cond d (after_last is_closing events) (event x ∷ events)) ≡ map place (cons_option (cond (not d) (Some x) None) later)) [
               | true ↦ λ is. rest
               | false ↦ λ is.
-                  ap (λ (t : List ℕ). place x ∷ t) (ap (map event_place) (sym (behind_last-none is_closing events (any_closing xs ∙ is))) ∙ rest)
+                  ap (λ (t : List ℕ). place x ∷ t) (ap (map event_place) (sym (after_last-none is_closing events (any_closing xs ∙ is))) ∙ rest)
             ] refl
       ]
 
@@ -110,14 +110,14 @@ module _ {X : Type 0} (event : X → KeyEvent) where
       let change : X → PendingChange = λ y. event_change (event y) in
       let last = last_or None (map change before) in
       let later = read_each (chosen is_unmet_close) (before ++ x ∷ []) xs in
-      let behind = unmet_places (Some (change x)) (map event xs) in
+      let after = unmet_places (Some (change x)) (map event xs) in
       let place : X → ℕ = λ x. event_place (event x) in
       let next : last_or None (map change (before ++ x ∷ [])) ≡ Some (change x)
       = ap (last_or None) (map-append change before (x ∷ [])) ∙ last_or-append None (map change before) (change x ∷ []) in
-      let rest : behind ≡ map place later = ap (λ (o : Option PendingChange). unmet_places o (map event xs)) (sym next) ∙ unmet_read (before ++ x ∷ []) xs in
-      ap (λ (b : Bool). cond b (place x ∷ behind) behind) (unmet_is last (change x))
+      let rest : after ≡ map place later = ap (λ (o : Option PendingChange). unmet_places o (map event xs)) (sym next) ∙ unmet_read (before ++ x ∷ []) xs in
+      ap (λ (b : Bool). cond b (place x ∷ after) after) (unmet_is last (change x))
       ∙ elim (is_closing (event x) && not (is_open last))
-      as (λ b. cond b (place x ∷ behind) behind ≡ map place (cons_option (cond b (Some x) None) later)) [
+      as (λ b. cond b (place x ∷ after) after ≡ map place (cons_option (cond b (Some x) None) later)) [
         | true ↦ ap (λ (t : List ℕ). place x ∷ t) rest
         | false ↦ rest
       ]

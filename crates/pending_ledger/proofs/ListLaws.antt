@@ -1,4 +1,4 @@
--- Elements of lists, where they stand, and lists that are read from others.
+-- Elements of lists and their positions, and lists that are read from other lists.
 use Rattle.std.proofs.Common.{◌≡◌, ℕ, zero, suc, ◌<◌, ◌⊎◌, ◌||◌, ⊎_elim, inl, inr, Bool, List, [], ◌∷◌, ◌++◌, length, map, get_or}
 use Rattle.std.proofs.Common.{Option, Some, None, AllPairs, Contains, filter_map, option_and_then, refl, sym, ap, ◌∙◌, arith}
 use Rattle.std.proofs.lemmas.Bool.{cases_order}
@@ -39,7 +39,7 @@ split_mapped f (x ∷ xs) y c =
     (x ∷ rest.0, rest.1, rest.2, ap (λ t. x ∷ t) rest.3, rest.4))
     (contains_cases (f x) (map f xs) y c)
 
--- where what is read of a list has an element in its midst, so has the list
+-- if what is read of a list has an element in its midst, so has the list
 pub record ReadSplit {X Y : Type 0} (read : X → Option Y) (xs : List X) (front : List Y) (y : Y) (back : List Y) : Type 0 where
   pub before : List X
   pub here : X
@@ -140,7 +140,7 @@ rising_map place f (x ∷ xs) rise =
     (All-map (λ b. place (f x) < place b) f xs (λ j d within. rise 0 (suc j) d (omega arith) (omega arith)))
     (rising_map place f xs (λ i j d below within. rise (suc i) (suc j) d (omega arith) (omega arith)))
 
--- where places rise, one place is that of one element
+-- if places rise, only one element has each place
 pub one_place : {X : Type 0} (place : X → ℕ) (xs : List X) → PlacesRise place xs → (a b : X) → Contains xs a → Contains xs b → place a ≡ place b → a ≡ b
 one_place place xs rise a b at_a at_b same =
     let i = at_a.0 in

@@ -1,5 +1,5 @@
--- What is left open under each key, and what is stray there, in the whole list.
-use Rattle.std.proofs.Common.{◌≡◌, ℕ, ◌&&◌, ◌||◌, not, Bool, true, false, cond, List, [], ◌∷◌, ◌++◌, map, Option, Some, None}
+-- What is outstanding under each key, and what is a stray there, in the whole list.
+use Rattle.std.proofs.Common.{◌≡◌, ℕ, ◌&&◌, ◌||◌, not, Bool, true, false, cond, List, [], ◌∷◌, ◌++◌, map, Some, None}
 use Rattle.std.proofs.Common.{IsPermutation, IsSorted, nat_cmp, Ordering, refl, ap, ◌∙◌, sym, arith}
 use Rattle.std.proofs.lemmas.Cmp.{eq_by_cmp_equiv}
 use Rattle.std.proofs.lemmas.List.{length-map, map-append}
@@ -12,7 +12,6 @@ use Rattle.std.specs.Map.{keys_of}
 use Rattle.std.specs.Ordering.{eq_by_cmp}
 use Rattle.event_core.specs.Buffers.{buffer_pending}
 use Rattle.event_core.specs.declared.buffer.BufferItem.{BufferItem}
-use Rattle.event_core.specs.declared.pending.PendingChange.{PendingChange}
 use Rattle.event_core.specs.declared.pending.PendingItem.{PendingItem}
 use Rattle.pending_ledger.proofs.KeyLaws.{is_last_open, is_unmet_close, opens_read, unmet_read}
 use Rattle.pending_ledger.proofs.ListLaws.{rising_map}
@@ -30,7 +29,7 @@ use Rattle.summary_law.specs.ByKey.{EachFits}
 use Rattle.summary_law.specs.Fits.{IsShort, IsPlaced}
 use Rattle.summary_law.specs.Readings.{by_key, chosen, read_all, with_key}
 
--- few items are few under each key
+-- if there are few items, each key has few
 pub keyed_short : {K : Type 0} (eq : K → K → Bool) (items : List (PendingItem K)) → IsPlaced place_of items → EachFits eq IsShort (map keyed items)
 keyed_short {K} eq items placed =
     let long = length-map items (λ (item : PendingItem K). keyed item) in
@@ -97,7 +96,7 @@ strays_of ledger = ledger.strays.places.items
 
 module _ {K : Type 0} (cmp : K → K → Ordering) (laws : IsTotalOrder cmp) (pending : Pending K) (ordered : IsOrdered cmp pending.keys.entries)
     (items : List (PendingItem K)) (sums : PendingSums cmp pending items) where
-  -- what the ledger of each key lists of its items, gathered and sorted, is what passes a test among all of its key
+  -- what the ledger of each key lists, gathered and sorted, is what passes a test that sees only items of the same key
   of_keys : (test : List (PendingItem K) → PendingItem K → List (PendingItem K) → Bool) (lists : KeyLedger → List ℕ)
       → ((ledger : KeyLedger) (own : List (PendingItem K)) → KeySums ledger (map event_of own) → lists ledger ≡ places_if test own) → (places : List ℕ)
       → IsPermutation (gather lists pending.keys.entries.entries) places → IsSorted nat_cmp places

@@ -1,10 +1,9 @@
--- What stands of the requests under each cookie, in the whole list.
+-- The standing requests of each cookie, in the whole list.
 use Rattle.std.proofs.Common.{◌≡◌, ◌==◌, ℕ, ◌&&◌, ◌||◌, not, Bool, true, false, cond, List, [], ◌∷◌, ◌++◌, map, All, Option, Some, None}
 use Rattle.std.proofs.Common.{option_and_then, is_eq, Less, Equal, Greater, IsPermutation, IsSorted, nat_cmp, refl, sym, ap, ap₂, subst, ◌∙◌, arith, ne_eqb, ltb, ltb-true}
 use Rattle.std.proofs.lemmas.Bool.{or_parts}
 use Rattle.std.proofs.lemmas.Cmp.{eq_by_cmp_equiv, nat_cmp_total}
 use Rattle.std.proofs.lemmas.List.{length-map, map-append, map-id}
-use Rattle.std.proofs.lemmas.List.Elements.{All-head, All-tail}
 use Rattle.std.proofs.lemmas.List.Sorted.{IsNonDecreasingBy-from_sort}
 use Rattle.std.proofs.lemmas.Map.Keys.{IsDistinct-from_sorted}
 use Rattle.std.specs.BTreeMap.{IsOrdered}
@@ -21,16 +20,15 @@ use Rattle.event_core.specs.declared.request.RequestKey.{RequestKey}
 use Rattle.pending_ledger.proofs.KeyLaws.{is_last_open, opens_read}
 use Rattle.pending_ledger.specs.declared.cookie.CookieRequests.{CookieRequests}
 use Rattle.pending_ledger.specs.declared.key_event.KeyEvent.{KeyEvent}
-use Rattle.pending_ledger.specs.declared.opens.Opens.{Opens}
 use Rattle.pending_ledger.specs.declared.requests.Requests.{Requests}
-use Rattle.pending_ledger.specs.KeyEvents.{event_place, is_closing, behind_last}
+use Rattle.pending_ledger.specs.KeyEvents.{event_place, is_closing, after_last}
 use Rattle.pending_ledger.specs.Requests.{change_ends, change_stands, ends, is_standing, request_place, standing_request_places}
 use Rattle.pending_ledger.specs.Sums.{OpensSums, change_cookie, by_cookie, handle_event, is_dead, is_death, handle_events, gather}
 use Rattle.pending_ledger.specs.Sums.{opens_list, standing_places, CookieSums, RequestsSums}
 use Rattle.summary_law.proofs.GatherLaws.{as_it_is, entries_gathered, entries_sorted, map_each, map_none}
 use Rattle.summary_law.proofs.ReadingLaws.{chosen-is, read-blind, read-made, read-picked, read-rises}
 use Rattle.summary_law.proofs.ReadLaws.{each_short}
-use Rattle.summary_law.specs.ByKey.{EachFits, SumsByKey, items_of}
+use Rattle.summary_law.specs.ByKey.{EachFits, SumsByKey}
 use Rattle.summary_law.specs.Fits.{IsShort, IsPlaced}
 use Rattle.summary_law.specs.Readings.{by_key, chosen, read_all, read_each, with_key}
 
@@ -71,7 +69,7 @@ change_clears handle (Dead cookie) = false
 abbrev clears : ℕ → RequestItem → Bool
 clears handle item = change_clears handle item.change
 
--- whether a change is a request that none of these items clears, where all are of one cookie
+-- whether a change is a request that none of the later items clears, if all are of one cookie
 abbrev change_is_uncleared : RequestChange → List RequestItem → Bool
 change_is_uncleared (Request key) later = not (list_any (clears key.handle) later)
 change_is_uncleared (Clear key) later = false
@@ -80,7 +78,7 @@ change_is_uncleared (Dead cookie) later = false
 abbrev is_uncleared : List RequestItem → RequestItem → List RequestItem → Bool
 is_uncleared before item later = change_is_uncleared item.change later
 
--- and whether there is no death among them besides
+-- the same of an item, and there is no death among the later items either
 abbrev stands_in : List RequestItem → RequestItem → List RequestItem → Bool
 stands_in before item later = change_is_uncleared item.change later && not (list_any is_death later)
 
@@ -137,7 +135,7 @@ stands_under (Dead cookie) later = refl
 standing_by_key : chosen is_standing ≡ by_key (eq_by_cmp nat_cmp) cookie_of (chosen stands_in)
 standing_by_key = λ t before item later. cond (stands_under item.change later t) (Some item) None
 
--- ---- behind the last death
+-- ---- after the last death
 
 no_request : (change : RequestChange) (later : List RequestItem) → is_dead change ≡ true → change_is_uncleared change later ≡ false
 no_request (Request key) later is = let none : ⊥ = cc in absurd none
@@ -173,16 +171,16 @@ uncleared_alive before (item ∷ later) none =
     and_true true = refl
     and_true false = refl
 
-stands_behind : (before items : List RequestItem)
-    → read_each (chosen stands_in) before items ≡ read_each (chosen is_uncleared) before (behind_last is_death items)
-stands_behind before [] = refl
-stands_behind before (item ∷ later) =
+standing_after : (before items : List RequestItem)
+    → read_each (chosen stands_in) before items ≡ read_each (chosen is_uncleared) before (after_last is_death items)
+standing_after before [] = refl
+standing_after before (item ∷ later) =
     elim (list_any is_death (item ∷ later)) as (λ d. (list_any is_death (item ∷ later) ≡ d) → read_each (chosen stands_in) before (item ∷ later)
-    ≡ read_each (chosen is_uncleared) before (cond d (behind_last is_death later) (item ∷ later))) [
+    ≡ read_each (chosen is_uncleared) before (cond d (after_last is_death later) (item ∷ later))) [
       | true ↦ λ is.
           ap (λ (b : Bool). cons_option (cond b (Some item) None) (read_each (chosen stands_in) (before ++ item ∷ []) later)) (nothing_stands item later is)
-          ∙ stands_behind (before ++ item ∷ []) later
-          ∙ read-blind (chosen is_uncleared) (λ b c x l. refl) (before ++ item ∷ []) before (behind_last is_death later)
+          ∙ standing_after (before ++ item ∷ []) later
+          ∙ read-blind (chosen is_uncleared) (λ b c x l. refl) (before ++ item ∷ []) before (after_last is_death later)
       | false ↦ λ is. uncleared_alive before (item ∷ later) is
     ] refl
 
@@ -227,7 +225,7 @@ clears_read : (handle : ℕ) (items : List RequestItem)
 clears_read handle [] = refl
 clears_read handle (item ∷ items) = clears_more handle item.place item.change items (clears_read handle items)
 
--- the place of a request of which no later clear has the handle
+-- the place of a request whose handle no later clear has
 uncleared_place : (place : ℕ) (change : RequestChange) (l : List RequestItem)
     → option_map (λ e. event_place (event_of e))
     (option_and_then (λ e. cond (not (is_closing (event_of e)) && not (list_any (λ y. is_closing (event_of y)) (of_handle (handle_of e) (filter_map handle_event l)))) (Some e) None)
@@ -280,7 +278,7 @@ cookie_tells requests own good =
     let handles : SumsByKey nat_cmp OpensSums m (map (λ (e : ℕ × KeyEvent). e) events)
     = subst (SumsByKey nat_cmp OpensSums m) (sym pairs) (subst (λ (is : List RequestItem). SumsByKey nat_cmp OpensSums m (handle_events is)) (map-id own) good.0.handles) in
     subst (IsPermutation (standing_places requests))
-    (handles_read (behind_last is_death own) ∙ ap (map request_place) (sym (stands_behind [] own)))
+    (handles_read (after_last is_death own) ∙ ap (map request_place) (sym (standing_after [] own)))
     (entries_gathered number_laws (λ (e : ℕ × KeyEvent). e) (chosen (is_last_open event_of)) (λ e. event_place (event_of e)) OpensSums opens_list
     (λ opens es holds. as_it_is (opens_list opens) _ (holds.places ∙ opens_read event_of [] es)) events m.entries
     (IsDistinct-from_sorted nat_cmp (keys_of m.entries) good.1)

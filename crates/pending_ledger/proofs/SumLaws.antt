@@ -11,24 +11,24 @@ use Rattle.event_core.specs.declared.pending.PendingChange.TheVariants.{Open, Cl
 use Rattle.event_core.specs.declared.request.RequestChange.{RequestChange}
 use Rattle.event_core.specs.declared.request.RequestChange.TheVariants.{Request, Clear, Dead}
 use Rattle.event_core.specs.declared.request.RequestItem.{RequestItem}
-use Rattle.pending_ledger.proofs.KeyLaws.{open_places-append, open_places-anew, last_or-append, unmet_places-append, unmet_behind}
-use Rattle.pending_ledger.proofs.LastLaws.{or_false, behind_last-append, behind_last-anew, behind_last-none, behind_last-suffix}
+use Rattle.pending_ledger.proofs.KeyLaws.{open_places-append, open_places-anew, last_or-append, unmet_places-append, unmet_after}
+use Rattle.pending_ledger.proofs.LastLaws.{or_false, after_last-append, after_last-anew, after_last-none, after_last-suffix}
 use Rattle.pending_ledger.specs.declared.key_event.KeyEvent.{KeyEvent}
 use Rattle.pending_ledger.specs.declared.opens.Opens.{Opens}
 use Rattle.pending_ledger.specs.declared.strays.Strays.{Strays}
-use Rattle.pending_ledger.specs.KeyEvents.{event_place, event_change, is_closing, behind_last, open_places, unmet_places, first_change, met_count}
+use Rattle.pending_ledger.specs.KeyEvents.{event_place, event_change, is_closing, after_last, open_places, unmet_places, first_change, met_count}
 use Rattle.pending_ledger.specs.Pending.{is_close}
 use Rattle.pending_ledger.specs.Sums.{OpensSums, StraysSums, change_of_handle, handle_event, is_dead, is_death, handle_events}
 use Rattle.summary_law.proofs.ReadLaws.{each_short, length-read}
 use Rattle.summary_law.specs.ByKey.{EachFits}
 use Rattle.summary_law.specs.Fits.{IsShort}
 
--- a key's opens, with one more
+-- a key's opens, with one more open
 pub opened_sums : (old new : Opens) (events : List KeyEvent) (event : KeyEvent) → event.change ≡ Open
     → new.places ≡ old.places ++ event.place ∷ [] → new.has_close ≡ old.has_close → OpensSums old events → OpensSums new (events ++ event ∷ [])
 opened_sums old new events event opens pushed kept sums =
     let none : list_any is_closing (event ∷ []) ≡ false = ap (λ c. is_close c || false) opens in
-    let alone : open_places (event ∷ []) ≡ event.place ∷ [] = ap (map event_place) (behind_last-none is_closing (event ∷ []) none) in
+    let alone : open_places (event ∷ []) ≡ event.place ∷ [] = ap (map event_place) (after_last-none is_closing (event ∷ []) none) in
     record {
       places = pushed ∙ ap (λ t. t ++ event.place ∷ []) sums.places ∙ ap (λ t. open_places events ++ t) (sym alone)
           ∙ sym (open_places-append events (event ∷ []) none);
@@ -36,7 +36,7 @@ opened_sums old new events event opens pushed kept sums =
           ∙ sym (list_any-append is_closing events (event ∷ []));
     }
 
--- with a close behind them
+-- a key's opens, with a close after them
 pub closed_sums : (new : Opens) (events : List KeyEvent) (event : KeyEvent) → event.change ≡ Close → new.places ≡ [] → new.has_close ≡ true
     → OpensSums new (events ++ event ∷ [])
 closed_sums new events event closing emptied closed =
@@ -48,7 +48,7 @@ closed_sums new events event closing emptied closed =
           ∙ sym (list_any-append is_closing events (event ∷ []));
     }
 
--- those of two lists, the later without a close
+-- the opens of two lists, the later without a close
 pub open_joined : (earlier later joined : Opens) (first second : List KeyEvent) → later.has_close ≡ false
     → joined.places ≡ earlier.places ++ later.places → joined.has_close ≡ earlier.has_close
     → OpensSums earlier first → OpensSums later second → OpensSums joined (first ++ second)
@@ -61,7 +61,7 @@ open_joined earlier later joined first second still both kept mine theirs =
           ∙ sym (list_any-append is_closing first second);
     }
 
--- and with one
+-- the opens of two lists, the later with a close
 pub closed_joined : (later : Opens) (first second : List KeyEvent) → later.has_close ≡ true → OpensSums later second → OpensSums later (first ++ second)
 closed_joined later first second closed theirs =
     let some : list_any is_closing second ≡ true = sym theirs.has_close ∙ closed in
@@ -104,7 +104,7 @@ stray_added old new events event places first last sums = record {
   last = last ∙ sym (last_joined events (event ∷ []));
 }
 
--- those of two lists
+-- the strays of two lists
 pub strays_joined : (earlier later joined : Strays) (front back : List KeyEvent)
     → joined.places.items ≡ earlier.places.items ++ drop (met_count earlier.last later.first) later.places.items
     → joined.first ≡ option_or earlier.first later.first → joined.last ≡ option_or later.last earlier.last
@@ -117,13 +117,13 @@ strays_joined earlier later joined front back places first last mine theirs =
       places = places ∙ ap (λ t. t ++ drop (met_count earlier.last later.first) later.places.items) mine.places
           ∙ ap (λ n. unmet_places None front ++ drop n later.places.items) met
           ∙ ap (λ t. unmet_places None front ++ drop (met_count before (first_change back)) t) theirs.places
-          ∙ ap (λ t. unmet_places None front ++ t) (sym (unmet_behind before back)) ∙ sym (unmet_places-append None front back);
+          ∙ ap (λ t. unmet_places None front ++ t) (sym (unmet_after before back)) ∙ sym (unmet_places-append None front back);
       first = first ∙ ap (λ o. option_or o later.first) mine.first ∙ ap (λ o. option_or (first_change front) o) theirs.first ∙ sym (first_joined front back);
       last = last ∙ ap (λ o. option_or o earlier.last) theirs.last ∙ ap (λ o. option_or (last_or None (map event_change back)) o) mine.last
           ∙ sym (last_joined front back);
     }
 
--- an item that is an event of a handle is no death
+-- an item that is an event of a handle is not a death
 alive_at : (place : ℕ) (change : RequestChange) (event : ℕ × KeyEvent) → change_of_handle place change ≡ Some event → is_dead change ≡ false
 alive_at place (Request key) event is = refl
 alive_at place (Clear key) event is = refl
@@ -144,20 +144,20 @@ is_gone item is = ap (λ b. b || false) (dead_at item.place item.change is)
 pub handle_events-append : (first second : List RequestItem) → list_any is_death second ≡ false
     → handle_events (first ++ second) ≡ handle_events first ++ handle_events second
 handle_events-append first second none =
-    ap (filter_map handle_event) (behind_last-append is_death first second none)
-    ∙ filter_map-append handle_event (behind_last is_death first) second
-    ∙ ap (λ t. handle_events first ++ filter_map handle_event t) (sym (behind_last-none is_death second none))
+    ap (filter_map handle_event) (after_last-append is_death first second none)
+    ∙ filter_map-append handle_event (after_last is_death first) second
+    ∙ ap (λ t. handle_events first ++ filter_map handle_event t) (sym (after_last-none is_death second none))
 
--- and with one
+-- the events of handles in two lists, the later with a death
 pub handle_events-anew : (first second : List RequestItem) → list_any is_death second ≡ true → handle_events (first ++ second) ≡ handle_events second
-handle_events-anew first second some = ap (filter_map handle_event) (behind_last-anew is_death first second some)
+handle_events-anew first second some = ap (filter_map handle_event) (after_last-anew is_death first second some)
 
 pub handle_events-added : (items : List RequestItem) (item : RequestItem) (event : ℕ × KeyEvent) → handle_event item ≡ Some event
     → handle_events (items ++ item ∷ []) ≡ handle_events items ++ event ∷ []
 handle_events-added items item event is =
     let none = is_alive item event is in
     let alone : handle_events (item ∷ []) ≡ event ∷ []
-    = ap (filter_map handle_event) (behind_last-none is_death (item ∷ []) none) ∙ ap (λ o. cons_option o []) is in
+    = ap (filter_map handle_event) (after_last-none is_death (item ∷ []) none) ∙ ap (λ o. cons_option o []) is in
     handle_events-append items (item ∷ []) none ∙ ap (λ t. handle_events items ++ t) alone
 
 pub handle_events-gone : (items : List RequestItem) (item : RequestItem) → handle_event item ≡ None → handle_events (items ++ item ∷ []) ≡ []
@@ -165,11 +165,11 @@ handle_events-gone items item is =
     let some = is_gone item is in
     handle_events-anew items (item ∷ []) some ∙ ap (λ b. filter_map handle_event (cond b [] (item ∷ []))) some
 
--- few items have few events under each handle
+-- if there are few items, each handle has few events
 pub handles_short : (eq : ℕ → ℕ → Bool) (items : List RequestItem) → IsShort items → EachFits eq IsShort (handle_events items)
 handles_short eq items short =
-    let last = behind_last is_death items in
-    let suffix = behind_last-suffix is_death items in
+    let last = after_last is_death items in
+    let suffix = after_last-suffix is_death items in
     let whole : length items ≡ length suffix.0 + length last = ap length suffix.1 ∙ length-append suffix.0 last in
     let shorter = length-read handle_event last in
     each_short eq (handle_events items) (omega arith)

@@ -22,23 +22,23 @@ is_open None = false
 abbrev pub closes : {K : Type 0} → (K → K → Bool) → K → PendingItem K → Bool
 closes eq key item = eq key item.key && is_close item.change
 
--- what the items of the key do, in order
+-- what the items of the key do, in their order
 abbrev pub changes_of : {K : Type 0} → (K → K → Bool) → K → List (PendingItem K) → List PendingChange
 changes_of eq key items = filter_map (λ item. if eq key item.key then Some item.change else None) items
 
--- whether the item is an open, and no later close has its key
+-- whether the item is outstanding: it is an open, and no later close has its key
 abbrev pub is_left_open : {K : Type 0} → (K → K → Bool) → List (PendingItem K) → PendingItem K → List (PendingItem K) → Bool
 is_left_open eq before item later = not (is_close item.change) && not (list_any (closes eq item.key) later)
 
--- whether the item is a close, and the latest earlier item of its key, if there is one, is no open
+-- whether the item is a stray: it is a close, and the latest earlier item of its key, if there is one, is not an open
 abbrev pub is_stray : {K : Type 0} → (K → K → Bool) → List (PendingItem K) → PendingItem K → List (PendingItem K) → Bool
 is_stray eq before item later = is_close item.change && not (is_open (last_or None (changes_of eq item.key before)))
 
--- where an item is
+-- the place of an item
 abbrev pub place_of : {K : Type 0} → PendingItem K → ℕ
 place_of item = item.place
 
--- the places of the items that pass a test
+-- the places of the items that pass a test, in their order; the test sees the items before and after the tested one
 abbrev pub places_if : {K : Type 0} → (List (PendingItem K) → PendingItem K → List (PendingItem K) → Bool)
     → List (PendingItem K) → List ℕ
 places_if test items = map place_of (read_all (chosen test) items)

@@ -18,19 +18,20 @@ use Rattle.pending_ledger.specs.declared.opens.Opens.{Opens}
 use Rattle.pending_ledger.specs.declared.pending.Pending.{Pending}
 use Rattle.pending_ledger.specs.declared.requests.Requests.{Requests}
 use Rattle.pending_ledger.specs.declared.strays.Strays.{Strays}
-use Rattle.pending_ledger.specs.KeyEvents.{event_change, is_closing, behind_last, open_places, unmet_places, first_change}
+use Rattle.pending_ledger.specs.KeyEvents.{event_change, is_closing, after_last, open_places, unmet_places, first_change}
 use Rattle.pending_ledger.specs.Ledgers.{leaked_places, stray_free_places}
 use Rattle.pending_ledger.specs.Pending.{is_left_open, is_stray, place_of, places_if}
 use Rattle.pending_ledger.specs.Requests.{request_place, standing_request_places}
 use Rattle.summary_law.specs.ByKey.{SumsByKey}
 use Rattle.summary_law.specs.Fits.{IsPlaced}
 
--- the opens of a key that no close follows, and whether there is a close
+-- of the events of a key: the places of the opens that no close follows, and whether there is a close
 pub record OpensSums (opens : Opens) (events : List KeyEvent) : Type 0 where
   pub places : opens.places ≡ open_places events
   pub has_close : opens.has_close ≡ list_any is_closing events
 
--- the closes of a key that come right behind no open, and what its first and its last event do
+-- of the events of a key: the places of the closes that do not come right after an open, and what the first and the
+-- last event do
 pub record StraysSums (strays : Strays) (events : List KeyEvent) : Type 0 where
   pub places : strays.places.items ≡ unmet_places None events
   pub first : strays.first ≡ first_change events
@@ -40,33 +41,33 @@ pub record StraysSums (strays : Strays) (events : List KeyEvent) : Type 0 where
 abbrev pub KeySums : KeyLedger → List KeyEvent → Type 0
 KeySums ledger events = OpensSums ledger.opens events × StraysSums ledger.strays events
 
--- an item as its key and an event of that key
+-- an item as its key and an event of the key
 abbrev pub keyed : {K : Type 0} → PendingItem K → K × KeyEvent
 keyed item = (item.key, record { place = item.place; change = item.change })
 
--- under each key the sums of its events, over a list whose places rise
+-- the value has the ledger of the events of each key, and the places of the items rise
 abbrev pub PendingSums : {K : Type 0} → (K → K → Ordering) → Pending K → List (PendingItem K) → Type 0
 PendingSums cmp pending items = SumsByKey cmp KeySums pending.keys.entries (map keyed items) × IsPlaced place_of items
 
--- the outstanding opens of whatever items the value sums
+-- for whatever items the value sums, these are the places of the outstanding opens
 abbrev pub GivesOutstanding : {K : Type 0} → (K → K → Ordering) → Pending K → List ℕ → Type 0
 GivesOutstanding {K} cmp pending places =
     (items : List (PendingItem K)) → PendingSums cmp pending items → places ≡ places_if (is_left_open (eq_by_cmp cmp)) items
 
--- the strays of whatever items the value sums
+-- for whatever items the value sums, these are the places of the strays
 abbrev pub GivesStrays : {K : Type 0} → (K → K → Ordering) → Pending K → List ℕ → Type 0
 GivesStrays {K} cmp pending places =
     (items : List (PendingItem K)) → PendingSums cmp pending items → places ≡ places_if (is_stray (eq_by_cmp cmp)) items
 
--- the sums of the opens and closes that the items are
+-- the value sums these deliveries and frees, as opens and closes of their addresses
 abbrev pub BuffersSums : Buffers → List BufferItem → Type 0
 BuffersSums buffers items = PendingSums nat_cmp buffers.pending (map buffer_pending items)
 
--- the leaked deliveries of whatever items the value sums
+-- for whatever items the value sums, these are the places of the leaked deliveries
 abbrev pub GivesLeaked : Buffers → List ℕ → Type 0
 GivesLeaked buffers places = (items : List BufferItem) → BuffersSums buffers items → places ≡ leaked_places items
 
--- the stray frees of whatever items the value sums
+-- for whatever items the value sums, these are the places of the stray frees
 abbrev pub GivesStrayFrees : Buffers → List ℕ → Type 0
 GivesStrayFrees buffers places =
     (items : List BufferItem) → BuffersSums buffers items → places ≡ stray_free_places items
@@ -81,13 +82,13 @@ change_cookie (Dead cookie) = cookie
 abbrev pub by_cookie : RequestItem → ℕ × RequestItem
 by_cookie item = (change_cookie item.change, item)
 
--- a request opens its handle, and a clear closes it; a death is no event of one handle
+-- a request as an open of its handle, and a clear as a close of it; a death is not an event of one handle
 abbrev pub change_of_handle : ℕ → RequestChange → Option (ℕ × KeyEvent)
 change_of_handle place (Request key) = Some (key.handle, record { place = place; change = Open })
 change_of_handle place (Clear key) = Some (key.handle, record { place = place; change = Close })
 change_of_handle place (Dead cookie) = None
 
--- the event of a handle that an item is
+-- an item as an event of its handle, if it is a request or a clear
 abbrev pub handle_event : RequestItem → Option (ℕ × KeyEvent)
 handle_event item = change_of_handle item.place item.change
 
@@ -101,33 +102,33 @@ is_dead (Dead cookie) = true
 abbrev pub is_death : RequestItem → Bool
 is_death item = is_dead item.change
 
--- the events of handles behind the last death
+-- the events of handles after the last death
 abbrev pub handle_events : List RequestItem → List (ℕ × KeyEvent)
-handle_events items = filter_map handle_event (behind_last is_death items)
+handle_events items = filter_map handle_event (after_last is_death items)
 
--- the places that the lists of a map of ledgers have, one list followed by the next
+-- the places that the ledgers of some entries list, entry after entry
 abbrev pub gather : {K S : Type 0} → (S → List ℕ) → List (K × S) → List ℕ
 gather places entries = flat_map (λ entry. places entry.1) entries
 
--- the places of the opens
+-- the places that are kept of a handle's opens
 abbrev pub opens_list : Opens → List ℕ
 opens_list opens = opens.places
 
--- those of all handles
+-- the places of the standing requests of a cookie, handle after handle
 abbrev pub standing_places : CookieRequests → List ℕ
 standing_places requests = gather opens_list requests.handles.entries.entries
 
--- of the items of one cookie: whether there is a death, and the opens of each handle behind the last
+-- of the items of a cookie: whether there is a death, and what is kept of each handle's events after the last death
 pub record CookieSums (requests : CookieRequests) (items : List RequestItem) : Type 0 where
   pub dead : requests.dead ≡ list_any is_death items
   pub handles : SumsByKey nat_cmp OpensSums requests.handles.entries (handle_events items)
 
--- under each cookie the sums of its items, over a list whose places rise
+-- the value has what is kept of the items of each cookie, and the places of the items rise
 abbrev pub RequestsSums : Requests → List RequestItem → Type 0
 RequestsSums requests items =
     SumsByKey nat_cmp CookieSums requests.cookies.entries (map by_cookie items) × IsPlaced request_place items
 
--- the standing requests of whatever items the value sums
+-- for whatever items the value sums, these are the places of the standing requests
 abbrev pub GivesStanding : Requests → List ℕ → Type 0
 GivesStanding requests places =
     (items : List RequestItem) → RequestsSums requests items → places ≡ standing_request_places items

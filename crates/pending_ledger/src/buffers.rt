@@ -3,14 +3,14 @@
 ghost use Rattle.std.specs.Prelude.{◌≡◌, IfOk};
 ghost use Rattle.pending_ledger.specs.Ledgers.{buffer_place};
 ghost use Rattle.pending_ledger.specs.Sums.{BuffersSums, GivesLeaked, GivesStrayFrees};
-ghost use Rattle.summary_law.specs.Fits.{IsPlaced, placed_parts};
+ghost use Rattle.summary_law.specs.Fits.{IsPlaced, placed_halves};
 
 use crate::pending::Pending;
 use event_core::BufferItem;
 use std::alloc::{AllocError, Global};
 use summary_law::Summary;
 
-/// The buffers of one process by their address: a delivery opens it, and a free closes it.
+/// The buffers of one process by address: a delivery opens its address, and a free closes it.
 #[derive(Drop)]
 pub struct Buffers {
     pending: Pending<u64>,
@@ -24,14 +24,14 @@ impl Buffers {
         &self.pending
     }
 
-    /// The places of the deliveries whose address no later free has, rising: these are leaked.
+    /// The places of the leaked deliveries, rising: no later free has their address.
     pub fn outstanding(&self) -> Result<Vec<u64>, AllocError>
         ensures { IfOk result (λ places. GivesLeaked self.now places.items) }
     {
         self.pending.outstanding()
     }
 
-    /// The places of the frees of an address that is not delivered, rising.
+    /// The places of the stray frees, rising: their address was not delivered since its last free.
     pub fn strays(&self) -> Result<Vec<u64>, AllocError>
         ensures { IfOk result (λ places. GivesStrayFrees self.now places.items) }
     {
@@ -61,5 +61,5 @@ impl Summary for Buffers {
         Ok(Buffers { pending })
     }
 
-    ghost fits_parts = { placed_parts buffer_place };
+    ghost fits_halves = { placed_halves buffer_place };
 }

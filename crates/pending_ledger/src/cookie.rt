@@ -4,7 +4,7 @@ ghost use Rattle.std.specs.Prelude.{◌≡◌, ◌++◌, OnOk};
 ghost use Rattle.std.specs.BTreeMap.{IsOrdered};
 ghost use Rattle.std.specs.Ordering.{nat_cmp};
 ghost use Rattle.pending_ledger.specs.Sums.{CookieSums, handle_event, standing_places};
-ghost use Rattle.summary_law.specs.Fits.{IsShort, short_parts};
+ghost use Rattle.summary_law.specs.Fits.{IsShort, short_halves};
 
 use crate::key_event::KeyEvent;
 use crate::opens::Opens;
@@ -12,7 +12,7 @@ use event_core::{PendingChange, RequestChange, RequestItem};
 use std::alloc::{AllocError, Global};
 use summary_law::{ByKey, Summary};
 
-/// The open or the close of a handle that a request or a clear of it is; None for a death.
+/// A request as an open of its handle, or a clear as a close of it; None for a death.
 fn handle_event(item: RequestItem) -> Option<(u32, KeyEvent)>
     ensures { result ≡ handle_event item }
 {
@@ -28,14 +28,14 @@ fn handle_event(item: RequestItem) -> Option<(u32, KeyEvent)>
 /// The standing requests of one cookie, by handle. A death ends all before it, and leaves no map.
 #[derive(Drop)]
 pub struct CookieRequests {
-    /// Those behind the last death, with whether the handle has a clear there.
+    /// Those after the last death, and whether the handle has a clear there.
     pub handles: ByKey<u32, Opens>,
     /// Whether there is a death among the items.
     pub dead: bool,
 }
 
 impl CookieRequests {
-    /// Puts the places of the standing requests behind what `places` has.
+    /// Appends the places of the standing requests to `places`.
     pub fn push_standing(&self, places: &mut Vec<u64>) -> Result<(), AllocError>
         ensures items { OnOk result
             (places.new.items ≡ places.old.items ++ standing_places self.now) }
@@ -85,5 +85,5 @@ impl Summary for CookieRequests {
         })
     }
 
-    ghost fits_parts = { short_parts };
+    ghost fits_halves = { short_halves };
 }

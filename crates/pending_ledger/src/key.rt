@@ -1,7 +1,7 @@
 //! The opens and closes of one key.
 
 ghost use Rattle.pending_ledger.specs.Sums.{KeySums};
-ghost use Rattle.summary_law.specs.Fits.{IsShort, short_parts};
+ghost use Rattle.summary_law.specs.Fits.{IsShort, short_halves};
 
 use crate::key_event::KeyEvent;
 use crate::opens::Opens;
@@ -41,5 +41,5 @@ impl Summary for KeyLedger {
         Ok(KeyLedger { opens, strays })
     }
 
-    ghost fits_parts = { short_parts };
+    ghost fits_halves = { short_halves };
 }

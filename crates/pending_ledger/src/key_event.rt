@@ -2,7 +2,7 @@
 
 use event_core::PendingChange;
 
-/// An open or a close, where its key is known from elsewhere.
+/// An open or a close without its key, which is known from elsewhere.
 #[derive(Clone, Copy, Debug, PartialEq, Eq)]
 pub struct KeyEvent {
     /// Where the record begins in the capture, in bytes.

@@ -1,5 +1,5 @@
 //! What is opened and never closed: buffers that are not freed, deaths that nobody acknowledges,
-//! clears that are not confirmed, and requests that still stand.
+//! clears that are not confirmed, and standing requests. And what is closed while it is not open.
 #![tactic(auto)]
 
 mod buffers;

@@ -1,7 +1,7 @@
 //! The opens of one key that no later close ends.
 
 ghost use Rattle.pending_ledger.specs.Sums.{OpensSums};
-ghost use Rattle.summary_law.specs.Fits.{IsShort, short_parts};
+ghost use Rattle.summary_law.specs.Fits.{IsShort, short_halves};
 
 use crate::key_event::KeyEvent;
 use crate::places::Places;
@@ -57,5 +57,5 @@ impl Summary for Opens {
         })
     }
 
-    ghost fits_parts = { short_parts };
+    ghost fits_halves = { short_halves };
 }

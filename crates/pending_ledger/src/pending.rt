@@ -3,7 +3,7 @@
 ghost use Rattle.std.specs.Prelude.{IfOk};
 ghost use Rattle.pending_ledger.specs.Pending.{place_of};
 ghost use Rattle.pending_ledger.specs.Sums.{PendingSums, GivesOutstanding, GivesStrays};
-ghost use Rattle.summary_law.specs.Fits.{IsPlaced, placed_parts};
+ghost use Rattle.summary_law.specs.Fits.{IsPlaced, placed_halves};
 
 use crate::key::KeyLedger;
 use crate::key_event::KeyEvent;
@@ -11,21 +11,21 @@ use event_core::PendingItem;
 use std::alloc::{AllocError, Global};
 use summary_law::{ByKey, Summary};
 
-/// The outstanding opens and the stray closes of a list of opens and closes of keys, which all
-/// stand in one process.
+/// The outstanding opens and the stray closes in a list of opens and closes of keys. The caller
+/// feeds it items of one process only: no item names its process.
 #[derive(Drop)]
 pub struct Pending<K: Ord + Copy> {
     keys: ByKey<K, KeyLedger>,
 }
 
-/// Deaths that the driver tells of, by cookie: each is open until the process acknowledges it.
+/// Deaths that a process is notified of, by cookie: each is open until the process acknowledges it.
 pub type Deaths = Pending<u64>;
 
-/// Requests that a process takes back, by cookie: each is open until the driver confirms it.
+/// Clears, by cookie: each is open until the driver confirms it.
 pub type Clears = Pending<u64>;
 
 impl<K: Ord + Copy> Pending<K> {
-    /// The places of the opens that no later close has the key of, rising.
+    /// The places of the outstanding opens, rising: no later close has their key.
     pub fn outstanding(&self) -> Result<Vec<u64>, AllocError>
         ensures { IfOk result (λ places. GivesOutstanding K.cmp self.now places.items) }
     {
@@ -37,7 +37,7 @@ impl<K: Ord + Copy> Pending<K> {
         Ok(places)
     }
 
-    /// The places of the closes of a key that is not open, rising.
+    /// The places of the stray closes, rising: their key was not open.
     pub fn strays(&self) -> Result<Vec<u64>, AllocError>
         ensures { IfOk result (λ places. GivesStrays K.cmp self.now places.items) }
     {
@@ -78,5 +78,5 @@ impl<K: Ord + Copy> Summary for Pending<K> {
         Ok(Pending { keys })
     }
 
-    ghost fits_parts = { placed_parts place_of };
+    ghost fits_halves = { placed_halves place_of };
 }

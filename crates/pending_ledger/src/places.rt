@@ -1,4 +1,4 @@
-//! A list of places of which the first stands in the value itself.
+//! A list of places that keeps its first place in the value itself.
 
 ghost use Rattle.std.specs.Prelude.{◌≡◌, [], ◌∷◌, ◌++◌, IfOk, OnOk};
 
@@ -9,7 +9,7 @@ use std::marker::Model;
 #[derive(Drop)]
 pub struct Places {
     first: Option<u64>,
-    // Those behind the first.
+    // Those after the first.
     others: Vec<u64>,
 }
 
@@ -39,7 +39,7 @@ impl Places {
         *self.others.allocator()
     }
 
-    /// Puts a place behind the others.
+    /// Appends a place.
     pub fn push(&mut self, place: u64) -> Result<(), AllocError>
         ensures { OnOk result (self.new ≡ self.old ++ place ∷ []) }
     {
@@ -50,7 +50,7 @@ impl Places {
         Ok(())
     }
 
-    /// Puts the places behind what `list` has.
+    /// Appends the places to `list`.
     pub fn push_to(&self, list: &mut Vec<u64>) -> Result<(), AllocError>
         ensures { OnOk result (list.new.items ≡ list.old.items ++ self.now) }
     {

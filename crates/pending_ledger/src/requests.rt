@@ -1,9 +1,9 @@
-//! Requests to be told of a death that still stand.
+//! Standing requests for death notifications.
 
 ghost use Rattle.std.specs.Prelude.{◌≡◌, IfOk};
 ghost use Rattle.pending_ledger.specs.Requests.{request_place};
 ghost use Rattle.pending_ledger.specs.Sums.{RequestsSums, GivesStanding, change_cookie};
-ghost use Rattle.summary_law.specs.Fits.{IsPlaced, placed_parts};
+ghost use Rattle.summary_law.specs.Fits.{IsPlaced, placed_halves};
 
 use crate::cookie::CookieRequests;
 use event_core::{RequestChange, RequestItem};
@@ -20,15 +20,15 @@ fn change_cookie(change: RequestChange) -> u64
     }
 }
 
-/// The requests of one process that still stand, found by cookie and then by handle.
+/// The standing requests of one process, found by cookie and then by handle.
 #[derive(Drop)]
 pub struct Requests {
     cookies: ByKey<u64, CookieRequests>,
 }
 
 impl Requests {
-    /// The places of the requests that no later clear of their handle and cookie and no later death
-    /// of their cookie ends, rising.
+    /// The places of the standing requests, rising: no later clear of their handle and cookie, and
+    /// no later death of their cookie, ends them.
     pub fn outstanding(&self) -> Result<Vec<u64>, AllocError>
         ensures { IfOk result (λ places. GivesStanding self.now places.items) }
     {
@@ -63,5 +63,5 @@ impl Summary for Requests {
         Ok(Requests { cookies })
     }
 
-    ghost fits_parts = { placed_parts request_place };
+    ghost fits_halves = { placed_halves request_place };
 }

@@ -3,14 +3,14 @@
 ghost use Rattle.std.specs.Prelude.{◌≡◌};
 ghost use Rattle.pending_ledger.specs.KeyEvents.{is_unmet, met_count};
 ghost use Rattle.pending_ledger.specs.Sums.{StraysSums};
-ghost use Rattle.summary_law.specs.Fits.{IsShort, short_parts};
+ghost use Rattle.summary_law.specs.Fits.{IsShort, short_halves};
 
 use crate::key_event::KeyEvent;
 use event_core::PendingChange;
 use std::alloc::{AllocError, Global};
 use summary_law::Summary;
 
-/// Whether a change is a close that does not come right behind an open.
+/// Whether a change is a close that does not come right after an open.
 fn is_unmet(before: Option<PendingChange>, change: PendingChange) -> bool
     ensures { result ≡ is_unmet before change }
 {
@@ -23,7 +23,8 @@ fn is_unmet(before: Option<PendingChange>, change: PendingChange) -> bool
     }
 }
 
-/// How many of the closes behind `before` meet it: one, where an open stands before a close.
+/// How many closes of a list are met by the change right before the list: one, if that is an open
+/// and the list begins with a close.
 fn met_count(before: Option<PendingChange>, after: Option<PendingChange>) -> usize
     ensures { result ≡ met_count before after }
 {
@@ -33,7 +34,7 @@ fn met_count(before: Option<PendingChange>, after: Option<PendingChange>) -> usi
     }
 }
 
-/// The closes of one key that do not come right behind an open.
+/// The closes of one key that do not come right after an open.
 #[derive(Drop)]
 pub struct Strays {
     /// Their places, in order.
@@ -69,8 +70,8 @@ impl Summary for Strays {
         Ok(())
     }
 
-    /// Where the earlier value ends with an open and the later one begins with a close, that close
-    /// is no stray.
+    /// If the earlier value ends with an open and the later one begins with a close, that close is
+    /// met and is not a stray.
     fn join(self, later: Strays) -> Result<Strays, AllocError> {
         let mut joined = self;
         let met = met_count(joined.last, later.first);
@@ -80,5 +81,5 @@ impl Summary for Strays {
         Ok(joined)
     }
 
-    ghost fits_parts = { short_parts };
+    ghost fits_halves = { short_halves };
 }

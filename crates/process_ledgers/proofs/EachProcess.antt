@@ -1,4 +1,4 @@
--- The ledgers of a process over the events that concern one are those of the process among all events.
+-- The ledgers over those events of a process that concern a ledger are the ledgers of the process among all events.
 use Rattle.std.proofs.Common.{◌≡◌, Bool, true, false, cond, List, [], ◌∷◌, map, Option, Some, None, refl, sym, ap, subst, ◌∙◌}
 use Rattle.std.specs.List.{filter_map, cons_option}
 use Rattle.std.specs.Map.{lookup}
@@ -68,7 +68,7 @@ none_else e is = by_kind e.kind refl is
     by_kind _ same is = rw same record { handles = refl; nodes = refl; buffers = refl; requests = refl; deaths = refl; clears = refl; oneway = refl }
 
 module _ {I : Type 0} (read : EventRead → Option I) (none : (e : EventRead) → concerns e.kind ≡ false → read e ≡ None) where
-  -- what is picked from the events under a process that concern a ledger is what is read from all events of the process
+  -- the items picked from those events of a process that concern a ledger are the items read from all its events
   own_items : (q : Process) (events : List Event)
       → filter_map (picked_by read) (items_of same_process q (filter_map concerned events)) ≡ items_of_process read q (map event_text events)
   own_items q [] = refl
@@ -98,7 +98,7 @@ module _ {I : Type 0} (read : EventRead → Option I) (none : (e : EventRead) �
       by_kind same true is = one same (same_process q (process_of text))
       by_kind same false is = same ∙ left_out (same_process q (process_of text)) (none text is)
 
--- the ledgers of the events under a process that concern one are those of the process
+-- the ledgers over those events of a process that concern a ledger are the ledgers of the process
 pub own_ledgers : (ledgers : ProcessLedgers) (q : Process) (events : List Event) → SumsProcess ledgers (items_of same_process q (filter_map concerned events))
     → AreLedgersOf ledgers (map event_text events) q
 own_ledgers ledgers q events sums = record {
@@ -115,7 +115,8 @@ part_sums : {S I : Type 0} (Sums : S → List I → Type 0) (none : S) (part : O
 part_sums Sums none None items sums is = subst (Sums none) (sym is) sums
 part_sums Sums none (Some part) items sums is = is.1
 
--- where the order is that of the processes of these frames, and the ledgers are those of their events, the processes are those of the frames
+-- if the order is that of the processes of these frames, and the ledgers are those of their events, these are the
+-- processes of the frames
 pub sums_each : (processes : Processes) (wholes : List (Placed WholeFrame)) (events : List Event) → map event_text events ≡ events_of_wholes wholes
     → SumsOrder processes.order.now.entries.entries wholes → SumsPicked concerned (SumsInOrder same_process SumsProcess) processes.own.now.entries.entries events
     → SumsProcess processes.none.now [] → SumsEach processes wholes

@@ -1,4 +1,4 @@
--- The item that a ledger reads from an event stands where the event does.
+-- The item that a ledger reads from an event has the place of the event.
 use Rattle.std.proofs.Common.{◌≡◌, ℕ, List, Option, Some, None, refl, sym, ap, ◌∙◌}
 use Rattle.std.specs.Option.{option_map, unwrap_or}
 use Rattle.binder_code.specs.declared.record_kind.Kind.{Kind}
@@ -6,7 +6,6 @@ use Rattle.binder_code.specs.declared.record_kind.Kind.TheVariants.{BcFreeBuffer
 use Rattle.event_core.specs.Buffers.{buffer_item, buffer_pending}
 use Rattle.event_core.specs.Clears.{clear_item}
 use Rattle.event_core.specs.Deaths.{death_change}
-use Rattle.event_core.specs.Events.{EventRead}
 use Rattle.event_core.specs.Requests.{request_change}
 use Rattle.event_core.specs.declared.buffer.BufferItem.{BufferItem}
 use Rattle.event_core.specs.declared.pending.PendingItem.{PendingItem}

@@ -47,16 +47,16 @@ by_derived : (tally : Tally OnewayKey) (items : List OnewayItem) → TallySums o
     → TallySums key_cmp tally (map oneway_pair items)
 by_derived tally items = subst (λ (cmp : OnewayKey → OnewayKey → Ordering). TallySums cmp tally (map oneway_pair items)) (sym order_is)
 
--- what the derived order says of two lists of items, one behind the other, is so by the order of the section
+-- a tally of two joined lists of items, by the derived order, is one by the order of the section
 pub by_said : (tally : Tally OnewayKey) (first second : List OnewayItem) → TallySums key_cmp tally (map oneway_pair first ++ map oneway_pair second)
     → TallySums oneway_cmp tally (map oneway_pair (first ++ second))
 by_said tally first second sums =
     subst (TallySums oneway_cmp tally) (sym (map-append oneway_pair first second))
     (subst (λ (cmp : OnewayKey → OnewayKey → Ordering). TallySums cmp tally (map oneway_pair first ++ map oneway_pair second)) order_is sums)
 
--- ---- items more
+-- ---- more items
 
--- the pairs of two lists can be summarised one behind the other
+-- the pairs of two joined lists can be summarised
 weighted_both : (first second : List OnewayItem) → IsShort (first ++ second) → All HasSmallSize first → All HasSmallSize second
     → AreWeighted (map oneway_pair first ++ map oneway_pair second)
 weighted_both first second short small more =

@@ -32,6 +32,6 @@ concerns BrDeadBinder = true
 concerns BrClearDeathNotificationDone = true
 concerns _ = false
 
--- an event that concerns a ledger, under its process
+-- the event under its process, if its kind concerns a ledger
 abbrev pub concerned : Event → Option (Process × Event)
 concerned event = if concerns event.kind then Some (process_of (event_text event), event) else None

@@ -1,4 +1,4 @@
--- What the ledgers of a process come to in the end.
+-- The ledgers of each process of a capture, by its events.
 use Rattle.std.specs.Prelude.{◌≡◌, List, map, ⊤}
 use Rattle.std.specs.Map.{lookup, keys_of}
 use Rattle.std.specs.Option.{unwrap_or}
@@ -19,7 +19,8 @@ use Rattle.process_ledgers.specs.Items.{buffer_item_of, clear_item_of, death_ite
 use Rattle.process_ledgers.specs.OnewayLedger.{OnewayLedgerSums}
 use Rattle.process_ledgers.specs.Processes.{items_of_process, process_of_whole, processes_of}
 
--- the ledgers are those of this process among these events
+-- the ledgers are those of this process among these events: each sums the items that it reads from the events of the
+-- process
 pub record AreLedgersOf (ledgers : ProcessLedgers) (events : List EventRead) (process : Process) : Type 0 where
   pub handles : HandleLedgerSums ledgers.handles.own (items_of_process handle_item_of process events)
   pub nodes : NodeLedgerSums ledgers.nodes.own (items_of_process node_item_of process events)
@@ -29,7 +30,7 @@ pub record AreLedgersOf (ledgers : ProcessLedgers) (events : List EventRead) (pr
   pub clears : PendingSums nat_cmp ledgers.clears.own (items_of_process clear_item_of process events)
   pub oneway : OnewayLedgerSums ledgers.oneway.own (items_of_process oneway_item_of process events)
 
--- the ledgers of this process: those of no event where it has none
+-- the ledgers of this process, or those of no event if it has none
 abbrev pub ledgers_in : Processes → Process → ProcessLedgers
 ledgers_in processes process = unwrap_or (lookup (same_process process) processes.own.now.entries.entries) processes.none.now
 
@@ -37,7 +38,7 @@ ledgers_in processes process = unwrap_or (lookup (same_process process) processe
 abbrev pub SumsOrder : List (Process × Nothing) → List (Placed WholeFrame) → Type 0
 SumsOrder entries wholes = SumsInOrder same_process (λ (v : Nothing) (items : List ⊤). ⊤) entries (map (λ w. (process_of_whole w, tt)) wholes)
 
--- they are the processes of these frames, in the order of their first frames, each with its ledgers
+-- these are the processes of these frames, in the order of their first frames, each with its ledgers
 pub record SumsEach (processes : Processes) (wholes : List (Placed WholeFrame)) : Type 0 where
   pub order : keys_of processes.order.now.entries.entries ≡ processes_of wholes
   pub each : (process : Process) → AreLedgersOf (ledgers_in processes process) (events_of_wholes wholes) process

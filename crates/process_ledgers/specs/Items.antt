@@ -1,4 +1,4 @@
--- What an event is to each ledger of its process (docs/REPORT.md): the item that it gives it, if any.
+-- The item that an event is to each ledger of its process, if any (docs/REPORT.md).
 use Rattle.std.specs.Prelude.{◌≡◌, ℕ, Option, Some}
 use Rattle.std.specs.Option.{option_map}
 use Rattle.event_core.specs.Buffers.{buffer_item, buffer_pending}
@@ -16,38 +16,38 @@ use Rattle.event_core.specs.declared.oneway.OnewayItem.{OnewayItem}
 use Rattle.event_core.specs.declared.pending.PendingItem.{PendingItem}
 use Rattle.event_core.specs.declared.request.RequestItem.{RequestItem}
 
--- the change of a handle's counts
+-- the change of a handle's counts that an event is
 abbrev pub handle_item_of : EventRead → Option HandleItem
 handle_item_of e = handle_item e.kind e.payload
 
--- the change of a node's counts
+-- the change of a node's counts, and of what is due, that an event is
 abbrev pub node_item_of : EventRead → Option NodeItem
 node_item_of e = node_item e.kind e.payload
 
--- the delivery or the free
+-- the delivery or the free that an event is
 abbrev pub buffer_item_of : EventRead → Option BufferItem
 buffer_item_of e = buffer_item e.place e.kind e.payload
 
--- a delivery opens its address, and a free closes it
+-- the delivery as an open of its address, or the free as a close of it
 abbrev pub buffer_pending_of : EventRead → Option (PendingItem ℕ)
 buffer_pending_of e = option_map buffer_pending (buffer_item_of e)
 
--- what it does to the requests
+-- the request, the clear or the death that an event is
 abbrev pub request_item_of : EventRead → Option RequestItem
 request_item_of e = request_item e.place e.kind e.payload
 
--- the death or the acknowledgement
+-- the death or the acknowledgement that an event is
 abbrev pub death_item_of : EventRead → Option (PendingItem ℕ)
 death_item_of e = death_item e.place e.kind e.payload
 
--- the clear or the confirmation
+-- the clear or the confirmation that an event is
 abbrev pub clear_item_of : EventRead → Option (PendingItem ℕ)
 clear_item_of e = clear_item e.place e.kind e.payload
 
--- the oneway transaction
+-- the oneway transaction, sent or received, that an event is
 abbrev pub oneway_item_of : EventRead → Option OnewayItem
 oneway_item_of e = oneway_item e.kind e.payload
 
--- the item that is read from an event has the place of the event
+-- each item that is read from an event has the place of the event
 abbrev pub KeepsPlace : {I : Type 0} → (I → ℕ) → (EventRead → Option I) → Type 0
 KeepsPlace {I} place read = (e : EventRead) (i : I) → read e ≡ Some i → place i ≡ e.place

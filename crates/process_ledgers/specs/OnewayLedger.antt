@@ -1,4 +1,4 @@
--- What the ledger of a process's oneway transactions comes to while it is made.
+-- The ledger of the oneway transactions of a process (docs/REPORT.md).
 use Rattle.std.specs.Prelude.{◌≡◌, ℕ, ◌<◌, ◌^◌, List, map, All}
 use Rattle.event_core.specs.declared.oneway.OnewayItem.{OnewayItem}
 use Rattle.event_core.specs.declared.oneway.OnewayKey.{OnewayKey}
@@ -9,7 +9,7 @@ use Rattle.std.specs.declared.cmp.Ordering.TheVariants.{Less, Equal, Greater}
 use Rattle.summary_law.specs.Tally.{TallySums, tally_rows}
 use Rattle.process_ledgers.specs.declared.oneway_ledger.OnewayLedger.{OnewayLedger}
 
--- sends are ordered by their handles, and what is received comes behind them
+-- sends are ordered by handle, and what is received comes after them
 abbrev pub oneway_cmp : OnewayKey → OnewayKey → Ordering
 oneway_cmp (Sent handle) (Sent other) = nat_cmp handle other
 oneway_cmp (Sent handle) Received = Less
@@ -24,12 +24,12 @@ oneway_pair item = (item.key, item.data_size)
 abbrev pub HasSmallSize : OnewayItem → Type 0
 HasSmallSize item = item.data_size < 2 ^ 64
 
--- the tally is that of these items, whose sizes are small
+-- the ledger has the tally of these items, whose data sizes are numbers of 64 bits
 pub record OnewayLedgerSums (ledger : OnewayLedger) (items : List OnewayItem) : Type 0 where
   pub tally : TallySums oneway_cmp ledger.tally (map oneway_pair items)
   pub small : All HasSmallSize items
 
--- the rows of whatever items the ledger sums
+-- for whatever items the ledger sums, these are the rows
 abbrev pub GivesTallyRows : OnewayLedger → List (OnewayKey × ℕ × ℕ) → Type 0
 GivesTallyRows ledger rows =
     (items : List OnewayItem) → OnewayLedgerSums ledger items → rows ≡ tally_rows oneway_cmp (map oneway_pair items)

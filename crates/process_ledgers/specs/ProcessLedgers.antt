@@ -1,4 +1,4 @@
--- What the ledgers of a process come to over its events.
+-- The ledgers of one process, by its events.
 use Rattle.std.specs.Prelude.{ℕ, List, Option}
 use Rattle.std.specs.Ordering.{nat_cmp}
 use Rattle.event_core.specs.Events.{EventRead}
@@ -13,19 +13,19 @@ use Rattle.process_ledgers.specs.declared.process_ledgers.ProcessLedgers.{Proces
 use Rattle.process_ledgers.specs.Items.{buffer_item_of, clear_item_of, death_item_of, handle_item_of, node_item_of, oneway_item_of, request_item_of}
 use Rattle.process_ledgers.specs.OnewayLedger.{OnewayLedgerSums}
 
--- where an event begins
+-- the place of an event
 abbrev pub event_place : Event → ℕ
 event_place event = event.place
 
--- few events, whose places rise
+-- at most 2^32 events, whose places rise
 abbrev pub ArePlaced : List Event → Type 0
 ArePlaced events = IsPlaced event_place events
 
--- what is picked from an event of the capture
+-- the item that is picked from an event of the capture, by what a ledger reads of it
 abbrev pub picked_by : {I : Type 0} → (EventRead → Option I) → Event → Option I
 picked_by read event = read (event_text event)
 
--- each ledger is that of what it picks from these events
+-- each ledger sums the items that it picks from these events
 pub record SumsProcess (ledgers : ProcessLedgers) (events : List Event) : Type 0 where
   pub handles : SumsPicked (picked_by handle_item_of) HandleLedgerSums ledgers.handles.own events
   pub nodes : SumsPicked (picked_by node_item_of) NodeLedgerSums ledgers.nodes.own events

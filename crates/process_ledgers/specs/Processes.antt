@@ -1,4 +1,4 @@
--- The processes of a capture, and what each of them does (docs/REPORT.md).
+-- The processes of a capture, and the events of each of them (docs/REPORT.md).
 use Rattle.std.specs.Prelude.{List, map, Option}
 use Rattle.std.specs.List.{filter_map}
 use Rattle.capture_frame.specs.declared.process.Process.{Process}
@@ -21,6 +21,6 @@ processes_of wholes = firsts same_process (map process_of_whole wholes)
 abbrev pub events_in : Process → List EventRead → List EventRead
 events_in process events = with_key same_process process_of process events
 
--- what is read from the events of this process, in their order
+-- the items that are read from the events of this process, in their order
 abbrev pub items_of_process : {I : Type 0} → (EventRead → Option I) → Process → List EventRead → List I
 items_of_process read process events = filter_map read (events_in process events)

@@ -5,8 +5,8 @@ ghost use Rattle.process_ledgers.specs.Concerns.{concerns};
 
 use binder_code::Kind;
 
-/// Whether records of the kind can be items of some ledger of their process. A record of
-/// another kind is passed by one look, and not by one of each ledger.
+/// Whether records of the kind can be items of some ledger of their process. Most events concern no
+/// ledger, and one look at the kind passes all seven.
 pub fn concerns(kind: Kind) -> bool
     ensures { result ≡ concerns kind }
 {

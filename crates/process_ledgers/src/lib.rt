@@ -1,4 +1,4 @@
-//! What each process of a capture comes to: what its ledgers pick from its events, and the ledgers.
+//! The ledgers of each process of a capture, and what they pick from its events.
 #![tactic(auto)]
 
 mod concerned;

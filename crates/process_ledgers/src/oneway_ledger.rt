@@ -1,7 +1,7 @@
 //! The oneway transactions of one process.
 
 ghost use Rattle.std.specs.Prelude.{IfOk};
-ghost use Rattle.summary_law.specs.Fits.{IsShort, short_parts};
+ghost use Rattle.summary_law.specs.Fits.{IsShort, short_halves};
 ghost use Rattle.process_ledgers.specs.OnewayLedger.{OnewayLedgerSums, GivesTallyRows};
 
 use event_core::{OnewayItem, OnewayKey};
@@ -16,8 +16,8 @@ pub struct OnewayLedger {
 }
 
 impl OnewayLedger {
-    /// The count and the sum of sizes of each handle that is sent to, handles rising, and then of
-    /// what is received.
+    /// The count and the sum of the data sizes of each handle that is sent to, handles rising, and
+    /// then of what is received.
     pub fn rows(&self) -> Result<Vec<(OnewayKey, u64, u128)>, AllocError>
         ensures { IfOk result (λ rows. GivesTallyRows self.now rows.items) }
     {
@@ -47,5 +47,5 @@ impl Summary for OnewayLedger {
         Ok(OnewayLedger { tally })
     }
 
-    ghost fits_parts = { short_parts };
+    ghost fits_halves = { short_halves };
 }

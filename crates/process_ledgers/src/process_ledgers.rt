@@ -1,7 +1,7 @@
-//! What the events of one process come to.
+//! All ledgers of one process.
 
 ghost use Rattle.event_core.specs.Reading.{event_text};
-ghost use Rattle.summary_law.specs.Fits.{placed_parts};
+ghost use Rattle.summary_law.specs.Fits.{placed_halves};
 ghost use Rattle.process_ledgers.specs.ProcessLedgers.{SumsProcess, ArePlaced, event_place};
 
 use crate::oneway_ledger::OnewayLedger;
@@ -14,7 +14,8 @@ use pending_ledger::{Buffers, Clears, Deaths, Requests};
 use std::alloc::{AllocError, Global};
 use summary_law::{Fed, Summary};
 
-/// The ledgers of one process.
+/// The ledgers of one process. The caller feeds them events of that process only. Rows and places
+/// come from the calls of each ledger.
 #[derive(Drop)]
 pub struct ProcessLedgers<'c> {
     pub handles: Fed<HandleItems<'c>, HandleLedger>,
@@ -75,5 +76,5 @@ impl<'c> Summary for ProcessLedgers<'c> {
         })
     }
 
-    ghost fits_parts = { placed_parts event_place };
+    ghost fits_halves = { placed_halves event_place };
 }

@@ -6,21 +6,22 @@ use crate::process_ledgers::ProcessLedgers;
 use capture_frame::Process;
 use summary_law::{InOrder, Nothing};
 
-/// The processes of some frames in the order of their first frames, and the ledgers of those with an
-/// event that concerns one.
+/// The processes of some frames in the order of their first frames, and the ledgers of those with
+/// an event that concerns a ledger.
 #[derive(Clone, Copy)]
 pub struct Processes<'a, 'c> {
     pub order: &'a InOrder<Process, Nothing>,
     pub own: &'a InOrder<Process, ProcessLedgers<'c>>,
-    /// The ledgers of no event, which stand for those of every other process.
+    /// The ledgers of no event, which every other process has.
     pub none: &'a ProcessLedgers<'c>,
 }
 
 impl<'a, 'c> Processes<'a, 'c> {
     ghost use Rattle.process_ledgers.specs.EachProcess.{ledgers_in};
 
-    /// The ledgers of the process. For processes in their order, each with the guess that the call
-    /// before left and the first with 0, mostly nothing is looked up.
+    /// The ledgers of the process. Mostly nothing is looked up, if the processes are asked for in
+    /// their order, the first with the guess 0 and each later one with the guess that the call
+    /// before left.
     pub fn ledgers(self, process: Process, guess: &mut usize) -> &'a ProcessLedgers<'c>
         ensures { result.now ≡ ledgers_in self.entry process }
     {

@@ -1,13 +1,13 @@
-//! Captures built of what stands in their headers.
+//! Captures built from the fields of their headers.
 
 use std::alloc::{AllocError, Global};
 
 /// A frame of process 100 and thread 101 with a `BC_ENTER_LOOPER`, 36 bytes in all: its sequence,
-/// the word that has its direction and the zero bytes behind that, and the word at 28, which is the
-/// device in version 2.
+/// the word of its direction and the three reserved bytes after that, and the word at 28, which is
+/// the device in version 2.
 pub(crate) type Shape = (u64, u32, u32);
 
-/// A capture, or a part of one: the last byte of its magic, and its frames.
+/// A capture, or one part of it: the last byte of its magic, and its frames.
 pub(crate) type Shapes<'s> = (u8, &'s [Shape]);
 
 /// The word of a write.

@@ -1,11 +1,11 @@
-//! Code words that the header's macros make, and their neighbours.
+//! Code words that the header's macros make, and words next to them.
 
 use crate::expect::{holds, same};
 use binder_code::{Code, CodeFault, Kind, Protocol, TransactionFlags, kind, laws, unknown_bits};
 use bitflags::Flags;
 use std::process::Abort;
 
-/// A word of each shape that is listed, and words beside them.
+/// A code word of each shape that is listed, and words next to them.
 const ROWS: &[(Protocol, u32, Result<Kind, CodeFault>)] = &[
     (Protocol::Command, 0x4040_6300, Ok(Kind::BcTransaction)),
     (Protocol::Command, 0x4004_6305, Ok(Kind::BcAcquire)),

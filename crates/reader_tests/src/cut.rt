@@ -68,7 +68,7 @@ fn expect_frame(rt: &impl Abort, frame: Frame<'_>, place: u64, sequence: u64) {
     expect_bytes(rt, frame.commands, b"\x0c\x63\0\0");
 }
 
-/// So many frames, each behind the one before it.
+/// There are `count` frames, one directly after another.
 fn expect_frames(rt: &impl Abort, frames: &[Frame<'_>], count: usize) {
     same(rt, frames.len(), count);
     let mut place = 16u64;

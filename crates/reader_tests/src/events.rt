@@ -64,7 +64,7 @@ const STARTS: &[Start] = &[
     },
 ];
 
-/// The process and the thread of them all.
+/// The process and the thread of all these events.
 const PROCESS: Process = Process {
     device: DEVICE,
     number: 2,
@@ -90,7 +90,8 @@ fn events_of(capture: &[u8]) -> Result<Events<'_>, Fail> {
     Ok(Events::of(frame))
 }
 
-/// The event of a capture's first frame at a place; where there is one, the bare one says the same.
+/// The event of a frame at a place; if there is one, the event without its attachment says the
+/// same.
 fn expect_at(rt: &impl Abort, frame: Frame<'_>, place: u64) {
     if check_frame(frame).is_some() {
         return;

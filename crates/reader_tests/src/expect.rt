@@ -1,11 +1,12 @@
-//! What a test expects, said by a call: it has no branch where it is said, which is cheap to prove.
+//! What a test expects, said by calls. A chain of `assert!`s has a branch for each and is costly to
+//! prove; a call has no branch in the test.
 
 ghost use Rattle.std.specs.Prelude.{IsTrue};
 
 use std::fmt::Debug;
 use std::process::Abort;
 
-/// The two are the same. Where not, the test ends, and says at which place.
+/// The two are the same. Otherwise the test ends and says at which place.
 pub(crate) fn same_at<T: PartialEq + Debug + Copy>(
     rt: &impl Abort,
     place: u64,

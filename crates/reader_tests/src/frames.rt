@@ -43,7 +43,7 @@ const BEFORE: &[u8] = b"BNDRCAP1\x08\0\0\0\0\0\0\0\
 const READ: &[u8] = b"\x08\x07\x06\x05\x04\x03\x02\x01\x0c\x0b\x0a\x09\x10\x0f\x0e\x0d\
     \x02\0\0\0\x08\0\0\0\x03\0\0\0\0\0\0\0commandsend";
 
-/// What stands behind the first frame. The first of each kind has a fault of every later kind too.
+/// What follows the first frame. The first row of each kind has a fault of every later kind too.
 const ROWS: &[(&[u8], FaultKind)] = &[
     (b"\0", FaultKind::FrameShort),
     (
@@ -70,7 +70,7 @@ const ROWS: &[(&[u8], FaultKind)] = &[
         b"\x08\0\0\0\0\0\0\0\0\0\0\0\0\0\0\0\x02\0\0\0\x01\0\0\0\0\0\0\0\0\0\0\0",
         FaultKind::FrameLength,
     ),
-    // The lengths' sum is 2^32, which 32 bits would take as 0.
+    // The sum of the lengths is 2^32, which is 0 in 32 bits.
     (
         b"\x08\0\0\0\0\0\0\0\0\0\0\0\0\0\0\0\x02\0\0\0\xff\xff\xff\xff\x01\0\0\0\0\0\0\0",
         FaultKind::FrameLength,
@@ -84,10 +84,10 @@ fn capture_with(alloc: Global, rest: &[u8]) -> Result<Vec<u8>, AllocError> {
     Ok(capture)
 }
 
-/// What is added to places where a capture is read as a part.
+/// What is added to places when a capture is read as a part.
 const BASE: u64 = 0xffff_ffff_0000_0000;
 
-/// The place of a fault of the file header stays that in the part.
+/// A fault of the file header keeps its place in the part.
 fn expect_header_fault(rt: &impl Abort, (capture, kind, place): (&[u8], FaultKind, u64)) {
     holds(rt, capture.len() < 4096);
     let fault = Some(Fault { kind, place });
@@ -96,11 +96,7 @@ fn expect_header_fault(rt: &impl Abort, (capture, kind, place): (&[u8], FaultKin
 }
 
 /// The reader gives the first frame, and then the fault at each call.
-fn expect_fault_behind(
-    rt: &impl Abort,
-    reader: &mut Frames<'_>,
-    fault: Fault,
-) -> Result<(), Fault> {
+fn expect_fault_after(rt: &impl Abort, reader: &mut Frames<'_>, fault: Fault) -> Result<(), Fault> {
     holds(rt, reader.next_frame()?.is_some());
     for _ in 0..2 {
         same(rt, reader.next_frame().err(), Some(fault));
@@ -108,7 +104,7 @@ fn expect_fault_behind(
     Ok(())
 }
 
-/// The fault stands behind the first frame, also where the capture is read as a part.
+/// The fault comes after the first frame, also when the capture is read as a part.
 fn expect_fault(
     rt: &impl Abort,
     alloc: Global,
@@ -117,10 +113,10 @@ fn expect_fault(
     let capture = capture_with(alloc, rest)?;
     holds(rt, capture.len() < 4096);
     let mut reader = Frames::new(capture.as_slice())?;
-    expect_fault_behind(rt, &mut reader, Fault { kind, place: 52 })?;
+    expect_fault_after(rt, &mut reader, Fault { kind, place: 52 })?;
     let mut reader = Frames::after(capture.as_slice(), BASE, Some(6))?;
     let place = BASE + 52;
-    expect_fault_behind(rt, &mut reader, Fault { kind, place })?;
+    expect_fault_after(rt, &mut reader, Fault { kind, place })?;
     Ok(())
 }
 
@@ -173,7 +169,7 @@ fn expect_end(rt: &impl Abort, reader: &mut Frames<'_>) -> Result<(), Fault> {
     Ok(())
 }
 
-/// The next frame, so that what its call promises is not held by a test.
+/// The next frame, by a call of its own, so that a test does not carry what `next_frame` promises.
 fn next<'c>(reader: &mut Frames<'c>) -> Result<Frame<'c>, Fail> {
     Ok(reader.next_frame()?.ok_or("a frame is missing")?)
 }

@@ -5,7 +5,7 @@ use object_view::{BadObject, Cause, Object, Objects, Sort, held_step};
 use std::process::Abort;
 use transaction_view::Entry;
 
-/// One object of each sort; behind the four bytes that name it stand 0xa0, 0xa1 and so on.
+/// One object of each sort: the four bytes that name the sort, then 0xa0, 0xa1 and so on.
 const BINDER: &[u8] = b"\x85\x2a\x62\x73\
     \xa0\xa1\xa2\xa3\xa4\xa5\xa6\xa7\xa8\xa9\xaa\xab\xac\xad\xae\xaf\xb0\xb1\xb2\xb3";
 
@@ -39,8 +39,8 @@ const SORTS: &[(&[u8], Sort)] = &[
     (PTR, Sort::Ptr),
 ];
 
-/// The four bytes that name a HANDLE, at each multiple of 4 up to 48: an object stands at each that
-/// lets it fit.
+/// The four bytes that name a HANDLE, at each multiple of 4 up to 48: an object begins wherever one
+/// fits.
 const HANDLES: &[u8] = b"\x85\x2a\x68\x73\x85\x2a\x68\x73\x85\x2a\x68\x73\x85\x2a\x68\x73\
     \x85\x2a\x68\x73\x85\x2a\x68\x73\x85\x2a\x68\x73\x85\x2a\x68\x73\
     \x85\x2a\x68\x73\x85\x2a\x68\x73\x85\x2a\x68\x73\x85\x2a\x68\x73";
@@ -49,7 +49,7 @@ const HANDLES: &[u8] = b"\x85\x2a\x68\x73\x85\x2a\x68\x73\x85\x2a\x68\x73\x85\x2
 const FIRST: &[u8] = b"\0\0\0\0\0\0\0\0";
 
 /// Data and a list of offsets; how many good objects they have, and the cause and the offset of a
-/// bad one behind them.
+/// bad one after them.
 type Row = (&'static [u8], &'static [u8], u64, Option<(Cause, u64)>);
 
 const ROWS: &[Row] = &[
@@ -57,7 +57,7 @@ const ROWS: &[Row] = &[
     (HANDLES, b"", 0, None),
     (HANDLES, b"\0\0\0\0\0\0\0\0\x18\0\0\0\0\0\0\0", 2, None),
     (HANDLES, b"\x04\0\0\0\0\0\0\0", 1, None),
-    // Between the multiples of four, also where the data does not reach.
+    // Offsets between the multiples of four, also past the end of the data.
     (
         HANDLES,
         b"\x02\0\0\0\0\0\0\0",
@@ -70,7 +70,7 @@ const ROWS: &[Row] = &[
         1,
         Some((Cause::Misaligned, u64::MAX)),
     ),
-    // In the object before, with a good offset behind; and at a multiple of four or not.
+    // Offsets in the object before, at a multiple of four and not; one with a good offset after it.
     (
         HANDLES,
         b"\0\0\0\0\0\0\0\0\x14\0\0\0\0\0\0\0\x18\0\0\0\0\0\0\0",
@@ -111,7 +111,7 @@ const ROWS: &[Row] = &[
     ),
     (b"\0\0\0", FIRST, 0, Some((Cause::Short, 0))),
     (b"\x85\x2a\x74\x70", FIRST, 0, Some((Cause::Short, 0))),
-    // Of no sort, whether the data ends behind it or not.
+    // Of no sort, whether or not the data ends there.
     (b"\0\0\0\0", FIRST, 0, Some((Cause::UnknownSort, 0))),
     (b"\x73\x68\x2a\x85", FIRST, 0, Some((Cause::UnknownSort, 0))),
     (
@@ -122,7 +122,8 @@ const ROWS: &[Row] = &[
     ),
 ];
 
-/// Lists whose length is no multiple of 8: it is judged before the first object, be it good or bad.
+/// Lists whose length is not a multiple of 8. The length is looked at before the first object, good
+/// or bad.
 const NO_LISTS: &[&[u8]] = &[
     b"\0",
     b"\0\0\0\0\0\0\0",
@@ -140,8 +141,7 @@ fn reader_of<'c>(rt: &impl Abort, body: &'c [u8], offsets: &'c [u8]) -> Objects<
     })
 }
 
-/// The reader gives so many objects, then the bad one if there is one, and then nothing at each
-/// call.
+/// The reader gives `good` objects, then the bad one if there is one, and then `None` at each call.
 fn expect(rt: &impl Abort, body: &[u8], offsets: &[u8], good: u64, bad: Option<BadObject>) {
     let mut reader = reader_of(rt, body, offsets);
     for _ in 0..good {
@@ -173,7 +173,7 @@ fn expect_no_list(rt: &impl Abort, offsets: &[u8]) {
     expect(rt, HANDLES, offsets, 0, Some(bad));
 }
 
-/// The object at the front of the data, whose reader is gone.
+/// The object at the start of the data; its reader is gone.
 fn first_object<'c>(rt: &impl Abort, body: &'c [u8]) -> Object<'c> {
     let mut reader = reader_of(rt, body, FIRST);
     let object = reader.next_object().and_then(Result::ok);

@@ -1,4 +1,5 @@
-//! Captures in parts: where frames and the faults of headers stand, and that the sequence goes on.
+//! Captures in parts: the places of frames and of faults in headers, and sequences from part to
+//! part.
 
 use crate::build::{Shapes, WRITE, built};
 use crate::expect::{holds, same};
@@ -7,13 +8,13 @@ use std::alloc::{AllocError, Global};
 use std::process::Abort;
 use std::test::Fail;
 
-// ---- one part behind others
+// ---- one part after others
 
 /// What is added to places, the sequence before, and whether a part whose first frame has the
-/// sequence 7 may stand there.
-type Behind = (u64, Option<u64>, bool);
+/// sequence 7 may come next.
+type After = (u64, Option<u64>, bool);
 
-const BEHIND: &[Behind] = &[
+const BEHIND: &[After] = &[
     (0, None, true),
     (1000, None, true),
     (1000, Some(0), true),
@@ -36,11 +37,11 @@ fn expect_next(
     Ok(())
 }
 
-/// The reader gives the frames 7 and 9 and their end, or at each call the fault of the first.
-fn expect_behind(rt: &impl Abort, part: &[u8], (base, before, stands): Behind) -> Result<(), Fail> {
+/// The reader gives the frames 7 and 9 and then its end; or, at each call, the fault of the first.
+fn expect_after(rt: &impl Abort, part: &[u8], (base, before, is_at): After) -> Result<(), Fail> {
     holds(rt, part.len() < 4096 && base < 0xffff_ffff_ffff_0000);
     let mut reader = Frames::after(part, base, before)?;
-    if stands {
+    if is_at {
         expect_next(rt, &mut reader, base + 16, 7)?;
         expect_next(rt, &mut reader, base + 52, 9)?;
         holds(rt, reader.next_frame()?.is_none());
@@ -55,10 +56,10 @@ fn expect_behind(rt: &impl Abort, part: &[u8], (base, before, stands): Behind) -
 }
 
 #[test]
-fn reads_a_part_behind_others(rt: HostRuntime) -> Result<(), Fail> {
+fn reads_a_part_after_others(rt: HostRuntime) -> Result<(), Fail> {
     let part = built(rt.alloc(), (b'2', &[(7, WRITE, 3), (9, WRITE, 4)]))?;
     for row in BEHIND {
-        expect_behind(&rt, part.as_slice(), *row)?;
+        expect_after(&rt, part.as_slice(), *row)?;
     }
     Ok(())
 }
@@ -82,7 +83,7 @@ struct Row {
 }
 
 const ROWS: &[Row] = &[
-    // Frames in each, of both versions.
+    // Frames in each part, of both versions.
     Row {
         parts: &[
             (b'1', &[(1, WRITE, 0), (2, WRITE, 0)]),
@@ -98,7 +99,7 @@ const ROWS: &[Row] = &[
         ],
         fault: None,
     },
-    // Empty ones: in the middle, at the ends, all.
+    // Empty parts: in the middle, at the ends, all.
     Row {
         parts: &[
             (b'2', &[(0, WRITE, 1)]),
@@ -122,7 +123,7 @@ const ROWS: &[Row] = &[
         frames: &[],
         fault: None,
     },
-    // A fault in the second part, with one in the third and without, behind one frame and none.
+    // A fault in the second part, with one in the third part and without, after one frame and none.
     Row {
         parts: &[
             (b'1', &[(1, WRITE, 0)]),
@@ -141,7 +142,7 @@ const ROWS: &[Row] = &[
         frames: &[(16, 1, 0)],
         fault: Some((2, FaultKind::FrameReserved, 16)),
     },
-    // In the first, and in the third.
+    // A fault in the first part, and in the third.
     Row {
         parts: &[(b'0', &[]), (b'3', &[]), (b'2', &[])],
         frames: &[],
@@ -156,7 +157,7 @@ const ROWS: &[Row] = &[
         frames: &[(16, 1, 0), (52, 2, 1)],
         fault: Some((3, FaultKind::HeaderMagic, 0)),
     },
-    // One sequence for all parts and devices: equal and lower ones, also behind an empty part.
+    // Sequences go on over all parts and devices: equal and lower ones, also after an empty part.
     Row {
         parts: &[
             (b'2', &[(5, WRITE, 1)]),
@@ -187,7 +188,7 @@ fn expect_frames(rt: &impl Abort, frames: &FrameSlice<'_, '_>, wanted: &[(u64, u
     }
 }
 
-/// What is given of these parts is the row's.
+/// These parts give what the row says.
 fn expect_given(rt: &impl Abort, alloc: Global, parts: &[&[u8]; 3], row: Row) -> Result<(), Fail> {
     let [first, second, third] = *parts;
     holds(

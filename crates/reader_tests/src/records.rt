@@ -7,8 +7,8 @@ use record_view::{Record, Records};
 use std::process::Abort;
 use std::test::Fail;
 
-/// `BC_ACQUIRE` of the handle 5, `BC_ENTER_LOOPER`, and a command whose number, 255, the header
-/// does not list.
+/// `BC_ACQUIRE` of handle 5, `BC_ENTER_LOOPER`, and a command whose number, 255, the header does
+/// not list.
 const COMMANDS: &[u8] = b"\x05\x63\x04\x40\x05\0\0\0\x0c\x63\0\0\xff\x63\x03\x40end";
 
 const PLACES: &[(u64, Kind, u32, &[u8])] = &[
@@ -17,9 +17,9 @@ const PLACES: &[(u64, Kind, u32, &[u8])] = &[
     (144, Kind::Opaque, 0x4003_63ff, b"end"),
 ];
 
-/// Command bytes, how many good records they begin with, and the fault behind them.
+/// Command bytes, how many good records they begin with, and the fault after them.
 const ROWS: &[(&[u8], u64, FaultKind)] = &[
-    // A code that is cut, whatever it could become.
+    // A code word that is cut, whatever it could become.
     (b"\x0c", 0, FaultKind::RecordShort),
     (b"\x0c\x63\0\0\x0c\x72\x04", 1, FaultKind::RecordShort),
     // Another protocol's letter, direction bits that do not go with the size, and both of them with
@@ -35,7 +35,7 @@ const ROWS: &[(&[u8], u64, FaultKind)] = &[
         1,
         FaultKind::RecordDirection,
     ),
-    // A size that is not listed, with the bytes that it tells of and without them.
+    // A size that is not listed, with as many payload bytes as it says and without them.
     (
         b"\x0c\x63\x04\x40\0\0\0\0\x0c\x63\0\0",
         0,

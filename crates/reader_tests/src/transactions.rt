@@ -19,8 +19,8 @@ const NUMBERED: &[u8] = b"\x11\x63\x48\x40\
     \xb0\xb1\xb2\xb3\xb4\xb5\xb6\xb7\xb8\xb9\xba\xbb\xbc\xbd\xbe\xbf\
     \xc0\xc1\xc2\xc3\xc4\xc5\xc6\xc7";
 
-/// Two transactions of four body bytes and eight offset bytes, at 0 and 76, and behind each a
-/// record that is none: 152 bytes.
+/// Two transactions of four body bytes and eight offset bytes, at 0 and 76, each followed by a
+/// record that carries no transaction: 152 bytes.
 const TRANSACTIONS: &[u8] = b"\
     \0\x63\x40\x40\0\0\0\0\0\0\0\0\0\0\0\0\0\0\0\0\0\0\0\0\0\0\0\0\0\0\0\0\0\0\0\0\
     \x04\0\0\0\0\0\0\0\x08\0\0\0\0\0\0\0\0\0\0\0\0\0\0\0\0\0\0\0\0\0\0\0\
@@ -94,12 +94,11 @@ fn tells_transactions_from_others(rt: HostRuntime) {
 const ENTRIES: &[u8] = b"\0\0\0\0\x04\0\0\0\x08\0\0\0body\0\0\0\0\0\0\0\0\
     \x4c\0\0\0\x04\0\0\0\x08\0\0\0text\x01\0\0\0\0\0\0\0";
 
-/// Commands and attachments, how many good entries of 24 bytes there are, and the fault behind
-/// them.
+/// Commands and attachments, how many good entries of 24 bytes there are, and the fault after them.
 type Row = (&'static [u8], &'static [u8], u64, FaultKind);
 
 const ROWS: &[Row] = &[
-    // Less than the numbers in front, behind nothing and behind a good entry.
+    // Fewer bytes than the numbers of an entry, at the start and after a good entry.
     (TRANSACTIONS, b"\xff", 0, FaultKind::AttachShort),
     (
         TRANSACTIONS,
@@ -108,8 +107,8 @@ const ROWS: &[Row] = &[
         1,
         FaultKind::AttachShort,
     ),
-    // Lengths that tell of more than follows; their sum would be 12 in 32 bits. The record is wrong
-    // too.
+    // Lengths that say more than what follows; in 32 bits the second sum would be 12. There the
+    // record is wrong too.
     (
         TRANSACTIONS,
         b"\x00\0\0\0\x04\0\0\0\x09\0\0\0body\0\0\0\0\0\0\0\0",
@@ -122,7 +121,7 @@ const ROWS: &[Row] = &[
         0,
         FaultKind::AttachShort,
     ),
-    // Within a record, at one that carries no transaction, behind them all, and far behind.
+    // Offsets within a record, at a record without a transaction, after all records, and far after.
     (
         TRANSACTIONS,
         b"\x04\0\0\0\x04\0\0\0\x08\0\0\0body\0\0\0\0\0\0\0\0",
@@ -147,7 +146,7 @@ const ROWS: &[Row] = &[
         0,
         FaultKind::AttachRecord,
     ),
-    // A second entry for one record, and one for a record before, with wrong sizes.
+    // A second entry for the same record, and one for an earlier record, with wrong sizes.
     (
         TRANSACTIONS,
         b"\0\0\0\0\x04\0\0\0\x08\0\0\0body\0\0\0\0\0\0\0\0\
@@ -162,7 +161,8 @@ const ROWS: &[Row] = &[
         1,
         FaultKind::AttachRecord,
     ),
-    // Sizes that are not the record's, each by one, and in the low four bytes alone.
+    // Sizes that are not the record's: each too small by one, and one equal in the low four bytes
+    // alone.
     (
         TRANSACTIONS,
         b"\x00\0\0\0\x03\0\0\0\x08\0\0\0bod\0\0\0\0\0\0\0\0",
@@ -184,7 +184,7 @@ const ROWS: &[Row] = &[
     ),
 ];
 
-/// A reader of the frame's entries, and none where one of its records has a fault.
+/// A reader of the frame's entries; None if one of its records has a fault.
 fn reader_of(frame: Frame<'_>) -> Option<Attachments<'_>> {
     let records_alone = Frame {
         place: frame.place,
@@ -229,7 +229,7 @@ fn reads_entry_by_entry(rt: HostRuntime) -> Result<(), Fail> {
     Ok(())
 }
 
-/// The fault is that of the frame and, at each call behind the good entries, of the reader.
+/// The frame has this fault, and the reader gives it at each call after the good entries.
 fn expect_fault(rt: &impl Abort, (commands, attachments, good, kind): Row) -> Result<(), Fail> {
     holds(rt, good < 2 && commands.len() < 200);
     let place = 48 + commands.len() as u64 + 24 * good;
@@ -298,14 +298,15 @@ const CHANGES: &[Change] = &[
     (&[(40, 23)], FaultKind::AttachShort, 116),
     (&[(240, 4)], FaultKind::AttachRecord, 240),
     (&[(120, 3)], FaultKind::AttachSize, 116),
-    // A record and an entry of one frame, and both frames: the second one's kind comes before.
+    // Faults in a record and in an entry of one frame; and in both frames, where the second fault's
+    // kind has the lower number.
     (&[(49, 0x72), (116, 4)], FaultKind::RecordDirection, 48),
     (&[(116, 4), (156, 3)], FaultKind::AttachRecord, 116),
     (&[(120, 3), (173, 0x72)], FaultKind::AttachSize, 116),
     (&[(50, 0x41), (157, 1)], FaultKind::RecordSize, 48),
 ];
 
-/// So many bytes of the capture, and its first fault then.
+/// The length to which the capture is cut, and its first fault then.
 const CUTS: &[(usize, FaultKind, u64)] = &[
     (0, FaultKind::HeaderShort, 0),
     (15, FaultKind::HeaderShort, 0),

@@ -1,4 +1,4 @@
-//! The device of a frame, which one version of the envelope has and the other has not.
+//! The device of a frame, which version 2 of the envelope has and version 1 has not.
 
 use crate::build::{Shape, WRITE, built};
 use crate::expect::{holds, same};
@@ -22,14 +22,14 @@ const ROWS: &[Row] = &[
     (b'1', WRITE, 0x8000_0000, RESERVED),
     (b'1', WRITE, 0xffff_ffff, RESERVED),
     (b'1', WRITE | 0x100, 0, RESERVED),
-    // Version 2 has any.
+    // Version 2 has any device.
     (b'2', WRITE, 0, Ok(0)),
     (b'2', WRITE, 1, Ok(1)),
     (b'2', WRITE, 0x0403_0201, Ok(0x0403_0201)),
     (b'2', WRITE, 0x8000_0000, Ok(0x8000_0000)),
     (b'2', WRITE, 0xffff_ffff, Ok(0xffff_ffff)),
     (b'2', 2, 0xffff_ffff, Ok(0xffff_ffff)),
-    // Its three zero bytes are behind the direction, each of them.
+    // The three reserved bytes after the direction, each of them.
     (b'2', WRITE | 0x100, 0, RESERVED),
     (b'2', WRITE | 0x100, 1, RESERVED),
     (b'2', WRITE | 0x1_0000, 0, RESERVED),
@@ -72,7 +72,7 @@ const DEVICES: &[Shape] = &[
     (10, WRITE, 2),
 ];
 
-/// A process is a device and a number: no two frames are of one.
+/// A process is a device and a number: no two of these frames are of the same process.
 fn expect_other(rt: &impl Abort, frame: Frame<'_>, before: &mut Option<Process>, device: u32) {
     let process = frame.of_process();
     same(rt, frame.process, 100);

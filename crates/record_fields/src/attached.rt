@@ -10,7 +10,7 @@ use transaction_view::Entry;
 /// The length of an offset, in bytes.
 const OFFSET: usize = 8;
 
-/// An object of an attachment, or what is no good object.
+/// An object of an attachment, good or bad.
 #[derive(Clone, Copy)]
 pub struct Attached<'c> {
     /// Its number in the list of offsets, from 0.
@@ -20,11 +20,11 @@ pub struct Attached<'c> {
     pub found: Result<Object<'c>, BadObject>,
 }
 
-/// Goes through the objects of an attachment in order, up to the first bad one.
+/// Goes through the objects of an attachment in order, up to the first bad one, which comes last.
 #[derive(Drop)]
 pub struct EachObject<'c> {
     objects: Objects<'c>,
-    /// The offsets from the next one on.
+    /// The list of offsets, from the next object's on.
     rest: &'c [u8],
     index: u64,
     ghost fits: { index + length rest.now < 2 ^ 64 },
@@ -64,7 +64,7 @@ impl<'c> Iterator for EachObject<'c> {
     }
 }
 
-/// The first offset of a list; 0 where the list is no whole one.
+/// The first offset of a list; 0 if the list is shorter than an offset.
 fn first_offset(list: &[u8]) -> u64 {
     if list.len() < OFFSET {
         return 0;
@@ -72,7 +72,7 @@ fn first_offset(list: &[u8]) -> u64 {
     u64_at(list, 0)
 }
 
-/// The offsets behind the first one.
+/// The offsets after the first one; none if the list is shorter than an offset.
 fn without_first(list: &[u8]) -> &[u8]
     requires { 0 < length list.now }
     ensures { length result.now < length list.now }
@@ -83,7 +83,7 @@ fn without_first(list: &[u8]) -> &[u8]
     &list[OFFSET..]
 }
 
-/// Whether an object of the attachment has this number in a field of this name.
+/// Whether a good object of the attachment has this number in a listed field of this name.
 pub fn has_named(entry: Entry<'_>, name: &str, number: u64) -> bool {
     for attached in EachObject::of(entry) {
         if let Ok(object) = attached.found
@@ -95,7 +95,7 @@ pub fn has_named(entry: Entry<'_>, name: &str, number: u64) -> bool {
     false
 }
 
-/// Where an object begins in the data.
+/// The offset of an object in the data, good or bad.
 pub fn offset_of(attached: Attached<'_>) -> u64 {
     match attached.found {
         Ok(_) => attached.offset,

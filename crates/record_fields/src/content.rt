@@ -16,13 +16,13 @@ pub struct Item<'c> {
 }
 
 /// Reads the records of a frame in order, each with its attachment, up to the first malformed
-/// record. Where a record of the frame is malformed none has an attachment; behind a malformed
-/// attachment no record has one.
+/// record. If a record of the frame is malformed, no record has an attachment. If an attachment is
+/// malformed, neither its record nor any later one has an attachment.
 #[derive(Drop)]
 pub struct Content<'c> {
     records: Records<'c>,
     entries: Option<Attachments<'c>>,
-    /// The first attachment whose record is still ahead.
+    /// The next attachment. It belongs to the record whose place is the attachment's `owner`.
     ahead: Option<Entry<'c>>,
 }
 
@@ -58,7 +58,7 @@ impl<'c> Iterator for Content<'c> {
     }
 }
 
-/// The attachment ahead, where it is that of the record at this place; then the next one is ahead.
+/// Takes the attachment ahead if it belongs to the record at this place, and reads the next one.
 fn take_at<'c>(
     ahead: &mut Option<Entry<'c>>,
     entries: &mut Option<Attachments<'c>>,
@@ -82,7 +82,7 @@ fn next_of<'c>(entries: &mut Option<Attachments<'c>>) -> Option<Entry<'c>> {
     }
 }
 
-/// A reader of the frame's attachments, where it has some and its records have no fault.
+/// A reader of the frame's attachments, if it has any and its records have no fault.
 fn entries_of<'c>(frame: Frame<'c>) -> Option<Attachments<'c>> {
     if frame.attachments.is_empty() {
         return None;

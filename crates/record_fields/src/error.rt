@@ -1,15 +1,15 @@
-//! What ends a listing before its end.
+//! The errors that end a listing early.
 
 use audit_streams::RunError;
 use std::alloc::{AllocError, AllocFailed};
 use std::io::{self, ErrorKind};
 use thiserror::Error;
 
-/// What ended a listing. It is displayed as its line, without the line feed.
+/// Why a listing ended early. `Display` shows its line without the line feed.
 #[derive(Clone, Copy, Debug, PartialEq, Eq, Error)]
 #[error("{}", self.line().trim_end())]
 pub enum ListingError {
-    /// The words of the command line ask for nothing.
+    /// The command line has another form than the usage line.
     Usage,
     /// Memory ran out.
     Memory,
@@ -21,7 +21,8 @@ pub enum ListingError {
     Write,
     /// A file could not be opened.
     Open,
-    /// Who reads the listing has seen enough.
+    /// The reader of the listing has closed the pipe. This is no failure: the listing ends without
+    /// a line, with status 0.
     Closed,
 }
 
@@ -36,7 +37,7 @@ impl ListingError {
         }
     }
 
-    /// The line of standard error; none where the reader has seen enough.
+    /// The line for standard error, with its line feed; empty for `Closed`.
     pub fn line(self) -> &'static str {
         match self {
             ListingError::Usage => {
@@ -80,7 +81,7 @@ impl From<RunError> for ListingError {
     }
 }
 
-/// What ends a listing that can't be written.
+/// The error for a write that failed.
 pub fn write_error(error: &io::Error) -> ListingError {
     match error.kind() {
         ErrorKind::BrokenPipe => ListingError::Closed,
@@ -88,7 +89,7 @@ pub fn write_error(error: &io::Error) -> ListingError {
     }
 }
 
-/// What ends a listing of which something can't be read.
+/// The error for a read that failed.
 pub fn read_error(error: &io::Error) -> ListingError {
     match error.kind() {
         ErrorKind::OutOfMemory => ListingError::Memory,

@@ -1,22 +1,22 @@
-//! The fields of payloads and of objects: their names and where they are, as
-//! `linux/android/binder.h` has them.
+//! The fields of payloads and of objects: their names and their positions, as in
+//! `linux/android/binder.h`.
 
 use binder_code::Kind;
 use capture_frame::{u32_at, u64_at};
 use object_view::Sort;
 
-/// How a field is kept, and how it is shown.
+/// How a field is stored, and how it is shown. Without another note a field is shown in decimal.
 #[derive(Clone, Copy)]
 pub enum Form {
-    /// Four bytes with a sign.
+    /// Four bytes, signed.
     Signed,
-    /// Four bytes.
+    /// Four bytes, unsigned.
     Word,
-    /// Eight bytes.
+    /// Eight bytes, unsigned.
     Long,
     /// Eight bytes, shown in hexadecimal.
     Address,
-    /// Four bytes of `enum transaction_flags`.
+    /// Four bytes of `enum transaction_flags`, shown by name.
     Flags,
 }
 
@@ -25,7 +25,7 @@ pub enum Form {
 pub enum Shown {
     /// In each line of its record.
     Listed,
-    /// Only where its record is shown in whole.
+    /// Only where its record is shown whole.
     Whole,
 }
 
@@ -46,7 +46,7 @@ pub enum Value {
 }
 
 impl Field {
-    /// What the field holds in these bytes, where they reach so far.
+    /// What the field holds in these bytes; `None` if they end before it does.
     pub fn value_in(self, bytes: &[u8]) -> Option<Value> {
         let rest = bytes.get(self.1..)?;
         match self.2 {
@@ -104,8 +104,8 @@ fn holds(field: Field, bytes: &[u8], number: u64) -> bool {
     }
 }
 
-// The fields of `binder_transaction_data`: of a transaction that is sent, of one that is got, and
-// of a reply.
+// The fields of `binder_transaction_data`: of a sent transaction, of a received transaction, and of
+// a reply.
 const SENT: [Field; 11] = [
     Field("handle", 0, Word, Listed),
     Field("cookie", 8, Address, Whole),
@@ -185,8 +185,8 @@ const ATTEMPTED: [Field; 3] = [
 
 const NONE: [Field; 0] = [];
 
-/// The fields of the payload of a kind, in their order. The last one of transactions and replies is
-/// there in the longer forms alone.
+/// The fields of the payload of a kind, in order. The last field of transactions and replies is
+/// only in the longer forms.
 pub fn fields_of(kind: Kind) -> &'static [Field] {
     match kind {
         Kind::BcTransaction | Kind::BcTransactionSg => &SENT,
@@ -245,7 +245,7 @@ const PTR_OBJECT: [Field; 5] = [
     Field("parent_offset", 32, Long, Listed),
 ];
 
-/// The fields of an object of a sort, in their order.
+/// The fields of an object of a sort, in order.
 pub fn object_fields(sort: Sort) -> &'static [Field] {
     match sort {
         Sort::Binder | Sort::WeakBinder => &BINDER_OBJECT,

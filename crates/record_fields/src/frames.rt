@@ -1,4 +1,4 @@
-//! What frames and their records say, in other words.
+//! What a frame and a record say: the thread, the number of the direction, `TF_ONE_WAY`.
 
 use binder_code::TransactionFlags;
 use bitflags::Flags;
@@ -14,7 +14,7 @@ pub fn thread_of(frame: Frame<'_>) -> Thread {
     }
 }
 
-/// Whether a record is a transaction, or a reply, with TF_ONE_WAY.
+/// Whether a record is a transaction or a reply with `TF_ONE_WAY`.
 pub fn is_oneway(record: Record<'_>) -> bool {
     match Transaction::of(record) {
         Some(transaction) => transaction.flags() & TransactionFlags::TF_ONE_WAY.bits() != 0,

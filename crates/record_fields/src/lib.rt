@@ -1,5 +1,5 @@
-//! The records of a frame with their attachments, the objects of these, and the fields of both by name:
-//! what the listing and the raw tables of a capture stand on.
+//! What the listing and the raw tables of a capture share: the records of a frame with their
+//! attachments, the objects of an attachment, and the fields of both by name.
 #![tactic(auto)]
 
 mod attached;

@@ -1,4 +1,4 @@
-//! What ends the listing of a part before its end.
+//! Why the listing of a part ended early.
 
 use crate::error::ListingError;
 use capture_frame::Fault;
@@ -8,7 +8,7 @@ use std::alloc::AllocError;
 pub enum Stopped {
     /// The part is malformed.
     Malformed(Fault),
-    /// All records that were asked for by their place are found.
+    /// Everything that was asked for by its place is found.
     Found,
     /// The listing can't go on.
     Failed(ListingError),

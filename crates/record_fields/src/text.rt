@@ -38,8 +38,7 @@ pub fn push_digits(text: &mut String, number: u64, count: u32) -> Result<(), All
     Ok(())
 }
 
-/// Pushes the sum of a place and of how far behind it something is, in decimal, at the end of ten
-/// columns.
+/// Pushes the sum of a place and of a distance from it, in decimal, right-aligned in ten columns.
 pub fn push_place(text: &mut String, place: u64, distance: u64) -> Result<(), AllocError> {
     let mut buffer = Buffer::new();
     let digits = buffer.format(u128::from(place) + u128::from(distance));

@@ -1,11 +1,11 @@
-//! What is asked of a capture.
+//! What is asked for: which frames and records are listed, and in which form.
 
 use capture_frame::Frame;
 use record_fields::{Item, direction_number, fields_of, has_field, has_named};
 use record_view::Record;
 use transaction_view::Transaction;
 
-/// What an option narrows.
+/// What an option narrows the listing by.
 #[derive(Clone, Copy, PartialEq, Eq)]
 pub enum Narrowing {
     Device,
@@ -21,21 +21,22 @@ pub enum Narrowing {
     Kind,
     /// A code word.
     Word,
-    /// A handle that the record names: as target, as what is counted or watched, or in an object.
+    /// A handle that the record names: its target, a handle that is counted or watched, or a handle
+    /// in an object.
     Handle,
-    /// A cookie that the record names, in an object too.
+    /// A cookie that the record names, also in an object.
     Cookie,
-    /// The pointer of a node that the record names, in an object too.
+    /// The ptr of a node that the record names, also in an object.
     Node,
-    /// A buffer of a transaction or a reply, or what is freed.
+    /// The buffer of a transaction or a reply, or the address that a free names.
     Address,
     /// A bit of the flags of a transaction or a reply.
     Flag,
-    /// How much data a transaction or a reply has more than.
+    /// A number of bytes: a transaction or a reply fits if it has more data.
     Larger,
 }
 
-/// A narrowing, and the number behind it.
+/// A narrowing, and the number that it is given.
 #[derive(Clone, Copy)]
 pub struct Word {
     pub narrowing: Narrowing,
@@ -45,9 +46,9 @@ pub struct Word {
 /// What is looked for by its place.
 #[derive(Clone, Copy, PartialEq, Eq)]
 pub enum Sought {
-    /// Nothing: each record that is asked for has its line.
+    /// Nothing: each record that is asked for has a line.
     Nothing,
-    /// Records that have a byte, or whose attachment has it. They are shown in whole.
+    /// Records that have a byte, or whose attachment has it. They are shown whole.
     Record,
     /// Frames that have a byte.
     Frame,
@@ -58,18 +59,18 @@ pub enum Sought {
 /// How the line of a record is written.
 #[derive(Clone, Copy, PartialEq, Eq)]
 pub enum Form {
-    /// What it says, each field by its name.
+    /// Words: what the record says, each field by its name.
     Lines,
-    /// Columns with a tab between.
+    /// Columns, separated by tabs.
     Tab,
 }
 
-/// What is asked of a capture. One narrowing with several numbers takes what fits one of them.
+/// What is asked for. Where a narrowing is given several numbers, it is enough to fit one of them.
 #[derive(Drop)]
 pub struct Asked {
     pub words: Vec<Word>,
     pub sought: Sought,
-    /// Where that is, in bytes from the capture's first.
+    /// The places that are looked for, in bytes from the first byte of the capture.
     pub places: Vec<u64>,
     /// Whether the line of a record is followed by those of its objects.
     pub objects: bool,
@@ -91,7 +92,7 @@ impl Asked {
                 && self.has(Narrowing::To, Held::To(frame.sequence))
     }
 
-    /// Whether the record is asked for, but for its place.
+    /// Whether the record is asked for, its place left aside.
     pub(crate) fn has_item(&self, item: Item<'_>) -> bool {
         self.words.is_empty()
             || self.has_code(item.record)
@@ -99,7 +100,7 @@ impl Asked {
                 && self.has_transaction(item.record)
     }
 
-    /// Whether what a frame or a record holds fits a number behind a narrowing, if there are any.
+    /// Whether what a frame or a record holds fits a number of this narrowing, if it is given any.
     fn has(&self, narrowing: Narrowing, held: Held) -> bool {
         let mut asked = false;
         for word in &self.words {
@@ -145,8 +146,8 @@ impl Asked {
             && self.has_named(Narrowing::Address, item, ["address", "buffer"], "")
     }
 
-    /// Whether the record has a number behind a narrowing in one of these two fields, or one of its
-    /// objects in that field.
+    /// Whether the record has a number of this narrowing in one of the two fields `names`, or one
+    /// of its objects has it in the field `of_object`.
     fn has_named(
         &self,
         narrowing: Narrowing,
@@ -166,7 +167,8 @@ impl Asked {
         !asked
     }
 
-    /// Whether the flags and the size of a transaction or a reply are asked for.
+    /// Whether the flags and the size of a transaction or a reply are asked for. No other record
+    /// has them.
     fn has_transaction(&self, record: Record<'_>) -> bool {
         if !self.narrows(Narrowing::Flag) && !self.narrows(Narrowing::Larger) {
             return true;
@@ -181,18 +183,18 @@ impl Asked {
     }
 }
 
-/// What a frame or a record holds, to be held against the numbers behind a narrowing.
+/// What a frame or a record holds, and how the number of a narrowing is compared with it.
 #[derive(Clone, Copy)]
 enum Held {
-    /// It is the number.
+    /// It must be the number.
     Is(u64),
-    /// It is that number or a higher one.
+    /// It must be the number or higher.
     From(u64),
-    /// It is that number or a lower one.
+    /// It must be the number or lower.
     To(u64),
-    /// It has one of the number's bits.
+    /// It must have one of the number's bits.
     Bits(u64),
-    /// It is higher.
+    /// It must be higher than the number.
     Size(u64),
 }
 
@@ -218,7 +220,7 @@ fn is_named(item: Item<'_>, names: [&str; 2], of_object: &str, number: u64) -> b
             .is_some_and(|entry| has_named(entry, of_object, number))
 }
 
-/// Whether the byte at this place is one of the record's, or of its attachment's.
+/// Whether the byte at this place is in the record or in its attachment.
 pub(crate) fn covers(place: u64, item: Item<'_>) -> bool {
     let record = item.record;
     if record.place <= place && place < record.place + 4 + record.payload.len() as u64 {

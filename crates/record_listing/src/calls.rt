@@ -9,7 +9,7 @@ use record_view::Record;
 #[derive(Clone, Copy)]
 pub(crate) struct Followed {
     thread: Thread,
-    /// How many calls of the thread are open, from this one on.
+    /// How many calls of the thread are open, counted from this one.
     depth: u64,
     last: Option<Mark>,
 }
@@ -27,12 +27,12 @@ impl Followed {
         }
     }
 
-    /// Whether a frame is of the call's thread.
+    /// Whether a frame belongs to the call's thread.
     pub(crate) fn is_of(&self, frame: Frame<'_>) -> bool {
         self.thread == thread_of(frame)
     }
 
-    /// Goes on with a record of the thread.
+    /// Takes the next record of the thread.
     pub(crate) fn follow(&mut self, item: Item<'_>) {
         let kind = item.record.kind;
         let oneway = is_oneway(item.record);

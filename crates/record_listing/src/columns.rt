@@ -7,7 +7,7 @@ use record_fields::{Field, Item, fields_of, push_decimal, push_digits};
 use record_view::Record;
 use std::alloc::AllocError;
 
-/// The columns of fields, by their names. The fields of each kind are in this order.
+/// The names of the columns for fields. The listed fields of every kind are in this order.
 const FIELDS: [&str; 16] = [
     "result",
     "error",
@@ -57,8 +57,8 @@ fn push_record(text: &mut String, record: Record<'_>) -> Result<(), AllocError> 
     Ok(())
 }
 
-/// Pushes the field of this name, where it is the next listed one of these, and gives those that are
-/// left.
+/// Pushes the field of this name, if it is the next listed one of these. Returns the fields that
+/// are left.
 fn push_column<'f>(
     text: &mut String,
     name: &str,

@@ -11,8 +11,8 @@ use record_fields::ListingError;
 use record_tables::{Name, name_of};
 use std::alloc::{AllocError, Global};
 
-/// The options that narrow what is listed, each with what it narrows. `code` has a name in place of
-/// a code word, `direction` and `flag` have one in place of a number.
+/// The options that narrow what is listed. `code` takes a name or a code word, `direction` and
+/// `flag` take a name, and each of the others takes a number.
 const NARROWINGS: [(&str, Narrowing); 13] = [
     ("device", Narrowing::Device),
     ("process", Narrowing::Process),
@@ -39,11 +39,11 @@ const PLACES: [(&str, Sought); 3] = [
 /// The other options with a value.
 const OTHERS: [&str; 4] = ["form", "side", "table", "tables"];
 
-/// Why words are not taken.
+/// Why the words are not accepted.
 #[derive(Clone, Copy)]
 pub(crate) enum WordsError {
     Memory,
-    /// They ask for help.
+    /// The words ask for help.
     Help,
     Usage,
 }
@@ -105,7 +105,7 @@ fn refusal(error: &Error) -> WordsError {
     }
 }
 
-/// Reads the words, of which the first is the program's own name.
+/// Reads the words. The first one is the program's own name.
 pub(crate) fn matches_of<'a>(
     alloc: Global,
     words: &'a [String],
@@ -132,7 +132,7 @@ pub(crate) enum Tables<'a> {
     All(&'a str),
 }
 
-/// The tables that the words ask for, if they do.
+/// The tables that the words ask for, if any.
 pub(crate) fn tables_of<'a>(matches: &ArgMatches<'a>) -> Result<Option<Tables<'a>>, ListingError> {
     match (matches.get_strs("table"), matches.get_strs("tables")) {
         (None, None) => Ok(None),
@@ -145,7 +145,7 @@ pub(crate) fn tables_of<'a>(matches: &ArgMatches<'a>) -> Result<Option<Tables<'a
     }
 }
 
-/// What the words ask for, of which these are the matches.
+/// What the words ask of the listing.
 pub(crate) fn asked_of(alloc: Global, matches: &ArgMatches<'_>) -> Result<Asked, ListingError> {
     let mut asked = Asked {
         words: Vec::new(alloc),
@@ -168,7 +168,7 @@ fn ask(asked: &mut Asked, matches: &ArgMatches<'_>) -> Result<(), ListingError> 
     set_form(asked, matches)
 }
 
-/// Pushes the words behind an option.
+/// Pushes the values of an option.
 fn push_words(
     asked: &mut Asked,
     matches: &ArgMatches<'_>,
@@ -214,7 +214,7 @@ fn direction_of(value: &str) -> Option<u64> {
     None
 }
 
-/// Pushes the places behind an option. Only one option with places can be there.
+/// Pushes the places of an option. Only one of the options with places may be there.
 fn push_places(
     asked: &mut Asked,
     matches: &ArgMatches<'_>,
@@ -237,7 +237,7 @@ fn push_places(
     Ok(())
 }
 
-/// Sets the form of the lines. A record in whole and objects are shown in lines alone.
+/// Sets the form of the lines. Columns show neither a record whole nor objects.
 fn set_form(asked: &mut Asked, matches: &ArgMatches<'_>) -> Result<(), ListingError> {
     let Some(values) = matches.get_strs("form") else {
         return Ok(());

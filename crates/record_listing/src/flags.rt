@@ -5,8 +5,8 @@ use bitflags::Flags;
 use record_fields::push_hexadecimal;
 use std::alloc::AllocError;
 
-/// Pushes the flags of a word by name, with `|` between them, and the bits that no flag has as a
-/// number; `-` where there are none.
+/// Pushes the flags of a word by name, separated by `|`, and then the unknown bits as a number; `-`
+/// if the word is 0.
 pub(crate) fn push_flags(text: &mut String, word: u32) -> Result<(), AllocError> {
     let mut mark = "";
     for flag in TransactionFlags::flags() {

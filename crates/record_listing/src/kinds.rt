@@ -2,7 +2,7 @@
 
 use binder_code::Kind;
 
-/// All kinds, in the order of the header, and the one that it does not list.
+/// All kinds, in the order of the header, and last the kind of records that it does not list.
 const KINDS: [Kind; 42] = [
     Kind::BcTransaction,
     Kind::BcReply,
@@ -48,7 +48,7 @@ const KINDS: [Kind; 42] = [
     Kind::Opaque,
 ];
 
-/// The kind of this name, as `BC_ACQUIRE` or `OPAQUE`.
+/// The kind of this name, for example `BC_ACQUIRE` or `OPAQUE`.
 pub(crate) fn kind_named(name: &str) -> Option<Kind> {
     for kind in KINDS {
         if kind.name() == name {

@@ -9,7 +9,7 @@ use record_fields::{
 use record_view::Record;
 use std::alloc::AllocError;
 
-/// Pushes the line of a record, without its line feed.
+/// Pushes the line of a record, without the line feed.
 pub(crate) fn push_line(
     text: &mut String,
     frame: Frame<'_>,

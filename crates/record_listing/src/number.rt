@@ -2,7 +2,7 @@
 
 ghost use Rattle.std.specs.Prelude.{◌≤◌};
 
-/// A number without a sign, in decimal, or in hexadecimal behind `0x`.
+/// A number without a sign, in decimal, or in hexadecimal after `0x`.
 pub(crate) fn number_of(word: &str) -> Option<u64> {
     if !word.bytes().all(|byte| byte.is_ascii_alphanumeric()) {
         return None;
@@ -11,7 +11,7 @@ pub(crate) fn number_of(word: &str) -> Option<u64> {
     u64::from_str_radix(digits, radix).ok()
 }
 
-/// The digits of a number, and of how many kinds they are.
+/// The digits of a number, and its base.
 fn digits_of(word: &str) -> (&str, u32)
     ensures { (2 ≤ result.1) × (result.1 ≤ 36) }
 {

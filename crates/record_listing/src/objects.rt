@@ -5,7 +5,7 @@ use object_view::{Cause, Sort};
 use record_fields::{Attached, object_fields, push_decimal};
 use std::alloc::AllocError;
 
-/// Pushes what an object is: its number, its offset, its sort or its fault, and its fields.
+/// Pushes an object: its number and its offset; then its sort and its fields, or why it is bad.
 pub(crate) fn push_object(text: &mut String, attached: Attached<'_>) -> Result<(), AllocError> {
     text.push_str("object ")?;
     match attached.found {
@@ -28,7 +28,7 @@ fn push_head(text: &mut String, index: u64, offset: u64) -> Result<(), AllocErro
     text.push_str(" ")
 }
 
-/// The sort's name, `BINDER_TYPE_..` of the header without its beginning.
+/// The sort's name: that of the header, `BINDER_TYPE_..`, without this prefix.
 fn sort_name(sort: Sort) -> &'static str {
     match sort {
         Sort::Binder => "BINDER",

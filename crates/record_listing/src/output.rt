@@ -4,10 +4,10 @@ use record_fields::{ListingError, write_error};
 use std::alloc::Global;
 use std::io::Write;
 
-/// How many bytes are written at a time, but for the last line's.
+/// How many bytes are collected before they are written.
 const PIECE: usize = 65_536;
 
-/// Takes lines, and writes them in pieces.
+/// Collects lines, and writes many of them at a time.
 #[derive(Drop)]
 pub(crate) struct Output<'w, W: Write> {
     /// What is not written yet.

@@ -1,4 +1,4 @@
-//! The listing of a capture that is read in parts.
+//! The listing of a capture, part by part.
 
 ghost use Rattle.std.specs.Prelude.{◌+◌, ◌<◌, ◌^◌, length};
 
@@ -16,40 +16,43 @@ use std::alloc::{AllocError, Global};
 use std::io::{Read, Write};
 use transaction_view::check_frame;
 
-/// The most bytes that a file may have.
+/// The most bytes that a part may have.
 pub(crate) const FILE_LIMIT: usize = 1_073_741_824;
 
-/// The most bytes that the files before one may have together.
+/// The most bytes that the parts before one may have together.
 const LIMIT: u64 = 1_099_511_627_776;
 
-/// How a listing came to its end.
+/// How a listing ended.
 #[derive(Clone, Copy)]
 enum Ended {
     Listed,
     Malformed,
 }
 
-/// What has come of what is sought, and what is known from beside the capture.
+/// What is found of what is looked for, and what the side list says.
 #[derive(Drop)]
 struct Seen {
     /// The places where nothing is found yet.
     open: Vec<u64>,
-    /// The calls whose closers are still ahead.
+    /// The calls whose closers have not come yet.
     followed: Vec<Followed>,
     /// What the side list says of the frame.
     notes: String,
 }
 
 impl Seen {
-    /// Whether all is found that is sought.
+    /// Whether everything that is looked for by its place is found.
     fn is_complete(&self, asked: &Asked) -> bool {
         asked.sought != Sought::Nothing && self.open.is_empty() && self.followed.is_empty()
     }
 }
 
-/// Lists what is asked for of the parts that the readers give, in their order, and gives the status:
-/// 0, 1 where nothing is at a place that is asked for, or 2 where a part is malformed. Each reader
-/// is read to its end before the next one. A side list is read beside them, as far as they go.
+/// Lists what is asked for of the parts that the readers give, in their order, and returns the
+/// status: 0, 1 if there is nothing at a place that is asked for, or 2 if a part is malformed.
+///
+/// A part is read whole, listed and dropped before the next one is read, so memory is that of the
+/// largest part, and some 100 KiB. A part of more than 1,073,741,824 bytes is `TooLarge`. The side
+/// list is read line by line, as far as the frames go; only its ids and names are kept.
 pub fn list_parts<S: Read + Drop, R: Read + Drop, W: Write, E: Write>(
     alloc: Global,
     asked: &Asked,
@@ -67,7 +70,7 @@ pub fn list_parts<S: Read + Drop, R: Read + Drop, W: Write, E: Write>(
     tell_end(alloc, asked.sought, &seen.open, ended, err)
 }
 
-/// Lists the parts beside the side list.
+/// Lists the parts, with the side list if there is one.
 fn list_beside<S: Read + Drop, R: Read + Drop, W: Write>(
     alloc: Global,
     asked: &Asked,
@@ -80,7 +83,7 @@ fn list_beside<S: Read + Drop, R: Read + Drop, W: Write>(
     list_to(alloc, asked, &mut side, seen, readers, out)
 }
 
-/// Lists the parts to their writer.
+/// Lists the parts to a writer.
 fn list_to<S: Read + Drop, R: Read + Drop, W: Write>(
     alloc: Global,
     asked: &Asked,
@@ -97,7 +100,7 @@ fn list_to<S: Read + Drop, R: Read + Drop, W: Write>(
     }
 }
 
-/// Tells what is left of the places that are asked for, and gives the status.
+/// Names the places at which nothing was found, and returns the status.
 fn tell_end<E: Write>(
     alloc: Global,
     sought: Sought,
@@ -125,7 +128,7 @@ fn side_of<S: Read + Drop>(
     }
 }
 
-/// Tells at which places nothing is found.
+/// Writes a line for each place at which nothing was found.
 fn tell_missing<E: Write>(
     alloc: Global,
     sought: Sought,
@@ -146,8 +149,9 @@ fn tell_missing<E: Write>(
     Ok(())
 }
 
-/// Lists the parts, up to the first fault. A place in a part is that in its file and the bytes
-/// behind the file headers of the parts before; the place of a fault is the one in its file.
+/// Lists the parts, up to the first fault. The place of a record is its place in its own file, and
+/// to that the bytes after the file headers of all earlier parts are added. The place of a fault is
+/// the one in its own file.
 fn list_all<S: Read + Drop, R: Read + Drop, W: Write>(
     alloc: Global,
     asked: &Asked,
@@ -180,8 +184,8 @@ fn list_all<S: Read + Drop, R: Read + Drop, W: Write>(
     Ok(Ended::Listed)
 }
 
-/// Pushes the line that names a fault, as the auditor does: of several parts with the number of its
-/// own.
+/// Pushes the line that names a fault, in the auditor's form. If the capture has several parts, the
+/// line has the number of the part.
 pub(crate) fn push_fault(
     text: &mut String,
     fault: Fault,
@@ -197,7 +201,7 @@ pub(crate) fn push_fault(
     text.push_str("\n")
 }
 
-/// Lists a part, and gives the sequence of the last frame so far.
+/// Lists a part, and returns the sequence of the last frame so far.
 fn list_part<S: Read + Drop, W: Write>(
     asked: &Asked,
     side: &mut Option<Side<S>>,
@@ -274,7 +278,7 @@ fn is_listed(asked: &Asked, seen: &mut Seen, frame: Frame<'_>) -> bool {
     }
 }
 
-/// Whether the byte at this place is one of the frame's.
+/// Whether the byte at this place is in the frame.
 fn is_in_frame(place: u64, frame: Frame<'_>) -> bool {
     let end = frame.attachments_place() + frame.attachments.len() as u64;
     frame.place <= place && place < end
@@ -300,7 +304,7 @@ fn list_content<W: Write>(
     Ok(())
 }
 
-/// Writes a record in whole, where it has a place that is sought.
+/// Writes a record whole, if it has a place that is looked for.
 fn list_sought<W: Write>(
     asked: &Asked,
     seen: &mut Seen,
@@ -317,15 +321,15 @@ fn list_sought<W: Write>(
     Ok(())
 }
 
-/// Takes out the places of which a record or its attachment has the byte. Tells whether there are
-/// some.
+/// Takes out the places whose byte is in a record or in its attachment. Returns whether there were
+/// any.
 fn take_covered(places: &mut Vec<u64>, item: Item<'_>) -> bool {
     let count = places.len();
     places.retain(|place| !covers(*place, item));
     places.len() < count
 }
 
-/// Writes the line of a record, where it is of a call that is sought.
+/// Writes the line of a record, if it belongs to a call that is looked for.
 fn list_called<W: Write>(
     asked: &Asked,
     seen: &mut Seen,
@@ -339,8 +343,8 @@ fn list_called<W: Write>(
     Ok(())
 }
 
-/// Whether a record is of a call that is sought: its opener, its closer, or one of its thread
-/// between them.
+/// Whether a record belongs to a call that is looked for: it is the opener, the closer, or a record
+/// of the same thread between them.
 fn is_of_call(seen: &mut Seen, frame: Frame<'_>, item: Item<'_>) -> Result<bool, AllocError> {
     if let Some(followed) = Followed::from(frame, item.record)
         && take_covered(&mut seen.open, item)
@@ -358,7 +362,7 @@ fn is_of_call(seen: &mut Seen, frame: Frame<'_>, item: Item<'_>) -> Result<bool,
     Ok(is_of_one)
 }
 
-/// Writes the line of a record, and those of its objects where they are asked for.
+/// Writes the line of a record, and the lines of its objects if they are asked for.
 fn write_item<W: Write>(
     asked: &Asked,
     seen: &Seen,
@@ -389,7 +393,7 @@ fn push_item(
     }
 }
 
-/// What stands before each field of the side list.
+/// What is written before each field of the side list.
 fn marks_of(form: Form) -> [&'static str; 5] {
     match form {
         Form::Lines => [" time=", " pid=", " tid=", " thread=", " process="],

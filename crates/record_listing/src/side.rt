@@ -1,5 +1,5 @@
-//! The side list of `./record`, as docs/RECORDER.md has it: when frames were taken, and what
-//! processes and threads are called.
+//! The side list of `./record`, whose form is in docs/RECORDER.md: the times of frames, and the ids
+//! and names of processes and threads.
 
 use crate::number::number_of;
 use capture_frame::{Frame, Process, Thread};
@@ -45,7 +45,7 @@ struct Person {
     name: Span,
 }
 
-/// The same in a line.
+/// The ids and the name of a thread, as in a line.
 #[derive(Clone, Copy)]
 struct Named<'s> {
     pid: &'s str,
@@ -66,7 +66,7 @@ impl<S: Read + Drop> Side<S> {
         })
     }
 
-    /// Reads on up to the line of the frame with this sequence, or of the first one behind it.
+    /// Reads on to the line of the frame with this sequence, or of the first frame after it.
     pub(crate) fn go_to(&mut self, sequence: u64) -> Result<(), ListingError> {
         for _ in 0..u64::MAX {
             if self.known.has_come_to(sequence) || !self.read_line()? {
@@ -88,8 +88,8 @@ impl<S: Read + Drop> Side<S> {
         }
     }
 
-    /// Pushes what is known of a frame, each with `marks` of its field before it: its time, the ids
-    /// of its thread in the system, the name of that and of its process.
+    /// Pushes what is known of a frame, each field after its mark: its time, the two ids of its
+    /// thread in the system, the name of the thread, and the name of the process.
     pub(crate) fn push(
         &self,
         text: &mut String,
@@ -150,7 +150,7 @@ impl Known {
         Ok(Span { start, end })
     }
 
-    /// Takes a line. One that is of no use here is passed over.
+    /// Takes a line. A line of another kind is skipped.
     fn take(&mut self, line: &str) -> Result<(), ListingError> {
         let line = line.strip_suffix("\n").unwrap_or(line);
         let (time, rest) = first_word(line);
@@ -176,7 +176,7 @@ impl Known {
 
     fn take_process(&mut self, fields: &str) -> Result<(), ListingError> {
         if let Some((process, rest)) = process_in(fields)
-            && let Some(name) = behind(rest, "name=")
+            && let Some(name) = after(rest, "name=")
         {
             let name = self.keep(name)?;
             self.processes.insert(process, name)?;
@@ -219,7 +219,7 @@ fn push_field(text: &mut String, mark: &str, field: &str) -> Result<(), AllocErr
     text.push_str(field)
 }
 
-/// The word up to the first space, and what is behind that.
+/// The word up to the first space, and what comes after that space.
 fn first_word(text: &str) -> (&str, &str) {
     match text.bytes().position(|byte| byte == b' ') {
         Some(length) => (
@@ -230,25 +230,25 @@ fn first_word(text: &str) -> (&str, &str) {
     }
 }
 
-/// The number that stands first, and the fields behind it.
+/// The number at the beginning, and the fields after it.
 fn number_in(fields: &str) -> Option<(u32, &str)> {
     let (word, rest) = first_word(fields);
     Some((u32::try_from(number_of(word)?).ok()?, rest))
 }
 
-/// The process that stands first, and the fields behind it.
+/// The process at the beginning, and the fields after it.
 fn process_in(fields: &str) -> Option<(Process, &str)> {
     let (device, rest) = number_in(fields)?;
     let (number, rest) = number_in(rest)?;
     Some((Process { device, number }, rest))
 }
 
-/// The ids and the name of a thread, where the fields have all three.
+/// The ids and the name of a thread, if the fields have all three.
 fn named_in(fields: &str) -> Option<Named<'_>> {
     Some(Named {
-        pid: first_word(behind(fields, "pid=")?).0,
-        tid: first_word(behind(fields, "tid=")?).0,
-        name: behind(fields, "name=")?,
+        pid: first_word(after(fields, "pid=")?).0,
+        tid: first_word(after(fields, "tid=")?).0,
+        name: after(fields, "name=")?,
     })
 }
 
@@ -256,8 +256,8 @@ fn word_at(words: &str, span: Span) -> &str {
     words.get(span.start..span.end).unwrap_or("")
 }
 
-/// What stands behind a key, to the end.
-fn behind<'s>(fields: &'s str, key: &str) -> Option<&'s str> {
+/// What comes after a key, to the end of the line.
+fn after<'s>(fields: &'s str, key: &str) -> Option<&'s str> {
     let mut rest = fields;
     for _ in 0..fields.len() {
         if let Some(value) = rest.strip_prefix(key) {

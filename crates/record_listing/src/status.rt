@@ -14,8 +14,8 @@ use std::io::{ErrorKind, Write};
 use std::process::ExitCode;
 use std::{fs, io};
 
-/// Does what the words ask for, and gives the status that the process ends with. The first word is
-/// the program's own name.
+/// Does what the words ask for, and returns the status that the process ends with. The first word
+/// is the program's own name.
 pub fn program<T: Files, W: Write, E: Write>(
     rt: &T,
     alloc: Global,
@@ -29,7 +29,7 @@ pub fn program<T: Files, W: Write, E: Write>(
     }
 }
 
-/// Tells what ended the listing, and gives its status, also where its line can't be written.
+/// Writes the line of an error, and returns its status, even if the line can't be written.
 fn ended_by<E: Write>(error: ListingError, err: &mut E) -> u8 {
     let _ = write_text(err, error.line().as_bytes());
     error.status()
@@ -75,7 +75,7 @@ fn answer_listing<T: Files, W: Write, E: Write>(
     list_parts(alloc, &asked, side, readers, out, err)
 }
 
-/// Writes tables of the capture that these files have.
+/// Writes tables of the capture in these files.
 fn answer_tables<T: Files, W: Write, E: Write>(
     rt: &T,
     alloc: Global,
@@ -86,7 +86,7 @@ fn answer_tables<T: Files, W: Write, E: Write>(
 ) -> Result<u8, ListingError> {
     let readers = open_files(rt, alloc, files)?;
     let parts = read_parts(alloc, readers, FILE_LIMIT)?;
-    // The book has much to let go of, which is done here alone.
+    // The book is dropped here only: its drop is long to prove, and would be proved at each `?`.
     let mut book = Book::new(alloc);
     let ended = write_asked(rt, alloc, tables, parts.as_slice(), &mut book, out);
     drop(book);
@@ -153,7 +153,7 @@ fn path_of(alloc: Global, folder: &str, name: &str) -> Result<String, AllocError
     Ok(path)
 }
 
-/// Tells the fault of a malformed capture, and gives the status.
+/// Writes the line of the capture's fault, if it has one, and returns the status.
 fn tell_ending<W: Write>(alloc: Global, ending: Ending, out: &mut W) -> Result<u8, ListingError> {
     let Some((fault, part)) = ending.fault else {
         return Ok(0);
@@ -205,7 +205,7 @@ pub fn ended<T: Files, W: Write, E: Write>(
     }
 }
 
-/// What ends a process whose words could not be had.
+/// The error of a process whose words could not be read.
 fn words_error(kind: ErrorKind) -> ListingError {
     match kind {
         ErrorKind::OutOfMemory => ListingError::Memory,

@@ -1,4 +1,4 @@
-//! A record in whole: its frame, its fields with their places, its bytes, and its attachment.
+//! A record shown whole: its frame, its fields with their places, its bytes, and its attachment.
 
 use crate::line::{push_counted, push_line, push_value};
 use crate::objects::push_object;
@@ -16,13 +16,13 @@ use transaction_view::Entry;
 /// The length of a code, in bytes.
 const CODE: u64 = 4;
 
-/// The length of the three numbers in front of an entry's bytes.
+/// The length of the three numbers before an entry's bytes.
 const ENTRY_HEADER: u64 = 12;
 
 /// How many bytes a row of a dump has.
 const ROW: usize = 16;
 
-/// Writes a record in whole.
+/// Writes a record whole.
 pub(crate) fn write_whole<W: Write>(
     output: &mut Output<'_, W>,
     frame: Frame<'_>,
@@ -48,7 +48,7 @@ fn push_frame_line(text: &mut String, frame: Frame<'_>) -> Result<(), AllocError
     text.push_str(" attachment bytes")
 }
 
-/// Which way the bytes of a frame went, in a word.
+/// The direction of a frame, as a word.
 pub(crate) fn direction_name(direction: Direction) -> &'static str {
     match direction {
         Direction::Write => "write",
@@ -141,7 +141,7 @@ pub(crate) fn write_objects<W: Write>(
     Ok(())
 }
 
-/// Pushes an object of the data that begin at this place.
+/// Pushes the line of an object. The attachment's data begin at the place `data`.
 fn push_object_line(
     text: &mut String,
     data: u64,
@@ -153,7 +153,7 @@ fn push_object_line(
     push_object(text, attached)
 }
 
-/// The bytes from `place` on, so many, of those that begin at `first`.
+/// The `length` bytes at `place`, or as many as there are. `first` is the place of the first byte.
 fn bytes_at(bytes: &[u8], first: u64, place: u64, length: usize) -> &[u8] {
     let start = place.saturating_sub(first) as usize;
     match bytes.get(start..) {
@@ -202,7 +202,7 @@ fn push_row(text: &mut String, row: &[u8]) -> Result<(), AllocError> {
     Ok(())
 }
 
-/// The character of a byte, and a dot where it is none that can be shown.
+/// The character of a byte, or a dot if it has none that can be shown.
 fn glyph(byte: u8) -> char {
     match byte {
         32..=126 => char::from(byte),

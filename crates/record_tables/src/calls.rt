@@ -16,9 +16,9 @@ pub(crate) struct Call {
     pub place: u32,
     pub utid: u32,
     pub depth: u32,
-    /// The place of the call that it is made in.
+    /// The place of the innermost call of the thread that was open before.
     pub parent: Option<u32>,
-    /// The index of its send; none of a served one.
+    /// The index of its send; `None` for a served call.
     pub send: Option<u32>,
     pub served: bool,
 }
@@ -51,7 +51,7 @@ pub(crate) struct Closer {
     pub verdict: Verdict,
 }
 
-/// What becomes of a call that is closed.
+/// What became of a call that is closed, as a number of the table.
 #[derive(Clone, Copy, PartialEq, Eq)]
 pub(crate) enum Verdict {
     Answered = 1,
@@ -60,7 +60,7 @@ pub(crate) enum Verdict {
     Crossed = 4,
 }
 
-/// A record of a thread, as far as its calls go.
+/// What the calls of a thread need to know of a record.
 #[derive(Clone, Copy)]
 pub(crate) struct Step {
     pub place: u32,
@@ -80,7 +80,7 @@ pub(crate) enum Change {
     Nothing,
 }
 
-/// Where a thread stands among its calls.
+/// The open calls of a thread by their index, the innermost last, and its latest mark.
 #[derive(Drop)]
 struct Stack {
     open: Vec<u32>,
@@ -137,7 +137,7 @@ impl Calls {
         }
     }
 
-    /// Gives the rows of the table call.
+    /// Writes the rows of the table call.
     pub(crate) fn write<W: Write>(&self, rows: &mut Rows<'_, W>) -> Result<(), ListingError> {
         for call in &self.list.rows {
             rows.push(&columns_of(call))?;
@@ -188,7 +188,7 @@ fn open(
     Ok(Change::Opens(index))
 }
 
-/// The place of the call that a thread opened last, of those that are open.
+/// The place of the innermost open call of a thread.
 fn place_of_last(calls: &List<Call>, stack: &Stack) -> Option<u32> {
     let index = stack.open.as_slice().last()?;
     let call = calls.get(*index)?;
@@ -210,7 +210,7 @@ fn close(calls: &mut List<Call>, stack: &mut Stack, step: Step, bracket: Bracket
     Change::Closes(index)
 }
 
-/// What becomes of a call that such a bracket closes.
+/// The verdict on a call that such a bracket closes.
 fn verdict_of(served: bool, bracket: Bracket) -> Verdict {
     match bracket {
         Bracket::Reply if !served => Verdict::Answered,

@@ -8,14 +8,14 @@ use record_fields::ListingError;
 use std::alloc::Global;
 use std::io::Write;
 
-/// What deliveries have alike that come of one and the same part of a program.
+/// What deliveries have in common that came the same way.
 #[derive(Clone, Copy, PartialEq, Eq, Hash)]
 pub(crate) struct Path {
     pub upid: u32,
-    /// 0 a call, 1 a oneway transaction, 2 the reply of a call, 3 another reply.
+    /// 0 a call, 1 a oneway transaction, 2 the reply to a known call, 3 another reply.
     pub sort: u8,
     pub code: u32,
-    /// The ptr of the target, or the handle of the call.
+    /// The ptr of the target; for a reply to a known call the handle of that call.
     pub target: u64,
     pub cookie: u64,
 }
@@ -39,13 +39,13 @@ pub(crate) struct Delivery {
     pub served: Option<u32>,
     /// The place of its send.
     pub send: Option<u32>,
-    /// The index of the delivery at its address before, which is not freed either.
+    /// The index of the delivery before it at its address, if that was not freed.
     pub earlier: Option<u32>,
     pub references: References,
     pub oneway: bool,
 }
 
-/// By what a buffer is freed.
+/// The record that frees a buffer.
 #[derive(Clone, Copy)]
 pub(crate) struct Freed {
     pub sequence: u64,
@@ -71,9 +71,9 @@ pub(crate) struct Reference {
 pub(crate) struct Deliveries {
     pub list: List<Delivery>,
     pub references: List<Reference>,
-    /// The index of the latest one of each address of each process that is not freed.
+    /// For each process and address, the index of the latest delivery that is not freed.
     unfreed: IndexMap<(u32, u64), u32>,
-    /// How many of each path are not freed.
+    /// For each path, how many deliveries are not freed.
     held: IndexMap<Path, u32>,
 }
 
@@ -87,7 +87,7 @@ impl Deliveries {
         }
     }
 
-    /// Takes a delivery at an address, whose path, held and earlier are set here.
+    /// Takes a delivery at an address, and sets its `path`, `held` and `earlier`.
     pub(crate) fn add(
         &mut self,
         delivery: Delivery,
@@ -113,7 +113,7 @@ impl Deliveries {
         rows.partition_point(|delivery| delivery.place < place)
     }
 
-    /// The node that a delivery goes to, which is no reply.
+    /// The node that a delivered transaction goes to. It is not for replies.
     pub(crate) fn node_of(&self, delivery: &Delivery) -> Option<Node> {
         let (path, _) = self.held.get_index(delivery.path as usize)?;
         Some(Node {
@@ -123,12 +123,12 @@ impl Deliveries {
         })
     }
 
-    /// Frees the latest delivery at an address of a process, and gives its index.
+    /// Takes out the latest delivery at an address of a process, and returns its index.
     pub(crate) fn free(&mut self, upid: u32, address: u64) -> Option<u32> {
         self.unfreed.swap_remove(&(upid, address))
     }
 
-    /// Marks a delivery as freed, and gives it.
+    /// Marks a delivery as freed, and returns it.
     pub(crate) fn mark_freed(&mut self, index: u32, freed: Freed) -> Option<Delivery> {
         let row = self.list.get_mut(index)?;
         row.freed = Some(freed);
@@ -144,7 +144,7 @@ impl Deliveries {
         self.references.get(references.first.saturating_add(number))
     }
 
-    /// Gives the rows of the table delivery.
+    /// Writes the rows of the table delivery.
     pub(crate) fn write<W: Write>(&self, rows: &mut Rows<'_, W>) -> Result<(), ListingError> {
         for row in &self.list.rows {
             rows.push(&columns_of(row))?;

@@ -29,7 +29,7 @@ impl CaptureTable {
         }
     }
 
-    /// How many sequences between the first frame and the last one no frame has.
+    /// How many sequences between the first and the last frame have no frame.
     fn missing(&self) -> u64 {
         match self.span {
             Some((first, last)) => last
@@ -114,7 +114,7 @@ impl Table for ProcessTable {
     }
 }
 
-/// The last records of a thread.
+/// The places of a thread's last record, and of its last record in a write.
 #[derive(Clone, Copy)]
 struct Last {
     record: Option<u64>,

@@ -62,7 +62,7 @@ pub(crate) struct Generation {
 #[derive(Drop)]
 pub(crate) struct Generations {
     pub list: List<Generation>,
-    /// The index of the latest one of each handle of each process.
+    /// For each process and handle, the index of the latest generation.
     latest: IndexMap<(u32, u32), u32>,
 }
 
@@ -74,8 +74,8 @@ impl Generations {
         }
     }
 
-    /// Takes a record that names a handle. Gives the index of the generation, and how many strong
-    /// references the process has more or less.
+    /// Takes a record that names a handle. Returns the index of the generation, and the change in
+    /// the strong references of the process.
     pub(crate) fn name(
         &mut self,
         upid: u32,
@@ -94,7 +94,7 @@ impl Generations {
         }
     }
 
-    /// Begins a generation of a handle, whose latest one is given, and gives its index.
+    /// Begins a generation of a handle after its `latest` one, and returns the index.
     fn begin(
         &mut self,
         upid: u32,
@@ -108,7 +108,7 @@ impl Generations {
         Ok(index)
     }
 
-    /// The number of a generation among those of its handle; 0 of none.
+    /// The number of a generation among those of its handle; 0 if there is no generation.
     fn number_of(&self, index: Option<u32>) -> u32 {
         match index {
             Some(index) => match self.list.get(index) {
@@ -137,14 +137,14 @@ impl Generations {
         }
     }
 
-    /// Ends a generation of which nothing is held any more.
+    /// Ends a generation if nothing of it is held any more.
     pub(crate) fn end_if_empty(&mut self, index: u32, place: u32) {
         if let Some(row) = self.list.get_mut(index) {
             end_row(row, place);
         }
     }
 
-    /// Gives the rows of the table generation.
+    /// Writes the rows of the table generation.
     pub(crate) fn write<W: Write>(&self, rows: &mut Rows<'_, W>) -> Result<(), ListingError> {
         let mut number = 0u64;
         for row in &self.list.rows {
@@ -205,7 +205,7 @@ fn begun(upid: u32, handle: u32, number: u32, place: u32) -> Generation {
     }
 }
 
-/// Counts what a record does to a generation. Gives how many strong references are more or less.
+/// Counts what a record does to a generation. Returns the change in strong references.
 fn apply(row: &mut Generation, effect: Effect, place: u32) -> i8 {
     match effect {
         Effect::Named => 0,
@@ -253,7 +253,7 @@ fn release(row: &mut Generation, place: u32) -> i8 {
     lost
 }
 
-/// Ends a generation of which nothing is held, but for the context manager's.
+/// Ends a generation if nothing of it is held. One of handle 0, the context manager's, never ends.
 fn end_row(row: &mut Generation, place: u32) {
     let counts = [row.strong, row.weak, row.held_strong, row.held_weak];
     if row.end.is_none() && row.handle != 0 && counts == [0, 0, 0, 0] {

@@ -1,5 +1,5 @@
-//! What a capture comes to, record by record: calls, deliveries, generations of handles, sends, and
-//! what each process holds.
+//! What the tables from call on are made of, record by record: calls, deliveries, generations of
+//! handles, sends, and what each process holds.
 
 use crate::calls::{Call, Calls, Change, Step};
 use crate::deliveries::{Deliveries, Delivery, Freed, Path, Reference, References};
@@ -18,7 +18,7 @@ use std::alloc::Global;
 use std::io::Write;
 use transaction_view::{Entry, Transaction};
 
-/// What happens that bears on which send is which delivery, by an index.
+/// What matters for pairing sends with deliveries: the index of a send, a delivery or a call.
 #[derive(Clone, Copy)]
 pub(crate) enum Moment {
     Sent(u32),
@@ -27,7 +27,7 @@ pub(crate) enum Moment {
     Closed(u32),
 }
 
-/// What the records so far come to.
+/// What has come of the records so far.
 #[derive(Drop)]
 pub(crate) struct Ledger {
     pub calls: Calls,
@@ -39,7 +39,7 @@ pub(crate) struct Ledger {
     pub moments: List<Moment>,
 }
 
-/// Where a record is, and who made it.
+/// Where a record is, and whose it is.
 #[derive(Clone, Copy)]
 struct Origin {
     place: u32,
@@ -48,7 +48,7 @@ struct Origin {
     utid: u32,
 }
 
-/// A transaction or a reply, as far as the ledger goes.
+/// What the ledger needs to know of a transaction or a reply.
 #[derive(Clone, Copy)]
 struct Carried<'c> {
     transaction: Transaction<'c>,
@@ -56,7 +56,7 @@ struct Carried<'c> {
     oneway: bool,
     /// The generation of its target.
     generation: Option<u32>,
-    /// Those of its objects.
+    /// The references of its objects.
     references: References,
 }
 
@@ -73,7 +73,7 @@ impl Ledger {
         }
     }
 
-    /// Names the handle of a record, and gives the index of its generation.
+    /// Names the handle of a record, and returns the index of its generation.
     fn name_handle(
         &mut self,
         origin: Origin,
@@ -100,7 +100,7 @@ impl Ledger {
         Ok(Some(index))
     }
 
-    /// Names the handles of the objects of an attachment. Those of a delivery are held by it.
+    /// Names the handles of the objects of an attachment. A delivery holds a reference by each.
     fn name_objects(
         &mut self,
         origin: Origin,
@@ -125,7 +125,7 @@ impl Ledger {
         Ok(())
     }
 
-    /// What the ledger has to know of a transaction or a reply.
+    /// Names the handles of a record. Returns what the ledger needs of a transaction or a reply.
     fn carried<'c>(
         &mut self,
         origin: Origin,
@@ -153,7 +153,7 @@ impl Ledger {
         }))
     }
 
-    /// Takes what a thread of this process sends, and gives its index.
+    /// Takes what a thread of this process sends, and returns its index.
     fn add_send(
         &mut self,
         origin: Origin,
@@ -316,8 +316,8 @@ impl Ledger {
         Ok(())
     }
 
-    /// Ends the generations that a delivery and the earlier ones at its address held, where nothing
-    /// is held of them any more.
+    /// Ends the generations that a delivery and the earlier ones at its address held, if nothing of
+    /// them is held any more.
     fn end_held_from(&mut self, first: Option<u32>, place: u32) {
         let mut next = first;
         for _ in 0..self.deliveries.list.rows.len() {
@@ -328,8 +328,8 @@ impl Ledger {
         }
     }
 
-    /// Ends the generations that a delivery held, where nothing is held of them any more, and gives
-    /// the index of the one before at its address.
+    /// Ends the generations that a delivery held, if nothing of them is held any more. Returns the
+    /// index of the delivery before it at its address.
     fn end_held(&mut self, index: u32, place: u32) -> Option<u32> {
         let delivery = self.deliveries.list.get(index)?;
         for number in 0..delivery.references.count {
@@ -340,7 +340,7 @@ impl Ledger {
         delivery.earlier
     }
 
-    /// Frees a delivery, and gives the index of the one before at its address.
+    /// Frees a delivery, and returns the index of the delivery before it at its address.
     fn free_one(
         &mut self,
         upid: u32,

@@ -12,7 +12,7 @@ use std::io::Write;
 /// How many slices there are.
 const SLICES: u32 = 16;
 
-/// The highest number that is told.
+/// The highest number that is written: SQLite has no higher one.
 const MOST: u128 = 9_223_372_036_854_775_807;
 
 /// What a process holds.
@@ -56,8 +56,8 @@ struct Level {
     latest: u32,
 }
 
-/// A slice in which what a process holds changes: the most of each thing, and what is held at its
-/// end, told.
+/// A slice in which what a process holds changes: the most of each thing, and what is held at the
+/// end of the slice, both as they are written.
 #[derive(Clone, Copy)]
 struct Slice {
     number: u32,
@@ -89,7 +89,7 @@ impl Levels {
         }
     }
 
-    /// Sets from which sequence to which the capture has frames.
+    /// Sets the sequences of the first and of the last frame of the capture.
     pub(crate) fn set_span(&mut self, first: u64, last: u64) {
         self.first = first;
         self.last = last;
@@ -102,7 +102,7 @@ impl Levels {
         self.slice = (gone / all).min(15) as u32;
     }
 
-    /// Changes what a process holds, by so much.
+    /// Changes what a process holds, by this much.
     pub(crate) fn change(
         &mut self,
         upid: u32,
@@ -122,7 +122,7 @@ impl Levels {
         Ok(())
     }
 
-    /// What a process holds, of which the latest slice is that of the frame.
+    /// What a process holds. Its latest slice is now that of the frame.
     fn level_of(&mut self, upid: u32) -> Result<Level, ListingError> {
         let Some(level) = self.processes.get(&upid).copied() else {
             let index = self.add_slice([0; 5])?;
@@ -149,7 +149,7 @@ impl Levels {
         Ok(level)
     }
 
-    /// Begins a slice of a process that holds so much.
+    /// Begins a slice of a process that holds this much.
     fn add_slice(&mut self, held: [u64; 5]) -> Result<u32, ListingError> {
         self.slices.push(Slice {
             number: self.slice,
@@ -159,7 +159,7 @@ impl Levels {
         })
     }
 
-    /// Gives the rows of the table level, of so many processes.
+    /// Writes the rows of the table level, for this many processes.
     pub(crate) fn write<W: Write>(
         &self,
         processes: u32,
@@ -214,7 +214,7 @@ fn changed(now: u128, way: Way, by: u64) -> u128 {
     }
 }
 
-/// What is told of a number.
+/// A number as it is written.
 fn told(number: u128) -> u64 {
     number.min(MOST) as u64
 }

@@ -1,5 +1,5 @@
-//! Lists of rows, of which a capture has millions: their indices, like the places of records, take
-//! four bytes.
+//! Lists of rows. A capture has millions of rows, so an index takes four bytes, as the place of a
+//! record does.
 
 use record_fields::ListingError;
 use std::alloc::Global;
@@ -22,7 +22,7 @@ impl<T: Copy + Drop> List<T> {
         narrow(self.rows.len() as u64)
     }
 
-    /// Takes a row, and gives its index.
+    /// Takes a row, and returns its index.
     pub(crate) fn push(&mut self, row: T) -> Result<u32, ListingError> {
         let index = self.next()?;
         self.rows.push(row)?;
@@ -38,8 +38,8 @@ impl<T: Copy + Drop> List<T> {
     }
 }
 
-/// A place, or how many there are of something, in four bytes. The tables are made of captures of at
-/// most 1,073,741,824 bytes, in which each fits.
+/// A place or a count in four bytes. The tables are made of captures of at most 1,073,741,824
+/// bytes, so each fits; one that did not would be `TooLarge`.
 pub(crate) fn narrow(number: u64) -> Result<u32, ListingError> {
     match u32::try_from(number) {
         Ok(narrow) => Ok(narrow),

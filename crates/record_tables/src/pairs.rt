@@ -1,4 +1,4 @@
-//! Which send is which delivery.
+//! Pairs each delivery with the send that it came from.
 
 use crate::calls::{Call, Closer, Verdict};
 use crate::deliveries::Delivery;
@@ -12,14 +12,14 @@ use std::alloc::{AllocError, Global};
 /// How many waiting sends are looked at for a delivery.
 const LOOKED_AT: usize = 64;
 
-/// From here on the recorder gives numbers to processes whose id is taken.
+/// The recorder gives numbers from here on to a process whose id is taken already.
 const MADE_UP: u32 = 4_194_304;
 
-/// Where a send stands among the waiting ones of its key.
+/// The neighbours of a send among the waiting sends of its key.
 #[derive(Clone, Copy)]
 struct Link {
     before: Option<u32>,
-    behind: Option<u32>,
+    after: Option<u32>,
     waits: bool,
 }
 
@@ -41,7 +41,7 @@ impl Waiting {
     fn new(alloc: Global, sends: usize) -> Result<Waiting, AllocError> {
         let none = Link {
             before: None,
-            behind: None,
+            after: None,
             waits: false,
         };
         Ok(Waiting {
@@ -54,7 +54,7 @@ impl Waiting {
         self.links.as_mut_slice().get_mut(index as usize)
     }
 
-    /// The first one of a key.
+    /// The first waiting send of a key.
     fn first(&self, key: u64) -> Option<u32> {
         match self.ends.get(&key) {
             Some(ends) => Some(ends.first),
@@ -62,9 +62,9 @@ impl Waiting {
         }
     }
 
-    /// The one behind another.
-    fn behind(&self, index: u32) -> Option<u32> {
-        self.links.as_slice().get(index as usize)?.behind
+    /// The waiting send after another.
+    fn after(&self, index: u32) -> Option<u32> {
+        self.links.as_slice().get(index as usize)?.after
     }
 
     fn set_before(&mut self, index: u32, before: Option<u32>) {
@@ -73,13 +73,13 @@ impl Waiting {
         }
     }
 
-    fn set_behind(&mut self, index: u32, behind: Option<u32>) {
+    fn set_after(&mut self, index: u32, after: Option<u32>) {
         if let Some(link) = self.link(index) {
-            link.behind = behind;
+            link.after = after;
         }
     }
 
-    /// Joins the end of those of its key.
+    /// Puts a send at the end of the waiting sends of its key.
     fn join(&mut self, index: u32, key: u64) -> Result<(), ListingError> {
         let (first, before) = match self.ends.get(&key) {
             Some(ends) => (ends.first, Some(ends.last)),
@@ -87,26 +87,26 @@ impl Waiting {
         };
         self.ends.insert(key, Ends { first, last: index })?;
         if let Some(last) = before {
-            self.set_behind(last, Some(index));
+            self.set_after(last, Some(index));
         }
         if let Some(link) = self.link(index) {
             *link = Link {
                 before,
-                behind: None,
+                after: None,
                 waits: true,
             };
         }
         Ok(())
     }
 
-    /// Leaves those of its key, if it waits.
+    /// Takes a send out of the waiting sends of its key, if it waits.
     fn leave(&mut self, index: u32, key: u64) {
         let Some(link) = self.link(index) else {
             return;
         };
         let Link {
             before,
-            behind,
+            after,
             waits,
         } = *link;
         if !waits {
@@ -114,24 +114,24 @@ impl Waiting {
         }
         link.waits = false;
         if let Some(before) = before {
-            self.set_behind(before, behind);
+            self.set_after(before, after);
         }
-        if let Some(behind) = behind {
-            self.set_before(behind, before);
+        if let Some(after) = after {
+            self.set_before(after, before);
         }
-        self.set_ends(key, before, behind);
+        self.set_ends(key, before, after);
     }
 
-    /// Sets the ends of a key, of which one has left that had these beside it.
-    fn set_ends(&mut self, key: u64, before: Option<u32>, behind: Option<u32>) {
-        if before.is_none() && behind.is_none() {
+    /// Sets the ends of a key after a send has left that had these neighbours.
+    fn set_ends(&mut self, key: u64, before: Option<u32>, after: Option<u32>) {
+        if before.is_none() && after.is_none() {
             self.ends.swap_remove(&key);
             return;
         }
         let Some(ends) = self.ends.get_mut(&key) else {
             return;
         };
-        match (before, behind) {
+        match (before, after) {
             (None, Some(first)) => ends.first = first,
             (Some(last), None) => ends.last = last,
             _ => {}
@@ -146,10 +146,10 @@ struct Best {
     rank: u8,
     /// The place of the closer of its call.
     closer: Option<u32>,
-    /// How many fit as well.
+    /// How many sends fit equally well, this one included.
     fits: u8,
     generation: Option<u32>,
-    /// Whether all that fit as well have one generation.
+    /// Whether all that fit equally well have the same generation.
     alike: bool,
 }
 
@@ -163,8 +163,8 @@ pub(crate) fn pair(alloc: Global, ledger: &mut Ledger) -> Result<(), ListingErro
     Ok(())
 }
 
-/// Goes through all moments. The first time it is told which node a generation means; the second
-/// time that is known, and what is found is kept.
+/// Goes through all moments. The first time it finds which node each generation means. The second
+/// time it uses that, and keeps the pairs.
 fn pair_once(alloc: Global, ledger: &mut Ledger, second: bool) -> Result<(), ListingError> {
     let mut waiting = Waiting::new(alloc, ledger.sends.list.rows.len())?;
     for at in 0..ledger.moments.next()? {
@@ -216,7 +216,7 @@ fn best_of(ledger: &Ledger, waiting: &Waiting, delivery: &Delivery, second: bool
         let Some(index) = next else {
             break;
         };
-        next = waiting.behind(index);
+        next = waiting.after(index);
         if let Some(send) = ledger.sends.list.get(index)
             && !(second && means_other(ledger, send.generation, node))
         {
@@ -238,7 +238,7 @@ fn means_other(ledger: &Ledger, generation: Option<u32>, node: Node) -> bool {
     false
 }
 
-/// How a send fits a delivery, alone.
+/// How well a send fits a delivery, by itself.
 fn fit_of(ledger: &Ledger, index: u32, send: &Send, delivery: &Delivery) -> Best {
     let call = ledger.calls.get(send.call);
     let served = ledger.calls.get(delivery.served);
@@ -255,8 +255,8 @@ fn fit_of(ledger: &Ledger, index: u32, send: &Send, delivery: &Delivery) -> Best
     }
 }
 
-/// The better one of the best so far and another. Of a oneway delivery the first of those that fit as
-/// well is kept, of others the one whose call is closed first.
+/// The better one of the best so far and another. If both fit equally well, the earlier send is
+/// kept for a oneway delivery, and the send whose call is closed first for any other.
 fn better(best: Option<Best>, other: Best, oneway: bool) -> Best {
     let Some(best) = best else {
         return other;
@@ -278,7 +278,7 @@ fn better(best: Option<Best>, other: Best, oneway: bool) -> Best {
     kept
 }
 
-/// Whether a call with this closer is closed before one with that closer, which may be open.
+/// Whether a call with this closer is closed before one with the other. An open call comes last.
 fn is_before(closer: Option<u32>, other: Option<u32>) -> bool {
     match (closer, other) {
         (Some(place), Some(later)) => place < later,
@@ -287,8 +287,8 @@ fn is_before(closer: Option<u32>, other: Option<u32>) -> bool {
     }
 }
 
-/// 1 where the calls don't lie as they should, and 2 more where the sender is not the one that is
-/// told.
+/// The rank of a send for a delivery; 0 is the best. It is 1 if the calls do not lie as they
+/// should, and 2 more if the sender_pid is not that of the sender.
 fn rank_of(send: &Send, delivery: &Delivery, call: Option<Call>, served: Option<Call>) -> u8 {
     let (Some(call), Some(served)) = (call, served) else {
         return 0;
@@ -300,7 +300,7 @@ fn rank_of(send: &Send, delivery: &Delivery, call: Option<Call>, served: Option<
     if told { lie } else { lie + 2 }
 }
 
-/// Whether a call that is made and one that is served lie as those of one call should.
+/// Whether the made call and the served call lie as the two ends of one call should.
 fn lie_well(call: Call, served: Call) -> bool {
     match (call.closer, served.closer) {
         (made, Some(replied)) if replied.verdict == Verdict::Replied => match made {
@@ -314,7 +314,7 @@ fn lie_well(call: Call, served: Call) -> bool {
     }
 }
 
-/// Keeps what is found: the first time the node of the generation, the second time all.
+/// Keeps what is found: the first time the node of the generation, the second time the pair.
 fn keep(ledger: &mut Ledger, index: u32, best: Best, second: bool) {
     let certain = best.rank == 0 && best.alike;
     if second {
@@ -348,7 +348,7 @@ fn keep_node(ledger: &mut Ledger, index: u32, generation: Option<u32>) {
     }
 }
 
-/// What is known of a generation that means this node once more.
+/// What is known of a generation that turns out to mean this node too.
 fn joined(known: Known, node: Node) -> Known {
     match known {
         Known::Nothing => Known::One(node),
@@ -379,7 +379,7 @@ fn reply_of(ledger: &Ledger, delivery: &Delivery) -> Option<Closer> {
     None
 }
 
-/// The answer that closes the call whose send a delivery is of, and what is known of that send.
+/// The answer that closes the call whose send a delivery is of, and what was found of that send.
 fn answer_of(ledger: &Ledger, delivery: &Delivery) -> Option<(Closer, Found)> {
     let sent = ledger.sends.index_at(delivery.send?);
     let send = ledger.sends.list.rows.as_slice().get(sent)?;
@@ -390,7 +390,7 @@ fn answer_of(ledger: &Ledger, delivery: &Delivery) -> Option<(Closer, Found)> {
     None
 }
 
-/// Keeps that a reply which was sent is one that was got, as surely as that of its call is known.
+/// Pairs a sent reply with a received one, as certainly as the call of the two is paired.
 fn keep_reply(ledger: &mut Ledger, sent: usize, got: usize, found: Found) {
     if let Some(reply) = ledger.sends.list.rows.as_mut_slice().get_mut(sent)
         && let Some(delivery) = ledger.deliveries.list.rows.as_mut_slice().get_mut(got)

@@ -36,8 +36,8 @@ impl Table for RecordTable {
     }
 }
 
-/// The number of a kind in docs/COMMANDS.md, and 256 more of a return. A transaction with a security
-/// context has 514, and an opaque record 255 or 511.
+/// The number of a kind in docs/COMMANDS.md, and 256 more for a return. A transaction with a
+/// security context has 514, and an opaque record has 255 in a write and 511 in a read.
 pub(crate) fn kind_number(record: Record<'_>, direction: Direction) -> u64 {
     let number = match record.kind {
         Kind::BrTransactionSecCtx => 258,

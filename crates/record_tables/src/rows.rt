@@ -4,10 +4,10 @@ use record_fields::{ListingError, write_error};
 use std::alloc::Global;
 use std::io::Write;
 
-/// How many bytes are written at a time, but for the last ones.
+/// How many bytes are collected before they are written.
 const PIECE: usize = 65_536;
 
-/// Takes the rows of a table, and writes them in pieces.
+/// Collects the rows of a table, and writes many of them at a time.
 #[derive(Drop)]
 pub struct Rows<'w, W: Write> {
     /// What is not written yet.
@@ -23,8 +23,8 @@ impl<'w, W: Write> Rows<'w, W> {
         }
     }
 
-    /// Takes a row: the mask, which has a bit for each column that has a number, the lowest for the
-    /// first, and then these numbers. There are 64 columns at most.
+    /// Takes a row: a mask, and then the numbers. The mask has a bit for each column that has a
+    /// number, the lowest bit for the first column. There are 64 columns at most.
     pub(crate) fn push(&mut self, columns: &[Option<u64>]) -> Result<(), ListingError> {
         self.push_number(mask_of(columns))?;
         for column in columns {

@@ -33,7 +33,7 @@ impl Send {
     }
 }
 
-/// What the driver said to a send, by the place of the record that says it.
+/// What the driver said to a send, with the place of the record that says it.
 #[derive(Clone, Copy)]
 pub(crate) enum Settled {
     Waiting,
@@ -53,7 +53,7 @@ pub(crate) struct Found {
 #[derive(Drop)]
 pub(crate) struct Sends {
     pub list: List<Send>,
-    /// Those of each thread that wait to be confirmed.
+    /// The line of each thread: the sends that wait to be confirmed, by their index.
     lines: Vec<VecDeque<u32>>,
     alloc: Global,
 }
@@ -81,7 +81,7 @@ impl Sends {
         rows.partition_point(|send| send.place < place)
     }
 
-    /// Takes a send, and gives its index.
+    /// Takes a send, and returns its index.
     pub(crate) fn add(&mut self, send: Send) -> Result<u32, ListingError> {
         let index = self.list.push(send)?;
         let at = send.utid.saturating_sub(1) as usize;
@@ -91,7 +91,7 @@ impl Sends {
         Ok(index)
     }
 
-    /// Takes the first send of a thread out of its line, which a record settles.
+    /// Settles the first send in the line of a thread, and takes it out of the line.
     pub(crate) fn settle(&mut self, utid: u32, settled: Settled) {
         let at = utid.saturating_sub(1) as usize;
         let Some(line) = self.lines.as_mut_slice().get_mut(at) else {
@@ -105,7 +105,7 @@ impl Sends {
         }
     }
 
-    /// Gives the rows of the table send.
+    /// Writes the rows of the table send.
     pub(crate) fn write<W: Write>(&self, rows: &mut Rows<'_, W>) -> Result<(), ListingError> {
         for send in &self.list.rows {
             rows.push(&columns_of(send))?;

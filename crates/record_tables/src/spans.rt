@@ -6,7 +6,7 @@ use indexmap::IndexMap;
 use record_fields::{ListingError, thread_of};
 use std::alloc::Global;
 
-/// From where to where something has frames.
+/// From which frame to which a process or a thread has frames.
 #[derive(Clone, Copy)]
 pub(crate) struct Span {
     /// The number of the process.
@@ -35,13 +35,13 @@ impl Spans {
         }
     }
 
-    /// Forgets all.
+    /// Forgets everything.
     pub(crate) fn clear(&mut self) {
         self.processes.clear();
         self.threads.clear();
     }
 
-    /// Counts a frame in, and gives the numbers of its process and of its thread.
+    /// Counts a frame, and returns the numbers of its process and of its thread.
     pub(crate) fn add(&mut self, frame: Frame<'_>) -> Result<(u32, u32), ListingError> {
         let upid = self.add_process(frame)?;
         let utid = self.add_thread(frame, upid)?;
@@ -71,7 +71,7 @@ impl Spans {
     }
 }
 
-/// The number of what is at this index.
+/// The number of the row at this index: 1 for the first.
 pub(crate) fn number_at(index: usize) -> u64 {
     (index as u64).saturating_add(1)
 }

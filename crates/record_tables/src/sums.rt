@@ -1,4 +1,4 @@
-//! Sums by which a send and its delivery are told to be alike.
+//! Sums by which the delivery of a send is recognised.
 
 use record_fields::EachObject;
 use transaction_view::{Entry, Transaction};
@@ -16,7 +16,7 @@ fn add_bytes(sum: u64, bytes: &[u8]) -> u64 {
     sum
 }
 
-/// The sum of a body outside of its good objects.
+/// The sum of the bytes of a body that are in none of its good objects.
 fn sum_of(entry: Entry<'_>) -> u64 {
     let mut sum = BEGIN;
     let mut end = 0usize;
@@ -36,7 +36,7 @@ fn sum_of(entry: Entry<'_>) -> u64 {
     }
 }
 
-/// What a transaction or a reply has that the driver hands on unchanged, in one number.
+/// What the driver hands on unchanged of a transaction or a reply, as one number.
 pub(crate) fn key_of(transaction: Transaction<'_>, entry: Option<Entry<'_>>, device: u32) -> u64 {
     let is_empty = transaction.data_size() == 0 && transaction.offsets_size() == 0;
     let body = match entry {

@@ -1,4 +1,4 @@
-//! The way through a capture that makes a table.
+//! The walk through a capture that makes a table.
 
 ghost use Rattle.std.specs.Prelude.{◌+◌, ◌<◌, ◌^◌, length};
 
@@ -40,7 +40,7 @@ pub(crate) struct Standing<'c> {
     pub utid: u32,
 }
 
-/// How a way through a capture ended.
+/// How a walk through a capture ended.
 #[derive(Clone, Copy)]
 pub struct Ending {
     /// How many files the capture has.
@@ -52,7 +52,7 @@ pub struct Ending {
 }
 
 impl Ending {
-    /// That of a capture of which nothing is known but how many files it has.
+    /// The ending of a capture of which only the number of files is known.
     pub fn new(parts: u64) -> Ending {
         Ending {
             parts,
@@ -62,7 +62,7 @@ impl Ending {
     }
 }
 
-/// What takes a capture step by step, and gives rows.
+/// What takes a capture step by step, and writes rows.
 pub(crate) trait Table {
     /// Takes a frame, before its records.
     fn add_frame(&mut self, _standing: Standing<'_>) -> Result<(), ListingError> {
@@ -79,7 +79,7 @@ pub(crate) trait Table {
         Ok(())
     }
 
-    /// Takes the end of a frame with so many records.
+    /// Takes the end of a frame with this many records.
     fn end_frame<W: Write>(
         &mut self,
         _standing: Standing<'_>,
@@ -89,7 +89,7 @@ pub(crate) trait Table {
         Ok(())
     }
 
-    /// Gives the rows that are told at the end alone.
+    /// Writes the rows that are known only at the end.
     fn finish<W: Write>(
         &mut self,
         _spans: &Spans,
@@ -125,13 +125,13 @@ pub fn name_of(word: &str) -> Option<Name> {
     None
 }
 
-/// What ways through a capture keep: the processes and threads of the latest one, and what the
-/// tables from call on come to, which is made once.
+/// What is kept from walk to walk: the processes and threads of the latest walk, and the ledger of
+/// which the tables from call on are made. The ledger is made once.
 #[derive(Drop)]
 pub struct Book {
     spans: Spans,
     ledger: Ledger,
-    /// How the way that made the ledger ended.
+    /// How the walk that made the ledger ended.
     made: Option<Ending>,
 }
 
@@ -145,7 +145,7 @@ impl Book {
     }
 }
 
-/// Writes a table of the capture that has these parts, and tells how the way through it ended.
+/// Writes a table of the capture that has these parts, and returns how the walk through it ended.
 pub fn write_table<W: Write>(
     alloc: Global,
     name: Name,
@@ -164,7 +164,7 @@ pub fn write_table<W: Write>(
     }
 }
 
-/// Writes what the table gives.
+/// Walks through the capture for a table, and writes its rows.
 fn written<T: Table, W: Write>(
     table: &mut T,
     parts: &[Vec<u8>],
@@ -177,7 +177,7 @@ fn written<T: Table, W: Write>(
     Ok(ending)
 }
 
-/// Writes a table of what the capture comes to.
+/// Writes a table from the ledger, which is made first if there is none yet.
 fn write_booked<W: Write>(
     alloc: Global,
     name: Name,
@@ -212,8 +212,8 @@ fn write_ledger<W: Write>(
     }
 }
 
-/// Goes through the capture twice: for the sequences of its frames, and for all else. No row comes of
-/// it.
+/// Walks through the capture twice: for the sequences of its first and last frame, and then for the
+/// ledger. It writes no row.
 fn make_ledger<W: Write>(
     alloc: Global,
     parts: &[Vec<u8>],
@@ -274,7 +274,7 @@ fn walk<T: Table, W: Write>(
     })
 }
 
-/// Takes a table through a part, and gives the sequence of the last frame so far. The place of a
+/// Takes a table through a part, and returns the sequence of the last frame so far. The place of a
 /// fault is the one in the part.
 fn walk_part<T: Table, W: Write>(
     table: &mut T,
@@ -284,7 +284,7 @@ fn walk_part<T: Table, W: Write>(
     before: Option<u64>,
     rows: &mut Rows<'_, W>,
 ) -> Result<Option<u64>, Stopped> {
-    // No capture is so long: what is read is within the limit.
+    // No capture is this long: what is read is within the limit.
     if base > u64::MAX / 2 || part.len() as u64 > u64::MAX / 2 {
         return Err(Stopped::Failed(ListingError::TooLarge));
     }

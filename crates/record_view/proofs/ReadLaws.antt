@@ -1,4 +1,4 @@
--- What the reader's steps rest on: a record made of what stands at the front of the bytes begins them.
+-- What the steps of the reader rest on: bytes from which a record was made begin with that record.
 use Rattle.std.proofs.Common.{◌≡◌, ℕ, ◌+◌, ◌-◌, ◌≤◌, List, ◌++◌, length, take, drop, Ok, refl, sym, ap, subst, ◌∙◌, arith}
 use Rattle.std.specs.Prelude.{IsOk}
 use Rattle.std.proofs.lemmas.List.{drop_at, length-take, length-drop}
@@ -11,7 +11,7 @@ use Rattle.record_view.specs.Records.{RecordText, record_bytes, IsRecord, code_a
 use Rattle.record_view.specs.Reading.{record_text, BeginsWithRecord}
 use Rattle.record_view.proofs.RecordLaws.{text_at, rest_at, record_spelled, text_at-is_record}
 
--- the bytes of a good code, and of what it tells of
+-- the bytes begin with a good code word, the record has what it means, and the whole payload follows
 pub record IsGoodFront (protocol : Protocol) (bytes : List ℕ) (found : Record) : Type 0 where
   pub bytes_fit : IsBytes bytes
   pub code : found.code.0 ≡ code_at bytes
@@ -31,7 +31,7 @@ begins_with protocol bytes place found e front =
     let width : length found.payload.now ≡ size (code_at bytes) = ap length front.payload
     ∙ omega (arith, length-take (size (code_at bytes)) (drop 4 bytes), length-drop 4 bytes) in
     record {
-      may_stand = subst (IsRecord protocol) (sym text) (text_at-is_record protocol bytes front.bytes_fit judged front.whole);
+      may_come = subst (IsRecord protocol) (sym text) (text_at-is_record protocol bytes front.bytes_fit judged front.whole);
       joined = parts ∙ ap (λ (t : List ℕ). record_bytes (record_text found) ++ t)
           (sym (drop_at (record_bytes (record_text found)) (rest_at bytes) (length (record_bytes (record_text found))) refl)
           ∙ ap (λ (t : List ℕ). drop (length (record_bytes (record_text found))) t) (sym parts));

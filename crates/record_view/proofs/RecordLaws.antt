@@ -1,5 +1,5 @@
--- Records are judged in one way: what is spelled is read back, what is read is spelled so, and what fails does so
--- by one kind.
+-- The format of records is decided: a record that is written is read back, bytes that are read are written so, and
+-- bytes fail by one kind.
 use Rattle.std.proofs.Common.{◌≡◌, ℕ, ◌+◌, ◌^◌, ◌<◌, ◌≤◌, inl, inr, Bool, true, false, ltb, List, [], ◌∷◌, ◌++◌, length, take, drop, Option, Some, None, Result, Ok, Err, refl, sym, ap, ◌∙◌, length-append, arith}
 use Rattle.std.specs.Prelude.{IsOk}
 use Rattle.std.proofs.lemmas.Bool.{cases_lt, lt-ltb, le-ltb}
@@ -20,7 +20,7 @@ use Rattle.capture_frame.proofs.UnitLaws.{IsDecided, Judged, ended, good, bad, t
 use Rattle.capture_frame.specs.Envelope.{FrameText, number_at}
 use Rattle.record_view.specs.Records.{RecordText, record_bytes, IsRecord, code_at, RecordFails, record_format, format_of, HasRecords, protocol_of}
 
--- what stands at the front, read by places
+-- the record that the bytes begin with, field by field
 abbrev pub text_at : List ℕ → RecordText
 text_at bytes = record { code = code_at bytes; payload = take (size (code_at bytes)) (drop 4 bytes) }
 
@@ -60,7 +60,7 @@ rest_at-spelled r rest fits sized =
     ∙ ap (λ (n : ℕ). 4 + n) (sym sized) ∙ sym (length-record_bytes r) in
     ap (λ (n : ℕ). drop n (record_bytes r ++ rest)) width ∙ drop_at (record_bytes r) rest (length (record_bytes r)) refl
 
--- what is read is spelled so
+-- what is read is written so
 pub record_spelled : (bytes : List ℕ) → IsBytes bytes → 4 + size (code_at bytes) ≤ length bytes → bytes ≡ record_bytes (text_at bytes) ++ rest_at bytes
 unfolding record_bytes number_at
 record_spelled bytes h long =
@@ -78,9 +78,9 @@ text_at-is_record protocol bytes h judged long = record {
   sized = omega (arith, length-take (size (code_at bytes)) (drop 4 bytes), length-drop 4 bytes);
 }
 
--- ---- what stands somewhere fails by one kind
+-- ---- bytes fail by one kind
 
--- what a judged code can be
+-- what the meaning of a code word can be
 data CodeCase (judged : Result Kind CodeFault) : Type 0 where
   means : IsOk judged → CodeCase judged
   directed_wrong : judged ≡ Err CodeFaults.Direction → CodeCase judged
@@ -91,7 +91,7 @@ code_case (Ok k) = means refl
 code_case (Err CodeFaults.Direction) = directed_wrong refl
 code_case (Err CodeFaults.Size) = sized_wrong refl
 
--- the first kind that applies, if one does, by whether the code is cut, what it means, and whether the payload is cut
+-- the first kind that applies, if any: by whether the code word is cut, what it means, and whether the payload is cut
 abbrev verdict_of : Bool → Result Kind CodeFault → Bool → Option FaultKind
 verdict_of true judged cut = Some RecordShort
 verdict_of false (Err CodeFaults.Direction) cut = Some RecordDirection
@@ -119,7 +119,7 @@ verdict_at protocol bytes short cut judged kind a b c e =
     ∙ ap (λ (x : Result Kind CodeFault). verdict_of short x (ltb (length bytes) (4 + size (code_at bytes)))) b
     ∙ ap (λ (x : Bool). verdict_of short judged x) c ∙ e
 
--- what fails by a kind has it as its verdict
+-- bytes that fail by a kind have that `verdict`
 verdict-fails : (protocol : Protocol) (bytes : List ℕ) (kind : FaultKind) → RecordFails protocol bytes kind → verdict protocol bytes ≡ Some kind
 verdict-fails protocol bytes RecordShort (inl h) = verdict_at protocol bytes true _ _ _ (lt-ltb _ _ h.1) refl refl refl
 verdict-fails protocol bytes RecordShort (inr h) = verdict_at protocol bytes false true _ _ (le-ltb _ _ h.0) refl (lt-ltb _ _ h.2) (verdict_cut _ h.1)
@@ -138,9 +138,9 @@ verdict-fails protocol bytes AttachShort h = absurd h
 verdict-fails protocol bytes AttachRecord h = absurd h
 verdict-fails protocol bytes AttachSize h = absurd h
 
--- a record has none
-verdict-stands : (protocol : Protocol) (r : RecordText) (rest : List ℕ) → IsRecord protocol r → verdict protocol (record_bytes r ++ rest) ≡ None
-verdict-stands protocol r rest is =
+-- bytes that begin with a good record have none
+verdict-is_at : (protocol : Protocol) (r : RecordText) (rest : List ℕ) → IsRecord protocol r → verdict protocol (record_bytes r ++ rest) ≡ None
+verdict-is_at protocol r rest is =
     let code = code_said r rest is.fits in
     let whole : length (record_bytes r ++ rest) ≡ 4 + length r.payload + length rest = length-append (record_bytes r) rest
     ∙ ap (λ (n : ℕ). n + length rest) (length-record_bytes r) in
@@ -184,7 +184,7 @@ end_is_good protocol RecordDirection h = absurd (omega (arith, h.0))
 end_is_good protocol RecordSize h = absurd (omega (arith, h.0))
 end_is_good protocol _ h = h
 
--- records are judged in one way
+-- the format of records is decided
 pub records_decided : (protocol : Protocol) → IsDecided (record_format protocol)
 records_decided protocol = record {
   judged = λ state bytes h. record_judged protocol bytes h;
@@ -196,7 +196,7 @@ records_decided protocol = record {
     a.1 ∙ sym b.1,
   );
   never_both = λ state r rest kind x is fails. none_kind kind (verdict protocol (record_bytes r ++ rest)) (verdict-fails protocol _ kind fails.0)
-      (verdict-stands protocol r rest is);
+      (verdict-is_at protocol r rest is);
   end_is_good = λ state kind x fails. end_is_good protocol kind fails.0;
 }
 

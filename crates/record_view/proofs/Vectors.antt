@@ -2,7 +2,7 @@
 use Rattle.std.proofs.Common.{◌≡◌, [], ◌∷◌, refl}
 use Rattle.record_view.specs.Records.{RecordText, record_bytes}
 
--- `BC_ACQUIRE` of the handle 5
+-- `BC_ACQUIRE` of handle 5
 acquire : RecordText
 acquire = record { code = 0x40046305; payload = 5 ∷ 0 ∷ 0 ∷ 0 ∷ [] }
 

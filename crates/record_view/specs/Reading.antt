@@ -10,23 +10,23 @@ use Rattle.capture_frame.specs.Envelope.{FrameText, commands_place}
 use Rattle.record_view.specs.declared.record.Record.{Record}
 use Rattle.record_view.specs.Records.{RecordText, record_format, format_of, protocol_of}
 
--- what a record of the capture says
+-- what a record that was read says
 abbrev pub record_text : Record → RecordText
 record_text r = record { code = r.code.0; payload = r.payload.now }
 
--- the record is a view of the bytes that it begins, which stand at that place: its kind is its code's, its payload is
--- theirs
+-- the record is a view of these bytes, which begin at this place: its kind is what its code word means, and its payload
+-- is theirs after the first four
 pub record IsRecordView (protocol : Protocol) (bytes : List ℕ) (place : ℕ) (found : Record) : Type 0 where
   pub place_is : found.place ≡ place
   pub kind : kind_of protocol found.code.0 ≡ Ok found.kind
   pub payload : found.payload.now ≡ slice_range bytes 4 (4 + length found.payload.now)
 
--- the bytes, which stand at that place, begin with a record that may stand there, and this is the view of it
+-- these bytes, which begin at this place, begin with a good record, and `found` is the view of it
 abbrev pub BeginsWithRecord : Protocol → List ℕ → ℕ → Record → Type 0
 BeginsWithRecord protocol bytes place found =
     BeginsWith (record_format protocol) tt bytes (record_text found) (IsRecordView protocol bytes place found)
 
--- the records of a frame of the capture
+-- how records are read: the text is the command bytes of a frame
 abbrev pub record_source : Source (Placed FrameText) (Unit {0}) RecordText Record
 record_source = record {
   format = λ frame. format_of frame.unit;
@@ -36,6 +36,7 @@ record_source = record {
   IsView = λ frame bytes place found. IsRecordView (protocol_of frame.unit.direction) bytes place found;
 }
 
+-- where a reader of records is
 abbrev pub Reading : Type 0
 Reading = readers.Reading (Placed FrameText) (Unit {0})
 
@@ -47,7 +48,7 @@ Steps reading result new = readers.Steps record_source reading result new
 abbrev pub records_start : Placed FrameText → Reading
 records_start frame = at frame 0 tt
 
--- the results of calls are these records of the frame, one by one, and then `end` again and again
+-- the calls give these records of the frame, one by one, and then `end` at every later call
 abbrev pub GiveRecords : Placed FrameText → List RecordText → Result (Option Record) Fault
     → List (Result (Option Record) Fault) → Type 0
 GiveRecords frame records end results = GiveUnits record_source frame records end results

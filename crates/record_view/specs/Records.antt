@@ -1,4 +1,5 @@
--- The records of a frame's command bytes: each a code and its payload (`linux/android/binder.h`, BINDER_WRITE_READ).
+-- The records of a frame's command bytes: each a code word and its payload (`linux/android/binder.h`,
+-- BINDER_WRITE_READ).
 use Rattle.std.specs.Prelude.{◌≡◌, ℕ, ◌+◌, ◌^◌, ◌<◌, ◌≤◌, ◌⊎◌, List, ◌∷◌, ◌++◌, length, Err, IsOk}
 use Rattle.std.specs.List.{flat_map}
 use Rattle.byteorder.specs.Endian.{little_bytes}
@@ -14,35 +15,36 @@ use Rattle.capture_frame.specs.declared.fault.FaultKind.TheVariants.{RecordShort
 use Rattle.capture_frame.specs.Units.{Format, Reads, FirstFailure}
 use Rattle.capture_frame.specs.Envelope.{FrameText, number_at}
 
--- the protocol whose codes a frame of this direction holds
+-- the protocol whose codes a frame of this direction has: a write has commands (BC_), a read has returns (BR_)
 abbrev pub protocol_of : Direction → Protocol
 protocol_of Write = Command
 protocol_of Read = Return
 
--- a record as its bytes tell it: its code word and its payload
+-- what a record says: its code word and its payload
 pub record RecordText : Type 0 where
   pub code : ℕ
   pub payload : List ℕ
 
--- four bytes of code, and the payload
+-- a record as bytes: its code word in four bytes, then its payload
 unfoldable pub record_bytes : RecordText → List ℕ
 record_bytes r = little_bytes 4 r.code ++ r.payload
 
--- a record's code is listed or opaque under the protocol, and its payload is as long as the code says
+-- a good record: its code word is listed or opaque under the protocol, and its payload is as long as the code word says
 pub record IsRecord (protocol : Protocol) (r : RecordText) : Type 0 where
   pub fits : r.code < 2 ^ 32
   pub judged : IsOk (kind_of protocol r.code)
   pub sized : length r.payload ≡ size r.code
 
--- the code word in the first four bytes
+-- the code word of a record, 4 bytes at 0
 abbrev pub code_at : List ℕ → ℕ
 code_at bytes = number_at 4 0 bytes
 
--- the payload that the code tells of passes the bytes
+-- the payload that the code word announces passes the end of the bytes
 abbrev pub IsCutShort : List ℕ → Type 0
 IsCutShort bytes = length bytes < 4 + size (code_at bytes)
 
--- the bytes begin with no good record, by this kind and by none that is judged before it
+-- the bytes begin with no good record: they have a fault of this kind, and none of a kind that is judged before it. The
+-- order is RecordShort for a cut code word, RecordDirection, RecordSize, RecordShort for the payload.
 abbrev pub RecordFails : Protocol → List ℕ → FaultKind → Type 0
 RecordFails protocol bytes RecordShort =
     ((0 < length bytes) × (length bytes < 4))
@@ -52,7 +54,8 @@ RecordFails protocol bytes RecordDirection = (4 ≤ length bytes)
 RecordFails protocol bytes RecordSize = (4 ≤ length bytes) × (kind_of protocol (code_at bytes) ≡ Err CodeFault.Size)
 RecordFails protocol bytes _ = ⊥
 
--- the records of a frame of this direction; which record may stand somewhere does not rest on those before it
+-- the format of records under a protocol: each is judged without those before it, and a fault is at the start of its
+-- record
 abbrev pub record_format : Protocol → Format (Unit {0}) RecordText FaultKind
 record_format protocol = record {
   spelling = record_bytes;
@@ -61,7 +64,7 @@ record_format protocol = record {
   Fails = λ _ bytes kind within. RecordFails protocol bytes kind × (within ≡ 0);
 }
 
--- how the records of this frame are written and judged
+-- the format of this frame's records
 abbrev pub format_of : FrameText → Format (Unit {0}) RecordText FaultKind
 format_of frame = record_format (protocol_of frame.direction)
 
@@ -73,7 +76,8 @@ HasRecords frame records = Reads (format_of frame) tt frame.commands records
 abbrev pub HasReadableRecords : FrameText → Type 0
 HasReadableRecords frame = (records : List RecordText) × HasRecords frame records
 
--- the command bytes of a frame begin with whole good records, and what stands so far into them fails by this kind
+-- the command bytes of a frame begin with whole good records, and then, at this distance from their start, comes a
+-- fault of this kind
 abbrev pub RecordsFail : FrameText → FaultKind → ℕ → Type 0
 RecordsFail frame kind distance = FirstFailure (format_of frame) tt frame.commands kind distance
 
@@ -81,9 +85,9 @@ RecordsFail frame kind distance = FirstFailure (format_of frame) tt frame.comman
 abbrev pub span_of : List RecordText → ℕ
 span_of records = length (flat_map record_bytes records)
 
--- the frame's command bytes are records, and this one of them begins so many bytes into them
-pub record StandsAt (frame : FrameText) (offset : ℕ) (found : RecordText) : Type 0 where
+-- the command bytes of the frame are records, and this one of them begins at this offset
+pub record RecordIsAt (frame : FrameText) (offset : ℕ) (found : RecordText) : Type 0 where
   pub before : List RecordText
-  pub behind : List RecordText
-  pub has_records : HasRecords frame (before ++ found ∷ behind)
+  pub after : List RecordText
+  pub has_records : HasRecords frame (before ++ found ∷ after)
   pub offset_is : offset ≡ span_of before

@@ -1,4 +1,4 @@
--- What the state of the code's reader stands for.
+-- What the state of the code's reader means.
 use Rattle.std.specs.Prelude.{◌≤◌, length}
 use Rattle.capture_frame.specs.declared.frame.Frame.{Frame}
 use Rattle.capture_frame.specs.Envelope.{placed_frame}
@@ -7,6 +7,7 @@ use Rattle.record_view.specs.declared.records.State.{State}
 use Rattle.record_view.specs.declared.records.State.TheVariants.{At, Failed}
 use Rattle.record_view.specs.Reading.{Reading}
 
+-- the state as a `Reading` of its frame
 abbrev pub reading_of : Frame → State → Reading
 reading_of frame (At offset) = at (placed_frame frame) offset tt
 reading_of frame (Failed fault) = failed fault

@@ -19,10 +19,10 @@ pub fn one_reading()
     ensures never_both { (frame : FrameText) → NeverBoth (format_of frame) tt frame.commands }
 {}
 
-/// A reader of a frame, called again and again from its start, gives the frame's records in order,
-/// each with its place, and then nothing at every later call; or those before the first fault, and
-/// then that fault at every later call. Any reader that has failed gives its fault for ever, and
-/// any that has ended gives nothing for ever.
+/// Take a reader of a frame and call it again and again. It gives the frame's records in order,
+/// each with its place, and then `None` at every later call. If a record has a fault, it gives the
+/// records before it, and then the fault at every later call. Any reader that has failed gives its
+/// fault for ever, and any that has ended gives `None` for ever.
 pub fn all_calls()
     ensures whole { (frame : Placed FrameText) (records : List RecordText) →
         HasRecords frame.unit records →

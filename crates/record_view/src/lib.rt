@@ -1,4 +1,4 @@
-//! The records of a frame: each a code of the Binder driver's protocol and its payload.
+//! The records of a frame: each a code word of the Binder driver's protocol and its payload.
 #![tactic(auto)]
 
 pub mod laws;

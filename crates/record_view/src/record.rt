@@ -5,12 +5,13 @@ ghost use Rattle.binder_code.specs.Commands.{kind_of, protocol_of_word, row_of};
 
 use binder_code::{Code, Kind};
 
-/// A record of a frame's command bytes. Its payload is the capture's own bytes.
+/// A record of a frame's command bytes. Its payload is the capture's own bytes. All places in it
+/// fit 64 bits (`fits`), and its payload is as long as its code word says (`whole`).
 #[derive(Clone, Copy)]
 pub struct Record<'c> {
     /// Where the record's code begins in the capture, in bytes.
     pub place: u64,
-    /// What the code stands for.
+    /// What the code word means.
     pub kind: Kind,
     /// The code word as read.
     pub code: Code,

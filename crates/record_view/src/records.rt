@@ -13,8 +13,8 @@ use std::marker::Model;
 /// The length of a code, in bytes.
 const CODE: usize = 4;
 
-/// Where a reader stands: before the record at an offset into the command bytes, or at the fault
-/// that ended it.
+/// Where a reader is: before the record at an offset of the command bytes; or failed, with its
+/// fault.
 #[derive(Clone, Copy)]
 enum State {
     At { offset: usize },
@@ -45,7 +45,7 @@ impl<'c> Records<'c> {
     ghost use Rattle.capture_frame.specs.Envelope.{placed_frame};
     ghost use Rattle.record_view.specs.Reading.{Steps, records_start};
 
-    /// A reader of the frame's records.
+    /// A reader before the frame's first record.
     pub fn of(frame: Frame<'c>) -> Records<'c>
         ensures { result ≡ records_start (placed_frame frame.entry) }
     {
@@ -55,7 +55,9 @@ impl<'c> Records<'c> {
         }
     }
 
-    /// The next record, or the fault of the bytes that stand there.
+    /// The next record, with its kind, as a view of the frame's bytes; or `None` at the end; or the
+    /// fault of the bytes there, by the first kind that applies. A fault is given again at every
+    /// later call.
     pub fn next_record(&mut self) -> Result<Option<Record<'c>>, Fault>
         ensures { Steps self.old result self.new }
     {
@@ -84,7 +86,8 @@ impl<'c> Records<'c> {
     }
 }
 
-/// The record at the front of the bytes, which stand at `place` in the capture.
+/// The record that these bytes begin with, or the first kind of fault that applies. The bytes begin
+/// at `place` of the capture.
 fn record_at(bytes: &[u8], place: u64, protocol: Protocol) -> Result<Record<'_>, FaultKind>
     requires fits { place + length bytes.now < 2 ^ 64 }
     requires some { 0 < length bytes.now }

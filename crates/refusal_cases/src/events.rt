@@ -8,7 +8,7 @@ use std::alloc::{AllocError, Global};
 use std::io::Write;
 use transaction_view::check_frame;
 
-/// Prints the frames of a capture, or its first fault and the frames before.
+/// Prints the frames of a capture, or the first fault of a header and the frames before it.
 pub(crate) fn cut_all<W: Write>(alloc: Global, capture: &[u8], out: &mut W) -> Printed {
     match cut(alloc, capture) {
         Ok(frames) => told::frames(frames.as_slice(), out),
@@ -32,14 +32,14 @@ pub(crate) fn frames_of<'c>(alloc: Global, capture: &'c [u8]) -> Result<Vec<Fram
 /// Whose events a ledger takes.
 #[derive(Clone, Copy)]
 pub(crate) enum Whose {
-    /// Those of the process that the first frame is of.
+    /// Those of the first frame's process.
     Process,
-    /// Those of its thread alone.
+    /// Those of the first frame's thread alone.
     Thread,
 }
 
 impl Whose {
-    /// The thread that a frame is of, or one that stands for all of its process.
+    /// The thread of a frame, or thread 0 of its process in place of all threads of the process.
     fn seat(self, frame: Frame<'_>) -> Thread {
         let process = frame.of_process();
         let number = match self {
@@ -67,7 +67,7 @@ pub(crate) fn events_of<'c>(
     Ok(events)
 }
 
-/// Puts the events of a frame, which may have no fault, behind the others.
+/// Adds the events of a frame after the others. A frame with a fault is `Unfit`.
 fn push_events<'c>(frame: Frame<'c>, events: &mut Vec<Event<'c>>) -> Result<(), NoAnswer> {
     if let Some(_) = check_frame(frame) {
         return Err(NoAnswer::Unfit);

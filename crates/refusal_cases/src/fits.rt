@@ -4,10 +4,10 @@ ghost use Rattle.std.specs.Bool.{OnTrue};
 ghost use Rattle.summary_law.specs.Fits.{IsShort};
 ghost use Rattle.summary_law.specs.Tally.{AreWeighted};
 
-/// How many items a list may have that is summed.
+/// The most items that a list may have if it is to be summed.
 const MOST_ITEMS: usize = 4_294_967_296;
 
-/// A weight that no length of a payload passes.
+/// The greatest weight that an item may have. No payload is longer than that.
 const MOST_WEIGHT: u64 = 65_535;
 
 /// Whether there are at most 2^32 items.

@@ -1,6 +1,6 @@
 use std::alloc::Global;
 
-/// What a call is made with, and the bytes that it is made on.
+/// What a call is made with, and the bytes on which it is made.
 #[derive(Drop)]
 pub(crate) struct Given<'g, T> {
     pub(crate) rt: &'g T,

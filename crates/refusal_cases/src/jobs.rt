@@ -15,10 +15,10 @@ use std::io::Write;
 use std::thread::Threads;
 use transaction_view::check_frame;
 
-/// How many jobs workers may share.
+/// The most jobs that workers may share.
 const MOST_JOBS: usize = 4_294_967_296;
 
-/// Jobs of a list. The result of one is a list of its start alone.
+/// A list of jobs as a work. The result of a job is a list with its start alone.
 #[derive(Drop)]
 struct Listed {
     jobs: Vec<Job>,
@@ -78,7 +78,7 @@ fn is_job(job: Job) -> bool
     }
 }
 
-/// Whether a job and its fault stand before the first of the others.
+/// Whether a job's start and its fault are before the start of the first of the others.
 fn ends_before(job: Job, others: &[Job]) -> bool
     ensures { OnTrue result (EndsBefore job others.now) }
 {

@@ -1,4 +1,4 @@
-//! The ledgers, and what each tells of its items.
+//! The calls of the ledgers, and what each gives of its items.
 
 use crate::events::{Whose, events_of};
 use crate::fits::{is_short, is_weighted};
@@ -32,7 +32,7 @@ macro_rules! items {
     }};
 }
 
-/// Sums the items that a step reads in the events of the first frame's process, where they fit, and
+/// Sums the items that a step reads in the events of the first frame's process, if they fit, and
 /// prints these lists of the ledger.
 macro_rules! tell_ledger {
     ($alloc:expr, $capture:expr, $way:expr, $out:expr;
@@ -43,7 +43,7 @@ macro_rules! tell_ledger {
             return Err(NoAnswer::Unfit);
         }
         let ledger: $ledger = summed($alloc, items.as_slice(), $way)?;
-        // All lists are there before the first is printed, so that Memory is answered alone.
+        // All lists are made before the first is printed, so nothing is printed before `Memory`.
         let lists = ($(ledger.$list()?,)*);
         told::value(&lists, $out)
     }};

@@ -5,21 +5,22 @@ use std::io;
 /// Whether the answer of a call is printed.
 pub(crate) type Printed = Result<(), NoAnswer>;
 
-/// Why it is not.
+/// Why no answer is printed.
 #[derive(Clone, Copy, Debug, PartialEq, Eq)]
 pub(crate) enum NoAnswer {
-    /// The call, or what makes its arguments, was refused memory.
+    /// The call, or what comes before it, was refused memory.
     Memory,
-    /// A stream failed, also where that is for want of memory.
+    /// A stream failed, even if it failed because memory was refused.
     Stream,
     /// No call has the name.
     Unknown,
-    /// The capture has a fault, so that the call can't be made on it.
+    /// The capture has a fault, or the list can't be summed, and the call needs one without.
     Unfit,
 }
 
 impl NoAnswer {
-    /// The status that the process ends with.
+    /// The status that the process ends with. It is 0 if the call answered, even with a fault of
+    /// the capture, and if the names were listed.
     pub(crate) fn status(self) -> u8 {
         match self {
             NoAnswer::Memory => 3,

@@ -1,4 +1,4 @@
-//! The calls of a capture in parts: what is read, its frames, its findings and what is written.
+//! The calls on a capture in parts: to its bytes, its frames, its findings and its text.
 
 ghost use Rattle.std.specs.Bool.{OnTrue};
 ghost use Rattle.std.specs.List.{sum_by};
@@ -17,24 +17,24 @@ use std::alloc::{AllocError, Global};
 use std::io::Write;
 use std::thread::Threads;
 
-/// How many parts a list may have: as many as the program takes.
+/// The most parts that a list may have: as many as the program takes.
 const MOST_PARTS: usize = 256;
 
-/// The first part of a list, in front of which stands its length in two bytes, the lower one first;
-/// and what is behind it.
+/// The first part of a list, and what comes after it. The part comes after its length, which has
+/// two bytes, the lower one first.
 fn first_part(input: &[u8]) -> Option<(&[u8], &[u8])> {
     if input.len() < 2 {
         return None;
     }
     let length = input[0] as usize + 256 * (input[1] as usize);
-    let (_, behind) = input.split_at(2);
-    if length > behind.len() {
+    let (_, after) = input.split_at(2);
+    if length > after.len() {
         return None;
     }
-    Some(behind.split_at(length))
+    Some(after.split_at(length))
 }
 
-/// Whether these parts have at most so many bytes together.
+/// Whether these parts have at most this many bytes together.
 fn are_within(parts: &[&[u8]], left: usize) -> bool
     ensures { OnTrue result (sum_by length (map (λ part. part.now) parts.now) ≤ left) }
 {
@@ -44,7 +44,7 @@ fn are_within(parts: &[&[u8]], left: usize) -> bool
     }
 }
 
-/// The parts of a list, which may have nothing else behind them.
+/// The parts of a list. If anything else comes after them, the list is `Unfit`.
 fn parts_of<'c>(alloc: Global, input: &'c [u8]) -> Result<Vec<&'c [u8]>, NoAnswer>
     ensures few { IfOk result (λ parts. vec_len parts ≤ 256) }
     ensures limit { IfOk result (λ parts.
@@ -53,9 +53,9 @@ fn parts_of<'c>(alloc: Global, input: &'c [u8]) -> Result<Vec<&'c [u8]>, NoAnswe
     let mut parts = Vec::new(alloc);
     let mut rest = input;
     for _ in 0..MOST_PARTS {
-        if let Some((part, behind)) = first_part(rest) {
+        if let Some((part, after)) = first_part(rest) {
             parts.push(part).map_err(AllocError::from)?;
-            rest = behind;
+            rest = after;
         }
     }
     if !rest.is_empty()
@@ -74,7 +74,7 @@ pub(crate) fn read<W: Write>(alloc: Global, input: &[u8], out: &mut W) -> Printe
     told::value(&parts, out)
 }
 
-/// Prints the frames of the parts, or the first fault of their headers and the frames before.
+/// Prints the frames of the parts, or the first fault of a header and the frames before it.
 pub(crate) fn cut_all<W: Write>(alloc: Global, input: &[u8], out: &mut W) -> Printed {
     let parts = parts_of(alloc, input)?;
     match cut_parts(alloc, parts.as_slice()) {
@@ -87,14 +87,14 @@ pub(crate) fn cut_all<W: Write>(alloc: Global, input: &[u8], out: &mut W) -> Pri
     }
 }
 
-/// Prints what is written of the parts for the first fault, and that fault.
+/// Prints what `run_first_fault_parts` writes about the parts, and the fault that it answers.
 pub(crate) fn ran_first_fault<W: Write>(alloc: Global, input: &[u8], out: &mut W) -> Printed {
     let readers = parts_of(alloc, input)?;
     let found = run_first_fault_parts(alloc, readers, out)?;
     told::value(&found, out)
 }
 
-/// The question for a report, by so many workers and a frame at a time.
+/// The question for a report, by this many workers and in pieces of one frame.
 pub(crate) fn report_by(workers: Workers) -> Question {
     let piece = Piece::new(1).unwrap();
     Question::Report { workers, piece }
@@ -113,7 +113,7 @@ impl<T: Threads + Sync> Given<'_, T> {
         }
     }
 
-    /// Prints what is written of the parts, and which of both that is.
+    /// Prints what `run_parts` writes about the parts, and what it answers.
     pub(crate) fn ran_parts<W: Write>(&self, workers: Workers, out: &mut W) -> Printed {
         let readers = parts_of(self.alloc, self.bytes)?;
         let piece = Piece::new(1).unwrap();

@@ -1,4 +1,4 @@
-//! The frames of a capture in runs, and their summaries.
+//! The frames of a capture in pieces, and their summaries.
 
 ghost use Rattle.std.specs.Prelude.{◌∷◌, [], IfOk, OnOk};
 ghost use Rattle.capture_frame.specs.Cut.{ArePartFrames};
@@ -16,13 +16,13 @@ use std::alloc::{AllocError, Global};
 use std::io::Write;
 use transaction_view::check_frame;
 
-/// Prints the frames in runs of one.
+/// Prints the frames in pieces of one.
 pub(crate) fn plan<W: Write>(alloc: Global, capture: &[u8], out: &mut W) -> Printed {
     let frames = kept_frames(alloc, capture)?;
     let piece = Piece::new(1).unwrap();
     let plan = Plan::new(alloc, &frames.as_slice(), piece)?;
-    for run in plan.runs() {
-        told::kept_frames(run, out)?;
+    for piece in plan.pieces() {
+        told::kept_frames(piece, out)?;
     }
     Ok(())
 }
@@ -38,7 +38,7 @@ fn kept_frames<'c>(alloc: Global, capture: &'c [u8]) -> Result<FrameList<'c>, No
     }
 }
 
-/// Looks whether the records and entries of these frames have no fault.
+/// If the records or the entries of these frames have a fault, that is `Unfit`.
 fn check_all(frames: &FrameSlice<'_, '_>) -> Result<(), NoAnswer>
     ensures { OnOk result (AreSound frames.now) }
 {

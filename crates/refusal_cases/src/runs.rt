@@ -1,4 +1,4 @@
-//! From a capture, or a command line, to findings, to text and to streams.
+//! The calls from a capture, or from a command line, to findings, to a text and to streams.
 
 use crate::given::Given;
 use crate::no_answer::{NoAnswer, Printed};
@@ -14,7 +14,7 @@ use std::fs::Files;
 use std::io::Write;
 use std::thread::Threads;
 
-/// How many files a line may name: as many as a command line.
+/// The most files that a line may name: as many as a command line may.
 const MOST_FILES: usize = 256;
 
 /// Prints the bytes that are read.
@@ -24,7 +24,7 @@ pub(crate) fn read<W: Write>(alloc: Global, bytes: &[u8], out: &mut W) -> Printe
     told::value(&capture, out)
 }
 
-/// Prints what is written for the first fault, and that fault.
+/// Prints what `run_first_fault` writes, and the fault that it answers.
 pub(crate) fn ran_first_fault<W: Write>(alloc: Global, bytes: &[u8], out: &mut W) -> Printed {
     let mut reader = bytes;
     let found = run_first_fault(alloc, &mut reader, out)?;
@@ -109,7 +109,7 @@ impl<T: Threads + Sync> Given<'_, T> {
     }
 }
 
-/// The words of a command line, which are parted by one tab each.
+/// The words of a command line, which are separated by one tab each.
 fn words_of(alloc: Global, line: &str) -> Result<Vec<String>, AllocError> {
     let mut words = Vec::new(alloc);
     for word in line.split('\t') {
@@ -118,7 +118,7 @@ fn words_of(alloc: Global, line: &str) -> Result<Vec<String>, AllocError> {
     Ok(words)
 }
 
-/// The names of the files, which are parted by one tab each.
+/// The names of the files, which are separated by one tab each.
 fn files_of(alloc: Global, line: &str) -> Result<Vec<&str>, AllocError> {
     let mut files = Vec::new(alloc);
     for file in line.split('\t') {
@@ -128,7 +128,7 @@ fn files_of(alloc: Global, line: &str) -> Result<Vec<&str>, AllocError> {
 }
 
 impl<T: Files + Threads + Sync> Given<'_, T> {
-    /// The bytes are a command line. Status 3 tells that memory was refused.
+    /// The bytes are a command line. Status 3 says that memory was refused.
     pub(crate) fn programmed<W: Write, E: Write>(&self, out: &mut W, err: &mut E) -> Printed {
         let Ok(line) = str::from_utf8(self.bytes) else {
             return Err(NoAnswer::Unfit);

@@ -11,7 +11,7 @@ use test_kit::in_two;
 pub(crate) enum Way {
     /// Item by item.
     Add,
-    /// The first half and the other half item by item, and then both joined.
+    /// Each half item by item, and then both are joined.
     Join,
 }
 

@@ -1,4 +1,4 @@
-//! The names of the calls, and what each of them is.
+//! The names of the calls, and the call of each name.
 
 use crate::given::Given;
 use crate::no_answer::{NoAnswer, Printed};
@@ -15,8 +15,8 @@ use std::io;
 use std::io::{Read, Write};
 use std::thread::Threads;
 
-/// What is done for a name of a table. All its names are listed for an empty one, which is then
-/// unknown as any other, so that the next table is asked.
+/// Makes the call that a table has for a name. For an empty name it lists the names of the table,
+/// and then that name is `Unknown`, so that the next table is asked.
 macro_rules! by_name {
     ($name:expr, $out:expr; $($known:literal => $call:expr,)*) => {
         match $name {
@@ -30,8 +30,8 @@ macro_rules! by_name {
     };
 }
 
-/// Makes the call that the first line of the input names, on the bytes behind that line, and prints
-/// its answer. Without input the names are listed.
+/// Makes the call that the first line of the input names, on the bytes after that line, and prints
+/// its answer. Without input it lists the names.
 pub(crate) fn answer<T: Files + Threads + Sync, R: Read, W: Write, E: Write>(
     rt: &T,
     alloc: Global,
@@ -134,12 +134,12 @@ impl<T: Files + Threads + Sync> Given<'_, T> {
     }
 }
 
-/// The bytes of the first line, and those behind it.
+/// The bytes of the first line, and those after it.
 fn first_line(input: &[u8]) -> (&[u8], &[u8]) {
     for at in 0..input.len() {
         if input[at] == b'\n' {
-            let (line, behind) = input.split_at(at);
-            return (line, &behind[1..]);
+            let (line, after) = input.split_at(at);
+            return (line, &after[1..]);
         }
     }
     input.split_at(input.len())

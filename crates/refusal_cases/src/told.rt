@@ -1,8 +1,8 @@
-//! What is printed of the calls' answers. Nothing here takes memory.
+//! Prints the answers of the calls. Nothing here takes memory.
 
 use crate::no_answer::Printed;
 use audit_findings::{Findings, Sections};
-use call_stacks::CallFindings;
+use call_stacks::{CallFindings, Opener};
 use capture_frame::{Frame, FrameSlice};
 use event_core::Event;
 use std::fmt::Debug;
@@ -22,7 +22,7 @@ pub(crate) fn frames<W: Write>(frames: &[Frame<'_>], out: &mut W) -> Printed {
     Ok(())
 }
 
-/// Prints the same of frames that are kept by their places.
+/// The same for frames that are kept by their places.
 pub(crate) fn kept_frames<W: Write>(frames: &FrameSlice<'_, '_>, out: &mut W) -> Printed {
     for number in 0..frames.len() {
         let frame = frames.get(number);
@@ -31,7 +31,7 @@ pub(crate) fn kept_frames<W: Write>(frames: &FrameSlice<'_, '_>, out: &mut W) ->
     Ok(())
 }
 
-/// Prints the places of what the calls of a thread came to.
+/// Prints what became of the calls of a thread, each event by its place.
 pub(crate) fn calls<W: Write>(found: &CallFindings<Event<'_>>, out: &mut W) -> Printed {
     for opener in &found.openers {
         value(&(opener.event.place, opener.verdict, opener.closer), out)?;
@@ -41,6 +41,14 @@ pub(crate) fn calls<W: Write>(found: &CallFindings<Event<'_>>, out: &mut W) -> P
     }
     for send in &found.refused {
         value(&(send.event.place, send.oneway), out)?;
+    }
+    Ok(())
+}
+
+/// Prints calls that a report lists.
+fn openers<W: Write>(rows: &[Opener<u64>], out: &mut W) -> Printed {
+    for opener in rows {
+        value(&(opener.event, opener.verdict, opener.closer), out)?;
     }
     Ok(())
 }
@@ -57,8 +65,8 @@ pub(crate) fn sections<W: Write>(found: &Sections<u64>, out: &mut W) -> Printed 
     value(&(found.missing, events.records, events.opaque), out)?;
     value(&(events.counts, events.oneway, events.objects), out)?;
     value(&events.codes.as_slice(), out)?;
-    value(&calls.calls.rows.as_slice(), out)?;
-    value(&calls.served.rows.as_slice(), out)?;
+    openers(calls.calls.rows.as_slice(), out)?;
+    openers(calls.served.rows.as_slice(), out)?;
     value(&calls.strays.as_slice(), out)?;
     value(&calls.refused.rows.as_slice(), out)?;
     value(&processes.handles.rows.as_slice(), out)?;

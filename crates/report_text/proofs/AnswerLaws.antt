@@ -1,8 +1,9 @@
--- There is one answer for a capture, whole or in parts.
+-- There is at most one answer for a capture, whole or in parts.
 use Rattle.std.proofs.Common.{◌≡◌, ℕ, List, sym, ◌∙◌}
 use Rattle.report_text.specs.Answers.{Answers, named, right}
 
--- where two right texts are one, and a capture with a right text has no first fault, and the lines of two first faults are one
+-- there is at most one answer if all right texts of a capture are the same, if a capture with a right text has no first
+-- fault, and if the lines of all first faults are the same
 pub one_answer : {C F : Type 0} (IsRight : C → List ℕ → Type 0) (HasFirst : C → F → Type 0) (line : C → F → List ℕ) (capture : C)
     → ((text other : List ℕ) → IsRight capture text → IsRight capture other → text ≡ other)
     → ((text : List ℕ) (fault : F) → IsRight capture text → HasFirst capture fault → ⊥)

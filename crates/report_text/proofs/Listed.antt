@@ -7,7 +7,7 @@ use Rattle.std.proofs.lemmas.List.Elements.{All-map}
 use Rattle.transaction_view.specs.Grammar.{WholeFrame}
 use Rattle.event_core.specs.Events.{EventRead, wholes_of}
 use Rattle.audit_findings.specs.Findings.{findings_of}
-use Rattle.audit_findings.specs.Kept.{AreOfFrames, AreSectionsOf, KeptFindings, at_places}
+use Rattle.audit_findings.specs.Kept.{AreOfFrames, AreSectionsOf, KeptFindings}
 use Rattle.audit_findings.specs.Lookup.{HasRecordIn}
 use Rattle.audit_findings.specs.Objects.{Outcome}
 use Rattle.audit_findings.specs.declared.findings.Sections.{Sections}
@@ -37,9 +37,9 @@ module _ {R K : Type 0} (section : SectionText R) (keep : R → K) (head_of : Se
       ∙ ap (section.head said) (ap length rows ∙ length-map (section.rows said) keep))
       (shown_lines Shows keep section.line kept (section.rows said) shown rows (each wholes outcomes of) shows)
 
-  -- rows that are kept with the places of their records, and read again
+  -- rows that are kept with the places of their records, and are read again
   module _ (place : K → ℕ) (owner : R → EventRead) (same_place : (row : R) → place (keep row) ≡ (owner row).place) (have : HaveEvents section owner) where
-    -- a record of the frames begins at the place of each
+    -- a record of the frames begins at the place of each row
     pub listed : AreOfFrames found.frames found.sections → All (λ k. HasRecordIn found.frames (place k)) kept
     listed (wholes, outcomes, of) =
         let said = findings_of (wholes_of wholes) outcomes in

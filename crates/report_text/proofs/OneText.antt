@@ -1,4 +1,4 @@
--- A capture has one text, whatever findings and frames are chosen for it.
+-- A capture has at most one text, whatever frames and outcomes are chosen for it.
 use Rattle.std.proofs.Common.{◌≡◌, ℕ, List, sym, ap, ap₂, subst, ◌∙◌}
 use Rattle.capture_frame.specs.declared.fault.Fault.{Fault}
 use Rattle.capture_frame.proofs.CaptureLaws.{capture_one_reading, capture_one_fault, capture_never_both}
@@ -8,7 +8,7 @@ use Rattle.event_core.specs.Events.{events_of_wholes, wholes_of}
 use Rattle.audit_findings.specs.Findings.{findings_of}
 use Rattle.audit_findings.specs.Objects.{AreOutcomes, Attached, Outcome, attachments_of}
 use Rattle.audit_findings.proofs.OneObjects.{one_list_of_outcomes}
-use Rattle.report_text.specs.Answers.{IsTextOf, IsLineOn, SaysSound}
+use Rattle.report_text.specs.Answers.{IsTextOf, IsLineOn, SaysNoFault}
 use Rattle.report_text.specs.Fault.{fault_line}
 use Rattle.report_text.specs.Text.{IsReportOn, report_text}
 use Rattle.report_text.proofs.AnswerLaws.{one_answer}
@@ -31,5 +31,5 @@ one_text capture = one_answer IsReportOn HasFirstFault (λ _ fault. fault_line f
 
 pub one_line : (capture text other : List ℕ) → IsLineOn capture text → IsLineOn capture other → text ≡ other
 one_line capture =
-    one_answer (SaysSound IsReadable) HasFirstFault (λ _ fault. fault_line fault) capture (λ text other a b. a.1 ∙ sym b.1)
+    one_answer (SaysNoFault IsReadable) HasFirstFault (λ _ fault. fault_line fault) capture (λ text other a b. a.1 ∙ sym b.1)
     (λ text fault a faulty. capture_never_both whole_format whole_decided capture a.0.0 fault a.0.1 faulty) (one_fault capture)

@@ -1,4 +1,4 @@
--- Parts have one text, which of a single part is that of the capture.
+-- Parts have exactly one text. The text of a single part is that of the capture.
 use Rattle.std.proofs.Common.{◌≡◌, ◌≢◌, inl, inr, ℕ, zero, suc, ◌<◌, List, [], ◌∷◌, ◌++◌, length, None, refl, sym, ap, subst, ◌∙◌, arith}
 use Rattle.std.specs.Prelude.{All, codes, drop}
 use Rattle.std.specs.Fmt.{decimal}
@@ -21,7 +21,7 @@ use Rattle.event_core.specs.Events.{events_of_wholes, wholes_of}
 use Rattle.audit_findings.specs.Findings.{findings_of}
 use Rattle.audit_findings.specs.Objects.{AreOutcomes, attachments_of}
 use Rattle.audit_findings.proofs.SomeObjects.{some_objects_of}
-use Rattle.report_text.specs.Answers.{Answers, IsLineOn, IsLineOnParts, IsReportOnParts, IsTextOf, IsTextOfParts, SaysSound, line_of_fault_in, named, right}
+use Rattle.report_text.specs.Answers.{Answers, IsLineOn, IsLineOnParts, IsReportOnParts, IsTextOf, IsTextOfParts, SaysNoFault, line_of_fault_in, named, right}
 use Rattle.report_text.specs.Fault.{fault_line, fault_words, part_fault_line, no_fault_line}
 use Rattle.report_text.specs.Text.{IsReportOn, report_text}
 use Rattle.report_text.proofs.AnswerLaws.{one_answer}
@@ -44,7 +44,7 @@ one_text parts =
 
 one_line : (parts : List (List ℕ)) (text other : List ℕ) → IsLineOnParts parts text → IsLineOnParts parts other → text ≡ other
 one_line parts =
-    one_answer (SaysSound AreReadable) HasFirstPartFault line_of_fault_in parts (λ text other a b. a.1 ∙ sym b.1)
+    one_answer (SaysNoFault AreReadable) HasFirstPartFault line_of_fault_in parts (λ text other a b. a.1 ∙ sym b.1)
     (λ text found a. readable_or_faulty parts found a.0) (one_fault parts)
 
 -- ---- some text
@@ -71,15 +71,15 @@ small_bytes (b ∷ bytes) small = bytes_cons b bytes small.0 (small_bytes bytes 
 header_bytes : IsBytes (file_header Two)
 header_bytes = small_bytes (file_header Two) (omega arith, (omega arith, (omega arith, (omega arith, (omega arith, (omega arith, (omega arith, (omega arith, (omega arith, (omega arith, (omega arith, (omega arith, (omega arith, (omega arith, (omega arith, (omega arith, tt))))))))))))))))
 
-behind_bytes : (parts : List (List ℕ)) → All IsBytes parts → IsBytes (flat_map (λ part. drop 16 part) parts)
-behind_bytes [] bytes = bytes_none
-behind_bytes (part ∷ parts) bytes =
+after_bytes : (parts : List (List ℕ)) → All IsBytes parts → IsBytes (flat_map (λ part. drop 16 part) parts)
+after_bytes [] bytes = bytes_none
+after_bytes (part ∷ parts) bytes =
     rw flat_map-cons
     (bytes_append (drop 16 part) (flat_map (λ part. drop 16 part) parts) (IsBytes-drop 16 part (All-head IsBytes part parts bytes))
-    (behind_bytes parts (All-tail IsBytes part parts bytes)))
+    (after_bytes parts (All-tail IsBytes part parts bytes)))
 
 joined_bytes : (parts : List (List ℕ)) → All IsBytes parts → IsBytes (joined parts)
-joined_bytes parts bytes = bytes_append (file_header Two) (flat_map (λ part. drop 16 part) parts) header_bytes (behind_bytes parts bytes)
+joined_bytes parts bytes = bytes_append (file_header Two) (flat_map (λ part. drop 16 part) parts) header_bytes (after_bytes parts bytes)
 
 some_text : (parts : List (List ℕ)) → All IsBytes parts → (text : List ℕ) × IsTextOfParts parts text
 some_text parts bytes = elim (parts_outcome whole_format whole_wide whole_decided None parts bytes) [
@@ -106,7 +106,7 @@ pub exactly_one_line : (parts : List (List ℕ)) → All IsBytes parts
 exactly_one_line parts bytes =
     let found = some_line parts bytes in (found.0, found.1, λ other is. one_line parts found.0 other found.1 is)
 
--- ---- of a single part
+-- ---- a single part
 
 pub one_line_said : (found : PartFault) → part_fault_line 1 found ≡ fault_line found.fault
 unfolding part_fault_line
@@ -125,7 +125,7 @@ readable_capture capture readable = (readable.0, of_one_part whole_format captur
 readable_part : (capture : List ℕ) → IsReadable capture → AreReadable (capture ∷ [])
 readable_part capture readable = (readable.0, one_part whole_format capture readable.0 readable.1)
 
--- whole frames of a capture are those of the joined one
+-- the whole frames of a capture are those of the joined capture of this single part
 joined_frames : (capture : List ℕ) (readable : IsReadable capture) → IsCapture whole_format (joined (capture ∷ [])) readable.0
 joined_frames capture readable = parts_joined whole_format whole_wide (capture ∷ []) readable.0 (one_part whole_format capture readable.0 readable.1)
 
@@ -170,7 +170,7 @@ text_of_part capture =
     of_part IsReportOn IsReportOnParts capture (λ text a. (readable_part capture (a.0, a.2), report_of_part capture text a))
 
 pub line_of_capture : (capture line : List ℕ) → IsLineOnParts (capture ∷ []) line → IsLineOn capture line
-line_of_capture capture = of_capture (SaysSound IsReadable) (SaysSound AreReadable) capture (λ line a. (readable_capture capture a.0, a.1))
+line_of_capture capture = of_capture (SaysNoFault IsReadable) (SaysNoFault AreReadable) capture (λ line a. (readable_capture capture a.0, a.1))
 
 pub line_of_part : (capture line : List ℕ) → IsLineOn capture line → IsLineOnParts (capture ∷ []) line
-line_of_part capture = of_part (SaysSound IsReadable) (SaysSound AreReadable) capture (λ line a. (readable_part capture a.0, a.1))
+line_of_part capture = of_part (SaysNoFault IsReadable) (SaysNoFault AreReadable) capture (λ line a. (readable_part capture a.0, a.1))

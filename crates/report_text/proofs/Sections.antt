@@ -6,7 +6,7 @@ use Rattle.std.proofs.lemmas.List.{append-nil, get_or-map, length-map}
 use Rattle.std.proofs.lemmas.List.Elements.{All-head, All-tail, All-cons, All-nil}
 
 module _ {K S : Type 0} (Shows : K → List ℕ → Type 0) (keep : S → K) (line_of : S → List ℕ) where
-  -- what is kept of a row is shown by the row's line alone
+  -- only the line of the row shows what is kept of it
   abbrev pub IsShownBy : S → Type 0
   IsShownBy s = (line : List ℕ) → Shows (keep s) line → line ≡ line_of s
 
@@ -18,13 +18,13 @@ module _ {K S : Type 0} (Shows : K → List ℕ → Type 0) (keep : S → K) (li
       ap₂ (λ (l : List ℕ) (ls : List (List ℕ)). l ∷ ls) (All-head IsShownBy s said each line shows.0)
       (all_shown said shown (All-tail IsShownBy s said each) shows.1)
 
-  -- the lines that show what is kept of these rows are theirs
+  -- the lines that show what is kept of these rows are the lines of the rows
   pub shown_lines : (kept : List K) (said : List S) (shown : List (List ℕ)) → kept ≡ map keep said → All IsShownBy said → AllZip Shows kept shown
       → shown ≡ map line_of said
   shown_lines kept said shown keeps each shows = all_shown said shown each (subst (λ (ks : List K). AllZip Shows ks shown) keeps shows)
 
 module _ {V : Type 0} (takes : V → List ℕ → V → Type 0) where
-  -- what a value holds behind lines, each of which it takes as a list
+  -- what a value holds after it took lines, each of which it adds as a list
   pub taken : {A : Type 0} (view : V → List A) (spelled : List ℕ → List A)
       → ((old new : V) (line : List ℕ) → takes old line new → view new ≡ view old ++ spelled line) → (a b : V) (lines : List (List ℕ))
       → FoldsTo takes a lines b → view b ≡ view a ++ flat_map spelled lines
@@ -39,7 +39,7 @@ module _ {V : Type 0} (takes : V → List ℕ → V → Type 0) where
   taken_all P one a b [] folds = All-nil P
   taken_all P one a b (line ∷ lines) folds = All-cons P line lines (one a folds.0 line folds.1) (taken_all P one folds.0 b lines folds.2)
 
--- lines one by one are the lines
+-- lines joined one by one are the lines
 pub one_by_one : (lines : List (List ℕ)) → flat_map (λ line. line ∷ []) lines ≡ lines
 one_by_one [] = refl
 one_by_one (line ∷ lines) = ap (λ (ls : List (List ℕ)). line ∷ ls) (one_by_one lines)

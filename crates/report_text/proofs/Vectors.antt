@@ -118,7 +118,7 @@ failed_row : calls_row (record { event = send; verdict = Failed; closer = Some 1
 unfolding send number_at digits
 failed_row = refl
 
--- a method with the number 7, of a sender below zero
+-- code 7, and a sender_pid below zero
 crossed_row : served_row (record {
   event = record send { kind = BrTransaction; payload = replicate 16 0 ++ 7 ∷ replicate 7 0 ++ 0xfe ∷ replicate 3 0xff ++ replicate 36 0 };
   verdict = Crossed;
@@ -195,7 +195,7 @@ widest_row : codes_row (record { word = 0x80087210; count = 18446744073709551615
 unfolding digits
 widest_row = refl
 
--- a word that is no good code has no name
+-- a code word that means no kind has no name
 nameless_row : codes_row (record { word = 0xffffffff; count = 7 }) ≡ codes "  0xffffffff  7"
 unfolding digits
 nameless_row = refl

@@ -6,18 +6,18 @@ use Rattle.transaction_view.specs.Grammar.{AreReadable, HasFirstPartFault, IsRea
 use Rattle.report_text.specs.Fault.{fault_line, part_fault_line, no_fault_line}
 use Rattle.report_text.specs.Text.{IsReportOn}
 
--- the text that answers for a capture, whole or in parts: one that is right for it, or the line that names its first
--- fault
+-- the text answers for a capture, which may be in parts: it is right for the capture, or it is the line that names the
+-- first fault
 pub data Answers {C F : Type 0} (IsRight : C → List ℕ → Type 0) (HasFirst : C → F → Type 0) (line : C → F → List ℕ)
     (capture : C) (text : List ℕ) : Type 0 where
   right : IsRight capture text → Answers IsRight HasFirst line capture text
   named : (fault : F) → HasFirst capture fault → text ≡ line capture fault → Answers IsRight HasFirst line capture text
 
--- the line that there is no fault is right for a capture in the grammar
-abbrev pub SaysSound : {C : Type 0} → (C → Type 0) → C → List ℕ → Type 0
-SaysSound IsGood capture text = IsGood capture × (text ≡ no_fault_line)
+-- the capture is in the grammar, and the text is the line that says that there is no fault
+abbrev pub SaysNoFault : {C : Type 0} → (C → Type 0) → C → List ℕ → Type 0
+SaysNoFault IsGood capture text = IsGood capture × (text ≡ no_fault_line)
 
--- the report on the joined capture is right for parts in the grammar
+-- the parts are in the grammar, and the text is the report on their joined capture
 abbrev pub IsReportOnParts : List (List ℕ) → List ℕ → Type 0
 IsReportOnParts parts text = AreReadable parts × IsReportOn (joined parts) text
 
@@ -25,9 +25,9 @@ IsReportOnParts parts text = AreReadable parts × IsReportOn (joined parts) text
 abbrev pub IsTextOf : (capture text : List ℕ) → Type 0
 IsTextOf capture text = Answers IsReportOn HasFirstFault (λ _ fault. fault_line fault) capture text
 
--- the line on a capture: that there is no fault, or the one that names its first fault
+-- the line of `first-fault` on a capture: it says that there is no fault, or names the first one
 abbrev pub IsLineOn : (capture text : List ℕ) → Type 0
-IsLineOn capture text = Answers (SaysSound IsReadable) HasFirstFault (λ _ fault. fault_line fault) capture text
+IsLineOn capture text = Answers (SaysNoFault IsReadable) HasFirstFault (λ _ fault. fault_line fault) capture text
 
 -- the line that names a fault of parts
 abbrev pub line_of_fault_in : List (List ℕ) → PartFault → List ℕ
@@ -37,6 +37,6 @@ line_of_fault_in parts found = part_fault_line (length parts) found
 abbrev pub IsTextOfParts : List (List ℕ) → List ℕ → Type 0
 IsTextOfParts parts text = Answers IsReportOnParts HasFirstPartFault line_of_fault_in parts text
 
--- the line on parts: that there is no fault, or the one that names their first fault
+-- the line of `first-fault` on parts: it says that there is no fault, or names the first one
 abbrev pub IsLineOnParts : List (List ℕ) → List ℕ → Type 0
-IsLineOnParts parts text = Answers (SaysSound AreReadable) HasFirstPartFault line_of_fault_in parts text
+IsLineOnParts parts text = Answers (SaysNoFault AreReadable) HasFirstPartFault line_of_fault_in parts text

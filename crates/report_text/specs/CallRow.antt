@@ -1,5 +1,5 @@
--- What the sections `calls` and `served` have alike: the row of a call (docs/REPORT.md). Each section has a field of
--- its own, of the other side of the call.
+-- What the sections `calls` and `served` have in common: the row of a call (docs/REPORT.md). One field differs: what it
+-- says of the other side of the call.
 use Rattle.std.specs.Prelude.{ℕ, if◌then◌else◌, List, [], ◌++◌, codes, Option, Some, None}
 use Rattle.std.specs.Fmt.{decimal}
 use Rattle.transaction_view.specs.Transaction.{has_transaction_data, code}
@@ -9,7 +9,7 @@ use Rattle.call_stacks.specs.declared.verdict.Verdict.{Verdict}
 use Rattle.call_stacks.specs.declared.verdict.Verdict.TheVariants.{Answered, Failed, Replied, Crossed, Open}
 use Rattle.report_text.specs.EventRow.{thread_start}
 
--- what became of a call, as it is printed
+-- a verdict, as it is printed
 abbrev pub verdict_name : Verdict → List ℕ
 verdict_name Answered = codes "answered"
 verdict_name Failed = codes "failed"
@@ -17,24 +17,25 @@ verdict_name Replied = codes "replied"
 verdict_name Crossed = codes "crossed"
 verdict_name Open = codes "open"
 
--- the place of its closer, or a dash where it has none
+-- the place of the closer, or `-` if there is none
 abbrev pub closer_field : Option ℕ → List ℕ
 closer_field None = codes "-"
 closer_field (Some place) = decimal place
 
--- what a row says of a call's record: the section's own field, the code; and nothing of what is no transaction
+-- what a row says of a call's record: the field of the other side, and the code; nothing if it is not a transaction or
+-- a reply
 abbrev pub record_fields : (List ℕ → List ℕ) → EventRead → List ℕ
 record_fields other_side e =
     if has_transaction_data e.kind
     then codes " " ++ other_side e.payload ++ codes " " ++ decimal (code e.payload)
     else []
 
--- a row: place, process, thread, these fields, what became of the call, its closer
+-- a row: place, device, process, thread, these fields, verdict, closer
 abbrev pub call_row : (List ℕ → List ℕ) → Opener EventRead → List ℕ
 call_row other_side call =
     thread_start call.event ++ record_fields other_side call.event
     ++ codes " " ++ verdict_name call.verdict ++ codes " " ++ closer_field call.closer
 
--- the row of a call that is kept so, by its event
+-- the row of a call that is kept with its verdict and its closer, and whose event is read again
 abbrev pub row_of_kept : (List ℕ → List ℕ) → Opener ℕ → EventRead → List ℕ
 row_of_kept other_side call e = call_row other_side (record { event = e; verdict = call.verdict; closer = call.closer })

@@ -7,21 +7,21 @@ use Rattle.call_stacks.specs.declared.opener.Opener.{Opener}
 use Rattle.report_text.specs.CallRow.{call_row}
 use Rattle.report_text.specs.Section.{SectionText}
 
--- the head: how many calls there are, and how many of each sort among them
+-- the head: how many calls there are, and how many of them are answered, failed and unanswered
 abbrev pub calls_head : ℕ → ℕ → ℕ → List ℕ
 calls_head answered failed unanswered =
     codes "calls " ++ decimal (answered + failed + unanswered) ++ codes " answered " ++ decimal answered
     ++ codes " failed " ++ decimal failed ++ codes " unanswered " ++ decimal unanswered
 
--- the handle that a call goes to
+-- the target handle of a call
 abbrev pub target_field : List ℕ → List ℕ
 target_field payload = decimal (target_handle payload)
 
--- a row: place, process, thread, target handle, code, what became of the call, its closer
+-- a row: place, device, process, thread, target handle, code, verdict, closer
 abbrev pub calls_row : Opener EventRead → List ℕ
 calls_row call = call_row target_field call
 
--- the section
+-- the section: its head, and a row for each call that is not answered
 abbrev pub calls_section : SectionText (Opener EventRead)
 calls_section = record {
   head = λ found rows. calls_head found.calls.calls.answered found.calls.calls.failed found.calls.calls.unanswered;

@@ -1,20 +1,19 @@
--- The lines of the section `clears`: requests taken back that are not confirmed, and confirmations of
--- none (docs/REPORT.md).
+-- The lines of the section `clears`: unconfirmed clears and stray confirmations (docs/REPORT.md).
 use Rattle.std.specs.Prelude.{ℕ, List, codes}
 use Rattle.event_core.specs.Events.{EventRead}
 use Rattle.process_ledgers.specs.Items.{clear_item_of}
 use Rattle.report_text.specs.OpenAndStray.{open_and_stray_head, open_and_stray_row}
 use Rattle.report_text.specs.Section.{SectionText}
 
--- the head: how many there are in all, how many of them are unconfirmed, how many stray ones
+-- the head: how many clears there are, how many of them are unconfirmed, and how many confirmations are stray
 abbrev pub clears_head : ℕ → ℕ → ℕ → List ℕ
 clears_head all unclosed strays = open_and_stray_head (codes "clears") (codes "unconfirmed") all unclosed strays
 
--- a row: place, process, cookie, what it is called
+-- a row: place, device, process, cookie, and `unconfirmed` or `stray`
 abbrev pub clears_row : EventRead → List ℕ
 clears_row e = open_and_stray_row (codes "unconfirmed") clear_item_of e
 
--- the section
+-- the section: its head, and a row for each unconfirmed clear and each stray confirmation
 abbrev pub clears_section : SectionText EventRead
 clears_section = record {
   head = λ found rows. clears_head found.events.counts.clears found.processes.clears.unclosed found.processes.clears.strays;

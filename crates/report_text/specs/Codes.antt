@@ -8,12 +8,12 @@ use Rattle.audit_findings.specs.declared.codes.CodeRow.{CodeRow}
 use Rattle.report_text.specs.Line.{hex_word}
 use Rattle.report_text.specs.Section.{SectionText}
 
--- the name of a kind, and nothing where there is none
+-- the name of a kind; nothing if there is no kind
 abbrev pub name_of_kind : Option Kind → List ℕ
 name_of_kind None = []
 name_of_kind (Some kind) = name_of kind
 
--- the name of the record that a good code word stands for
+-- the name of the kind that a code word means; nothing if it means none
 abbrev pub name_of_word : ℕ → List ℕ
 name_of_word word = name_of_kind (result_ok (kind_of (protocol_of_word word) word))
 
@@ -21,10 +21,10 @@ name_of_word word = name_of_kind (result_ok (kind_of (protocol_of_word word) wor
 abbrev pub codes_head : ℕ → List ℕ
 codes_head different = codes "codes " ++ decimal different
 
--- a row: code word, kind, count
+-- a row: code word, name, count
 abbrev pub codes_row : CodeRow → List ℕ
 codes_row row = codes "  " ++ hex_word row.word ++ codes " " ++ name_of_word row.word ++ codes " " ++ decimal row.count
 
--- the section
+-- the section: its head, and a row for each different code word
 abbrev pub codes_section : SectionText CodeRow
 codes_section = record { head = λ found rows. codes_head rows; rows = λ found. found.events.codes; line = codes_row }

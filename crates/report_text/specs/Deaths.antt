@@ -1,19 +1,19 @@
--- The lines of the section `deaths`: deaths that are not acknowledged, and acknowledgements of none (docs/REPORT.md).
+-- The lines of the section `deaths`: unacknowledged deaths and stray acknowledgements (docs/REPORT.md).
 use Rattle.std.specs.Prelude.{ℕ, List, codes}
 use Rattle.event_core.specs.Events.{EventRead}
 use Rattle.process_ledgers.specs.Items.{death_item_of}
 use Rattle.report_text.specs.OpenAndStray.{open_and_stray_head, open_and_stray_row}
 use Rattle.report_text.specs.Section.{SectionText}
 
--- the head: how many there are in all, how many of them are unacknowledged, how many stray ones
+-- the head: how many deaths there are, how many of them are unacknowledged, and how many acknowledgements are stray
 abbrev pub deaths_head : ℕ → ℕ → ℕ → List ℕ
 deaths_head all unclosed strays = open_and_stray_head (codes "deaths") (codes "unacknowledged") all unclosed strays
 
--- a row: place, process, cookie, what it is called
+-- a row: place, device, process, cookie, and `unacknowledged` or `stray`
 abbrev pub deaths_row : EventRead → List ℕ
 deaths_row e = open_and_stray_row (codes "unacknowledged") death_item_of e
 
--- the section
+-- the section: its head, and a row for each unacknowledged death and each stray acknowledgement
 abbrev pub deaths_section : SectionText EventRead
 deaths_section = record {
   head = λ found rows. deaths_head found.events.counts.deaths found.processes.deaths.unclosed found.processes.deaths.strays;

@@ -25,20 +25,20 @@ fault_name AttachShort = codes "AttachShort"
 fault_name AttachRecord = codes "AttachRecord"
 fault_name AttachSize = codes "AttachSize"
 
--- what is wrong, and where
+-- what is wrong, by the kind of the fault, and at which place
 abbrev pub fault_words : Fault → List ℕ
 fault_words fault = codes "malformed " ++ fault_name fault.kind ++ codes " at " ++ decimal fault.place
 
--- the one line that names a first fault
+-- the line that names the first fault of a capture
 unfoldable pub fault_line : Fault → List ℕ
 fault_line fault = ended (fault_words fault)
 
--- the one line that names the first fault of so many parts: of one part that of a capture, and of more with the part
--- that it stands in
+-- the line that names the first fault of a capture in parts, given how many there are: for a single part the line of a
+-- capture, otherwise with the number of the part
 unfoldable pub part_fault_line : ℕ → PartFault → List ℕ
 part_fault_line (suc zero) found = fault_line found.fault
 part_fault_line parts found = ended (fault_words found.fault ++ codes " in part " ++ decimal found.part)
 
--- the one line that says that there is none
+-- the line that says that there is no fault
 abbrev pub no_fault_line : List ℕ
 no_fault_line = ended (codes "no malformed record")

@@ -11,10 +11,10 @@ use Rattle.report_text.specs.Section.{SectionText}
 abbrev pub flags_head : ℕ → List ℕ
 flags_head rows = codes "flags " ++ decimal rows
 
--- a row: place, process, unknown bits
+-- a row: place, device, process, unknown flags
 abbrev pub flags_row : EventRead → List ℕ
 flags_row e = row_start e ++ codes " " ++ hex_word (unknown_flags e)
 
--- the section
+-- the section: its head, and a row for each record with unknown flags
 abbrev pub flags_section : SectionText EventRead
 flags_section = record { head = λ found. flags_head; rows = λ found. found.events.flags; line = flags_row }

@@ -6,8 +6,7 @@ use Rattle.audit_findings.specs.declared.in_turn.ProcessRow.{ProcessRow}
 use Rattle.report_text.specs.ProcessRow.{process_start, count_fields, unbalanced_head}
 use Rattle.report_text.specs.Section.{SectionText}
 
--- a row: process, handle, the strong count and its low, the weak count and its low, and how many strong and how many
--- weak references those deliveries of the process hold that it never frees
+-- a row: device, process, handle, the strong count and its low, the weak count and its low, held strong, held weak
 abbrev pub handles_row : ProcessRow HeldRow → List ℕ
 handles_row of =
     process_start of.process ++ codes " " ++ decimal of.row.taken.handle
@@ -15,7 +14,7 @@ handles_row of =
     ++ count_fields of.row.taken.weak.sum of.row.taken.weak.low ++ codes " " ++ decimal of.row.held_strong ++ codes " "
     ++ decimal of.row.held_weak
 
--- the section
+-- the section: its head, and the rows of each process in turn
 abbrev pub handles_section : SectionText (ProcessRow HeldRow)
 handles_section = record {
   head = λ found rows. unbalanced_head (codes "handles") rows found.processes.handles.unbalanced;

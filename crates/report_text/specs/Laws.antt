@@ -6,17 +6,17 @@ use Rattle.transaction_view.specs.Grammar.{HasFirstFault}
 use Rattle.report_text.specs.Answers.{IsTextOf, IsLineOn}
 use Rattle.report_text.specs.Text.{IsReportOn}
 
--- two texts of a capture are one
+-- a capture has at most one text
 abbrev pub HasOneText : Type 0
 HasOneText = (capture text other : List ℕ) → IsTextOf capture text → IsTextOf capture other → text ≡ other
 
--- two lines of `first-fault` on a capture are one
+-- a capture has at most one line of `first-fault`
 abbrev pub HasOneLine : Type 0
 HasOneLine = (capture line other : List ℕ) → IsLineOn capture line → IsLineOn capture other → line ≡ other
 
 -- no capture has both a report and a first fault
-abbrev pub HasNoTwoAnswers : Type 0
-HasNoTwoAnswers = (capture text : List ℕ) (fault : Fault) → IsReportOn capture text → HasFirstFault capture fault → ⊥
+abbrev pub NeverHasBoth : Type 0
+NeverHasBoth = (capture text : List ℕ) (fault : Fault) → IsReportOn capture text → HasFirstFault capture fault → ⊥
 
 -- every list of bytes has exactly one text
 abbrev pub HasExactlyOneText : Type 0

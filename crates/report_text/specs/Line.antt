@@ -1,4 +1,4 @@
--- The parts of a line (docs/REPORT.md).
+-- What lines are made of (docs/REPORT.md).
 use Rattle.std.specs.Prelude.{ℕ, zero, suc, ◌/◌, ◌%◌, List, [], ◌∷◌, ◌++◌, codes, false}
 use Rattle.std.specs.Fmt.{digit_glyph, digits}
 

@@ -7,15 +7,14 @@ use Rattle.report_text.specs.Line.{hex_number}
 use Rattle.report_text.specs.ProcessRow.{process_start, count_fields, unbalanced_head}
 use Rattle.report_text.specs.Section.{SectionText}
 
--- a row: process, ptr, cookie, the strong count and its low, the weak count and its low, the strong references that are
--- due, and the weak ones
+-- a row: device, process, ptr, cookie, the strong count and its low, the weak count and its low, strong due, weak due
 abbrev pub nodes_row : ProcessRow NodeRow → List ℕ
 nodes_row of =
     process_start of.process ++ codes " " ++ hex_number of.row.key.ptr ++ codes " " ++ hex_number of.row.key.cookie
     ++ count_fields of.row.strong.sum of.row.strong.low ++ count_fields of.row.weak.sum of.row.weak.low
     ++ codes " " ++ signed_decimal of.row.strong_due ++ codes " " ++ signed_decimal of.row.weak_due
 
--- the section
+-- the section: its head, and the rows of each process in turn
 abbrev pub nodes_section : SectionText (ProcessRow NodeRow)
 nodes_section = record {
   head = λ found rows. unbalanced_head (codes "nodes") rows found.processes.nodes.unbalanced;

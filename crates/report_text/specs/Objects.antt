@@ -25,13 +25,13 @@ cause_name Overlap = codes "Overlap"
 cause_name Short = codes "Short"
 cause_name UnknownSort = codes "UnknownSort"
 
--- a row: place and process of the owning record, index, offset, cause
+-- a row: place, device and process of the record that owns the attachment; index, offset, cause
 abbrev pub objects_row : BadRow EventRead → List ℕ
 objects_row row =
     row_start row.owner ++ codes " " ++ decimal row.bad.index ++ codes " " ++ decimal row.bad.offset
     ++ codes " " ++ cause_name row.bad.cause
 
--- the section
+-- the section: its head, and a row for each bad object
 abbrev pub objects_section : SectionText (BadRow EventRead)
 objects_section = record {
   head = λ found rows. objects_head found.events.objects rows;

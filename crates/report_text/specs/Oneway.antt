@@ -7,24 +7,24 @@ use Rattle.audit_findings.specs.declared.in_turn.ProcessRow.{ProcessRow}
 use Rattle.report_text.specs.ProcessRow.{process_start}
 use Rattle.report_text.specs.Section.{SectionText}
 
--- the head: how many oneway transactions are sent and received, and how many of the sent ones are refused
+-- the head: how many oneway transactions are sent, how many are received, and how many of the sent ones are refused
 abbrev pub oneway_head : ℕ → ℕ → ℕ → List ℕ
 oneway_head sent received refused =
     codes "oneway sent " ++ decimal sent ++ codes " received " ++ decimal received
     ++ codes " refused " ++ decimal refused
 
--- whether they are sent, and to which handle; or received
+-- `sent` and the handle, or `received`
 abbrev pub key_fields : OnewayKey → List ℕ
 key_fields (Sent handle) = codes "sent " ++ decimal handle
 key_fields Received = codes "received"
 
--- a row: process, these fields, count, sum
+-- a row: device, process, these fields, the count, the sum of data_size
 abbrev pub oneway_row : ProcessRow (OnewayKey × ℕ × ℕ) → List ℕ
 oneway_row of =
     process_start of.process ++ codes " " ++ key_fields of.row.0 ++ codes " " ++ decimal of.row.1
     ++ codes " " ++ decimal of.row.2
 
--- the section
+-- the section: its head, and the rows of each process in turn
 abbrev pub oneway_section : SectionText (ProcessRow (OnewayKey × ℕ × ℕ))
 oneway_section = record {
   head = λ found rows. oneway_head found.events.oneway.sent found.events.oneway.received found.calls.refused.oneway;

@@ -3,10 +3,10 @@ use Rattle.std.specs.Prelude.{ℕ, List, ◌++◌, codes}
 use Rattle.std.specs.Fmt.{decimal}
 use Rattle.capture_frame.specs.declared.process.Process.{Process}
 
--- a process: its device, and its number
+-- a process: its device and its number
 abbrev pub process_field : Process → List ℕ
 process_field process = decimal process.device ++ codes " " ++ decimal process.number
 
--- the number of a thread, whose process is spelled before it
+-- a thread: its number, after the fields of its process
 abbrev pub thread_field : ℕ → List ℕ
 thread_field thread = decimal thread

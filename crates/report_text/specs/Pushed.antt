@@ -1,6 +1,6 @@
--- What is pushed while a report is made.
+-- What is pushed while a report is made. No public clause names these definitions.
 use Rattle.capture_frame.specs.Envelope.{PlacedFrame}
-use Rattle.std.specs.Prelude.{◌≡◌, ℕ, List, ◌∷◌, All, Contains, length, map}
+use Rattle.std.specs.Prelude.{◌≡◌, ℕ, List, All, Contains, map}
 use Rattle.std.specs.List.{AllZip, FoldsTo}
 use Rattle.capture_frame.specs.Units.{Placed}
 use Rattle.transaction_view.specs.Grammar.{WholeFrame}
@@ -13,31 +13,31 @@ use Rattle.audit_findings.specs.Objects.{Outcome}
 use Rattle.audit_findings.specs.declared.findings.Sections.{Sections}
 use Rattle.report_text.specs.Section.{AreLinesOf, SectionText}
 
--- the line is made so of the event at this place of the frames that the views show
+-- the line is what `line_of` makes of the event at this place of the frames
 abbrev pub ShowsEvent : (EventRead → List ℕ) → List PlacedFrame → ℕ → List ℕ → Type 0
 ShowsEvent line_of frames place line =
     (wholes : List (Placed WholeFrame)) (e : EventRead) → AreViews frames wholes → Contains (events_of_wholes wholes) e
     → e.place ≡ place → line ≡ line_of e
 
--- one after another, lines were taken that show these rows
+-- lines were taken, one after another, that show the rows of which this is kept
 abbrev pub TakesRows : {L K : Type 0} → (L → List ℕ → L → Type 0) → (K → List ℕ → Type 0) → List K → L → L → Type 0
 TakesRows takes shows kept old new =
     (shown : List (List ℕ)) × AllZip shows kept shown × FoldsTo takes old shown new
 
--- one after another, such lines were taken
+-- lines were taken, one after another, which are these lines of the findings
 pub record TakesLines {L : Type 0} (takes : L → List ℕ → L → Type 0) (lines_of : Sections EventRead → List (List ℕ))
     (kept : KeptFindings) (old new : L) : Type 0 where
   pub lines : List (List ℕ)
   pub taken : FoldsTo takes old lines new
   pub told : AreLinesOf lines_of kept lines
 
--- what is kept of the findings is of the section its head, and of each of its rows what is kept of it
+-- what is kept of the findings gives the head of the section, and for each of its rows what is kept of that row
 pub record Keeps {R K : Type 0} (section : SectionText R) (keep : R → K) (head_of : Sections ℕ → ℕ → List ℕ)
     (rows_of : Sections ℕ → List K) : Type 0 where
   pub head : (found : Sections EventRead) (rows : ℕ) → head_of (at_places found) rows ≡ section.head found rows
   pub rows : (found : Sections EventRead) → rows_of (at_places found) ≡ map keep (section.rows found)
 
--- each row of the section has an event of the frames, its owner
+-- the owner of each row of the section is an event of the frames
 abbrev pub HaveEvents : {R : Type 0} → SectionText R → (R → EventRead) → Type 0
 HaveEvents section owner =
     (wholes : List (Placed WholeFrame)) (outcomes : List Outcome) → AreOutcomesOf wholes outcomes

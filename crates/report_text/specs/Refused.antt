@@ -9,6 +9,7 @@ use Rattle.report_text.specs.Section.{SectionText}
 abbrev pub refused_head : ℕ → List ℕ
 refused_head rows = codes "refused " ++ decimal rows
 
--- the section; a row has place, process, thread, kind of the error reply
+-- the section: its head, and a row for each error reply that reports a refused send: place, device, process, thread,
+-- kind
 abbrev pub refused_section : SectionText EventRead
 refused_section = record { head = λ found. refused_head; rows = λ found. found.calls.refused.rows; line = kind_row }

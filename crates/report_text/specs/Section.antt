@@ -7,17 +7,17 @@ use Rattle.audit_findings.specs.Kept.{AreSectionsOf, KeptFindings}
 use Rattle.audit_findings.specs.Objects.{Outcome}
 use Rattle.audit_findings.specs.declared.findings.Sections.{Sections}
 
--- its head, where it has so many rows; its rows; and the line of a row
+-- a section: its head, given how many rows it has; its rows; and the line of a row
 pub record SectionText (Row : Type 0) : Type 0 where
   pub head : Sections EventRead → ℕ → List ℕ
   pub rows : Sections EventRead → List Row
   pub line : Row → List ℕ
 
--- its lines
+-- the lines of a section: its head, then the line of each row
 abbrev pub lines_of : {Row : Type 0} → SectionText Row → Sections EventRead → List (List ℕ)
 lines_of section found = section.head found (length (section.rows found)) ∷ map section.line (section.rows found)
 
--- the lines are these lines of the findings that are kept, whatever frames they are of
+-- whatever frames and outcomes the kept findings are of, these are their lines
 abbrev pub AreLinesOf : (Sections EventRead → List (List ℕ)) → KeptFindings → List (List ℕ) → Type 0
 AreLinesOf lines_of kept lines =
     (wholes : List WholeFrame) (outcomes : List Outcome) → AreSectionsOf wholes outcomes kept.frames kept.sections

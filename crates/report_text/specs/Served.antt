@@ -7,21 +7,21 @@ use Rattle.call_stacks.specs.declared.opener.Opener.{Opener}
 use Rattle.report_text.specs.CallRow.{call_row}
 use Rattle.report_text.specs.Section.{SectionText}
 
--- the head: how many served calls there are, and how many of each sort among them
+-- the head: how many served calls there are, and how many of them are replied, crossed and open
 abbrev pub served_head : ℕ → ℕ → ℕ → List ℕ
 served_head replied crossed left_open =
     codes "served " ++ decimal (replied + crossed + left_open) ++ codes " replied " ++ decimal replied
     ++ codes " crossed " ++ decimal crossed ++ codes " open " ++ decimal left_open
 
--- the process that the call comes from
+-- sender_pid: the process id of the caller, as the driver gives it
 abbrev pub sender_field : List ℕ → List ℕ
 sender_field payload = signed_decimal (sender_pid payload)
 
--- a row: place, process, thread, sender's process, code, what became of the call, its closer
+-- a row: place, device, process, thread, sender_pid, code, verdict, closer
 abbrev pub served_row : Opener EventRead → List ℕ
 served_row call = call_row sender_field call
 
--- the section
+-- the section: its head, and a row for each served call that is not replied
 abbrev pub served_section : SectionText (Opener EventRead)
 served_section = record {
   head = λ found rows. served_head found.calls.served.replied found.calls.served.crossed found.calls.served.left_open;

@@ -9,6 +9,6 @@ use Rattle.report_text.specs.Section.{SectionText}
 abbrev pub strays_head : ℕ → List ℕ
 strays_head rows = codes "strays " ++ decimal rows
 
--- the section; a row has place, process, thread, kind
+-- the section: its head, and a row for each stray: place, device, process, thread, kind
 abbrev pub strays_section : SectionText EventRead
 strays_section = record { head = λ found. strays_head; rows = λ found. found.calls.strays; line = kind_row }

@@ -26,23 +26,25 @@ use Rattle.report_text.specs.Oneway.{oneway_section}
 use Rattle.report_text.specs.Objects.{objects_section}
 use Rattle.report_text.specs.Flags.{flags_section}
 
--- the title
+-- the title, with the version of the report
 abbrev pub title : List ℕ
 title = codes "BINDER AUDIT 2"
 
+-- the first line
 abbrev pub title_lines : Sections EventRead → List (List ℕ)
 title_lines found = title ∷ []
 
--- the line of totals: frames, records, opaque ones among them, missing frames
+-- the totals: how many frames and records there are, how many of the records are opaque, how many frames are missing
 abbrev pub totals : ℕ → ℕ → ℕ → ℕ → List ℕ
 totals frames records opaque missing =
     codes "frames " ++ decimal frames ++ codes " records " ++ decimal records
     ++ codes " opaque " ++ decimal opaque ++ codes " missing " ++ decimal missing
 
+-- the second line
 abbrev pub totals_lines : Sections EventRead → List (List ℕ)
 totals_lines found = totals found.frames found.events.records found.events.opaque found.missing ∷ []
 
--- what gives the lines of the report, in their order: the first two lines, and the sections
+-- the lines of the report, in order: the first two lines, then the sections
 abbrev pub lines_in_order : List (Sections EventRead → List (List ℕ))
 lines_in_order =
     title_lines ∷ totals_lines ∷ lines_of codes_section ∷ lines_of calls_section ∷ lines_of served_section
@@ -54,18 +56,18 @@ lines_in_order =
 abbrev pub report_lines : Sections EventRead → List (List ℕ)
 report_lines found = flat_map (λ lines. lines found) lines_in_order
 
--- the report
+-- the text of the report: each of its lines, ended by one line feed
 unfoldable pub report_text : Sections EventRead → List ℕ
 report_text found = flat_map ended (report_lines found)
 
--- the text is the report on the findings that are kept, whatever frames they are of
+-- whatever frames and outcomes the kept findings are of, the text is the report on those findings
 abbrev pub IsReportOf : KeptFindings → List ℕ → Type 0
 IsReportOf kept text =
     (wholes : List WholeFrame) (outcomes : List Outcome) → AreSectionsOf wholes outcomes kept.frames kept.sections
     → text ≡ report_text (findings_of (wholes_of wholes) outcomes)
 
--- The text is the report on a capture: this is in the grammar, its attachments have these outcomes, and the text is that
--- of the findings.
+-- the text is the report on a capture: the capture is in the grammar by some frames, their attachments have some
+-- outcomes, and the text is the report on the findings of both
 abbrev pub IsReportOn : List ℕ → List ℕ → Type 0
 IsReportOn capture text =
     (wholes : List WholeFrame) × (outcomes : List Outcome) × IsInGrammar capture wholes

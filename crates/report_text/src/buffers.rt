@@ -12,7 +12,7 @@ pub(crate) struct Buffers;
 impl EventSection for Buffers {
     ghost use Rattle.std.specs.Prelude.{refl};
     ghost use Rattle.event_core.specs.Events.{events_of_wholes};
-    ghost use Rattle.audit_findings.specs.Buffers.{is_unfreed};
+    ghost use Rattle.audit_findings.specs.Buffers.{is_leaked};
     ghost use Rattle.audit_findings.proofs.RowsThere.{listed_there};
     ghost use Rattle.report_text.specs.Buffers.{buffers_head, buffers_section};
 
@@ -24,7 +24,7 @@ impl EventSection for Buffers {
 
     ghost keeps = { record { head = λ found rows. refl; rows = λ found. refl } };
 
-    ghost events = { λ wholes outcomes are. listed_there is_unfreed (events_of_wholes wholes) };
+    ghost events = { λ wholes outcomes are. listed_there is_leaked (events_of_wholes wholes) };
 
     ghost bare = { λ e. refl };
 

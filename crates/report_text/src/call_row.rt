@@ -1,4 +1,4 @@
-//! What the sections `calls` and `served` have alike: the row of a call.
+//! What the sections `calls` and `served` have in common: the row of a call.
 
 ghost use Rattle.std.specs.Prelude.{◌≡◌, ◌≤◌, ◌+◌, ◌++◌, length};
 ghost use Rattle.arrayvec.specs.ArrayString.{array_string_len};
@@ -13,8 +13,8 @@ use call_stacks::{Opener, Verdict};
 use event_core::Event;
 use transaction_view::Transaction;
 
-/// A section of calls, each of which is kept as the place of its record, what became of the call,
-/// and the place of its closer.
+/// A section of calls. Of each call the place of its record, its verdict and the place of its
+/// closer are kept.
 pub(crate) trait CallSection {
     ghost use Rattle.std.specs.Prelude.{◌≡◌, ◌≤◌, ◌+◌, ◌++◌, ℕ, List};
     ghost use Rattle.arrayvec.specs.ArrayString.{array_string_len};
@@ -29,22 +29,22 @@ pub(crate) trait CallSection {
     /// The section.
     ghost section: { SectionText (Opener EventRead) };
 
-    /// Its head, of what findings keep, where it has so many rows.
+    /// Its head, from what findings keep and from how many rows it has.
     ghost head_of: { Sections ℕ → ℕ → List ℕ };
 
-    /// Its rows, of what findings keep.
+    /// Its rows, from what findings keep.
     ghost rows_of: { Sections ℕ → List (Opener ℕ) };
 
-    /// They are the section's.
+    /// Both are those of the section.
     ghost keeps: { Keeps section call_at_place head_of rows_of };
 
-    /// Its calls are of events of the frames.
+    /// The events of its calls are events of the frames.
     ghost events: { HaveEvents section (λ call. call.event) };
 
-    /// What it tells of the other side of a call, by the payload of the call's record.
+    /// What a row says of the other side of a call, from the payload of the call's record.
     ghost field: { List ℕ → List ℕ };
 
-    /// A row is told with that field.
+    /// The line of a row has that field.
     ghost tells: { (call : Opener EventRead) → call_row field call ≡ section.line call };
 
     /// The head, without its line feed.
@@ -63,7 +63,7 @@ pub(crate) trait CallSection {
         ensures short { array_string_len line.new ≤ array_string_len line.old + 20 };
 }
 
-/// Such a section.
+/// A `CallSection`, as a `Section`.
 #[derive(Clone, Copy)]
 pub(crate) struct OfCalls<S>(pub S);
 
@@ -123,7 +123,7 @@ fn push_record<S: CallSection>(section: &S, line: &mut Row, event: Event<'_>)
     }
 }
 
-/// Pushes the place of a closer, or a dash where there is none.
+/// Pushes the place of a closer, or `-` if there is none.
 fn push_closer(line: &mut Row, closer: Option<u64>)
     requires { array_string_len line.old + 20 ≤ 256 }
     ensures { line.new.bytes ≡ line.old.bytes ++ closer_field closer }
@@ -134,7 +134,7 @@ fn push_closer(line: &mut Row, closer: Option<u64>)
     }
 }
 
-/// What became of a call, as it is printed.
+/// A verdict, as it is printed.
 fn verdict_name(verdict: Verdict) -> &'static str
     ensures name { result.now ≡ verdict_name verdict }
     ensures short { length result.now ≤ 8 }

@@ -47,7 +47,7 @@ impl CallSection for Calls {
         found.sections().calls.calls.rows.as_slice()
     }
 
-    // The handle that a call goes to.
+    // The target handle of a call.
     fn push_field(&self, line: &mut Row, transaction: Transaction<'_>) {
         push_decimal(line, u64::from(transaction.target_handle()));
     }

@@ -48,7 +48,7 @@ impl WholeSection for Codes {
     }
 }
 
-/// The name of the record that a code word stands for.
+/// The name of the kind that a code word means; empty if it means none.
 fn word_name(word: u32) -> &'static str
     ensures name { result.now ≡ name_of_word word }
     ensures short { length result.now ≤ 32 }

@@ -1,4 +1,4 @@
-//! Sections whose rows are events, which are read from the capture again.
+//! Sections whose rows are events, which are read again from the capture.
 
 ghost use Rattle.std.specs.Prelude.{◌≡◌, ◌≤◌};
 ghost use Rattle.arrayvec.specs.ArrayString.{array_string_len};
@@ -11,7 +11,7 @@ use crate::section::Section;
 use audit_findings::{Findings, Sections};
 use event_core::Event;
 
-/// A section each of whose rows is an event, kept as the place of its record.
+/// A section of events. Of each event the place of its record is kept.
 pub(crate) trait EventSection {
     ghost use Rattle.std.specs.Prelude.{◌≡◌, ℕ, List, None};
     ghost use Rattle.event_core.specs.Events.{EventRead};
@@ -23,13 +23,13 @@ pub(crate) trait EventSection {
     /// The section.
     ghost section: { SectionText EventRead };
 
-    /// Its head, of what findings keep, where it has so many rows.
+    /// Its head, from what findings keep and from how many rows it has.
     ghost head_of: { Sections ℕ → ℕ → List ℕ };
 
-    /// The places of its rows, of what findings keep.
+    /// The places of its rows, from what findings keep.
     ghost rows_of: { Sections ℕ → List ℕ };
 
-    /// They are the section's.
+    /// Both are those of the section.
     ghost keeps: { Keeps section (λ e. e.place) head_of rows_of };
 
     /// Its rows are events of the frames.
@@ -51,7 +51,7 @@ pub(crate) trait EventSection {
         ensures { result.bytes ≡ section.line (event_text event.entry) };
 }
 
-/// Such a section.
+/// An `EventSection`, as a `Section`.
 #[derive(Clone, Copy)]
 pub(crate) struct OfEvents<S>(pub S);
 
@@ -83,7 +83,7 @@ impl<S: EventSection> Section for OfEvents<S> {
     }
 }
 
-/// A row with the place and the process of its event.
+/// The beginning of a row: the place and the process of its event.
 pub(crate) fn row_start(event: Event<'_>) -> Row
     ensures text { result.bytes ≡ row_start (event_text event.entry) }
     ensures short { array_string_len result ≤ 64 }
@@ -95,7 +95,7 @@ pub(crate) fn row_start(event: Event<'_>) -> Row
     line
 }
 
-/// A row with the place, the process and the thread of its event.
+/// The beginning of a row: the place, the process and the thread of its event.
 pub(crate) fn thread_start(event: Event<'_>) -> Row
     ensures text { result.bytes ≡ thread_start (event_text event.entry) }
     ensures short { array_string_len result ≤ 85 }
@@ -106,7 +106,7 @@ pub(crate) fn thread_start(event: Event<'_>) -> Row
     line
 }
 
-/// A row with place, process, thread and kind of its event.
+/// A row: the place, the process, the thread and the kind of its event.
 pub(crate) fn kind_row(event: Event<'_>) -> Row
     ensures { result.bytes ≡ kind_row (event_text event.entry) }
 {

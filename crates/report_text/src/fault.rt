@@ -7,7 +7,7 @@ ghost use Rattle.report_text.specs.Fault.{fault_name, fault_line, fault_words, p
 use crate::line::{Row, push_counted, push_decimal};
 use capture_frame::{Fault, FaultKind, PartFault};
 
-/// The line that names a fault, with its line feed.
+/// The line that names a fault, with its line feed. It takes no memory.
 pub fn fault_text(fault: Fault) -> Row
     ensures line { result.bytes ≡ fault_line fault }
     ensures short { length result.bytes ≤ 256 }
@@ -17,8 +17,9 @@ pub fn fault_text(fault: Fault) -> Row
     line
 }
 
-/// The line that names the first fault of so many parts, with its line feed. Of a single part it is
-/// that of a capture; of more it says which part the place is in, and the first one is 1.
+/// The line that names the first fault of a capture in `parts` parts, with its line feed. For a
+/// single part it is the line of a capture. Otherwise it names the part that the place is in, from
+/// 1. It takes no memory.
 pub fn part_fault_text(found: PartFault, parts: usize) -> Row
     ensures line { result.bytes ≡ part_fault_line parts found }
     ensures short { length result.bytes ≤ 256 }
@@ -32,7 +33,7 @@ pub fn part_fault_text(found: PartFault, parts: usize) -> Row
     line
 }
 
-/// What is wrong, and where.
+/// What is wrong, and at which place.
 fn fault_words(fault: Fault) -> Row
     ensures words { result.bytes ≡ fault_words fault }
     ensures short { array_string_len result ≤ 49 }

@@ -50,7 +50,7 @@ impl EventSection for Flags {
     }
 }
 
-/// The flag bits of an event's record that the header does not name.
+/// The unknown flags of an event's record; 0 if it is not a transaction or a reply.
 fn unknown_flags(event: Event<'_>) -> u32
     ensures { result ≡ unknown_flags (event_text event.entry) }
 {

@@ -1,4 +1,4 @@
-//! The parts of a line.
+//! What lines are made of.
 
 ghost use Rattle.std.specs.Prelude.{◌≡◌, ◌+◌, ◌≤◌, ◌<◌, ◌++◌, length, false};
 ghost use Rattle.std.specs.Fmt.{decimal, digit_glyph, digits, signed_decimal};
@@ -40,7 +40,7 @@ pub(crate) fn push_wide(line: &mut Row, number: u128)
     line.push_str(buffer.format(number));
 }
 
-/// Pushes the sum of three counts in decimal. Nothing here says that it takes no more than 64 bits.
+/// Pushes the sum of three counts in decimal. Nothing here says that it fits 64 bits.
 pub(crate) fn push_sum(line: &mut Row, first: u64, second: u64, third: u64)
     requires { array_string_len line.old + 39 ≤ 256 }
     ensures text { line.new.bytes ≡ line.old.bytes ++ decimal (first + second + third) }
@@ -92,7 +92,7 @@ pub(crate) fn push_hex_word(line: &mut Row, word: u32)
     push_hex_digits(line, 8, u64::from(word));
 }
 
-/// Pushes the last hexadecimal digits of a number, this many of them.
+/// Pushes the last hexadecimal digits of a number, as many as `digits` says.
 fn push_hex_digits(line: &mut Row, digits: usize, number: u64)
     requires { array_string_len line.old + digits ≤ 256 }
     ensures text { line.new.bytes ≡ line.old.bytes ++ hex_digits digits number }

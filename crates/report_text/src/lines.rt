@@ -6,11 +6,11 @@ ghost use Rattle.std.specs.List.{FoldsTo};
 use crate::line::Row;
 use std::alloc::AllocError;
 
-/// What takes lines, one behind another.
+/// What takes lines, one after another.
 pub(crate) trait Lines {
     ghost use Rattle.std.specs.Prelude.{ℕ, List, OnOk};
 
-    /// The second value is the first one with this line behind it.
+    /// The second value is the first one with this line added at its end.
     ghost takes: { Self → List ℕ → Self → Type 0 };
 
     /// Takes a line, which has no line feed.
@@ -18,7 +18,7 @@ pub(crate) trait Lines {
         ensures { OnOk result (takes self.old line.now.bytes self.new) };
 }
 
-/// Lines as they are, none of which has more bytes than a row has room for.
+/// Lines as they are; none has more bytes than a row has room for.
 impl Lines for Vec<Row> {
     ghost use Rattle.std.specs.Prelude.{◌≡◌, ◌≤◌, ◌++◌, ◌∷◌, [], map, length};
 

@@ -11,7 +11,7 @@ use audit_findings::{BadRow, Findings, Sections};
 use event_core::Event;
 use object_view::{BadObject, Cause};
 
-/// The section, each of whose rows is kept as the place of its record, and the bad object.
+/// The section. Of each row the place of its record and the bad object are kept.
 #[derive(Clone, Copy)]
 pub(crate) struct Objects;
 

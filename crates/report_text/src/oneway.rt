@@ -54,7 +54,7 @@ impl WholeSection for Oneway {
     }
 }
 
-/// Pushes whether they are sent, and to which handle, or received.
+/// Pushes `sent` and the handle, or `received`.
 fn push_key(line: &mut Row, key: OnewayKey)
     requires { array_string_len line.old + 25 ≤ 256 }
     ensures text { line.new.bytes ≡ line.old.bytes ++ key_fields key }

@@ -1,4 +1,4 @@
-//! What the sections `deaths` and `clears` have alike.
+//! What the sections `deaths` and `clears` have in common.
 
 ghost use Rattle.std.specs.Prelude.{◌≡◌, ◌≤◌, ◌++◌, length};
 ghost use Rattle.event_core.specs.Reading.{event_text};
@@ -10,8 +10,8 @@ use crate::line::{Row, push_counted, push_hex_number};
 use audit_findings::OpenAndStray;
 use event_core::{Event, PendingChange, PendingItem};
 
-/// The head of a section that has this name, and this word for an open without its close. There
-/// are so many opens in all.
+/// The head of a section with this name and this word for an unclosed open. `all` is the number of
+/// opens.
 pub(crate) fn open_and_stray_head(name: &str, word: &str, all: u64, kept: &OpenAndStray<u64>) -> Row
     requires name { length name.now ≤ 16 }
     requires word { length word.now ≤ 16 }
@@ -28,7 +28,7 @@ pub(crate) fn open_and_stray_head(name: &str, word: &str, all: u64, kept: &OpenA
     line
 }
 
-/// The row of an event that is this open or close.
+/// The row of an event that is this open or close, with this word for an open.
 pub(crate) fn open_and_stray_row(
     event: Event<'_>,
     item: Option<PendingItem<u64>>,

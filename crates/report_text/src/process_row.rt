@@ -1,4 +1,4 @@
-//! What the sections of each process in turn, `handles`, `nodes` and `oneway`, have alike.
+//! What `handles`, `nodes` and `oneway`, whose rows go by processes, have in common.
 
 ghost use Rattle.std.specs.Prelude.{◌≡◌, ◌≤◌, ◌+◌, ◌++◌, length};
 ghost use Rattle.arrayvec.specs.ArrayString.{array_string_len};
@@ -8,7 +8,7 @@ use crate::line::{Row, push_counted, push_signed};
 use crate::process::push_process;
 use capture_frame::Process;
 
-/// A row with its process.
+/// The beginning of a row: its process.
 pub(crate) fn process_start(process: Process) -> Row
     ensures text { result.bytes ≡ process_start process }
     ensures short { array_string_len result ≤ 43 }
@@ -31,7 +31,7 @@ pub(crate) fn push_count(line: &mut Row, count: i64, low: i64)
     push_signed(line, low);
 }
 
-/// The head of a section that has this name.
+/// The head of a section with this name.
 pub(crate) fn unbalanced_head(name: &str, rows: usize, unbalanced: u64) -> Row
     requires { length name.now ≤ 16 }
     ensures { result.bytes ≡ unbalanced_head name.now rows unbalanced }

@@ -5,7 +5,7 @@ use crate::line::{Row, push_counted};
 use audit_findings::{Findings, Sections};
 use event_core::Event;
 
-/// The section, whose rows are told by their kinds.
+/// The section, whose rows end with the kind of the error reply.
 #[derive(Clone, Copy)]
 pub(crate) struct Refused;
 

@@ -31,7 +31,7 @@ use std::alloc::{AllocError, Global};
 use std::thread::Threads;
 
 /// The lines of the report, without their line feeds. Listed records are read again from the
-/// capture, by several threads where there are many.
+/// capture, by several threads if there are many.
 pub fn rows<T: Threads + Sync>(
     rt: &T,
     alloc: Global,
@@ -46,7 +46,8 @@ pub fn rows<T: Threads + Sync>(
     Ok(rows)
 }
 
-/// The report, each line with its line feed. Beside the text it holds a bounded number of lines.
+/// The text of the report, each line with its line feed. Besides the text it holds a bounded number
+/// of lines.
 pub fn text<T: Threads + Sync>(
     rt: &T,
     alloc: Global,
@@ -59,8 +60,9 @@ pub fn text<T: Threads + Sync>(
     Ok(text)
 }
 
-/// Pushes the lines of the report, in its order. The sections are of different types, so no array
-/// holds them: these calls are the list. Nothing is dropped here, so the many ways out cost little.
+/// Pushes the lines of the report, in order. The sections have different types, so no array can
+/// hold them: these calls are the list. Nothing is dropped here, so the many early returns cost
+/// little.
 fn push_report<T: Threads + Sync, L: Lines>(
     rt: &T,
     alloc: Global,

@@ -27,13 +27,13 @@ pub(crate) trait Section {
     /// What the findings keep of a row.
     type Kept: Sync;
 
-    /// Its lines, of findings.
+    /// Its lines, from findings.
     ghost lines: { Sections EventRead → List (List ℕ) };
 
-    /// Its head, of what findings keep, where it has so many rows.
+    /// Its head, from what findings keep and from how many rows it has.
     ghost head_of: { Sections ℕ → ℕ → List ℕ };
 
-    /// The row can be read from the frames again.
+    /// The row can be read again from the frames.
     ghost can_show: { List PlacedFrame → Self.Kept → Type 0 };
 
     /// The line is that of the row.
@@ -92,7 +92,7 @@ fn push_rows<T: Threads + Sync, S: Section + Copy + Send + Sync, L: Lines>(
     Ok(())
 }
 
-/// The lines of rows, in their order. Threads share the work.
+/// The lines of rows, in their order. Threads divide the work.
 fn rendered<T: Threads + Sync, S: Section + Copy + Send + Sync>(
     rt: &T,
     alloc: Global,

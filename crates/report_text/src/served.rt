@@ -48,7 +48,7 @@ impl CallSection for Served {
         found.sections().calls.served.rows.as_slice()
     }
 
-    // The process that a served call comes from.
+    // sender_pid: the process id of the caller.
     fn push_field(&self, line: &mut Row, transaction: Transaction<'_>) {
         push_signed(line, i64::from(transaction.sender_pid()));
     }

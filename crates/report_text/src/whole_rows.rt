@@ -4,7 +4,7 @@ use crate::line::Row;
 use crate::section::Section;
 use audit_findings::{Findings, Sections};
 
-/// A section whose rows are kept as they are told.
+/// A section whose rows are kept whole.
 pub(crate) trait WholeSection {
     ghost use Rattle.std.specs.Prelude.{◌≡◌, ℕ, List};
     ghost use Rattle.audit_findings.specs.declared.findings.Sections.{Sections};
@@ -17,13 +17,13 @@ pub(crate) trait WholeSection {
     /// The section.
     ghost section: { SectionText Self.Kept };
 
-    /// Its head, of what findings keep, where it has so many rows.
+    /// Its head, from what findings keep and from how many rows it has.
     ghost head_of: { Sections ℕ → ℕ → List ℕ };
 
-    /// Its rows, of what findings keep.
+    /// Its rows, from what findings keep.
     ghost rows_of: { Sections ℕ → List Self.Kept };
 
-    /// They are the section's.
+    /// Both are those of the section.
     ghost keeps: { Keeps section (λ row. row) head_of rows_of };
 
     /// The head, without its line feed.
@@ -39,7 +39,7 @@ pub(crate) trait WholeSection {
         ensures { result.bytes ≡ section.line row.now };
 }
 
-/// Such a section.
+/// A `WholeSection`, as a `Section`.
 #[derive(Clone, Copy)]
 pub(crate) struct OfRows<S>(pub S);
 

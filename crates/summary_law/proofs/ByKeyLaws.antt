@@ -16,16 +16,16 @@ not_nil_front : {I : Type 0} (front back : List I) → front ≢ [] → front ++
 not_nil_front [] back h = absurd (h refl)
 not_nil_front (x ∷ xs) back h = λ e. cc
 
--- a write behind a removal at the same key
+-- a write after a removal at the same key
 pub written_twice : {X : Type 0} (b : Bool) {x y : X} (z w v : X) → x ≡ cond b w y → y ≡ cond b v z → x ≡ cond b w z
 written_twice true z w v e f = e
 written_twice false z w v e f = e ∙ f
 
--- a write into what was the same
+-- a write into an equal value
 pub rewritten : {X : Type 0} (b : Bool) {x y z : X} (w : X) → x ≡ cond b w y → y ≡ z → x ≡ cond b w z
 rewritten b w e f = e ∙ ap (λ t. cond b w t) f
 
--- at each key whose entry is among the rest the earlier summary still stands, and at the others the joined one
+-- under each key whose entry is among the rest there is still the earlier summary, and under the others the joined one
 abbrev pub Merging : {K S I : Type 0} → (K → K → Bool) → (S → List I → Type 0) → (List I → Type 0) → (earlier later now : K → Option S) → List (K × S) → Type 0
 Merging {K} {S} {I} eq Sums Fits earlier later now rest = (q : K) (front back : List I)
     → IsOwn Sums (earlier q) front → IsOwn Sums (later q) back → Fits (front ++ back)
@@ -38,12 +38,12 @@ module _ {K S I : Type 0} (eq : K → K → Bool) (laws : IsEquivalence eq) (Sum
   item_elsewhere : (q k : K) (i : I) → eq q k ≡ false → items_of eq q ((k, i) ∷ []) ≡ []
   item_elsewhere q k i e = rw e refl
 
-  -- the items of a key that one more of it follows
+  -- if the items of each key fit with one more item, so do the items of its key
   pub fits_at : (items : List (K × I)) (k q : K) (i : I) → eq q k ≡ true → EachFits eq Fits (items ++ (k, i) ∷ []) → Fits (items_of eq q items ++ i ∷ [])
   fits_at items k q i same fits =
       subst Fits (items_of-append eq q items ((k, i) ∷ []) ∙ ap (λ (t : List I). items_of eq q items ++ t) (item_here q k i same)) (fits q)
 
-  -- one more item, where the summary of its key takes it
+  -- one more item, which the summary of its key takes
   pub added_part : (old now : K → Option S) → ((x y : K) → eq x y ≡ true → old x ≡ old y) → (k : K) (i : I) (new : S)
       → ((q : K) → now q ≡ cond (eq k q) (Some new) (old q))
       → ((front : List I) → IsOwn Sums (old k) front → Fits (front ++ i ∷ []) → Sums new (front ++ i ∷ []))
@@ -72,10 +72,10 @@ module _ {K S I : Type 0} (eq : K → K → Bool) (laws : IsEquivalence eq) (Sum
   pub merging_starts : (earlier : K → Option S) (rest : List (K × S)) → Merging eq Sums Fits earlier (λ q. lookup (eq q) rest) earlier rest
   merging_starts earlier rest = λ q front back mine theirs fits. none_merged earlier (lookup (eq q) rest) q front back mine theirs
 
-  -- no other entry is of the first one's key
-  none_behind : (q k : K) (rest : List (K × S)) → eq q k ≡ true → AllByRecursion (λ y. eq k y ≡ false) (keys_of rest) → lookup (eq q) rest ≡ None
-  none_behind q k [] e apart = refl
-  none_behind q k (r ∷ rest) e apart = rw (laws.congr q k r.0 e ∙ apart.0) (none_behind q k rest e apart.1)
+  -- no later entry has the key of the first one
+  none_after : (q k : K) (rest : List (K × S)) → eq q k ≡ true → AllByRecursion (λ y. eq k y ≡ false) (keys_of rest) → lookup (eq q) rest ≡ None
+  none_after q k [] e apart = refl
+  none_after q k (r ∷ rest) e apart = rw (laws.congr q k r.0 e ∙ apart.0) (none_after q k rest e apart.1)
 
   -- one entry is merged
   pub merging_goes_on : (earlier later now next : K → Option S) (k : K) (s merged : S) (rest : List (K × S))
@@ -92,7 +92,7 @@ module _ {K S I : Type 0} (eq : K → K → Bool) (laws : IsEquivalence eq) (Sum
       = subst (λ (o : Option S). MatchOption o (IsOwn Sums (now q) (front ++ back)) (λ s. IsOwn Sums (now q) front × IsOwn Sums (Some s) back)) found
       (merging q front back mine theirs fits) in
       let front_here : IsOwn Sums (now k) front = subst (λ (o : Option S). IsOwn Sums o front) (same q k e) both.0 in
-      rw (none_behind q k rest e (IsDistinct-head eq k (keys_of rest) distinct))
+      rw (none_after q k rest e (IsDistinct-head eq k (keys_of rest) distinct))
       (subst (λ (o : Option S). IsOwn Sums o (front ++ back)) (sym here) (joins front back front_here both.1 fits)))
       (λ (e : eq q k ≡ false).
       let there : next q ≡ now q = writes q ∙ ap (λ b. cond b (Some merged) (now q)) (laws.symm k q ∙ e) in
@@ -104,7 +104,7 @@ module _ {K S I : Type 0} (eq : K → K → Bool) (laws : IsEquivalence eq) (Sum
       (sym there) before)
       (cases_Bool (eq q k))
 
-  -- what joining the summaries of one key asks
+  -- the summaries of one key can be joined
   pub join_asks : (earlier later now : K → Option S) (k : K) (s : S) (rest : List (K × S)) → Merging eq Sums Fits earlier later now ((k, s) ∷ rest)
       → (firsts seconds : List (K × I)) → ((q : K) → IsOwn Sums (earlier q) (items_of eq q firsts)) → ((q : K) → IsOwn Sums (later q) (items_of eq q seconds))
       → EachFits eq Fits (firsts ++ seconds) → (mine : S) → now k ≡ Some mine
@@ -119,14 +119,14 @@ module _ {K S I : Type 0} (eq : K → K → Bool) (laws : IsEquivalence eq) (Sum
       let mine_sums : IsOwn Sums (Some mine) front = subst (λ (o : Option S). IsOwn Sums o front) found both.0 in
       (front, back, mine_sums.1, both.1.1, fits_here)
 
-  -- the summary of a key of the later map alone
+  -- the summary of a key that only the later map has
   pub alone : (now : Option S) (s : S) → now ≡ None → (front back : List I)
       → IsOwn Sums now front → IsOwn Sums (Some s) back → Fits (front ++ back) → IsOwn Sums (Some s) (front ++ back)
   alone now s none front back mine theirs fits =
       let nil : front ≡ [] = subst (λ (o : Option S). IsOwn Sums o front) none mine in
       rw nil theirs
 
-  -- the joined summary of a key of both
+  -- the joined summary of a key that both maps have
   pub together : (now : Option S) (mine s merged : S) → now ≡ Some mine
       → ((front back : List I) → Sums mine front → Sums s back → Fits (front ++ back) → Sums merged (front ++ back))
       → (front back : List I) → IsOwn Sums now front → IsOwn Sums (Some s) back → Fits (front ++ back) → IsOwn Sums (Some merged) (front ++ back)

@@ -1,4 +1,4 @@
--- The count of one more change, and of one list of changes followed by another.
+-- The count of a list with one more change, and of one list of changes followed by another.
 use Rattle.std.proofs.Common.{◌≡◌, ℕ, zero, suc, ◌+◌, ◌-◌, ◌<◌, ◌≤◌, ◌⊎◌, pos, negsuc, cond, Option, Some, None, refl, sym, ap, ap₂, subst, ◌∙◌, inl, inr, ⊎_elim, true, false, ℤ, append_assoc}
 use Rattle.std.proofs.Common.{List, [], ◌∷◌, ◌++◌, length, map, take, length-append, arith}
 use Rattle.std.specs.Prelude.{◌+ℤ◌, ◌≤ℤ◌, int_lt}
@@ -22,7 +22,7 @@ total-append changes more =
 total-into : (changes more : List Change) (n : ℕ) → total (take (length changes + n) (changes ++ more)) ≡ total changes +ℤ total (take n more)
 total-into changes more n = ap total (take-append-add changes more n) ∙ total-append changes (take n more)
 
--- what joins two counts
+-- the count of two lists of changes, by the counts of both
 pub record Joins (first second joined : Count) : Type 0 where
   pub sum : joined.sum ≡ first.sum +ℤ second.sum
   pub low : (joined.low ≡ first.low) ⊎ (joined.low ≡ first.sum +ℤ second.low)
@@ -80,7 +80,7 @@ joined_counts first second joined changes more j a b =
       least = joined_least first second joined changes more j a b;
     }
 
--- one more
+-- the count of one change that raises
 pub up : Count
 up = record { sum = pos 1; low = pos 0 }
 
@@ -93,7 +93,7 @@ up_counts : IsCount up (raises ∷ [])
 unfolding up
 up_counts = record { sum = refl; reached = (0, omega arith, refl); least = λ n h. up_least n }
 
--- one less
+-- the count of one change that lowers
 pub down : Count
 down = record { sum = negsuc 0; low = negsuc 0 }
 
@@ -106,7 +106,7 @@ down_counts : IsCount down (lowers ∷ [])
 unfolding down
 down_counts = record { sum = refl; reached = (1, omega arith, refl); least = λ n h. down_least n }
 
--- a count that one more change raises
+-- the count of a list with one more change, which raises it
 pub raised_counts : (old new : Count) → new.sum ≡ old.sum +ℤ pos 1 → new.low ≡ old.low → CountsOneMore raises old new
 unfolding up
 raised_counts old new sum low changes counts =
@@ -115,7 +115,7 @@ raised_counts old new sum low changes counts =
     joined_counts old up new changes (raises ∷ [])
     (record { sum = sum; low = inl low; below_first = omega (arith, ints); below_second = omega (arith, ints) }) counts up_counts
 
--- a count that one more change lowers
+-- the count of a list with one more change, which lowers it
 pub lowered_counts : (old new : Count) → new.sum ≡ old.sum +ℤ negsuc 0 → (new.low ≡ old.low) ⊎ (new.low ≡ new.sum) → new.low ≤ℤ old.low → new.low ≤ℤ new.sum
     → CountsOneMore lowers old new
 unfolding down
@@ -123,7 +123,7 @@ lowered_counts old new sum low below under changes counts =
     joined_counts old down new changes (lowers ∷ [])
     (record { sum = sum; low = ⊎_elim inl (λ (e : new.low ≡ new.sum). inr (e ∙ sum)) low; below_first = below; below_second = omega (arith, ints) }) counts down_counts
 
--- no change
+-- the count of one change that keeps it
 level : Count
 level = record { sum = pos 0; low = pos 0 }
 
@@ -136,7 +136,7 @@ level_counts : IsCount level (keeps ∷ [])
 unfolding level
 level_counts = record { sum = refl; reached = (0, omega arith, refl); least = λ n h. level_least n }
 
--- a list may have what leaves its count as it is
+-- a list may get one more change that keeps its count
 pub kept_counts : (count : Count) → CountsOneMore keeps count count
 unfolding level
 kept_counts count changes counts =
@@ -173,8 +173,8 @@ count_within count changes counts =
       low_high = counts.least 0 (omega arith);
     }
 
-same_behind : (change : Change) (changes others : List Change) → total changes ≡ total others → total (change ∷ changes) ≡ total (change ∷ others)
-same_behind change changes others same = total-cons change changes ∙ ap (λ t. total (change ∷ []) +ℤ t) same ∙ sym (total-cons change others)
+same_after : (change : Change) (changes others : List Change) → total changes ≡ total others → total (change ∷ changes) ≡ total (change ∷ others)
+same_after change changes others same = total-cons change changes ∙ ap (λ t. total (change ∷ []) +ℤ t) same ∙ sym (total-cons change others)
 
 same_kept : (changes others : List Change) → total changes ≡ total others → total (keeps ∷ changes) ≡ total others
 same_kept changes others same = omega (arith, ints, total-cons keeps changes)
@@ -187,14 +187,14 @@ module _ {E I : Type 0} (read : E → Option I) (change : I → Change) where
   abbrev own : List E → List Change
   own es = map change (filter_map read es)
 
-  -- what all things sum up to is what the items do that are read from them
+  -- all things have the total of the items that are read from them
   pub same_total : (es : List E) → total (all es) ≡ total (own es)
   same_total [] = refl
   same_total (e ∷ es) =
       elim (read e) as (λ o. total (option_map_or change o keeps ∷ all es) ≡ total (map change (cons_option o (filter_map read es))))
-      [ None ↦ same_kept (all es) (own es) (same_total es) | Some i ↦ same_behind (change i) (all es) (own es) (same_total es) ]
+      [ None ↦ same_kept (all es) (own es) (same_total es) | Some i ↦ same_after (change i) (all es) (own es) (same_total es) ]
 
-  -- each prefix of all has the total of a prefix of the items' own
+  -- each prefix of all things has the total of a prefix of the items
   prefix_of_own : (n : ℕ) (es : List E) → (m : ℕ) × (m ≤ length (own es)) × (total (take n (all es)) ≡ total (take m (own es)))
   prefix_of_own zero es = (0, omega arith, refl)
   prefix_of_own (suc n) [] = (0, omega arith, refl)
@@ -204,10 +204,10 @@ module _ {E I : Type 0} (read : E → Option I) (change : I → Change) where
       as (λ o. (m : ℕ) × (m ≤ length (map change (cons_option o (filter_map read es))))
       × (total (take (suc n) (option_map_or change o keeps ∷ all es)) ≡ total (take m (map change (cons_option o (filter_map read es)))))) [
         | None ↦ (rest.0, rest.1, same_kept (take n (all es)) (take rest.0 (own es)) rest.2)
-        | Some i ↦ (suc rest.0, omega (arith, rest.1), same_behind (change i) (take n (all es)) (take rest.0 (own es)) rest.2)
+        | Some i ↦ (suc rest.0, omega (arith, rest.1), same_after (change i) (take n (all es)) (take rest.0 (own es)) rest.2)
       ]
 
-  -- each prefix of the items' own has the total of a prefix of all
+  -- each prefix of the items has the total of a prefix of all things
   prefix_of_all : (m : ℕ) (es : List E) → m ≤ length (own es) → (n : ℕ) × (n ≤ length (all es)) × (total (take m (own es)) ≡ total (take n (all es)))
   prefix_of_all zero es = λ h. (0, omega arith, refl)
   prefix_of_all (suc m) [] = λ h. (0, omega arith, refl)
@@ -220,10 +220,10 @@ module _ {E I : Type 0} (read : E → Option I) (change : I → Change) where
             (suc rest.0, omega (arith, rest.1), sym (same_kept (take rest.0 (all es)) (take (suc m) (own es)) (sym rest.2)))
         | Some i ↦ λ h.
             let rest = prefix_of_all m es (omega arith) in
-            (suc rest.0, omega (arith, rest.1), same_behind (change i) (take m (own es)) (take rest.0 (all es)) rest.2)
+            (suc rest.0, omega (arith, rest.1), same_after (change i) (take m (own es)) (take rest.0 (all es)) rest.2)
       ]
 
-  -- the count of the items read from a list is that of the list, of which the rest leaves it as it is
+  -- the count of the items that are read from a list is also the count of the list, whose other things keep it
   pub read_counts : (count : Count) (es : List E) → IsCountOf change count (filter_map read es) → IsCountOf (change_read read change) count es
   read_counts count es counts =
       let there = prefix_of_all counts.reached.0 es counts.reached.1 in

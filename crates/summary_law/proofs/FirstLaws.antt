@@ -1,4 +1,4 @@
--- The keys of a list, each once and in the order in which they first come, where one more key or a second list follows.
+-- The keys of a list, each once and in the order in which they first come, if one more key or a second list follows.
 use Rattle.std.proofs.Common.{◌≡◌, Bool, true, false, cond, not, ◌||◌, ◌&&◌, List, [], ◌∷◌, ◌++◌, filter, Some, None, is_some, refl, sym, ap, ◌∙◌, ⊎_elim, append_assoc}
 use Rattle.std.proofs.lemmas.Bool.{cases_Bool}
 use Rattle.std.proofs.lemmas.List.{append-nil, map-append}
@@ -33,7 +33,7 @@ filter_twice p q r both (x ∷ xs) =
     (cases_Bool (q x))
 
 module _ {K : Type 0} (eq : K → K → Bool) where
-  -- the keys that are not among those seen
+  -- those keys that are not among the keys seen
   abbrev pub unseen : List K → List K → List K
   unseen seen keys = filter (λ key. not (list_any (eq key) seen)) keys
 
@@ -51,11 +51,11 @@ module _ {K : Type 0} (eq : K → K → Bool) where
       (filter_twice apart (λ k. not (list_any (eq k) front)) (λ k. not (list_any (eq k) (key ∷ front)))
       (λ k. not_or (eq k key) (list_any (eq k) front)) (firsts eq back))
 
-  -- one more key, which came before
+  -- one more key, which came before: the firsts stay
   firsts-old : (keys : List K) (key : K) → list_any (eq key) keys ≡ true → firsts eq (keys ++ key ∷ []) ≡ firsts eq keys
   firsts-old keys key there = firsts-append keys (key ∷ []) ∙ rw there (append-nil (firsts eq keys))
 
-  -- one more key, which is new
+  -- one more key, which is new: it comes last
   firsts-new : (keys : List K) (key : K) → list_any (eq key) keys ≡ false → firsts eq (keys ++ key ∷ []) ≡ firsts eq keys ++ key ∷ []
   firsts-new keys key missing = firsts-append keys (key ∷ []) ∙ rw missing refl
 
@@ -65,7 +65,7 @@ module _ {K : Type 0} (eq : K → K → Bool) where
   pub key_missing : {X : Type 0} (key : K) (entries : List (K × X)) → lookup (eq key) entries ≡ None → list_any (eq key) (keys_of entries) ≡ false
   key_missing key entries found = sym (is_some-lookup (eq key) entries) ∙ ap is_some found
 
-  -- the keys to come, where the next one is there already
+  -- the keys to come, if the next one is there already
   pub old_passed : (seen rest : List K) (key : K) → list_any (eq key) seen ≡ true → unseen seen (key ∷ rest) ≡ unseen seen rest
   old_passed seen rest key there = rw there refl
 
@@ -76,7 +76,7 @@ module _ {K : Type 0} (eq : K → K → Bool) where
       is ∙ insert_entry-new eq map key part (ap (λ (es : List (K × X)). lookup (eq key) es) same ∙ found)
       ∙ ap (λ (es : List (K × X)). es ++ (key, part) ∷ []) same
 
-  -- the keys so far and those to come, past an entry whose key is there already
+  -- the keys so far and those to come, after an entry whose key is there already
   pub order_stays : {X : Type 0} (now new : List K) (entries rest : List (K × X)) (key : K) (part : X) (all : List K)
       → new ≡ now → entries ≡ (key, part) ∷ rest → list_any (eq key) now ≡ true
       → now ++ unseen now (keys_of entries) ≡ all → new ++ unseen new (keys_of rest) ≡ all
@@ -85,14 +85,14 @@ module _ {K : Type 0} (eq : K → K → Bool) where
       ∙ ap (λ (ks : List K). now ++ ks) (sym (old_passed now (keys_of rest) key there))
       ∙ sym (ap (λ (es : List (K × X)). now ++ unseen now (keys_of es)) is) ∙ order
 
-  -- the keys so far where no entry is to come
+  -- the keys so far, if no entry is to come
   pub order_ends : {X : Type 0} (now : List K) (entries : List (K × X)) (all : List K)
       → entries ≡ [] → now ++ unseen now (keys_of entries) ≡ all → now ≡ all
   order_ends {X} now entries all is order =
       sym (append-nil now) ∙ sym (ap (λ (es : List (K × X)). now ++ unseen now (keys_of es)) is) ∙ order
 
   module _ (laws : IsEquivalence eq) where
-    -- a key is among the firsts where it is in the list
+    -- a key is among the firsts if it is in the list, and only then
     pub list_any-firsts : (key : K) (keys : List K) → list_any (eq key) (firsts eq keys) ≡ list_any (eq key) keys
     list_any-firsts key [] = refl
     list_any-firsts key (first ∷ keys) =
@@ -121,7 +121,7 @@ module _ {K : Type 0} (eq : K → K → Bool) where
         let rest_same = unseen_apart seen rest key apart.1 in
         (λ j. cond (not (same j)) (other ∷ rest_same j) (rest_same j))
 
-    -- the keys to come, where the next one is new and none behind it equals it
+    -- the keys to come, if the next one is new and no later one equals it
     pub new_passed : (seen rest : List K) (key : K) → list_any (eq key) seen ≡ false → AllByRecursion (λ other. eq key other ≡ false) rest
         → (seen ++ key ∷ []) ++ unseen (seen ++ key ∷ []) rest ≡ seen ++ unseen seen (key ∷ rest)
     new_passed seen rest key missing apart =
@@ -129,7 +129,7 @@ module _ {K : Type 0} (eq : K → K → Bool) where
         ∙ ap (λ t. seen ++ key ∷ t) (unseen_apart seen rest key apart)
         ∙ ap (λ b. seen ++ cond (not b) (key ∷ unseen seen rest) (unseen seen rest)) (sym missing)
 
-    -- the keys so far and those to come, past an entry whose key is new
+    -- the keys so far and those to come, after an entry whose key is new
     pub order_grows : {X : Type 0} (old new entries rest : List (K × X)) (key : K) (part : X) (all : List K)
         → new ≡ old ++ (key, part) ∷ [] → entries ≡ (key, part) ∷ rest → list_any (eq key) (keys_of old) ≡ false
         → AllByRecursion (λ other. eq key other ≡ false) (keys_of rest)
@@ -147,23 +147,23 @@ module _ {K : Type 0} (eq : K → K → Bool) where
       among : list_any (eq key) keys ≡ list_any (eq key) (keys_of items)
       among = ap (λ (t : List K). list_any (eq key) t) are ∙ list_any-firsts key (keys_of items)
 
-      -- the keys with one more item of a key that is there
+      -- the keys, with one more item of a key that is there
       pub firsts_stay : list_any (eq key) keys ≡ true → keys ≡ firsts eq (keys_of (items ++ (key, item) ∷ []))
       firsts_stay there = are ∙ sym (ap (firsts eq) one_more ∙ firsts-old (keys_of items) key (sym among ∙ there))
 
-      -- the keys with the first item of a key
+      -- the keys, with the first item of a key
       pub firsts_grow : list_any (eq key) keys ≡ false → keys ++ key ∷ [] ≡ firsts eq (keys_of (items ++ (key, item) ∷ []))
       firsts_grow missing =
           ap (λ (t : List K). t ++ key ∷ []) are ∙ sym (ap (firsts eq) one_more ∙ firsts-new (keys_of items) key (sym among ∙ missing))
 
-    -- the keys of entries with one more, for the first item of its key
+    -- the keys of the entries and one more, with the first item of its key
     pub entries_grow : {X I : Type 0} (old new : List (K × X)) (items : List (K × I)) (key : K) (part : X) (item : I)
         → new ≡ old ++ (key, part) ∷ [] → keys_of old ≡ firsts eq (keys_of items) → list_any (eq key) (keys_of old) ≡ false
         → keys_of new ≡ firsts eq (keys_of (items ++ (key, item) ∷ []))
     entries_grow {X} old new items key part item more are missing =
         ap keys_of more ∙ map-append (λ (e : K × X). e.0) old ((key, part) ∷ []) ∙ firsts_grow (keys_of old) items key item are missing
 
-    -- the keys of two lists of items, joined
+    -- the keys of two lists of items that are joined
     pub firsts_join : {I : Type 0} (earlier later : List K) (first second : List (K × I))
         → earlier ≡ firsts eq (keys_of first) → later ≡ firsts eq (keys_of second)
         → earlier ++ unseen earlier later ≡ firsts eq (keys_of (first ++ second))

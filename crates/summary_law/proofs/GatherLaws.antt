@@ -1,5 +1,5 @@
--- What is read by key: key by key, gathered and sorted, it is what is read of the whole list.
-use Rattle.std.proofs.Common.{◌≡◌, ◌≢◌, ℕ, ◌⊎◌, inl, inr, Bool, true, false, cond, ◌||◌, List, [], ◌∷◌, ◌++◌, map, Option, Some, None, is_some, refl, sym, ap, ap₂, subst, ◌∙◌, append_assoc, ⊎_elim}
+-- What is read by key: gathered key by key and then sorted, it is what is read of the whole list.
+use Rattle.std.proofs.Common.{◌≡◌, ◌≢◌, ℕ, ◌⊎◌, inl, inr, Bool, true, false, cond, ◌||◌, List, [], ◌∷◌, ◌++◌, map, Option, Some, None, is_some, refl, sym, ap, ap₂, subst, ◌∙◌, ⊎_elim}
 use Rattle.std.specs.BTreeMap.{BTreeMap, IsOrdered, get}
 use Rattle.std.specs.Cmp.{IsEquivalence, IsTotalOrder}
 use Rattle.std.specs.List.{AllByRecursion, IsDistinct, cons_option, flat_map, list_any}
@@ -20,7 +20,7 @@ use Rattle.summary_law.specs.ByKey.{IsOwn, SumsByKey, items_of}
 use Rattle.summary_law.specs.Readings.{HasKeyIn, read_each, read_all, with_key, by_key}
 use Rattle.summary_law.proofs.Members.{In, Rises, in_place, map-in, rises-map}
 
--- ---- those that have a key
+-- ---- elements with a key
 
 module _ {K X : Type 0} {eq : K → K → Bool} (laws : IsEquivalence eq) (key : X → K) where
   pub with_key-more : (k : K) (before : List X) (x : X) → with_key eq key k (before ++ x ∷ []) ≡ with_key eq key k before ++ cond (eq k (key x)) (x ∷ []) []
@@ -33,14 +33,14 @@ module _ {K X : Type 0} {eq : K → K → Bool} (laws : IsEquivalence eq) (key :
         | false ↦ rest
       ]
 
-  -- equal keys have the same
+  -- equal keys have the same elements
   pub with_key-same : (k other : K) → eq k other ≡ true → (xs : List X) → with_key eq key k xs ≡ with_key eq key other xs
   with_key-same k other same [] = refl
   with_key-same k other same (x ∷ xs) =
       ap (λ (b : Bool). cond b (x ∷ with_key eq key k xs) (with_key eq key k xs)) (laws.congr k other (key x) same)
       ∙ ap (λ (t : List X). cond (eq other (key x)) (x ∷ t) t) (with_key-same k other same xs)
 
--- ---- one more at one key
+-- ---- one more element of one key
 
 nothing : {K Y : Type 0} (keys : List K) → flat_map (λ (k : K). let none : List Y = [] in none) keys ≡ []
 nothing [] = refl
@@ -93,7 +93,7 @@ module _ {K Y : Type 0} {eq : K → K → Bool} (laws : IsEquivalence eq) (own :
 -- ---- all keys
 
 module _ {K X Y : Type 0} {eq : K → K → Bool} (laws : IsEquivalence eq) (key : X → K) (read : List X → X → List X → Option Y) where
-  -- what is read of what has a key
+  -- what is read of the elements with a key
   abbrev pub of_key : List X → List X → K → List Y
   of_key before xs k = read_each read (with_key eq key k before) (with_key eq key k xs)
 
@@ -101,16 +101,16 @@ module _ {K X Y : Type 0} {eq : K → K → Bool} (laws : IsEquivalence eq) (key
       → of_key before (x ∷ later) k
       ≡ cond (eq k (key x)) (cons_option (by_key eq key read before x later) (of_key (before ++ x ∷ []) later k)) (of_key (before ++ x ∷ []) later k)
   of_key-next before x later k =
-      let behind = with_key eq key k later in
+      let after = with_key eq key k later in
       let next = with_key-more laws key k before x in
       elim (eq k (key x)) as (λ b. (eq k (key x) ≡ b) → (with_key eq key k (before ++ x ∷ []) ≡ with_key eq key k before ++ cond b (x ∷ []) [])
-      → read_each read (with_key eq key k before) (cond b (x ∷ behind) behind)
+      → read_each read (with_key eq key k before) (cond b (x ∷ after) after)
       ≡ cond b (cons_option (by_key eq key read before x later) (of_key (before ++ x ∷ []) later k)) (of_key (before ++ x ∷ []) later k)) [
         | true ↦ λ is next.
-            ap (λ (b : List X). cons_option (read b x behind) (read_each read (with_key eq key k before ++ x ∷ []) behind)) (with_key-same laws key k (key x) is before)
-            ∙ ap (λ (l : List X). cons_option (read (with_key eq key (key x) before) x l) (read_each read (with_key eq key k before ++ x ∷ []) behind)) (with_key-same laws key k (key x) is later)
-            ∙ ap (λ (b : List X). cons_option (by_key eq key read before x later) (read_each read b behind)) (sym next)
-        | false ↦ λ is next. ap (λ (b : List X). read_each read b behind) (sym (next ∙ nil (with_key eq key k before)))
+            ap (λ (b : List X). cons_option (read b x after) (read_each read (with_key eq key k before ++ x ∷ []) after)) (with_key-same laws key k (key x) is before)
+            ∙ ap (λ (l : List X). cons_option (read (with_key eq key (key x) before) x l) (read_each read (with_key eq key k before ++ x ∷ []) after)) (with_key-same laws key k (key x) is later)
+            ∙ ap (λ (b : List X). cons_option (by_key eq key read before x later) (read_each read b after)) (sym next)
+        | false ↦ λ is next. ap (λ (b : List X). read_each read b after) (sym (next ∙ nil (with_key eq key k before)))
       ] refl next
     where
       nil : (xs : List X) → xs ++ [] ≡ xs
@@ -121,7 +121,7 @@ module _ {K X Y : Type 0} {eq : K → K → Bool} (laws : IsEquivalence eq) (key
   abbrev pub HasKeyOrNothing : List K → X → Type 0
   HasKeyOrNothing keys x = HasKeyIn eq key keys x ⊎ ((before later : List X) → read before x later ≡ None)
 
-  -- what is read of what has each key, one key after another, is what is read by key, but for the order
+  -- what is read of the elements of each key, one key after another, is what is read by key, except for the order
   pub read-gathered : (keys : List K) → IsDistinct eq keys → (before xs : List X) → All (HasKeyOrNothing keys) xs
       → IsPermutation (flat_map (of_key before xs) keys) (read_each (by_key eq key read) before xs)
   read-gathered keys distinct before [] among = subst (λ (t : List Y). IsPermutation t []) (sym (nothing keys)) (IsPermutation-refl [])
@@ -155,14 +155,14 @@ module _ {K X Y : Type 0} {eq : K → K → Bool} (laws : IsEquivalence eq) (key
           ∙ ap₂ (λ (a b : List Y). a ++ b) (elim (eq k at) as (λ b. cond b (lists k) (lists k) ≡ lists k) [ true ↦ refl | false ↦ refl ]) (no_more keys at lists)
           ∙ sym (flat_map-cons lists k keys)
 
--- rows that are made of each list
+-- rows that are made of the elements of each list
 pub made_flat : {K Y R : Type 0} (row : Y → R) (lists : K → List Y) (keys : List K) → flat_map (λ k. map row (lists k)) keys ≡ map row (flat_map lists keys)
 made_flat row lists [] = refl
 made_flat {K} {Y} {R} row lists (k ∷ keys) =
     flat_map-cons (λ (k : K). map row (lists k)) k keys ∙ ap (λ (t : List R). map row (lists k) ++ t) (made_flat row lists keys)
     ∙ sym (map-append row (lists k) (flat_map lists keys)) ∙ ap (map row) (sym (flat_map-cons lists k keys))
 
--- the rows of what is read of what has each key
+-- the rows of what is read of the elements of each key, except for the order, are those of what is read by key
 pub rows_gathered : {K X Y R : Type 0} {eq : K → K → Bool} (laws : IsEquivalence eq) (key : X → K) (read : List X → X → List X → Option Y) (row : Y → R)
     (keys : List K) → IsDistinct eq keys → (xs : List X) → All (HasKeyOrNothing laws key read keys) xs
     → IsPermutation (flat_map (λ k. map row (read_all read (with_key eq key k xs))) keys) (map row (read_all (by_key eq key read) xs))
@@ -171,7 +171,8 @@ rows_gathered {K} {X} {Y} {R} {eq} laws key read row keys distinct xs among =
     subst (λ (t : List R). IsPermutation t (map row (read_all (by_key eq key read) xs))) (sym (made_flat row lists keys))
     (IsPermutation-map row (flat_map lists keys) (read_all (by_key eq key read) xs) (read-gathered laws key read keys distinct [] xs among))
 
--- rows of what is read of what has each key, sorted by a rank that rises in what is read by key, are the rows of that
+-- the rows of what is read of the elements of each key, sorted by a rank that rises in what is read by key, are the
+-- rows of what is read by key
 pub gathered_sorted : {K X Y R : Type 0} {eq : K → K → Bool} (laws : IsEquivalence eq) (key : X → K) (read : List X → X → List X → Option Y) (row : Y → R)
     (rank : R → ℕ) (keys : List K) → IsDistinct eq keys → (xs : List X) → All (HasKeyOrNothing laws key read keys) xs
     → Rises (λ y. rank (row y)) (read_all (by_key eq key read) xs) → (rows : List R)
@@ -184,14 +185,14 @@ gathered_sorted {K} {X} {Y} {R} {eq} laws key read row rank keys distinct xs amo
     sym (in_place rank whole rows (rises-map row rank (read_all (by_key eq key read) xs) rises)
     (IsPermutation-trans whole lists rows (IsPermutation-sym lists whole all) moved) sorted)
 
--- ---- entries, each with the items of its key
+-- ---- entries, each with a summary of its key's items
 
 -- what holds of each thing that a list has holds of all
 pub all_in : {X : Type 0} (P : X → Type 0) (xs : List X) → ((x : X) → In x xs → P x) → All P xs
 all_in P [] each = All-nil P
 all_in P (x ∷ xs) each = All-cons P x xs (each x (inl refl)) (all_in P xs (λ y there. each y (inr there)))
 
--- what a list has is found in it by a test that is so of it
+-- if a list has an element that passes a test, the test finds one in the list
 pub in_any : {X : Type 0} (test : X → Bool) (xs : List X) (x : X) → In x xs → test x ≡ true → list_any test xs ≡ true
 in_any test [] x here passes = absurd here
 in_any test (y ∷ ys) x (inl is) passes = ap (λ (b : Bool). b || list_any test ys) (ap test (sym is) ∙ passes)
@@ -199,7 +200,7 @@ in_any test (y ∷ ys) x (inr there) passes =
     ap (λ (b : Bool). test y || b) (in_any test ys x there passes) ∙ elim (test y) as (λ b. (b || true) ≡ true) [ true ↦ refl | false ↦ refl ]
 
 module _ {K I : Type 0} {eq : K → K → Bool} (laws : IsEquivalence eq) where
-  -- items stand under the key of each pair
+  -- the key of each pair has items
   pub has_own : (pairs : List (K × I)) (e : K × I) → In e pairs → items_of eq e.0 pairs ≡ [] → ⊥
   has_own [] e here none = absurd here
   has_own (f ∷ pairs) e (inl is) none =
@@ -214,7 +215,7 @@ module _ {K I : Type 0} {eq : K → K → Bool} (laws : IsEquivalence eq) where
         | false ↦ λ none. has_own pairs e there none
       ] none
 
-  -- so a list of keys that leaves none out has the key of each
+  -- so the key of each pair is in a list of keys that leaves no key with items out
   pub key_among : (keys : List K) (pairs : List (K × I)) → ((key : K) → list_any (eq key) keys ≡ false → items_of eq key pairs ≡ []) → (e : K × I)
       → In e pairs → list_any (λ k. eq k e.0) keys ≡ true
   key_among keys pairs none e there =
@@ -231,7 +232,7 @@ module _ {K I X : Type 0} (eq : K → K → Bool) (split : X → K × I) where
   abbrev pub item_of : X → I
   item_of x = (split x).1
 
-  -- the items of a key are those of what has it
+  -- the items of a key are those of the elements with that key
   pub items_of_key : (k : K) (xs : List X) → items_of eq k (map split xs) ≡ map item_of (with_key eq key_of k xs)
   items_of_key k [] = refl
   items_of_key k (x ∷ xs) =
@@ -242,7 +243,7 @@ module _ {K I X : Type 0} (eq : K → K → Bool) (split : X → K × I) where
         | false ↦ rest
       ]
 
--- what is the same is so in the same order
+-- equal lists are permutations of each other
 pub as_it_is : {X : Type 0} (xs ys : List X) → xs ≡ ys → IsPermutation xs ys
 as_it_is xs ys same = subst (IsPermutation xs) same (IsPermutation-refl xs)
 
@@ -258,13 +259,13 @@ module _ {K S I X Y R : Type 0} {eq : K → K → Bool} (laws : IsEquivalence eq
   each_list : (entries : List (K × S)) → All SumsOwn entries → IsPermutation (flat_map (λ e. lists e.1) entries) (flat_map of_xs (keys_of entries))
   each_list [] each = IsPermutation-refl []
   each_list (e ∷ entries) each =
-      let behind = flat_map (λ (e : K × S). lists e.1) entries in
+      let after = flat_map (λ (e : K × S). lists e.1) entries in
       let own = with_key eq (λ x. (split x).0) e.0 xs in
       let here = tells e.1 own (subst (Sums e.1) (items_of_key eq split e.0 xs) (All-head SumsOwn e entries each)) in
       let rest = each_list entries (All-tail SumsOwn e entries each) in
       subst (λ (t : List R). IsPermutation t (flat_map of_xs (keys_of (e ∷ entries)))) (sym (flat_map-cons (λ (e : K × S). lists e.1) e entries))
-      (subst (λ (t : List R). IsPermutation (lists e.1 ++ behind) t) (sym (flat_map-cons of_xs e.0 (keys_of entries)))
-      (IsPermutation-append (lists e.1) (of_xs e.0) behind (flat_map of_xs (keys_of entries)) here rest))
+      (subst (λ (t : List R). IsPermutation (lists e.1 ++ after) t) (sym (flat_map-cons of_xs e.0 (keys_of entries)))
+      (IsPermutation-append (lists e.1) (of_xs e.0) after (flat_map of_xs (keys_of entries)) here rest))
 
   module _ (entries : List (K × S)) (distinct : IsDistinct eq (keys_of entries)) (each : All SumsOwn entries)
       (none : (key : K) → list_any (eq key) (keys_of entries) ≡ false → items_of eq key (map split xs) ≡ []) where
@@ -273,13 +274,14 @@ module _ {K S I X Y R : Type 0} {eq : K → K → Bool} (laws : IsEquivalence eq
         all_in (HasKeyOrNothing laws (λ x. (split x).0) read (keys_of entries)) xs
         (λ x there. inl (key_among laws (keys_of entries) (map split xs) none (split x) (map-in split xs x there)))
 
-    -- entries, each with rows of what is read of what has its key, have the rows of what is read by key, but for the order
+    -- if each entry has the rows of what is read of the elements of its key, all entries have the rows of what is read
+    -- by key, except for the order
     pub entries_gathered : IsPermutation (flat_map (λ e. lists e.1) entries) (map row (read_all (by_key eq (λ x. (split x).0) read) xs))
     entries_gathered =
         IsPermutation-trans (flat_map (λ e. lists e.1) entries) (flat_map of_xs (keys_of entries)) (map row (read_all (by_key eq (λ x. (split x).0) read) xs))
         (each_list entries each) (rows_gathered laws (λ x. (split x).0) read row (keys_of entries) distinct xs among)
 
-    -- and sorted they are those
+    -- sorted, they are the rows of what is read by key
     pub entries_sorted : (rank : R → ℕ) → Rises (λ y. rank (row y)) (read_all (by_key eq (λ x. (split x).0) read) xs) → (rows : List R)
         → IsPermutation (flat_map (λ e. lists e.1) entries) rows → IsNonDecreasingBy rank rows
         → rows ≡ map row (read_all (by_key eq (λ x. (split x).0) read) xs)
@@ -289,7 +291,7 @@ module _ {K S I X Y R : Type 0} {eq : K → K → Bool} (laws : IsEquivalence eq
         sym (in_place rank whole rows (rises-map row rank (read_all (by_key eq (λ x. (split x).0) read) xs) rises)
         (IsPermutation-trans whole gathered rows (IsPermutation-sym gathered whole entries_gathered) moved) sorted)
 
--- a map by key has an entry for each key that items stand under, and each sums the items of its own
+-- a map by key has an entry for each key that has items, and each entry sums the items of its own key
 module _ {K S I : Type 0} (cmp : K → K → Ordering) (laws : IsTotalOrder cmp) (Sums : S → List I → Type 0) (m : BTreeMap K S) (ordered : IsOrdered cmp m)
     (pairs : List (K × I)) (sums : SumsByKey cmp Sums m pairs) where
   pub map_parts : All (λ (e : K × S). (items_of (eq_by_cmp cmp) e.0 pairs ≢ []) × Sums e.1 (items_of (eq_by_cmp cmp) e.0 pairs)) m.entries

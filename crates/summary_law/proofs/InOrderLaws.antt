@@ -1,4 +1,4 @@
--- What a map of summaries in the order of first items tells, and what the keys of a list in that order are.
+-- What a map of summaries in the order of first items says, and which keys it has.
 use Rattle.std.proofs.Common.{◌≡◌, ◌≢◌, Bool, true, false, not, List, [], ◌∷◌, ◌++◌, map, filter, Option, Some, None, is_some, All, slice_index_or, refl, sym, ap, subst, ◌∙◌, ⊎_elim}
 use Rattle.std.proofs.lemmas.Bool.{cases_Bool, true≢false}
 use Rattle.std.proofs.lemmas.List.{append-nil}
@@ -15,7 +15,7 @@ use Rattle.summary_law.specs.InOrder.{firsts, SumsInOrder}
 use Rattle.summary_law.proofs.ByKeyLaws.{not_nil}
 use Rattle.summary_law.proofs.FirstLaws.{list_any-firsts, firsts_stay}
 
--- the keys that stay are still apart
+-- the keys that stay are still different
 still_apart : {K : Type 0} (eq : K → K → Bool) (p : K → Bool) (key : K) (keys : List K) → AllByRecursion (λ other. eq key other ≡ false) keys
     → AllByRecursion (λ other. eq key other ≡ false) (filter p keys)
 still_apart eq p key [] apart = tt
@@ -34,7 +34,7 @@ IsDistinct-filter eq p (key ∷ keys) distinct =
     (λ (e : p key ≡ false). rw e (IsDistinct-filter eq p keys distinct.1))
     (cases_Bool (p key))
 
--- under a map of the keys that keeps which are equal
+-- the firsts of keys under a function that keeps which keys are equal
 pub firsts-map : {K J : Type 0} (eq : K → K → Bool) (like : J → J → Bool) (f : K → J) → ((a b : K) → eq a b ≡ like (f a) (f b)) → (keys : List K)
     → map f (firsts eq keys) ≡ firsts like (map f keys)
 firsts-map {K} {J} eq like f same [] = refl
@@ -83,7 +83,7 @@ module _ {K : Type 0} {eq : K → K → Bool} (laws : IsEquivalence eq) where
     pub entries_distinct : IsDistinct eq (keys_of entries)
     entries_distinct = subst (λ (t : List K). IsDistinct eq t) (sym sums.order) (firsts_distinct (keys_of items))
 
-    -- each entry sums the items of its own key, and there are some
+    -- each entry sums the items of its own key, and there is at least one
     pub each_sums : All (λ e. (items_of eq e.0 items ≢ []) × Sums e.1 (items_of eq e.0 items)) entries
     each_sums k d within =
         let e = slice_index_or entries k d in
@@ -94,11 +94,11 @@ module _ {K : Type 0} {eq : K → K → Bool} (laws : IsEquivalence eq) where
     no_part None own is none = is
     no_part (Some part) own is none = absurd (true≢false none)
 
-    -- a key that no entry has has no items
+    -- a key that is not in any entry has no items
     pub none_else : (key : K) → list_any (eq key) (keys_of entries) ≡ false → items_of eq key items ≡ []
     none_else key missing = no_part (lookup (eq key) entries) (items_of eq key items) (sums.parts key) (is_some-lookup (eq key) entries ∙ missing)
 
-  -- a map that keeps the keys alone stays that of items with one more behind them whose key is there
+  -- a map that keeps only the keys stays right if one more item follows whose key is there
   pub same_keys : {S I : Type 0} (entries : List (K × S)) (items : List (K × I)) (key : K) (item : I)
       → SumsInOrder eq (λ (s : S) (own : List I). ⊤) entries items → list_any (eq key) (keys_of entries) ≡ true
       → SumsInOrder eq (λ (s : S) (own : List I). ⊤) entries (items ++ (key, item) ∷ [])

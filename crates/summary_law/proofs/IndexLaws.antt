@@ -1,4 +1,4 @@
--- The index of a key among the keys of a map, and what a write there leaves.
+-- The index of a key among the keys of a map, and the map after a write there.
 use Rattle.std.proofs.Common.{◌≡◌, ℕ, ◌<◌, Bool, true, cond, length, position, slice_get, get_or, Some, arith, sym, ap, ◌∙◌, subst}
 use Rattle.std.proofs.lemmas.List.{get_or-map, length-map}
 use Rattle.std.proofs.lemmas.List.Quantifiers.{position-Some}
@@ -11,7 +11,7 @@ use Rattle.indexmap.proofs.MapLemmas.{index-first}
 use Rattle.indexmap.proofs.RemoveLemmas.{own_first}
 
 module _ {K X S : Type 0} {eq : K → K → Bool} (laws : IsEquivalence eq) (map : IndexMap K X S) (unique : IsUnique eq map) (key : K) (i : ℕ) where
-  -- an entry with an equal key is the one that a look-up finds
+  -- the entry with an equal key is the one that a look-up finds
   pub index_here : (stored : K) (part : X) → slice_get map.entries i ≡ Some (stored, part) → eq key stored ≡ true → index_of eq map key ≡ Some i
   index_here stored part at same =
       (λ j. position (λ q. laws.congr key stored q same j) (keys_of map.entries))

@@ -135,7 +135,7 @@ same_lists {X} rank (x ∷ xs) (y ∷ ys) first second to from =
     in
     ap (λ (t : X). t ∷ xs) e ∙ ap (λ t. y ∷ t) rest
 
--- ---- between the definition's words and these
+-- ---- from the words of the definitions to these, and back
 
 pub listed : {X : Type 0} (rank : X → ℕ) (Is : X → Type 0) (xs : List X) → Rises rank xs
     → ((x : X) → In x xs → Is x) → ((x : X) → Is x → In x xs) → ListsInOrder rank Is xs
@@ -144,7 +144,7 @@ listed rank Is xs rises sound whole = record {
   exact = λ x. (λ has. sound x (in_list xs x has), λ is. contained xs x (whole x is));
 }
 
--- a list in rising order of all that something holds of is the only one
+-- only one list has, in rising order, everything that `Is` holds of
 pub only_list : {X : Type 0} (rank : X → ℕ) (Is : X → Type 0) (xs ys : List X)
     → ListsInOrder rank Is xs → ListsInOrder rank Is ys → xs ≡ ys
 only_list rank Is xs ys first second =
@@ -152,9 +152,9 @@ only_list rank Is xs ys first second =
     (λ x there. in_list ys x ((second.exact x).1 ((first.exact x).0 (contained xs x there))))
     (λ x there. in_list xs x ((first.exact x).1 ((second.exact x).0 (contained ys x there))))
 
--- ---- the same things, sorted
+-- ---- the same elements, sorted
 
--- where all ranks differ, a list that does not fall rises
+-- a list that does not fall rises if all ranks differ
 pub rises_sorted : {X : Type 0} (rank : X → ℕ) (xs : List X) → AllPairs (λ (a b : ℕ). a ≢ b) (map rank xs) → IsNonDecreasingBy rank xs → Rises rank xs
 rises_sorted rank [] differ sorted = tt
 rises_sorted rank (x ∷ xs) differ sorted = (
@@ -174,7 +174,7 @@ rises_sorted rank (x ∷ xs) differ sorted = (
       (λ i j d below within. sorted (suc i) (suc j) d (omega arith) (omega arith)),
 )
 
--- what does not fall, and has what a rising list has, is that list
+-- a list that does not fall, and has the elements of a rising list, is that list
 pub in_place : {X : Type 0} (rank : X → ℕ) (xs ys : List X) → Rises rank xs → IsPermutation xs ys → IsNonDecreasingBy rank ys → xs ≡ ys
 in_place rank xs ys rises moved sorted =
     let ranks = pairs_from_rises (λ n. n) (map rank xs) (rises-map rank (λ n. n) xs rises) in

@@ -1,4 +1,4 @@
--- The items that are read from the things of a list: no more than there are things, and in their order.
+-- The items that are read from the things of a list: they are no more than the things, and in their order.
 use Rattle.std.proofs.Common.{◌≡◌, ℕ, suc, ◌<◌, ◌≤◌, Bool, true, false, cond, List, [], ◌∷◌, length, Option, Some, None, refl, sym, ap, subst, arith}
 use Rattle.std.proofs.lemmas.List.Elements.{All-cons, All-head, All-nil, All-tail, All-weaker}
 use Rattle.std.proofs.lemmas.List.Kept.{AllPairs-cons}
@@ -8,7 +8,7 @@ use Rattle.summary_law.specs.ByKey.{EachFits, items_of, under}
 use Rattle.summary_law.specs.Fits.{IsShort, PlacesRise}
 
 module _ {E I : Type 0} (read : E → Option I) where
-  -- few things have few items
+  -- there are no more items than things
   pub length-read : (es : List E) → length (filter_map read es) ≤ length es
   length-read [] = omega arith
   length-read (e ∷ es) =
@@ -26,7 +26,7 @@ module _ {E I : Type 0} (read : E → Option I) where
         | Some i ↦ λ h. All-cons P i (filter_map read es) (h i refl) rest
       ] here
 
-  -- where items keep the places of what they are read from, their places rise as those do
+  -- if items have the places of the things that they are read from, their places rise as the things' places do
   pub rising_read : (place : I → ℕ) (place_of : E → ℕ) → ((e : E) (i : I) → read e ≡ Some i → place i ≡ place_of e) → (es : List E)
       → PlacesRise place_of es → PlacesRise place (filter_map read es)
   rising_read place place_of same [] rise = λ i j d below within. absurd (omega arith)
@@ -45,23 +45,23 @@ module _ {E I : Type 0} (read : E → Option I) where
       ] (same e)
 
 module _ {K I : Type 0} (eq : K → K → Bool) where
-  -- what stands under a key is the pair's item
+  -- the item under a key is the pair's item
   under-some : (key : K) (e : K × I) (i : I) → under eq key e ≡ Some i → i ≡ e.1
   under-some key e i = elim (eq key e.0) as (λ b. cond b (Some e.1) None ≡ Some i → i ≡ e.1) [ true ↦ λ is. cc | false ↦ λ is. cc ]
 
-  -- few items are few under each key
+  -- if there are few items, each key has few
   pub each_short : (items : List (K × I)) → IsShort items → EachFits eq IsShort items
   each_short items short key =
       let shorter = length-read (under eq key) items in
       omega arith
 
-  -- what holds of all items holds of those of each key
+  -- what holds of all items holds of the items of each key
   pub each_all : (P : I → Type 0) (items : List (K × I)) → All (λ (e : K × I). P e.1) items → EachFits eq (All P) items
   each_all P items all key =
       all_read (under eq key) P items
       (All-weaker (λ (e : K × I). P e.1) (λ e. (i : I) → under eq key e ≡ Some i → P i) (λ e h i is. subst P (sym (under-some key e i is)) h) items all)
 
--- places that rise do so under each key
+-- places that rise, rise under each key
 pub items_rise : {K I : Type 0} (eq : K → K → Bool) (key : K) (place : I → ℕ) (items : List (K × I)) → PlacesRise (λ (e : K × I). place e.1) items
     → PlacesRise place (items_of eq key items)
 items_rise {K} {I} eq key place items rise =

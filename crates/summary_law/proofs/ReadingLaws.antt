@@ -1,7 +1,7 @@
--- Readings that see what comes before an element and after it: of what is picked from things, with more made of what is
--- read, in rising places, and two of them at once.
+-- Readings that see what comes before an element and after it: of what is picked from things, with something made of
+-- what is read, in rising places, and two readings at once.
 use Rattle.std.proofs.Common.{◌≡◌, ℕ, ◌<◌, ◌⊎◌, inl, inr, Bool, true, false, cond, List, [], ◌∷◌, ◌++◌, map, Option, Some, None, refl, sym, ap, ap₂, subst, ◌∙◌, append_assoc}
-use Rattle.std.specs.Prelude.{AllPairs, option_and_then}
+use Rattle.std.specs.Prelude.{option_and_then}
 use Rattle.std.specs.List.{cons_option, filter_map}
 use Rattle.std.specs.List.Sorted.{IsPermutation}
 use Rattle.std.specs.Option.{option_map, option_or}
@@ -13,7 +13,7 @@ use Rattle.summary_law.specs.Readings.{read_each, read_all, chosen}
 use Rattle.summary_law.proofs.Members.{In, Rises, in_middle, rises_from_pairs}
 
 module _ {X Y : Type 0} (read : List X → X → List X → Option Y) where
-  -- what is made of what is read
+  -- what is made of what is read, as one reading
   pub read-made : {Z : Type 0} (make : Y → Z) (before xs : List X)
       → map make (read_each read before xs) ≡ read_each (λ b x l. option_map make (read b x l)) before xs
   read-made make before [] = refl
@@ -26,7 +26,7 @@ module _ {X Y : Type 0} (read : List X → X → List X → Option Y) where
         | Some y ↦ ap (λ (t : List Z). make y ∷ t) rest
       ]
 
-  -- what is read of the items that are picked from things is read of the things
+  -- what is read of the items that are picked from things, as a reading of the things
   pub read-picked : {E : Type 0} (pick : E → Option X) (before things : List E)
       → read_each read (filter_map pick before) (filter_map pick things)
       ≡ read_each (λ b e l. option_and_then (λ x. read (filter_map pick b) x (filter_map pick l)) (pick e)) before things
@@ -46,7 +46,7 @@ module _ {X Y : Type 0} (read : List X → X → List X → Option Y) where
             (ap (λ (b : List X). read_each read b (filter_map pick later)) (sym more) ∙ rest)
       ] more
 
-  -- of what is read: the element, with what comes before it and after it, of which it is read
+  -- a place in the list where this is read: the element, with what comes before it and what comes after it
   abbrev pub ReadAt : List X → List X → Y → Type 0
   ReadAt before xs y = (b : List X) × (x : X) × (l : List X) × (xs ≡ b ++ x ∷ l) × (read (before ++ b) x l ≡ Some y)
 
@@ -54,7 +54,7 @@ module _ {X Y : Type 0} (read : List X → X → List X → Option Y) where
   read-at before [] y here = absurd here
   read-at before (x ∷ later) y here =
       let next = before ++ x ∷ [] in
-      let behind : In y (read_each read next later) → ReadAt before (x ∷ later) y = λ there.
+      let after : In y (read_each read next later) → ReadAt before (x ∷ later) y = λ there.
       let found = read-at next later y there in (
         x ∷ found.0,
         found.1,
@@ -63,10 +63,10 @@ module _ {X Y : Type 0} (read : List X → X → List X → Option Y) where
         ap (λ (b : List X). read b found.1 found.2) (sym (append_assoc before (x ∷ []) found.0)) ∙ found.4,
       ) in
       elim (read before x later) as (λ o. (read before x later ≡ o) → In y (cons_option o (read_each read next later)) → ReadAt before (x ∷ later) y) [
-        | None ↦ λ is here. behind here
+        | None ↦ λ is here. after here
         | Some z ↦ λ is here. elim here [
           | inl same ↦ ([], x, later, refl, ap (λ (b : List X). read b x later) (append-nil before) ∙ is ∙ ap Some (sym same))
-          | inr there ↦ behind there
+          | inr there ↦ after there
         ]
       ] refl here
 
@@ -79,7 +79,7 @@ module _ {X Y : Type 0} (read : List X → X → List X → Option Y) where
       let rest = at-read next b x l y (ap (λ (t : List X). read t x l) (append_assoc before (z ∷ []) b) ∙ is) in
       elim (read before z (b ++ x ∷ l)) as (λ o. In y (cons_option o (read_each read next (b ++ x ∷ l)))) [ None ↦ rest | Some w ↦ inr rest ]
 
-  -- where each thing that is read keeps the place of its element, places rise as those of the elements do
+  -- if what is read has the place of its element, its places rise as the elements' places do
   module _ (place : X → ℕ) (rank : Y → ℕ) (keeps : (b : List X) (x : X) (l : List X) (y : Y) → read b x l ≡ Some y → rank y ≡ place x) where
     rises-read : (before xs : List X) → Rises place xs → Rises rank (read_each read before xs)
     rises-read before [] rises = tt
@@ -108,14 +108,15 @@ chosen-is {X} test b x l y = elim (test b x l) as (λ t. cond t (Some x) None �
   | false ↦ λ is. let none : ⊥ = cc in absurd none
 ]
 
--- a reading that does not look at what comes before reads the same whatever that is
+-- a reading that does not see what comes before reads the same whatever that is
 pub read-blind : {X Y : Type 0} (read : List X → X → List X → Option Y) → ((b c : List X) (x : X) (l : List X) → read b x l ≡ read c x l)
     → (before other xs : List X) → read_each read before xs ≡ read_each read other xs
 read-blind read blind before other [] = refl
 read-blind read blind before other (x ∷ later) =
     ap₂ cons_option (blind before other x later) (read-blind read blind (before ++ x ∷ []) (other ++ x ∷ []) later)
 
--- of two readings of which at most one tells something of an element, what the one or the other tells
+-- if at most one of two readings gives something of each element, what both give is what the one or the other gives,
+-- except for the order
 pub read-both : {X Y : Type 0} (read other : List X → X → List X → Option Y)
     → ((b : List X) (x : X) (l : List X) → (read b x l ≡ None) ⊎ (other b x l ≡ None)) → (before xs : List X)
     → IsPermutation (read_each read before xs ++ read_each other before xs) (read_each (λ b x l. option_or (read b x l) (other b x l)) before xs)

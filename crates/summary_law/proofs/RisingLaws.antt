@@ -4,7 +4,7 @@ use Rattle.std.proofs.Common.{subst, ◌∙◌, arith, length-append, get_or}
 use Rattle.std.proofs.lemmas.List.{get_or_append_left, get_or-append-add, get_or_default}
 use Rattle.summary_law.specs.Fits.{PlacesRise}
 
--- where the places of a list rise, those of its first part are below those of its second
+-- if the places of a list rise, those of its first half are below those of its second
 pub rising_apart : {I : Type 0} (place : I → ℕ) (first second : List I)
     → PlacesRise place (first ++ second) → All (λ a. All (λ b. place a < place b) second) first
 rising_apart {I} place first second rise i d inside j e within =

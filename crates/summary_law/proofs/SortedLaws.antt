@@ -1,4 +1,4 @@
--- A list as its different elements in rising order, and rows that are made of such.
+-- A list as its different elements in rising order, and rows that are made of these.
 use Rattle.std.proofs.Common.{◌≡◌, ◌≢◌, ◌⊎◌, inl, inr, ◌||◌, Bool, true, false, cond, Some, None, List, [], ◌∷◌, map, refl, sym, ap, ap₂, subst, ◌∙◌}
 use Rattle.std.specs.BTreeMap.{BTreeMap, IsOrdered}
 use Rattle.std.specs.Cmp.{IsTotalOrder, both_ways}
@@ -100,7 +100,7 @@ module _ {X : Type 0} (cmp : X → X → Ordering) (laws : IsTotalOrder cmp) whe
   pub strictly_sorted : (xs : List X) → IsStrictlySortedBy cmp (sorted cmp xs)
   strictly_sorted xs = strictly cmp (sorted cmp xs) (sorted_ascends xs)
 
--- ---- two rising lists that have the same
+-- ---- two rising lists with the same elements
 
 module _ {X : Type 0} (cmp : X → X → Ordering) where
   above_all : (x : X) (ys : List X) → AllByRecursion (λ y. cmp x y ≡ Less) ys → (y : X) → In y ys → cmp x y ≡ Less
@@ -124,7 +124,7 @@ module _ {X : Type 0} (cmp : X → X → Ordering) (laws : IsTotalOrder cmp) whe
   first_is : (x y : X) (xs ys : List X) → Ascends cmp (x ∷ xs) → Ascends cmp (y ∷ ys) → In x (y ∷ ys) → In y (x ∷ xs) → x ≡ y
   first_is x y xs ys up also (inl is) other = is
   first_is x y xs ys up also (inr there) (inl is) = sym is
-  first_is x y xs ys up also (inr there) (inr behind) = absurd (not_both x y (up.0 y behind) (also.0 x there))
+  first_is x y xs ys up also (inr there) (inr after) = absurd (not_both x y (up.0 y after) (also.0 x there))
 
   in_rest : (x y z : X) (xs ys : List X) → Ascends cmp (x ∷ xs) → x ≡ y → In z xs → In z (y ∷ ys) → In z ys
   in_rest x y z xs ys up same there (inl is) = absurd (not_itself x z (same ∙ sym is) (up.0 z there))
@@ -148,7 +148,7 @@ made_of row_key make [] each = refl
 made_of {K} {R} row_key make (row ∷ rows) each =
     ap₂ (λ (r : R) (rs : List R). r ∷ rs) (each row (inl refl)) (made_of row_key make rows (λ r there. each r (inr there)))
 
--- rows in rising order of their keys, one for each of these keys and no other, each made of its key
+-- rows in rising order of their keys, one made of each of these keys and no others, are the rows made of the keys
 pub rows_are : {K R : Type 0} (cmp : K → K → Ordering) → IsTotalOrder cmp → ((x y : K) → cmp x y ≡ Equal → x ≡ y) → (row_key : R → K) (make : K → R)
     (keys : List K) (rows : List R) → IsStrictlySortedBy cmp (map row_key rows) → ((row : R) → In row rows → row ≡ make (row_key row))
     → ((key : K) → In key (map row_key rows) → In key keys) → ((key : K) → In key keys → In key (map row_key rows)) → rows ≡ map make (sorted cmp keys)
@@ -162,7 +162,7 @@ rows_are cmp laws exact row_key make keys rows up each sound whole =
 -- ---- a row for each key of a map
 
 module _ {K : Type 0} (cmp : K → K → Ordering) (exact : (x y : K) → cmp x y ≡ Equal → x ≡ y) where
-  -- a key that items stand under is that of a pair
+  -- a key that has items is the key of a pair
   pub has_pair : {I : Type 0} (key : K) (pairs : List (K × I)) → items_of (eq_by_cmp cmp) key pairs ≢ [] → In key (keys_of pairs)
   has_pair key [] some = absurd (some refl)
   has_pair key (e ∷ pairs) some =
@@ -184,14 +184,14 @@ module _ {K : Type 0} (cmp : K → K → Ordering) (exact : (x y : K) → cmp x 
     in_found : (key : K) (keys : List K) → In key keys → list_any (eq_by_cmp cmp key) keys ≡ true
     in_found key keys there = let equal = eq_by_cmp_equiv laws in in_any (eq_by_cmp cmp key) keys key there (equal.refl key)
 
-    -- in a sorted list the same is found
+    -- a sorted list has the elements of the list
     pub sorted_any : (key : K) (keys : List K) → list_any (eq_by_cmp cmp key) (sorted cmp keys) ≡ list_any (eq_by_cmp cmp key) keys
     sorted_any key keys =
         both_ways (list_any (eq_by_cmp cmp key) (sorted cmp keys)) (list_any (eq_by_cmp cmp key) keys)
         (λ found. in_found key keys (in_sorted cmp keys key (found_in key (sorted cmp keys) found)))
         (λ found. in_found key (sorted cmp keys) (sorted_in cmp keys (λ x y at_x at_y same. exact x y same) key (found_in key keys found)))
 
-    -- rising keys in which the same is found as in a list are that list, sorted
+    -- rising keys with the elements of a list are the list, sorted
     pub sorted_keys : (keys xs : List K) → IsStrictlySortedBy cmp keys
         → ((key : K) → list_any (eq_by_cmp cmp key) keys ≡ list_any (eq_by_cmp cmp key) xs) → keys ≡ sorted cmp xs
     sorted_keys keys xs up same =
@@ -233,7 +233,7 @@ module _ {K P I : Type 0} (cmp : K → K → Ordering) (laws : IsTotalOrder cmp)
       let P : K × P → Type 0 = λ e. Sums e.1 (items_of (eq_by_cmp cmp) e.0 pairs) in
       ap₂ (λ (r : R) (rs : List R). r ∷ rs) (right e (All-head P e entries all)) (each_row make row_of right entries (All-tail P e entries all))
 
-  -- the entries as rows are the rows of the keys
+  -- the rows made of the entries are the rows made of the keys
   pub map_rows : {R : Type 0} (make : K → R) (row_of : K × P → R) → ((e : K × P) → Sums e.1 (items_of (eq_by_cmp cmp) e.0 pairs) → row_of e ≡ make e.0)
       → map row_of m.entries ≡ map make (sorted cmp (keys_of pairs))
   map_rows make row_of right = each_row make row_of right m.entries (map_each cmp laws Sums m ordered pairs sums) ∙ ap (map make) keys_are

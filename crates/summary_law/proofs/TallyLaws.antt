@@ -31,7 +31,7 @@ sum_fits weights few =
     = sum_by-le (λ w. w) (2 ^ 64 - 1) weights (All-weaker (λ w. w < 2 ^ 64) (λ w. w ≤ 2 ^ 64 - 1) (λ w h. omega arith) weights few.1) in
     omega arith
 
--- the weights of each key are few where all are
+-- if there are few weights, each key has few
 pub each_weights : {K : Type 0} (eq : K → K → Bool) (items : List (K × ℕ)) → AreWeighted items → EachFits eq AreWeights items
 each_weights eq items few key = (each_short eq items few.0 key, each_all eq (λ weight. weight < 2 ^ 64) items few.1 key)
 
@@ -61,7 +61,7 @@ module _ {K : Type 0} (cmp : K → K → Ordering) (laws : IsTotalOrder cmp) (m 
   entry_part : (e : K × Amount) → get cmp m e.0 ≡ Some e.1 → IsOwn IsAmount (Some e.1) (items_of (eq_by_cmp cmp) e.0 items)
   entry_part e found = subst (λ (o : Option Amount). IsOwn IsAmount o (items_of (eq_by_cmp cmp) e.0 items)) found (sums e.0)
 
-  -- the map's keys are those that items stand under
+  -- the map's keys are the keys that have items
   pub map_keys : AreKeys cmp items (keys_of m.entries)
   map_keys = record {
     rising = ordered;
@@ -72,7 +72,7 @@ module _ {K : Type 0} (cmp : K → K → Ordering) (laws : IsTotalOrder cmp) (m 
         sym (is_some-lookup (eq_by_cmp cmp key) m.entries) ∙ some_came (items_of (eq_by_cmp cmp) key items) (get cmp m key) (sums key) h;
   }
 
-  -- the map's entries as rows are those of the items
+  -- the rows made of the map's entries are the rows of the items
   pub map_rows : (rows : List (K × ℕ × ℕ)) → rows ≡ map row_of m.entries → AreTallyRows cmp items rows
   map_rows rows are = rw are (record {
     keys = subst (AreKeys cmp items) (sym (keys_of_rows m.entries)) map_keys;
@@ -84,7 +84,7 @@ module _ {K : Type 0} (cmp : K → K → Ordering) (laws : IsTotalOrder cmp) (m 
         m.entries (All-found laws m ordered));
   })
 
--- ---- where keys that compare as equal are one, rows of a tally are these
+-- ---- if keys that compare as equal are equal, these are the rows of a tally
 
 module _ {K : Type 0} (cmp : K → K → Ordering) (laws : IsTotalOrder cmp) (exact : (x y : K) → cmp x y ≡ Equal → x ≡ y) (items : List (K × ℕ))
     (rows : List (K × ℕ × ℕ)) (are : AreTallyRows cmp items rows) where

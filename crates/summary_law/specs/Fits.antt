@@ -15,25 +15,25 @@ PlacesRise place items = AllPairs (λ earlier later. place earlier < place later
 abbrev pub IsPlaced : {I : Type 0} → (I → ℕ) → List I → Type 0
 IsPlaced place items = IsShort items × PlacesRise place items
 
--- both parts of a short list are short
-pub short_parts : {I : Type 0} (first second : List I) → IsShort (first ++ second) → IsShort first × IsShort second
-short_parts first second short =
+-- both halves of a short list are short
+pub short_halves : {I : Type 0} (first second : List I) → IsShort (first ++ second) → IsShort first × IsShort second
+short_halves first second short =
     let long = length-append first second in
     (omega arith, omega arith)
 
--- where something holds of each item of a list, it does of those of both parts
-pub all_parts : {I : Type 0} (P : I → Type 0) (first second : List I)
+-- what holds of each item of a list holds of each item of both halves
+pub all_halves : {I : Type 0} (P : I → Type 0) (first second : List I)
     → All P (first ++ second) → All P first × All P second
-all_parts {I} P first second all =
+all_halves {I} P first second all =
     let long = length-append first second in (
       λ i d within. subst P (get_or_append_left first second d i within) (all i d (omega arith)),
       λ i d within. subst P (get_or-append-add first second i d) (all (length first + i) d (omega arith)),
     )
 
--- where each element of a list stands in a relation to every later one, so it does in both parts
-pub pairs_parts : {I : Type 0} (R : I → I → Type 0) (first second : List I)
+-- if each element of a list is in a relation to every later one, the same holds in both halves
+pub pairs_halves : {I : Type 0} (R : I → I → Type 0) (first second : List I)
     → AllPairs R (first ++ second) → AllPairs R first × AllPairs R second
-pairs_parts {I} R first second all =
+pairs_halves {I} R first second all =
     let long = length-append first second in (
       λ i j d below within.
           let inside : i < length first = omega arith in
@@ -47,15 +47,15 @@ pairs_parts {I} R first second all =
           (all (length first + i) (length first + j) d (omega arith) (omega arith))),
     )
 
--- in both parts of a list whose places rise they rise
-pub rising_parts : {I : Type 0} (place : I → ℕ) (first second : List I)
+-- if the places of a list rise, they rise in both halves
+pub rising_halves : {I : Type 0} (place : I → ℕ) (first second : List I)
     → PlacesRise place (first ++ second) → PlacesRise place first × PlacesRise place second
-rising_parts place first second rise = pairs_parts (λ a b. place a < place b) first second rise
+rising_halves place first second rise = pairs_halves (λ a b. place a < place b) first second rise
 
--- both parts of a list that is placed are
-pub placed_parts : {I : Type 0} (place : I → ℕ) (first second : List I)
+-- both halves of a list that is placed are placed
+pub placed_halves : {I : Type 0} (place : I → ℕ) (first second : List I)
     → IsPlaced place (first ++ second) → IsPlaced place first × IsPlaced place second
-placed_parts place first second placed =
-    let short = short_parts first second placed.0 in
-    let rise = rising_parts place first second placed.1 in
+placed_halves place first second placed =
+    let short = short_halves first second placed.0 in
+    let rise = rising_halves place first second placed.1 in
     ((short.0, rise.0), (short.1, rise.1))

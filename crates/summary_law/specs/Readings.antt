@@ -11,15 +11,15 @@ read_each read before (x ∷ later) = cons_option (read before x later) (read_ea
 abbrev pub read_all : {X Y : Type 0} → (List X → X → List X → Option Y) → List X → List Y
 read_all read xs = read_each read [] xs
 
--- the element itself, where it passes a test that sees what comes before it and what comes after it
+-- the element itself, if it passes a test that sees what comes before it and what comes after it
 abbrev pub chosen : {X : Type 0} → (List X → X → List X → Bool) → List X → X → List X → Option X
 chosen test before x later = if test before x later then Some x else None
 
--- those that have this key
+-- the elements that have this key
 abbrev pub with_key : {K X : Type 0} → (K → K → Bool) → (X → K) → K → List X → List X
 with_key eq key k xs = filter (λ x. eq k (key x)) xs
 
--- the reading that sees, before the element and after it, only what has the element's key
+-- a reading by key: of what comes before the element and after it, it sees only what has the element's key
 abbrev pub by_key : {K X Y : Type 0} → (K → K → Bool) → (X → K) → (List X → X → List X → Option Y)
     → List X → X → List X → Option Y
 by_key eq key read before x later = read (with_key eq key (key x) before) x (with_key eq key (key x) later)

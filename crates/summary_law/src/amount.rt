@@ -1,11 +1,11 @@
 //! The number of weights, and their sum.
 
-ghost use Rattle.summary_law.specs.Amount.{AreWeights, IsAmount, weights_parts};
+ghost use Rattle.summary_law.specs.Amount.{AreWeights, IsAmount, weights_halves};
 
 use crate::summary::Summary;
 use std::alloc::{AllocError, Global};
 
-/// How many weights there are, and their sum, which takes at most 96 bits.
+/// How many weights there are, and their sum. The sum takes at most 96 bits, so it never wraps.
 #[derive(Clone, Copy, Debug, PartialEq, Eq)]
 pub struct Amount {
     pub count: u64,
@@ -36,5 +36,5 @@ impl Summary for Amount {
         })
     }
 
-    ghost fits_parts = { weights_parts };
+    ghost fits_halves = { weights_halves };
 }

@@ -1,16 +1,16 @@
 //! A summary for each key of a list of pairs.
 
 ghost use Rattle.std.specs.Ordering.{eq_by_cmp};
-ghost use Rattle.summary_law.specs.ByKey.{SumsByKey, EachFits, each_fits_parts};
+ghost use Rattle.summary_law.specs.ByKey.{SumsByKey, EachFits, each_fits_halves};
 
 use crate::summary::Summary;
 use std::alloc::{AllocError, Global};
 use std::collections::BTreeMap;
 
-/// A summary for each key, of the items that stand under it.
+/// A summary of the items of each key.
 #[derive(Drop)]
 pub struct ByKey<K: Ord + Copy, S: Summary> {
-    /// The summaries by key, for each key with an item.
+    /// The summaries by key, one for each key that has an item.
     pub entries: BTreeMap<K, S>,
     alloc: Global,
 }
@@ -63,5 +63,5 @@ impl<K: Ord + Copy, S: Summary> Summary for ByKey<K, S> {
         Ok(joined)
     }
 
-    ghost fits_parts = { each_fits_parts (eq_by_cmp K.cmp) S.fits S.fits_parts };
+    ghost fits_halves = { each_fits_halves (eq_by_cmp K.cmp) S.fits S.fits_halves };
 }

@@ -3,8 +3,8 @@
 ghost use Rattle.std.specs.Prelude.{◌-◌, [], pos, negsuc, ◌+ℤ◌, ◌≤ℤ◌, ◌<ℤ◌, ◌^◌};
 ghost use Rattle.summary_law.specs.Count.{raises, lowers, IsCount, CountsOneMore, CountsBoth};
 
-/// The sum of a list of changes by one, and its low: the least sum of a prefix, the empty one
-/// included.
+/// The sum of a list of changes by one, and its low: the least sum of any prefix. The empty prefix
+/// counts too, so a low is never above 0.
 #[derive(Clone, Copy, Debug, PartialEq, Eq)]
 pub struct Count {
     pub sum: i64,

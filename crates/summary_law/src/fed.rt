@@ -1,15 +1,15 @@
-//! The summary of what is picked from things.
+//! The summary of what a reader picks from things.
 
 ghost use Rattle.std.specs.List.{filter_map};
-ghost use Rattle.summary_law.specs.Fed.{SumsPicked, picked_parts};
+ghost use Rattle.summary_law.specs.Fed.{SumsPicked, picked_halves};
 
 use crate::picks::Picks;
 use crate::summary::Summary;
 use std::alloc::{AllocError, Global};
 use std::marker::PhantomData;
 
-/// The summary of what a reader picks from things. A thing from which nothing is picked is nothing
-/// to it.
+/// The summary of the items that a reader picks from things. A thing from which it picks nothing
+/// changes nothing. Where a `Fed` can't be used, `proofs/FedLaws.antt` proves the same of a field.
 #[derive(Drop)]
 pub struct Fed<R: Picks, S: Summary> {
     /// The summary of the items.
@@ -48,5 +48,5 @@ impl<R: Picks, S: Summary<Item = R::Item>> Summary for Fed<R, S> {
         })
     }
 
-    ghost fits_parts = { picked_parts R.picks S.fits S.fits_parts };
+    ghost fits_halves = { picked_halves R.picks S.fits S.fits_halves };
 }

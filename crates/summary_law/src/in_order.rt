@@ -4,7 +4,7 @@ ghost use Rattle.std.specs.Prelude.{◌≡◌};
 ghost use Rattle.std.specs.Map.{lookup};
 ghost use Rattle.std.specs.Option.{is_some, unwrap_or};
 ghost use Rattle.indexmap.specs.IndexMap.{index_of, IsUnique};
-ghost use Rattle.summary_law.specs.ByKey.{EachFits, each_fits_parts};
+ghost use Rattle.summary_law.specs.ByKey.{EachFits, each_fits_halves};
 ghost use Rattle.summary_law.specs.InOrder.{SumsInOrder};
 
 use crate::summary::Summary;
@@ -13,19 +13,18 @@ use std::alloc::{AllocError, Global};
 use std::hash::Hash;
 use std::mem;
 
-/// A summary for each key, of the items that stand under it, the keys in the order of their first
-/// items.
+/// A summary of the items of each key, the keys in the order of their first items.
 #[derive(Drop)]
 pub struct InOrder<K: Eq + Hash + Copy, S: Summary> {
-    /// The summaries by key, for each key with an item.
+    /// The summaries by key, one for each key that has an item.
     pub entries: IndexMap<K, S>,
-    // A guess at the entry of the next item: the index of the one that took the latest `add`.
+    // A guess at the entry of the next item: the index of the entry that took the latest `add`.
     latest: usize,
     alloc: Global,
 }
 
 impl<K: Eq + Hash + Copy, S: Summary> InOrder<K, S> {
-    // The index of the key's entry. Where that is the guess, nothing is looked up.
+    // The index of the key's entry. If the guess is right, nothing is looked up.
     fn index_of(&self, key: K, guess: usize) -> Option<usize>
         ensures index { result ≡ index_of K.eq self.now.entries key }
         ensures unique { IsUnique K.eq self.now.entries }
@@ -36,7 +35,7 @@ impl<K: Eq + Hash + Copy, S: Summary> InOrder<K, S> {
         }
     }
 
-    /// Whether items stand under the key. If so, an `add` under it that comes next takes no look-up.
+    /// Whether the key has items. If so, an `add` of the same key that comes next takes no look-up.
     pub fn has(&mut self, key: K) -> bool
         ensures has { result ≡ is_some (lookup (K.eq key) self.old.entries.entries) }
         ensures same { self.new.entries ≡ self.old.entries }
@@ -50,9 +49,9 @@ impl<K: Eq + Hash + Copy, S: Summary> InOrder<K, S> {
         }
     }
 
-    /// The summary of the items under the key, or this one where there are none. Where the key has
-    /// the entry that is guessed, nothing is looked up. The guess becomes the entry behind the key's,
-    /// so keys that come in the order of the entries take no look-up.
+    /// The summary of the key's items, or `none` if it has none. If `guess` is the index of the
+    /// key's entry, nothing is looked up. The guess becomes the index after that entry, so keys in
+    /// the order of the entries take no look-up.
     pub fn own_or<'a>(&'a self, key: K, none: &'a S, guess: &mut usize) -> &'a S
         ensures { result.now ≡ unwrap_or (lookup (K.eq key) self.now.entries.entries) none.now }
     {
@@ -66,8 +65,9 @@ impl<K: Eq + Hash + Copy, S: Summary> InOrder<K, S> {
     }
 }
 
-/// An `add` takes no look-up where the one before it had the same key, and at most two otherwise. A
-/// `join` takes at most two for each key of the later value.
+/// An `add` takes no look-up if the `add` before it had the same key, or if `has` was just asked of
+/// that key; otherwise it takes at most two. A `join` takes at most two for each key of the later
+/// value.
 impl<K: Eq + Hash + Copy, S: Summary> Summary for InOrder<K, S> {
     type Item = (K, S::Item);
 
@@ -118,5 +118,5 @@ impl<K: Eq + Hash + Copy, S: Summary> Summary for InOrder<K, S> {
         Ok(joined)
     }
 
-    ghost fits_parts = { each_fits_parts K.eq S.fits S.fits_parts };
+    ghost fits_halves = { each_fits_halves K.eq S.fits S.fits_halves };
 }

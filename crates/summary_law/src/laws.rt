@@ -11,8 +11,9 @@ ghost use Rattle.summary_law.specs.Sorted.{sorted};
 ghost use Rattle.std.specs.declared.cmp.Ordering.TheVariants.{Equal};
 ghost use Rattle.summary_law.specs.declared.count.Count.{Count};
 
-/// Changes have one count. It is also that of its list with one more change that leaves it as it
-/// is, and it is no further from 0 than its list is long.
+/// A list of changes has exactly one count, `count_of`. One more change that keeps a count leaves
+/// the count as it is. Neither the sum nor the low of a count is further from 0 than its list of
+/// changes is long.
 pub fn counts()
     ensures one { (count : Count) (changes : List Change) →
         IsCount count changes ↔ (count ≡ count_of changes) }
@@ -21,17 +22,17 @@ pub fn counts()
         IsWithin count (length changes) }
 {}
 
-/// The count of the items that are read from the things of a list is that of the whole list, its
-/// low over all prefixes of that: a thing from which no item is read leaves it as it is.
+/// If items are read from things, the count of the items is also the count over all things, with a
+/// low over all prefixes of the things: a thing from which no item is read keeps the count.
 pub fn counts_of_read_items<E, I>()
     ensures { (read : E → Option I) (change : I → Change) (count : Count) (things : List E) →
         IsCountOf change count (filter_map read things) →
         IsCountOf (change_read read change) count things }
 {}
 
-/// What is read of a list is what the reading gives of an element and of what comes before it and
-/// after it, and nothing else. What is read by key is what is read of what has each key, but for
-/// the order.
+/// What is read of a list is what the reading gives of an element, with what comes before it and
+/// what comes after it, and nothing else. If each element has one of some different keys, what is
+/// read by key is what is read of the elements of each key alone, except for the order.
 pub fn readings<K, X, Y>()
     ensures exact { (read : List X → X → List X → Option Y) (xs : List X) (y : Y) →
         Contains (read_all read xs) y ↔ ((before : List X) × (x : X) × (after : List X)
@@ -43,8 +44,8 @@ pub fn readings<K, X, Y>()
         (read_all (by_key eq key read) xs) }
 {}
 
-/// The elements of a sorted list rise, and they are those of the list, where two that compare as
-/// equal are one.
+/// The elements of a sorted list rise strictly. If only equal elements compare as equal, they are
+/// the elements of the list.
 pub fn sorted_lists<K: Ord>()
     ensures rising { (xs : List K) → IsStrictlySortedBy K.cmp (sorted K.cmp xs) }
     ensures members { ((x y : K) → K.cmp x y ≡ Equal → x ≡ y) → (xs : List K) (x : K) →

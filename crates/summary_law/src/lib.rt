@@ -1,5 +1,5 @@
-//! Summaries of lists: what adding an item and joining two of them mean, and the parts that ledgers
-//! are made of.
+//! Summaries of lists: what it means to add an item to one and to join two, and the summaries that
+//! ledgers are made of.
 #![tactic(auto)]
 
 mod amount;

@@ -5,7 +5,7 @@ ghost use Rattle.std.specs.Prelude.{IfOk};
 use crate::summary::Summary;
 use std::alloc::{AllocError, Global};
 
-/// The summary of the items.
+/// The summary of the items, which are added one by one.
 pub fn summary_of<S: Summary>(alloc: Global, items: &[S::Item]) -> Result<S, AllocError>
 where
     S::Item: Copy,

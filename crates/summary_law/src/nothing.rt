@@ -1,11 +1,11 @@
-//! The summary of what tells nothing.
+//! A summary that keeps nothing.
 
 ghost use Rattle.std.specs.Prelude.{List, ⊤};
 
 use crate::summary::Summary;
 use std::alloc::{AllocError, Global};
 
-/// Nothing is kept of any item: under keys, the keys alone are.
+/// Keeps nothing of its items. A map of it keeps the keys alone.
 #[derive(Drop)]
 pub struct Nothing;
 
@@ -28,5 +28,5 @@ impl Summary for Nothing {
         Ok(Nothing)
     }
 
-    ghost fits_parts = { λ first second fits. (tt, tt) };
+    ghost fits_halves = { λ first second fits. (tt, tt) };
 }

@@ -1,7 +1,7 @@
-//! The count and the sum of what stands under each key.
+//! The count and the sum of the weights of each key.
 
 ghost use Rattle.std.specs.Prelude.{IfOk};
-ghost use Rattle.summary_law.specs.Tally.{AreWeighted, TallySums, weighted_parts};
+ghost use Rattle.summary_law.specs.Tally.{AreWeighted, TallySums, weighted_halves};
 ghost use Rattle.summary_law.specs.Tally.{GivesRows, GivesAmount};
 
 use crate::amount::Amount;
@@ -27,7 +27,7 @@ impl<K: Ord + Copy> Tally<K> {
         Ok(rows)
     }
 
-    /// The count and the sum of a key, which are 0 where nothing stands under it.
+    /// The count and the sum of the weights of a key, which are 0 if it has no item.
     pub fn amount(&self, key: K) -> Amount
         ensures { GivesAmount K.cmp self.now key result }
     {
@@ -60,5 +60,5 @@ impl<K: Ord + Copy> Summary for Tally<K> {
         Ok(Tally { amounts })
     }
 
-    ghost fits_parts = { weighted_parts };
+    ghost fits_halves = { weighted_halves };
 }

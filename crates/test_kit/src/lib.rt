@@ -1,5 +1,5 @@
 //! What several crates of tests need: whether the places of a list rise, and the summary of a list
-//! from those of its parts.
+//! from those of its two halves.
 #![tactic(auto)]
 
 mod parts;

@@ -1,8 +1,8 @@
-//! Items that stand at places.
+//! Items that have a place.
 
 ghost use Rattle.std.specs.Bool.{OnTrue, OnFalse};
 ghost use Rattle.std.specs.Prelude.{◌≡◌, ℕ};
-ghost use Rattle.call_stacks.specs.Calls.{view_reads};
+ghost use Rattle.call_stacks.specs.Calls.{capture_event_reads};
 ghost use Rattle.pending_ledger.specs.Ledgers.{buffer_place};
 ghost use Rattle.pending_ledger.specs.Pending.{place_of};
 ghost use Rattle.pending_ledger.specs.Requests.{request_place};
@@ -10,12 +10,12 @@ ghost use Rattle.summary_law.specs.Fits.{IsPlaced};
 
 use event_core::{BufferItem, Event, PendingItem, RequestItem};
 
-/// An item that stands at a place.
+/// An item that has a place: that of its record in the capture.
 pub trait Placed: Copy {
-    /// Where it stands.
+    /// Where it is.
     ghost place_in: { Self → ℕ };
 
-    /// The same as a number.
+    /// The same, as a number.
     fn place(self) -> u64
         ensures { result ≡ place_in self };
 }
@@ -45,7 +45,7 @@ impl Placed for RequestItem {
 }
 
 impl<'c> Placed for Event<'c> {
-    ghost place_in = { view_reads.place };
+    ghost place_in = { capture_event_reads.place };
 
     fn place(self) -> u64 {
         self.place

@@ -11,7 +11,7 @@ use Rattle.transaction_view.specs.FirstFault.{HasGoodContent, HasContentFault}
 use Rattle.transaction_view.specs.Grammar.{whole_format, IsReadable, HasFirstFault, AreReadable, HasFirstPartFault}
 use Rattle.transaction_view.proofs.GrammarLaws.{content_one_failure, content_never_both, whole_decided, whole_wide}
 
--- of what is good, and what fails by a fault, one holds at most, and one fault
+-- at most one of these holds: it is good, or it fails; and it fails by one fault only
 pub record IsOneOf {F : Type 0} (Good : Type 0) (Fails : F → Type 0) : Type 0 where
   pub one_fault : (a b : F) → Fails a → Fails b → a ≡ b
   pub never_both : (a : F) → Good → Fails a → ⊥
@@ -26,7 +26,7 @@ pub fault_is_some : {F : Type 0} (Good : Type 0) (Fails : F → Type 0) → IsOn
 fault_is_some Good Fails one None first fault fails = absurd (one.never_both fault first fails)
 fault_is_some Good Fails one (Some found) first fault fails = ap Some (one.one_fault found fault first fails)
 
--- an error taken as the answer
+-- the error of a result, as the answer
 pub answer_first : {A F : Type 0} (Good : Type 0) (Fails : F → Type 0) (IsGood : A → Type 0) → ((a : A) → IsGood a → Good) → (result : Result A F) (answer : Option F) → answer ≡ result_err result
     → MatchResult result IsGood Fails → MatchOption answer Good Fails
 answer_first Good Fails IsGood gives (Ok done) answer is good = rw is (gives done good)

@@ -12,7 +12,7 @@ use Rattle.transaction_view.proofs.GrammarLaws.{whole_wide}
 abbrev pub texts_of : List (Bor (List ℕ)) → List (List ℕ)
 texts_of parts = map (λ (part : Bor (List ℕ)). part.now) parts
 
--- the first i parts are in the grammar, and this is the last sequence in them
+-- the first i parts are in the grammar, and `before` is the last sequence in them
 pub record AreChecked (parts : List (Bor (List ℕ))) (i : ℕ) (before : Option ℕ) : Type 0 where
   pub done : List WholeFrame
   pub whole : AreParts whole_format None (texts_of (take i parts)) done
@@ -43,7 +43,7 @@ checked_fails parts i before d fault number within checked fails is =
     record {
       front = texts_of (take i parts);
       part = (get_or parts i d).now;
-      behind = texts_of (drop (i + 1) parts);
+      after = texts_of (drop (i + 1) parts);
       are = ap texts_of (sym (take-append-drop i parts)) ∙ map-append (λ (part : Bor (List ℕ)). part.now) (take i parts) (drop i parts)
           ∙ ap (λ (t : List (List ℕ)). texts_of (take i parts) ++ t) (at_drop_more texts_of parts i d within);
       number = omega (arith, many, is);

@@ -1,4 +1,4 @@
--- The grammar of a whole capture, and its first fault: its frames, judged with all that stands in them
+-- The grammar of a whole capture, and its first fault: its frames, judged with their records and entries
 -- (docs/ENVELOPE.md).
 use Rattle.std.specs.Prelude.{ℕ, List, Some, None}
 use Rattle.capture_frame.specs.declared.fault.Fault.{Fault}
@@ -12,28 +12,29 @@ use Rattle.record_view.specs.Records.{RecordText, HasRecords}
 use Rattle.transaction_view.specs.Attachments.{EntryText, HasEntries}
 use Rattle.transaction_view.specs.FirstFault.{WholeFrameFails}
 
--- a frame with what its command bytes and its attachment bytes say
+-- a frame with its records and its entries
 pub record WholeFrame : Type 0 where
   pub frame : FrameText
   pub records : List RecordText
   pub entries : List EntryText
 
--- a whole frame may stand where its header may, its command bytes are its records, and its attachment bytes its entries
-pub record MayStandWhole (before : Before) (whole : WholeFrame) : Type 0 where
+-- a whole frame may come next if its header may, its command bytes are its records, and its attachment bytes are its
+-- entries
+pub record MayComeWhole (before : Before) (whole : WholeFrame) : Type 0 where
   pub header : MayCome before whole.frame
   pub has_records : HasRecords whole.frame whole.records
   pub has_entries : HasEntries whole.frame whole.entries
 
--- frames, judged with all that stands in them
+-- the format of whole frames: frames that are judged with their records and entries
 abbrev pub whole_format : Format Before WholeFrame FaultKind
 whole_format = record {
   spelling = λ whole. frame_bytes whole.frame;
-  MayCome = MayStandWhole;
+  MayCome = MayComeWhole;
   after = λ before whole. in_version before.version (Some whole.frame.sequence);
   Fails = WholeFrameFails;
 }
 
--- the capture is in the grammar, as these frames
+-- the capture is in the grammar, as these frames: a file header and then these whole frames
 abbrev pub IsInGrammar : List ℕ → List WholeFrame → Type 0
 IsInGrammar capture frames = IsCapture whole_format capture frames
 
@@ -41,7 +42,7 @@ IsInGrammar capture frames = IsCapture whole_format capture frames
 abbrev pub IsReadable : List ℕ → Type 0
 IsReadable capture = (frames : List WholeFrame) × IsInGrammar capture frames
 
--- the first fault of the capture
+-- this is the first fault of the capture: of its file header, of a frame header, of a record or of an entry
 abbrev pub HasFirstFault : List ℕ → Fault → Type 0
 HasFirstFault capture fault = IsFirstFault whole_format capture fault
 
@@ -53,6 +54,6 @@ AreInGrammar parts frames = AreParts whole_format None parts frames
 abbrev pub AreReadable : List (List ℕ) → Type 0
 AreReadable parts = (frames : List WholeFrame) × AreInGrammar parts frames
 
--- the first fault of the parts
+-- this is the first fault of the parts, in the part that it names
 abbrev pub HasFirstPartFault : List (List ℕ) → PartFault → Type 0
 HasFirstPartFault parts found = IsFirstPartFault whole_format None parts found

@@ -15,7 +15,7 @@ use crate::attachments::Attachments;
 use capture_frame::{Fault, Frame, Frames, PartFault};
 use record_view::Records;
 
-/// The first malformed unit of a capture, or none where the capture is in the grammar.
+/// The first fault of a capture; None if the capture is in the grammar.
 pub fn first_fault(capture: &[u8]) -> Option<Fault>
     ensures first { MatchOption result (IsReadable capture.now) (HasFirstFault capture.now) }
 
@@ -26,8 +26,8 @@ pub fn first_fault(capture: &[u8]) -> Option<Fault>
     check_part(capture, None).err()
 }
 
-/// The first malformed unit of a capture that is read in parts, or none where they are in the
-/// grammar.
+/// The first fault of a capture in parts, with the number of its part, from 1, and its place in
+/// that part; None if the parts are in the grammar. There must be fewer than 2^32 parts.
 pub fn first_fault_parts(parts: &[&[u8]]) -> Option<PartFault>
     requires { length parts.now < 2 ^ 32 }
     ensures first { MatchOption result
@@ -42,8 +42,8 @@ pub fn first_fault_parts(parts: &[&[u8]]) -> Option<PartFault>
     check_parts(parts).err()
 }
 
-/// The first malformed record of a frame, or behind good records its first malformed entry, or
-/// none.
+/// The first fault of a frame's records, or, if these are good, of its entries; None if both are
+/// good.
 pub fn check_frame(frame: Frame<'_>) -> Option<Fault>
     ensures first { MatchOption result
         (HasGoodContent (frame_text frame.entry)) (HasContentFault (placed_frame frame.entry)) }
@@ -78,8 +78,8 @@ fn check_parts(parts: &[&[u8]]) -> Result<(), PartFault>
     Ok(())
 }
 
-/// Checks a part behind the frame with the sequence `before`, if there is one, and gives the last
-/// sequence so far.
+/// Checks a part that comes after the frame with the sequence `before`, if there is one, and gives
+/// the last sequence so far.
 fn check_part(part: &[u8], before: Option<u64>) -> Result<Option<u64>, Fault>
     ensures { MatchResult result
         (λ last. (frames : List WholeFrame) × IsPart whole_format before part.now frames

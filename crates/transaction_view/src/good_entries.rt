@@ -2,13 +2,13 @@
 
 ghost use Rattle.capture_frame.specs.Envelope.{frame_text};
 
-use crate::attachments::{ENTRY_HEADER, parts_of};
+use crate::attachments::{ENTRY_HEADER, entry_fields};
 use crate::entry::Entry;
 use capture_frame::Frame;
 use std::marker::Model;
 
 /// Reads the attachment entries of a frame whose entries have no fault, in order. It looks at no
-/// record: that each entry has one was judged before. One that has ended gives `None`.
+/// record, since the frame was judged before. A reader that has ended gives `None`.
 #[derive(Drop)]
 pub struct GoodEntries<'c> {
     frame: Frame<'c>,
@@ -37,7 +37,7 @@ impl<'c> GoodEntries<'c> {
     ghost use Rattle.transaction_view.specs.Attachments.{HasReadableEntries};
     ghost use Rattle.transaction_view.specs.Reading.{Steps, entries_start};
 
-    /// A reader of the frame's entries, where they have no fault.
+    /// A reader before the first entry of a frame whose entries have no fault.
     pub fn of(frame: Frame<'c>) -> GoodEntries<'c>
         requires { HasReadableEntries (frame_text frame) }
         ensures { result ≡ entries_start (placed_frame frame.entry) }
@@ -49,12 +49,12 @@ impl<'c> GoodEntries<'c> {
         }
     }
 
-    /// The next entry, or the end.
+    /// The next entry, or `None` at the end.
     pub fn next_entry(&mut self) -> Option<Entry<'c>>
         ensures { Steps self.old (Ok result) self.new }
     {
         let rest = &self.frame.attachments[self.distance..];
-        let Some(parts) = parts_of(rest) else {
+        let Some(parts) = entry_fields(rest) else {
             return None;
         };
         let place = self.frame.attachments_place() + self.distance as u64;

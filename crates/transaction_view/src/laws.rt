@@ -28,7 +28,7 @@ pub fn one_reading()
 
 /// Every list of parts is in the grammar, in one way, or has exactly one first fault, and never
 /// both. Parts in the grammar are, frame by frame, their joined capture, which is of version 2. One
-/// part is a capture: it is read as one, and its first fault is the capture's.
+/// part is read as a capture, and its first fault is the capture's.
 pub fn one_reading_of_parts()
     ensures one_of { (parts : List (List ℕ)) → All IsBytes parts →
         AreReadable parts ⊎ ((found : PartFault) × HasFirstPartFault parts found) }
@@ -60,10 +60,10 @@ pub fn one_reading_of_entries()
         NeverBoth (entry_format frame) None frame.attachments }
 {}
 
-/// A reader of a frame whose records have no fault, called again and again from its start, gives
-/// the frame's entries in order, each with its place, and then nothing at every later call; or
-/// those before the first fault, and then that fault at every later call. Any reader that has
-/// failed gives its fault for ever, and any that has ended gives nothing for ever.
+/// Take a reader of a frame whose records have no fault and call it again and again. It gives the
+/// frame's entries in order, each with its place, and then `None` at every later call. If an entry
+/// has a fault, it gives the entries before it, and then the fault at every later call. Any reader
+/// that has failed gives its fault for ever, and any that has ended gives `None` for ever.
 pub fn all_calls()
     ensures whole { (frame : Placed FrameText) (entries : List EntryText) →
         HasReadableRecords frame.unit → HasEntries frame.unit entries →

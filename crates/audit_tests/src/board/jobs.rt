@@ -1,4 +1,4 @@
-//! The work of the tests.
+//! The jobs of the tests of `claim_board`.
 
 ghost use Rattle.std.specs.Prelude.{◌≡◌, ◌+◌, ◌*◌, ◌<◌, ◌≤◌, [], ◌∷◌, length, IfOk, IfSome};
 ghost use Rattle.claim_board.specs.Board.{AreJobs};
@@ -8,15 +8,16 @@ use super::rounds::Rounds;
 use claim_board::{Job, JobStop, Work};
 use std::alloc::{AllocError, Global};
 
-/// What a job gives: a list of its own, and the text that the work borrows.
+/// The result of a job: a list of its own, and the text that the work borrows.
 #[derive(Drop)]
 pub struct Excerpt<'c> {
     pub numbers: Vec<u64>,
     pub text: &'c [u8],
 }
 
-/// Jobs at every sixteenth place, of which those from `low` up to `high` have a fault, 5 above
-/// their start. The job `starved` finds no memory. How far the jobs are is told to `rounds`.
+/// Jobs that start at 16, 32, 48 and so on. From job `low` to the last one before job `high` they
+/// have a fault, 5 above their start. Job `starved` is refused memory. `rounds` notes each job that
+/// is run.
 #[derive(Drop)]
 pub struct Excerpts<'c> {
     pub text: &'c [u8],
@@ -98,8 +99,8 @@ fn fault_by_bit(start: u64, bits: u64, i: u64) -> Option<u64>
     }
 }
 
-/// Jobs at every sixteenth place, of which those have a fault, 5 above their start, whose bit is
-/// set.
+/// Jobs that start at 16, 32, 48 and so on. Those whose bit is set have a fault, 5 above their
+/// start.
 pub fn jobs_by_bits(alloc: Global, count: u64, bits: u64) -> Result<Vec<Job>, AllocError>
     requires { count ≤ 64 }
     ensures jobs { IfOk result (λ jobs. AreJobs jobs.items) }

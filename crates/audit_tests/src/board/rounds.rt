@@ -1,4 +1,4 @@
-//! How far jobs are, as a gate and a work tell of it.
+//! How far each job is, as a gate and a work note it.
 
 use claim_board::Gate;
 use std::array;
@@ -13,7 +13,7 @@ const RUN: u64 = 2;
 
 const LEFT: u64 = 3;
 
-/// How far each of the first ten jobs is: each has to be entered, run and left once, in this order.
+/// How far each of the first ten jobs is: each must be entered, run and left once, in this order.
 #[derive(Drop)]
 pub struct Rounds {
     steps: [AtomicU64; WATCHED],
@@ -28,7 +28,7 @@ impl Rounds {
         }
     }
 
-    // The job makes this step, which has to be its next one.
+    // Notes that the job makes this step, which must be its next one.
     fn make(&self, i: u64, step: u64) {
         let Some(steps) = self.steps.get(i as usize) else {
             return;
@@ -38,12 +38,12 @@ impl Rounds {
         }
     }
 
-    /// The job is run.
+    /// Notes that the job is run.
     pub fn run(&self, i: u64) {
         self.make(i, RUN);
     }
 
-    fn stands_at(&self, i: usize, step: u64) -> bool {
+    fn is_at(&self, i: usize, step: u64) -> bool {
         match self.steps.get(i) {
             Some(steps) => steps.load(Ordering::SeqCst) == step,
             None => false,
@@ -52,15 +52,15 @@ impl Rounds {
 
     /// Whether nothing was done for the job.
     pub fn is_untouched(&self, i: usize) -> bool {
-        self.stands_at(i, 0)
+        self.is_at(i, 0)
     }
 
     /// Whether the job was entered, run and left.
     pub fn is_left(&self, i: usize) -> bool {
-        self.stands_at(i, LEFT)
+        self.is_at(i, LEFT)
     }
 
-    /// Whether no job made a step out of its order.
+    /// Whether no job made a step out of order.
     pub fn are_in_order(&self) -> bool {
         !self.out_of_order.load(Ordering::SeqCst)
     }

@@ -1,4 +1,4 @@
-//! All jobs, by workers in threads.
+//! Tests of `run_all`: all jobs, by workers in threads.
 
 use super::jobs::{Excerpt, Excerpts};
 use super::rounds::{Rounds, WATCHED};
@@ -9,7 +9,7 @@ use std::sync::atomic::{AtomicBool, Ordering};
 use std::test::Fail;
 use std::thread::Threads;
 
-/// What a run has to answer.
+/// What `run_all` must answer.
 #[derive(Clone, Copy, Debug, PartialEq, Eq)]
 enum Answer {
     All,
@@ -17,8 +17,8 @@ enum Answer {
     Memory,
 }
 
-/// The number of jobs, the first with a fault, the first behind those, the job without memory, and
-/// the answer.
+/// The number of jobs, the first with a fault, the first after those with a fault, the job that is
+/// refused memory, and the answer.
 type Row = (u32, u64, u64, Option<u64>, Answer);
 
 const ROWS: &[Row] = &[
@@ -49,7 +49,7 @@ fn excerpts_by((jobs, low, high, starved, _): Row) -> Excerpts<'static> {
     }
 }
 
-// Whether these are the results of that many jobs, in their order.
+// Whether these are the results of this many jobs, in their order.
 fn are_in_order(results: &[Excerpt<'static>], jobs: u32) -> bool {
     for (i, excerpt) in results.iter().enumerate() {
         if excerpt.text != TEXT || excerpt.numbers.as_slice() != [10 * i as u64].as_slice() {
@@ -67,7 +67,7 @@ fn is_answer(outcome: Result<Vec<Excerpt<'static>>, Stop>, row: Row) -> bool {
     }
 }
 
-// Whether the work of the row has the row's answer.
+// Whether `run_all` gives the row's answer for the row's work.
 fn has_answer<R: Threads + Sync, G: Gate + Sync>(
     rt: &R,
     alloc: Global,
@@ -117,7 +117,7 @@ fn four_jobs_meet(rt: HostRuntime) -> Result<(), Fail> {
     Ok(())
 }
 
-/// The job `last` waits until the three others have been left.
+/// A gate at which the job `last` waits until the three others have been left.
 #[derive(Drop)]
 struct RestFirst {
     last: u64,
@@ -169,8 +169,8 @@ fn rest_is_shared(rt: HostRuntime) -> Result<(), Fail> {
     Ok(())
 }
 
-/// How many of the first jobs are run for sure by so many workers: up to the first fault, or the
-/// first job without memory where there is one worker.
+/// How many of the first jobs are run in any case by this many workers: up to the first with a
+/// fault, or, by one worker, up to the one that is refused memory.
 fn surely_run((jobs, low, high, starved, _): Row, workers: u64) -> usize {
     if let (1, Some(i)) = (workers, starved) {
         return (i as usize).saturating_add(1);
@@ -181,8 +181,8 @@ fn surely_run((jobs, low, high, starved, _): Row, workers: u64) -> usize {
     jobs as usize
 }
 
-// Whether each job was run between its `enter` and its `leave`, and so many of them surely. The
-// rest was run so too or not at all, and by one worker not at all.
+// Whether each of the first `surely` jobs was run between its `enter` and its `leave`. Each other
+// job must have been run so too, or not at all; by one worker not at all.
 fn are_between(rounds: &Rounds, surely: usize, workers: u64) -> bool {
     for i in 0..WATCHED {
         let left = rounds.is_left(i);

@@ -1,4 +1,5 @@
-//! The board of one thread: worked steps, and all orders of the steps of few jobs and workers.
+//! Tests of the board of one thread: worked orders, and all orders of the steps of few jobs and
+//! workers.
 
 ghost use Rattle.std.specs.Prelude.{◌≡◌, ◌≤◌, length, IfOk, IfSome};
 ghost use Rattle.claim_board.specs.Board.{AreJobs};
@@ -16,7 +17,7 @@ fn make(board: &mut Board, worker: u64, act: Act) -> Result<(), BoardFault>
     board.step(Step { worker, act })
 }
 
-// Whether all these steps are made.
+// Makes these steps, up to the first that is refused, and says whether all are made.
 fn make_all(board: &mut Board, steps: &[(u64, Act)]) -> bool
     ensures jobs { length board.new.states ≡ length board.old.states }
     ensures workers { length board.new.stopped ≡ length board.old.stopped }
@@ -39,7 +40,7 @@ const TO_THE_END: &[(u64, Act)] = &[
     (1, Act::Claim),
 ];
 
-/// The jobs of the worked orders, the first with this fault.
+/// The jobs of the worked orders. The first one has this fault.
 fn worked_jobs(alloc: Global, fault: Option<u64>) -> Result<Vec<Job>, AllocError>
     requires { IfSome fault (λ x. x ≡ 48) }
     ensures jobs { IfOk result (λ jobs. AreJobs jobs.items) }
@@ -55,7 +56,7 @@ fn worked_jobs(alloc: Global, fault: Option<u64>) -> Result<Vec<Job>, AllocError
     Ok(jobs)
 }
 
-/// Two workers and those jobs.
+/// A board of two workers and those jobs.
 fn board_of(alloc: Global, fault: Option<u64>) -> Result<Board, Fail>
     requires { IfSome fault (λ x. x ≡ 48) }
     ensures jobs { IfOk result (λ board. length board.states ≡ 2) }
@@ -125,7 +126,7 @@ fn have_all_stopped(board: &Board, workers: u64) -> bool
     true
 }
 
-// The next step of a worker that has not stopped.
+// Makes the next step of a worker that has not stopped, and says whether it is made.
 fn advance(board: &mut Board, worker: u64) -> bool
     ensures jobs { length board.new.states ≡ length board.old.states }
     ensures workers { length board.new.stopped ≡ length board.old.stopped }
@@ -135,8 +136,9 @@ fn advance(board: &mut Board, worker: u64) -> bool
         || make(board, worker, Act::Lower).is_ok()
 }
 
-// Makes steps in the order that the digits of `code` give, the first digit first, until all
-// workers have stopped or a digit names one that has. How many codes begin with the digits used.
+// Makes steps by the digits of `code`, the first digit first: each digit names the worker that
+// makes the next step. It ends once all workers have stopped, or at a digit that names one that
+// has. Gives how many codes begin with the digits used.
 fn follow(board: &mut Board, workers: u64, code: u64, orders: u64) -> u64
     requires workers { length board.old.stopped ≡ workers }
     requires some { 1 ≤ workers }
@@ -160,7 +162,7 @@ fn follow(board: &mut Board, workers: u64, code: u64, orders: u64) -> u64
     width
 }
 
-// Whether the job ended by a worker, and is Done where no job has a fault.
+// Whether a worker has ended the job. If no job has a fault, the job must be Done.
 fn has_ended(state: JobState, workers: u64, bits: u64) -> bool {
     match state {
         JobState::Done(w) => w < workers,
@@ -181,7 +183,7 @@ fn least_by_bits(count: u64, bits: u64) -> Option<u64>
     None
 }
 
-// Whether the board is at the end that it has in every order.
+// Whether the board is at its end, which is the same in every order.
 fn is_at_end(board: &Board, count: u64, workers: u64, bits: u64) -> bool
     requires jobs { length board.now.states ≡ count }
     requires few { count ≤ 64 }
@@ -194,7 +196,7 @@ fn is_at_end(board: &Board, count: u64, workers: u64, bits: u64) -> bool
     board.least() == least_by_bits(count, bits)
 }
 
-// How many codes of at most that many digits there are.
+// How many codes of this many digits there are.
 fn codes(digits: u64, workers: u64) -> u64 {
     let mut count = 1u64;
     for _ in 0..digits {
@@ -203,8 +205,8 @@ fn codes(digits: u64, workers: u64) -> u64 {
     count
 }
 
-// Follows one code from the opening. How many codes begin as it was followed, and whether all
-// workers have stopped; `None` where they have, and the board is not at its end.
+// Follows one code from the opening. Gives how many codes begin with the digits used, and whether
+// all workers have stopped; `None` if they have and the board is not at its end.
 fn end_of(
     alloc: Global,
     count: u64,
@@ -226,7 +228,7 @@ fn end_of(
     Ok(Some((width, stopped)))
 }
 
-// In how many orders the workers' steps lead to the end; `None` where one leads elsewhere.
+// In how many orders the workers' steps lead to the end; `None` if one leads elsewhere.
 fn orders_that_end(
     alloc: Global,
     count: u64,
@@ -251,7 +253,7 @@ fn orders_that_end(
     Ok(Some(ends))
 }
 
-/// A number of jobs, and the jobs with a fault by bits.
+/// A number of jobs, and which of them have a fault: those whose bit is set.
 const CASES: &[(u64, u64)] = &[
     (0, 0),
     (1, 0),
@@ -270,8 +272,8 @@ const CASES: &[(u64, u64)] = &[
     (3, 7),
 ];
 
-/// In how many orders the steps of 1, 2 and 3 workers can fall in all cases, as another program
-/// counts them.
+/// How many orders the steps of 1, 2 and 3 workers can have, in all cases together, as another
+/// program counts them.
 const ORDERS: u64 = 86_527;
 
 #[test]

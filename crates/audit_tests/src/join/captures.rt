@@ -6,7 +6,7 @@ ghost use Rattle.audit_join.specs.declared.limits.TheConstants.{CAPTURE_LIMIT};
 use audit_join::CAPTURE_LIMIT;
 use std::process::Abort;
 
-/// Eight frames, each with its place and its sequence, and the places of what stands in it:
+/// Eight frames, each with its place, its sequence, and the places of its records:
 ///
 /// - 16, sequence 5, a write: `BC_ACQUIRE` at 48.
 /// - 56, sequence 6, a write: `BC_ENTER_LOOPER` at 88; `BC_TRANSACTION` at 92 with the flags 0x100,
@@ -58,8 +58,8 @@ const EIGHT_FRAMES: &[u8] = b"BNDRCAP1\x08\0\0\0\0\0\0\0\
     \x06\x72\0\0\
     \xf0\x72\0\0";
 
-/// The capture, which is within the limit. A proof about a constant carries all its bytes along,
-/// and one about what this gives does not.
+/// The same capture, with a clause that it is within the limit. A proof about a constant carries
+/// all its bytes along, and a proof about what this gives does not.
 pub(crate) fn within_limit<'c>(rt: &impl Abort, capture: &'c [u8]) -> &'c [u8]
     ensures { length result.now ≤ CAPTURE_LIMIT }
 {
@@ -67,7 +67,7 @@ pub(crate) fn within_limit<'c>(rt: &impl Abort, capture: &'c [u8]) -> &'c [u8]
     capture
 }
 
-/// The eight frames. Nothing else names their bytes, since each proof that does carries them along.
+/// The eight frames. No other function names their bytes, because its proof would carry them along.
 pub(crate) fn eight_frames(rt: &impl Abort) -> &'static [u8]
     ensures { length result.now ≤ CAPTURE_LIMIT }
 {

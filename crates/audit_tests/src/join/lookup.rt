@@ -1,4 +1,4 @@
-//! The frame and the record at a place of the eight frames.
+//! Tests of the frame and the record at a place, in the eight frames.
 
 ghost use Rattle.std.specs.Prelude.{All};
 ghost use Rattle.audit_findings.specs.Lookup.{HasRecordIn};
@@ -11,7 +11,8 @@ use binder_code::Kind;
 use std::process::Abort;
 use std::test::Fail;
 
-/// The sequence of the frame at a place: before the first, in and at the ends of each, and behind.
+/// The sequence of the frame at a place: before the first frame, in each frame and at its ends, and
+/// after the last.
 const FRAMES: &[(u64, Option<u64>)] = &[
     (0, None),
     (15, None),
@@ -43,8 +44,8 @@ const FRAMES: &[(u64, Option<u64>)] = &[
     (u64::MAX, None),
 ];
 
-/// The place, the kind, the process and the flags of each record with unknown flags; each owner of
-/// a bad object is among them.
+/// The place, the kind, the process and the flags of each record with unknown flags. Each record
+/// with a bad object is among them.
 const RECORDS: &[(u64, Kind, u32, u32)] = &[
     (92, Kind::BcTransaction, 100, 0x100),
     (272, Kind::BrTransaction, 200, 0x8000_0010),
@@ -71,7 +72,7 @@ fn expect_record(rt: &impl Abort, found: &Findings<'_>, place: u64)
     assert!(rt; event.entry.is_none());
 }
 
-/// So are those at these places.
+/// The records at these places are ones of `RECORDS`.
 fn expect_records(rt: &impl Abort, found: &Findings<'_>, places: &[u64])
     requires { All (HasRecordIn found.now.frames) places.now }
 {
@@ -80,19 +81,19 @@ fn expect_records(rt: &impl Abort, found: &Findings<'_>, places: &[u64])
     }
 }
 
-/// The records with unknown flags are.
+/// The records with unknown flags are ones of `RECORDS`.
 fn expect_flagged(rt: &impl Abort, found: &Findings<'_>) {
     expect_records(rt, found, found.sections().events.flags.as_slice());
 }
 
-/// The frames have those sequences.
+/// The frames at the places of `FRAMES` have the sequences there.
 fn expect_frames(rt: &impl Abort, found: &Findings<'_>) {
     for (place, sequence) in FRAMES {
         expect_frame(rt, found, *place, *sequence);
     }
 }
 
-/// The findings are those of the eight frames, and find those.
+/// The findings are those of the eight frames, and find these frames and records by their places.
 #[derive(Clone, Copy)]
 struct Found<'r, R> {
     rt: &'r R,

@@ -1,4 +1,5 @@
-//! That the answer is the same for every number of workers and every piece, and that workers share.
+//! Tests that the answer is the same for several numbers of workers and pieces, and that workers
+//! share the frames.
 
 ghost use Rattle.std.specs.Prelude.{◌≤◌, length};
 ghost use Rattle.audit_join.specs.declared.limits.TheConstants.{CAPTURE_LIMIT};
@@ -20,7 +21,7 @@ const WORKERS: &[u64] = &[1, 3, 64];
 
 const PIECES: &[u64] = &[1, 3, 20];
 
-// So many workers, and so large a piece.
+// This many workers, and a piece of this many frames.
 fn shares(workers: u64, piece: u64) -> Result<(Workers, Piece), &'static str> {
     let workers = Workers::new(workers).ok_or("workers")?;
     let piece = Piece::new(piece).ok_or("piece")?;
@@ -40,7 +41,7 @@ impl<'r, R: Abort> Expected for OfEight<'r, R> {
     }
 }
 
-// They are, however the frames are shared.
+// They are, with these workers and this piece.
 fn expect_eight<T: Threads + Sync + Abort>(
     rt: &T,
     alloc: Global,
@@ -55,7 +56,7 @@ fn expect_eight<T: Threads + Sync + Abort>(
     Ok(())
 }
 
-/// Every piece up to their number, by one, two and seven workers.
+/// The same with every piece from 1 to 8 frames, by 1, 2 and 7 workers.
 fn expect_pieces<T: Threads + Sync + Abort>(
     rt: &T,
     alloc: Global,
@@ -78,12 +79,13 @@ fn pieces_change_nothing(rt: HostRuntime) -> Result<(), Fail> {
 
 const HEADER: &[u8] = b"BNDRCAP1\x08\0\0\0\0\0\0\0";
 
-/// A frame header behind its sequence: a write of process 1 and thread 1, of four command bytes.
+/// A frame header after the first byte of its sequence: a write of process 1 and thread 1, of four
+/// command bytes.
 const WRITE: &[u8] = b"\0\0\0\0\0\0\0\x01\0\0\0\x01\0\0\0\x01\0\0\0\x04\0\0\0\0\0\0\0\0\0\0\0";
 
 const BC_ENTER_LOOPER: &[u8] = b"\x0c\x63\0\0";
 
-/// A fault in a write.
+/// A return, which is a fault in a write.
 const BR_NOOP: &[u8] = b"\x0c\x72\0\0";
 
 fn push_write(capture: &mut Vec<u8>, sequence: u8, record: &[u8]) -> Result<(), AllocError> {
@@ -104,7 +106,7 @@ fn twenty_frames(alloc: Global, first: u8, second: u8) -> Result<Vec<u8>, AllocE
     Ok(capture)
 }
 
-// By this many workers and this piece the first fault of the capture is this.
+// With these workers and this piece, this is the first fault of the capture.
 fn expect_fault_by<T: Threads + Sync + Abort>(
     rt: &T,
     alloc: Global,
@@ -119,7 +121,7 @@ fn expect_fault_by<T: Threads + Sync + Abort>(
     assert_eq!(rt; error, Some(AuditError::Malformed(fault)));
 }
 
-// By any workers and pieces it is.
+// It is, with each of `WORKERS` and each of `PIECES`.
 fn expect_fault<T: Threads + Sync + Abort>(
     rt: &T,
     alloc: Global,
@@ -138,7 +140,7 @@ fn expect_fault<T: Threads + Sync + Abort>(
     Ok(())
 }
 
-/// A fault in this frame, and in another one, which may be the same.
+/// Two frames, which may be the same, have a fault: that of the first one is named.
 fn expect_least<T: Threads + Sync + Abort>(
     rt: &T,
     alloc: Global,
@@ -177,7 +179,7 @@ fn broken_in_the_middle(alloc: Global, first: &[u8], third: &[u8]) -> Result<Vec
     Ok(capture)
 }
 
-/// A fault of a frame's header beside one of a record behind it, and before it.
+/// A fault of a frame's header, with a fault of a record after it, and with one before it.
 #[test]
 fn header_and_record(rt: HostRuntime) -> Result<(), Fail> {
     let alloc = rt.alloc();
@@ -190,7 +192,7 @@ fn header_and_record(rt: HostRuntime) -> Result<(), Fail> {
     Ok(())
 }
 
-/// The findings are those of so many frames, of a record each.
+/// The findings are those of this many frames with one record each.
 #[derive(Clone, Copy)]
 struct OfFrames<'r, R> {
     rt: &'r R,
@@ -204,7 +206,7 @@ impl<'r, R: Abort> Expected for OfFrames<'r, R> {
     }
 }
 
-// 64 workers find so many frames, of a record each.
+// 64 workers find this many frames with one record each.
 fn expect_frames<T: Threads + Sync + Abort>(
     rt: &T,
     alloc: Global,
@@ -219,7 +221,7 @@ fn expect_frames<T: Threads + Sync + Abort>(
     Ok(())
 }
 
-/// A capture without a frame, and one frame.
+/// A capture without a frame, and one with one frame.
 #[test]
 fn more_workers_than_pieces(rt: HostRuntime) -> Result<(), Fail> {
     let mut capture = Vec::new(rt.alloc());
@@ -230,7 +232,7 @@ fn more_workers_than_pieces(rt: HostRuntime) -> Result<(), Fail> {
     Ok(())
 }
 
-/// The findings have one row of handles: of this one, with its strong references.
+/// The findings have one row of `handles`: of this handle, with these strong references.
 #[derive(Clone, Copy)]
 struct HasHandle<'r, R> {
     rt: &'r R,
@@ -247,14 +249,14 @@ impl<'r, R: Abort> Expected for HasHandle<'r, R> {
     }
 }
 
-/// Two pieces are under way at one time.
+/// Two pieces are under way at the same time.
 #[test]
 fn two_pieces_meet(rt: HostRuntime) -> Result<(), Fail> {
     let gate = Meeting::<2>::new();
     let (workers, piece) = shares(2, 1)?;
     let capture = within_limit(&rt, RELEASE_FIRST);
     let found = audit(&rt, rt.alloc(), capture, workers, piece, &gate)?;
-    // The handle is let go before it is taken.
+    // The handle is released before it is acquired.
     let strong = Count { sum: 0, low: -1 };
     let due = HasHandle {
         rt: &rt,

@@ -1,5 +1,5 @@
-//! What an answer comes to where a device fails, read by read, write by write and at the flush: a
-//! failed call is the last one, and before it the text was written byte for byte.
+//! Tests of `answer` with a device that fails: at each read, at each write, and at the flush. The
+//! failed call is the last one, and up to it the text was written byte for byte.
 
 ghost use Rattle.std.specs.Prelude.{◌≡◌, IfOk, vec_len};
 
@@ -42,13 +42,14 @@ flags 0\n";
 
 const LINE: &[u8] = b"no malformed record\n";
 
-/// Reads that tell the capture whole: one a byte, and the one that tells its end.
+/// How many reads give the whole capture: one a byte, and the one that finds its end.
 const READS: u64 = 225;
 
-/// What was answered; and how many reads, writes, bytes of the text and flushes there were.
+/// What was answered; and how many reads, writes, bytes of the text that were taken, and flushes
+/// there were.
 type Seen = (Result<u8, RunError>, [u64; 4]);
 
-/// The reader of a capture that is a single part.
+/// The list of readers of a capture that is a single part.
 fn alone<R: Read + Drop>(alloc: Global, reader: R) -> Result<Vec<R>, AllocError>
     ensures { IfOk result (λ readers. vec_len readers ≡ 1) }
 {
@@ -86,7 +87,7 @@ fn report() -> Option<Question> {
 
 const FIRST_FAULT: Question = Question::FirstFault;
 
-/// Nothing is written, and that read is the last one.
+/// If this read fails, it is the last one, and nothing is written.
 fn fail_read<T: Threads + Abort + Sync>(rt: &T, alloc: Global, question: Question, at: u64) {
     for kind in [ErrorKind::Other, ErrorKind::Interrupted] {
         let reader = Drip::failing(CAPTURE, at, kind);
@@ -105,7 +106,8 @@ fn each_read_fails(rt: HostRuntime) -> Result<(), Fail> {
     Ok(())
 }
 
-/// The bytes before stand written, that write is the last one, and nothing is flushed.
+/// If this write fails, it is the last one, the bytes before it are written, and nothing is
+/// flushed.
 fn fail_write<T: Threads + Abort + Sync>(
     rt: &T,
     alloc: Global,
@@ -125,7 +127,7 @@ fn fail_write<T: Threads + Abort + Sync>(
     }
 }
 
-/// Each write of the text fails, then its flush, then nothing.
+/// Each write of the text fails in turn, then its flush, then nothing.
 fn fail_writes<T: Threads + Abort + Sync>(rt: &T, alloc: Global, question: Question, text: &[u8]) {
     let length = text.len() as u64;
     for at in 1..=length {

@@ -1,4 +1,4 @@
-//! That a run hands on its workers, its piece and its gate.
+//! Tests that `run_gated` hands on its workers, its piece and its gate.
 
 use crate::meeting::{FOUR_WRITES, Meeting, RELEASE_FIRST};
 use audit_run::{Gate, Piece, RunError, Workers, Written, run_gated};
@@ -6,7 +6,7 @@ use std::alloc::Global;
 use std::test::Fail;
 use std::thread::Threads;
 
-/// Whether the text begins so, by pieces of one frame.
+/// Whether the capture has a report that begins so, in pieces of one frame.
 fn is_report<T: Threads + Sync, G: Gate + Sync>(
     rt: &T,
     alloc: Global,

@@ -1,6 +1,6 @@
-//! Want of memory: once a capture is read, naming its first fault takes none. The test builds what
-//! it needs without growth, so it stands under `rt try --test --fail-alloc 1`, which refuses the
-//! first.
+//! Tests that naming the first fault of a capture that is read takes no memory. The test builds
+//! what it needs without growth, so it also passes under `rt try --test --fail-alloc 1`, which
+//! refuses the first growth.
 
 use audit_run::write_first_fault;
 use std::test::Fail;

@@ -1,5 +1,5 @@
-//! A capture that several readers give in parts: how often is read, what 256 parts come to, and that
-//! workers share parts.
+//! Tests on captures in parts: how many reads there are, that 256 parts are one capture, and that
+//! workers share the frames of all parts.
 
 use super::devices::{CAPTURE, REPORT};
 use super::gate::OF_TWO;
@@ -20,7 +20,8 @@ use std::thread::Threads;
 
 // ---- readers
 
-/// Gives its bytes, one a read. The reads of all parts are counted together, and one may fail.
+/// A reader that gives its bytes, one a read. The reads of all parts are counted together, and one
+/// of them can fail.
 #[derive(Drop)]
 struct Part<'a, 'r> {
     rest: &'a [u8],
@@ -69,7 +70,7 @@ fn readers_of<'a, 'r>(
     Ok(readers)
 }
 
-/// How many reads tell parts whole: one a byte, and for each part the one that tells its end.
+/// How many reads give these parts whole: one a byte, and for each part the one that finds its end.
 fn reads_of(parts: &[&[u8]]) -> u64 {
     let mut reads = parts.len() as u64;
     for part in parts {
@@ -133,7 +134,7 @@ fn expect_by<T: Threads + Sync + Abort>(
     expect_whole(rt, parts, reads.load(Ordering::SeqCst), &sink, due.1);
 }
 
-/// The same where the first fault alone is asked for.
+/// The same for `run_first_fault_parts`.
 fn expect_first_fault<T: Abort>(
     rt: &T,
     alloc: Global,
@@ -149,7 +150,8 @@ fn expect_first_fault<T: Abort>(
     expect_whole(rt, parts, reads.load(Ordering::SeqCst), &sink, line);
 }
 
-/// It has the line of the other answer, but for that of no fault.
+/// For the first fault, the line of a fault is the same, and in place of a report there is the line
+/// that says that there is none.
 fn expect_line_alone<T: Abort>(rt: &T, alloc: Global, parts: &[&[u8]], due: Due<'_>) {
     match due.0 {
         PartsWritten::Report => {
@@ -167,7 +169,8 @@ fn shares(workers: u64, piece: u64) -> Result<(Workers, Piece), &'static str> {
     Ok((workers, piece))
 }
 
-/// So it is by these workers and pieces, and where the first fault alone is asked for.
+/// Compares what is written with what is due: by 1, 2 and 7 workers in pieces of 1 and 256 frames,
+/// and for the first fault alone.
 fn expect_parts<T: Threads + Sync + Abort>(
     rt: &T,
     alloc: Global,
@@ -187,13 +190,13 @@ fn expect_parts<T: Threads + Sync + Abort>(
 
 const HEADER: &[u8] = b"BNDRCAP1\x08\0\0\0\0\0\0\0";
 
-/// A fault in a record of the first frame.
+/// A part with a fault in a record of the first frame.
 const RECORD_FAULT: &[u8] = b"BNDRCAP1\x08\0\0\0\0\0\0\0\
     \x01\0\0\0\0\0\0\0\x01\0\0\0\x01\0\0\0\
     \x01\0\0\0\x08\0\0\0\0\0\0\0\0\0\0\0\
     \x05\x63\x04\xc0\x05\0\0\0";
 
-/// As many parts as the program takes, this one behind the others, which have no frame.
+/// As many parts as the program takes. This is the last one, and the others have no frame.
 fn many_parts<'a>(alloc: Global, last: &'a [u8]) -> Result<Vec<&'a [u8]>, AllocError> {
     let mut parts = Vec::new(alloc);
     for _ in 0..255 {
@@ -225,18 +228,18 @@ fn many_parts_are_one_capture(rt: HostRuntime) -> Result<(), Fail> {
 
 // ---- reading
 
-/// The parts, which read fails, and the limit; then the error, or none where all are read, and by
-/// how many reads.
+/// The parts, which read fails, and the limit; then the error, or none if all are read, and how
+/// many reads there are.
 type Reading = (&'static [&'static [u8]], u64, usize, Option<RunError>, u64);
 
 const READINGS: &[Reading] = &[
-    // Just the limit, with a part of no bytes and without.
+    // Exactly the limit, with and without empty parts.
     (&[b"hello", b"more"], 0, 9, None, 11),
     (&[b"hello", b"", b"more"], 0, 9, None, 12),
     (&[b"", b"hello", b""], 0, 5, None, 8),
     (&[b"", b""], 0, 0, None, 2),
     (&[], 0, 0, None, 0),
-    // One more: the part is read no further, and none behind it is.
+    // One byte more: the part is read no further, and no later part is read.
     (&[b"hello", b"more"], 0, 8, Some(RunError::TooLarge), 10),
     (
         &[b"hello", b"more", b"x"],
@@ -254,12 +257,12 @@ const READINGS: &[Reading] = &[
     ),
     (&[b"hello", b"", b"x"], 0, 5, Some(RunError::TooLarge), 8),
     (&[b"hello", b""], 0, 4, Some(RunError::TooLarge), 5),
-    // A read can fail anywhere, and none comes behind it.
+    // Any read can fail, and is then the last one.
     (&[b"hello", b"more"], 1, 9, Some(RunError::Read), 1),
     (&[b"hello", b"more"], 6, 9, Some(RunError::Read), 6),
     (&[b"hello", b"more"], 7, 9, Some(RunError::Read), 7),
     (&[b"hello", b"more"], 11, 9, Some(RunError::Read), 11),
-    // What happens first is answered.
+    // The error that happens first is the answer.
     (&[b"hello", b"more"], 10, 8, Some(RunError::Read), 10),
     (&[b"hello", b"more"], 11, 8, Some(RunError::TooLarge), 10),
 ];
@@ -271,7 +274,7 @@ fn expect_same<T: Abort>(rt: &T, read: &[Vec<u8>], parts: &[&[u8]]) {
     }
 }
 
-/// Holds what is read of readers that give a byte a read against the row.
+/// Reads readers that give one byte a read, and compares with the row.
 fn expect_reading<T: Abort>(rt: &T, alloc: Global, row: &Reading) -> Result<(), AllocError> {
     let (parts, fails_at, limit, error, count) = *row;
     let reads = AtomicU64::new(0);
@@ -297,10 +300,10 @@ fn reads_parts_in_order(rt: HostRuntime) -> Result<(), Fail> {
 
 const CALL_AND_REPLY: &[&[u8]] = &[HEADER, CAPTURE];
 
-/// How many reads tell these whole.
+/// How many reads give these whole.
 const READS: u64 = 242;
 
-/// Nothing is written, and that read is the last one.
+/// That read is the last one, and nothing is written.
 fn expect_unwritten<T: Abort>(rt: &T, reads: u64, sink: &Sink<'_>, at: u64) {
     let seen = [reads, sink.writes, sink.taken as u64, sink.flushes];
     assert_eq!(rt; seen, [at, 0, 0, 0]);
@@ -337,7 +340,7 @@ fn each_read_of_parts_fails(rt: HostRuntime) -> Result<(), Fail> {
 
 // ---- the gate
 
-/// A part of these frames.
+/// A part with this file header and these frames.
 fn part_of(alloc: Global, header: &[u8], frames: &[u8]) -> Result<Vec<u8>, AllocError> {
     let mut part = Vec::new(alloc);
     part.extend_from_slice(header)?;
@@ -345,7 +348,7 @@ fn part_of(alloc: Global, header: &[u8], frames: &[u8]) -> Result<Vec<u8>, Alloc
     Ok(part)
 }
 
-/// Two workers are under way at one time, each with a frame of these parts.
+/// Two workers are at work at the same time, each with a frame of these parts.
 fn expect_meeting<T: Threads + Sync + Abort>(
     rt: &T,
     alloc: Global,
@@ -369,7 +372,7 @@ fn two_pieces_of_one_part_meet(rt: HostRuntime) -> Result<(), Fail> {
     Ok(())
 }
 
-/// The same, where each frame is in a part of its own.
+/// The same if the capture is cut at this place, so that each frame is in a part of its own.
 fn expect_parts_meet<T: Threads + Sync + Abort>(
     rt: &T,
     alloc: Global,

@@ -1,4 +1,4 @@
-//! How many bytes a run asks its reader for at a time.
+//! Tests how many bytes `run` asks its reader for at a time.
 
 use audit_run::{Piece, RunError, Workers, Written, run};
 use std::alloc::{AllocError, Global};
@@ -7,7 +7,7 @@ use std::io::Read;
 use std::test::Fail;
 use std::thread::Threads;
 
-/// Gives as many bytes as it is asked for, as long as it has them.
+/// A reader that gives as many bytes as it is asked for, as long as it has them.
 #[derive(Drop)]
 struct Giver<'a> {
     rest: &'a [u8],
@@ -40,7 +40,7 @@ fn long_capture(alloc: Global) -> Result<Vec<u8>, AllocError> {
     Ok(capture)
 }
 
-/// What is written on what the reader has.
+/// What `run` answers about the reader's bytes.
 fn written<T: Threads + Sync>(
     rt: &T,
     alloc: Global,

@@ -53,7 +53,7 @@ fn oneway(code: u32) -> Layout {
     }
 }
 
-/// As `linux/android/binder.h` lays it out.
+/// The layout in `linux/android/binder.h`.
 fn layout_of(record: Record) -> Layout {
     match record {
         Record::Call => plain(0x4040_6300, 64),
@@ -75,7 +75,7 @@ fn layout_of(record: Record) -> Layout {
     }
 }
 
-/// The number of a frame's direction that has this record.
+/// The direction of a frame that has this record, as a number.
 fn direction(record: Record) -> u32 {
     match record {
         Record::Call | Record::CallSg | Record::Oneway | Record::SentReply | Record::SentReplySg =>

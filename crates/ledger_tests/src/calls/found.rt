@@ -4,8 +4,8 @@ use call_stacks::{CallFindings, Opener, RefusedSend, Verdict};
 use event_core::Event;
 use std::process::Abort;
 
-/// The calls of a thread: the indices of its openers with their verdicts and closers, of its
-/// strays, and of its refused sends, with whether they were oneway ones.
+/// What is expected of a thread: the indices of its openers, with their verdicts and closers, of
+/// its strays, and of its refused sends, with whether each send was a oneway one.
 #[derive(Clone, Copy)]
 pub(crate) struct Found<'a> {
     pub(crate) openers: &'a [(usize, Verdict, Option<usize>)],

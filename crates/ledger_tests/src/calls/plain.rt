@@ -55,9 +55,9 @@ fn is_match(stretch: &[Bracket]) -> bool {
 
 /// The index of the closer that matches the opener at an index.
 fn closer_of(brackets: &[Bracket], opener: usize) -> Option<usize> {
-    let (_, behind) = brackets.split_at(opener.min(brackets.len()));
-    for closer in 0..behind.len() {
-        let (stretch, _) = behind.split_at(closer + 1);
+    let (_, after) = brackets.split_at(opener.min(brackets.len()));
+    for closer in 0..after.len() {
+        let (stretch, _) = after.split_at(closer + 1);
         if is_match(stretch) {
             return opener.checked_add(closer);
         }
@@ -90,7 +90,7 @@ pub(crate) struct PlainCalls {
 }
 
 impl PlainCalls {
-    /// The same, lent.
+    /// The same, borrowed.
     pub(crate) fn found(&self) -> Found<'_> {
         Found {
             openers: &self.openers,
@@ -117,14 +117,14 @@ impl PlainCalls {
             self.strays.push(index)?;
         }
         if bracket == Bracket::Refused {
-            self.refused.push((index, is_behind_oneway(events, index)))?;
+            self.refused.push((index, is_after_oneway(events, index)))?;
         }
         Ok(())
     }
 }
 
 /// Whether the latest mark before an index is a oneway transaction.
-fn is_behind_oneway(events: &[Event<'_>], index: usize) -> bool {
+fn is_after_oneway(events: &[Event<'_>], index: usize) -> bool {
     let (before, _) = events.split_at(index.min(events.len()));
     before.iter().rev().find_map(|event| mark(*event)) == Some(Mark::Oneway)
 }

@@ -97,7 +97,7 @@ const HELD_ROWS: &[HeldRow] = &[
     held_row!(row!(4294967295, 0, 0, 1, 0), 0, 0),
 ];
 
-/// The items have these rows, also beside what is held.
+/// The items have these rows, without and with what is held.
 #[test]
 fn rows_of_a_dozen_items(rt: HostRuntime) -> Result<(), Fail> {
     let ledger: HandleLedger = summary_of(rt.alloc(), ITEMS)?;

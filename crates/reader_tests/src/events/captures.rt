@@ -1,5 +1,5 @@
-//! Captures for tests, byte by byte, as `linux/android/binder.h` lays records out: a capture
-//! header, a frame header of thread 3 of process 2, and a record on each line or its lines.
+//! Captures for tests, byte by byte, in the layout of `linux/android/binder.h`: a file header, a
+//! frame header of thread 3 of process 2, and records, each on a line or lines of its own.
 
 /// A write of every command and of an opaque record; transactions and replies without TF_ONE_WAY
 /// and with it.
@@ -89,10 +89,10 @@ pub(crate) const RETURNS: &[u8] = b"BNDRCAP1\x08\0\0\0\0\0\0\0\
     \x14\x72\x00\x00\
     \x15\x72\x00\x00";
 
-/// The device of the next one.
+/// The device of the frame of `WITH_ATTACHMENTS`.
 pub(crate) const DEVICE: u32 = 0xfffe_fdfc;
 
-/// Of version 2: a write of seven records, of which the second and the fourth have attachments.
+/// A write of seven records, in version 2; the second and the fourth record have attachments.
 pub(crate) const WITH_ATTACHMENTS: &[u8] = b"BNDRCAP2\x08\0\0\0\0\0\0\0\
     \x01\0\0\0\0\0\0\0\x02\0\0\0\x03\0\0\0\
     \x01\0\0\0\x30\x01\0\0\x29\0\0\0\xfc\xfd\xfe\xff\

@@ -9,10 +9,10 @@ use event_core::{
 /// The first four bytes of most payloads.
 pub(super) const HANDLE: u32 = 0xa3a2_a1a0;
 
-/// The first eight bytes of those of two numbers.
+/// The first eight bytes of payloads of two numbers.
 const PTR: u64 = 0xa7a6_a5a4_a3a2_a1a0;
 
-/// The last number of those payloads, and the buffer of transactions and replies.
+/// The last number of those payloads, and the `buffer` of transactions and replies.
 pub(super) const COOKIE: u64 = 0xb7b6_b5b4_b3b2_b1b0;
 
 pub(super) const NODE: NodeKey = NodeKey {
@@ -49,7 +49,7 @@ pub(super) struct Row {
     pub(super) oneway: Option<OnewayKey>,
     pub(super) mark: Option<Mark>,
     pub(super) bracket: Bracket,
-    /// The bracket behind a send that can be refused.
+    /// The bracket after a send that can be refused.
     pub(super) after_send: Bracket,
 }
 
@@ -68,7 +68,7 @@ const NOTHING: Row = Row {
     after_send: Bracket::Neither,
 };
 
-/// What each of these commands is.
+/// What is expected of each record of `COMMANDS`.
 pub(super) const COMMAND_ROWS: &[Row] = &[
     Row {
         place: 48,
@@ -217,7 +217,7 @@ pub(super) const COMMAND_ROWS: &[Row] = &[
     },
 ];
 
-/// What each of these returns is.
+/// What is expected of each record of `RETURNS`.
 pub(super) const RETURN_ROWS: &[Row] = &[
     Row {
         place: 48,

@@ -4,7 +4,7 @@ use Rattle.event_core.specs.Events.{events_of_wholes}
 use Rattle.handle_ledger.specs.Held.{Held, held_rows}
 use Rattle.process_ledgers.specs.Items.{handle_item_of}
 use Rattle.process_ledgers.specs.Processes.{items_of_process}
-use Rattle.audit_findings.specs.Buffers.{is_unfreed}
+use Rattle.audit_findings.specs.Buffers.{is_leaked}
 use Rattle.audit_findings.specs.Entries.{AreChosen, list_bytes}
 use Rattle.audit_findings.specs.Held.{is_among, unweighed}
 use Rattle.audit_findings.specs.HeldCounts.{CountsEntries}
@@ -20,8 +20,8 @@ returns c =
     (λ rows gives wholes outcomes process show are of unfreed.
     let events = events_of_wholes wholes in
     let few = few_frames c.args.frames.now wholes c.requires show in
-    let choice = is_among (listed_in is_unfreed process events) in
-    let chosen = subst (AreChosen choice events []) (sym unfreed) (listed_chosen is_unfreed process events few.1.0.1) in
+    let choice = is_among (listed_in is_leaked process events) in
+    let chosen = subst (AreChosen choice events []) (sym unfreed) (listed_chosen is_leaked process events few.1.0.1) in
     let entries = c.in_ok-entries.entries.items in
     let shown = c.in_ok-entries.ensures.entries wholes choice show chosen in
     let counts = subst (λ es. CountsEntries es c.in_ok-held.held) c.as_slice.ensures.value c.in_ok-held.ensures in

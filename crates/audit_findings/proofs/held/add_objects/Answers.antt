@@ -1,15 +1,15 @@
 use Rattle.std.proofs.Common.{[], ◌∷◌, ◌++◌, length, Some, None, sym, subst, ◌∙◌, arith}
 use Rattle.std.specs.List.{filter_map}
-use Rattle.audit_findings.specs.Held.{held_in, unweighed}
+use Rattle.audit_findings.specs.Held.{reference_of, unweighed}
 use Rattle.audit_findings.specs.HeldCounts.{CountsMore}
 use Rattle.audit_findings.proofs.HeldLaws.{counts_last, counts_none, gives_no_last, room_for_last}
-use Rattle.audit_findings.proofs.ObjectWalk.{given, objects_bad, objects_end, room_for_one, stands_at_start, stands_behind_next}
+use Rattle.audit_findings.proofs.ObjectWalk.{given, objects_bad, objects_end, room_for_one, is_at_start, has_given_next}
 use Rattle.audit_findings.proofs.held.add_objects.Goals as goal
 
 pub loop-next-init : goal.loop-next-init
 loop-next-init c = (
   [],
-  stands_at_start c.args.entry.body.now c.args.entry.offsets.now c.of-objects.result c.of-objects.ensures,
+  is_at_start c.args.entry.body.now c.args.entry.offsets.now c.of-objects.result c.of-objects.ensures,
   counts_none c.args.held.now (length c.args.entry.offsets.now),
 )
 
@@ -19,7 +19,7 @@ add-requires c =
     let steps = rw (c.in-Some.is, c.in-Ok.is) at c.next_object.ensures in
     let room = room_for_one c.args.entry.body.now c.args.entry.offsets.now c.loop-next.objects i.0 i.1 c.in-Ok.object c.next_object.new.self steps in
     let held = c.requires.0 in (
-      unweighed (held ++ filter_map held_in i.0),
+      unweighed (held ++ filter_map reference_of i.0),
       i.2 held c.requires.1 c.requires.2,
       room_for_last held i.0 c.in-Some-held_step.reference (length c.args.entry.offsets.now) c.requires.2 (omega (arith, room)),
     )
@@ -34,9 +34,9 @@ loop-next-preserved-in-Continue-1 c =
     let reference = c.in-Some-held_step.reference in
     let o = given list i.0 c.in-Ok.object in (
       i.0 ++ o ∷ [],
-      stands_behind_next body list c.loop-next.objects i.0 i.1 c.in-Ok.object c.next_object.new.self steps,
+      has_given_next body list c.loop-next.objects i.0 i.1 c.in-Ok.object c.next_object.new.self steps,
       λ held counts fits.
-          let before = held ++ filter_map held_in i.0 in
+          let before = held ++ filter_map reference_of i.0 in
           counts_last held i.0 o reference c.add.new.self (sym c.held_step.ensures ∙ c.in-Some-held_step.is)
           (c.in_ok-add-in-Ok.ensures (unweighed before) (i.2 held counts fits) (room_for_last held i.0 reference (length list) fits (omega (arith, room)))),
     )
@@ -48,7 +48,7 @@ loop-next-preserved c =
     let i = c.loop-next.invariant in
     let o = given list i.0 c.in-Ok.object in (
       i.0 ++ o ∷ [],
-      stands_behind_next body list c.loop-next.objects i.0 i.1 c.in-Ok.object c.next_object.new.self
+      has_given_next body list c.loop-next.objects i.0 i.1 c.in-Ok.object c.next_object.new.self
           (rw (c.in-Some.is, c.in-Ok.is) at c.next_object.ensures),
       subst (λ more. CountsMore c.args.held.now (length list) more c.loop-next.held)
           (sym (gives_no_last i.0 o (sym c.held_step.ensures ∙ c.in_default-held_step.is))) i.2,

@@ -1,16 +1,16 @@
 use Rattle.std.proofs.Common.{List, length}
 use Rattle.std.specs.List.{filter_map}
 use Rattle.object_view.specs.Objects.{ObjectText}
-use Rattle.audit_findings.specs.Held.{held_in}
+use Rattle.audit_findings.specs.Held.{reference_of}
 use Rattle.audit_findings.specs.HeldCounts.{CountsMore}
 use Rattle.audit_findings.proofs.ObjectWalk.{HasGiven, left_of}
 use Rattle.audit_findings.proofs.held.add_objects.Given as goal
 
--- the reader stands behind these objects, and their references are counted besides
+-- the reader has given these objects, and their references are counted too
 abbrev pub invariant-loop-next : goal.invariant-loop-next
 invariant-loop-next l =
     (done : List ObjectText) × HasGiven l.fn.entry.body.now l.fn.entry.offsets.now l.objects done
-    × CountsMore l.initial.held (length l.fn.entry.offsets.now) (filter_map held_in done) l.held
+    × CountsMore l.initial.held (length l.fn.entry.offsets.now) (filter_map reference_of done) l.held
 
 abbrev pub decreases-loop-next : goal.decreases-loop-next
 decreases-loop-next l = left_of l.objects

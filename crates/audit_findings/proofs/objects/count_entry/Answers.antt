@@ -1,5 +1,5 @@
 use Rattle.std.proofs.Common.{[], ◌∷◌, ◌++◌, arith}
-use Rattle.audit_findings.proofs.ObjectWalk.{given, room_for_one, stands_behind_next, left_falls, objects_end, objects_bad, times_of-append, times_of-one, times_of-short}
+use Rattle.audit_findings.proofs.ObjectWalk.{given, room_for_one, has_given_next, left_falls, objects_end, objects_bad, times_of-append, times_of-one, times_of-short}
 use Rattle.audit_findings.proofs.objects.count_entry.Goals as goal
 
 pub add-requires : goal.add-requires
@@ -23,7 +23,7 @@ loop-next-preserved c =
     let done = c.loop-next.invariant.0 in
     let o = given list done c.in-Ok.object in (
       done ++ o ∷ [],
-      stands_behind_next body list c.loop-next.objects done c.loop-next.invariant.1 c.in-Ok.object c.next_object.new.self
+      has_given_next body list c.loop-next.objects done c.loop-next.invariant.1 c.in-Ok.object c.next_object.new.self
           (rw (c.in-Some.is, c.in-Ok.is) at c.next_object.ensures),
       λ sort.
           let counted = c.loop-next.invariant.2 sort in

@@ -5,7 +5,7 @@ use Rattle.audit_findings.specs.Objects.{count_of, times_of}
 use Rattle.audit_findings.proofs.ObjectWalk.{HasGiven, left_of}
 use Rattle.audit_findings.proofs.objects.count_entry.Given as goal
 
--- the reader stands behind these objects, and they are counted besides
+-- the reader has given these objects, and they are counted too
 abbrev pub invariant-loop-next : goal.invariant-loop-next
 invariant-loop-next l =
     (done : List ObjectText) × HasGiven l.fn.entry.body.now l.fn.entry.offsets.now l.objects done

@@ -6,7 +6,7 @@ use Rattle.process_ledgers.specs.EachProcess.{AreLedgersOf}
 use Rattle.summary_law.specs.declared.nothing.Nothing.{Nothing}
 use Rattle.audit_findings.specs.Places.{places_in}
 use Rattle.audit_findings.proofs.HandleRows.{lists_of}
-use Rattle.audit_findings.proofs.TurnLaws.{Listing, OwnList, all_listed, listing_goes_on, listing_long, listing_starts}
+use Rattle.audit_findings.proofs.TurnLaws.{Listing, all_listed, listing_goes_on, listing_long, listing_starts}
 use Rattle.audit_findings.proofs.places.lists_of.Goals as goal
 
 pub loop-process-init : goal.loop-process-init

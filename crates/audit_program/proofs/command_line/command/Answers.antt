@@ -4,7 +4,7 @@ use Rattle.clap.specs.Words.{App, app_of, with_rule, with_subcommand}
 use Rattle.audit_program.specs.CommandLine.{first_fault_app, report_app}
 use Rattle.audit_program.proofs.command_line.command.Goals as goal
 
--- each step adds what its clause says
+-- each call adds what its clause says
 pub returns : goal.returns
 returns c =
     let report_is : app_of c.in_ok-report.report ≡ report_app = c.in_ok-report.ensures.shape c.files.ensures.local

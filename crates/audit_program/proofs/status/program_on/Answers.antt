@@ -6,7 +6,7 @@ use Rattle.audit_streams.specs.declared.failure.Failure.TheVariants.{Run}
 use Rattle.audit_program.specs.Program.{failed}
 use Rattle.audit_program.proofs.status.program_on.Goals as goal
 
--- the list has the words that were left
+-- the list has all the words
 pub returns-in-Ok : goal.returns-in-Ok
 returns-in-Ok g c =
     let same : c.as_slice.result.now ≡ into_iter_items c.args.words = c.as_slice.ensures.value ∙ c.in-Ok.ensures in

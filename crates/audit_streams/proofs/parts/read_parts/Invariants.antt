@@ -3,7 +3,7 @@ use Rattle.std.specs.List.{AllZip}
 use Rattle.audit_streams.specs.Parts.{bytes_of, IsAllOf}
 use Rattle.audit_streams.proofs.parts.read_parts.Given as goal
 
--- a part for each reader so far, and the limit less their bytes is left
+-- there is a part for each reader so far, and what is left is the limit less their bytes
 abbrev pub invariant-loop-reader : goal.invariant-loop-reader
 invariant-loop-reader g l =
     (goal.iterator-loop-reader g).can_next l.reader-iterator ×

@@ -2,7 +2,7 @@ use Rattle.std.proofs.Common.{◌≤◌, vec_len}
 use Rattle.std.specs.Io.KnownBytes.{Consumes}
 use Rattle.audit_streams.proofs.reading.read_through.Given as goal
 
--- the reader lost what the capture holds, at least a byte a read, and no more than the limit
+-- the reader has lost the bytes of the capture so far: at least one a read, and no more than the limit
 abbrev pub invariant-loop : goal.invariant-loop
 invariant-loop g l =
     Consumes (g.R.Read.remaining l.initial.reader) (g.R.Read.remaining l.reader) l.capture.items ×

@@ -2,7 +2,7 @@ use Rattle.std.proofs.Common.{◌-◌, ◌≤◌, length, take}
 use Rattle.std.specs.Io.KnownBytes.{Appends}
 use Rattle.audit_streams.proofs.writing.write_text.Given as goal
 
--- the writer holds what it held, and the text as far as it is written
+-- the writer has grown by the text as far as it is written
 abbrev pub invariant-loop-written : goal.invariant-loop-written
 invariant-loop-written g l =
     Appends (g.W.Write.contents l.initial.writer) (g.W.Write.contents l.writer) (take l.written l.text) ×

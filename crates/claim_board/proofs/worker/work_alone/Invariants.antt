@@ -1,5 +1,5 @@
 use Rattle.std.proofs.Common.{◌-◌, length}
-use Rattle.claim_board.specs.Work.{IsFree, AreResults, StandsForSame, next_above, earlier_jobs}
+use Rattle.claim_board.specs.Work.{IsFree, AreResults, IsForSame, next_above, earlier_jobs}
 use Rattle.claim_board.proofs.worker.work_alone.Given as goal
 
 abbrev pub invariant-loop-i : goal.invariant-loop-i
@@ -7,7 +7,7 @@ invariant-loop-i g l =
     record {
       free : IsFree (g.W.Work.listed l.work) l.seat.me.0;
       results : AreResults (g.W.Work.gives l.work) l.seat.me.0.claimed l.results.items;
-      same : StandsForSame l.initial.seat l.seat;
+      same : IsForSame l.initial.seat l.seat;
     }
 
 abbrev pub decreases-loop-i : goal.decreases-loop-i

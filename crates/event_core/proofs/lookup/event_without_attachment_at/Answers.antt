@@ -1,13 +1,13 @@
 use Rattle.std.proofs.Common.{◌∙◌, ap, Ok, arith}
 use Rattle.capture_frame.specs.Envelope.{frame_text}
-use Rattle.event_core.proofs.RecordAt.{stands_in, found_at, found_ok, found_some, bare_found}
+use Rattle.event_core.proofs.RecordAt.{is_in, found_at, found_ok, found_some, bare_found}
 use Rattle.event_core.proofs.lookup.event_without_attachment_at.Goals as goal
 
 pub from_place-requires : goal.from_place-requires
 from_place-requires c =
     let has = c.requires in
     let at = has.1.2 in
-    let within = stands_in (frame_text c.args.frame) has.1.0 has.0 has.1.1 in
+    let within = is_in (frame_text c.args.frame) has.1.0 has.0 has.1.1 in
     record { from = omega (arith, at); to = omega (arith, at, within) }
 
 pub unwrap-requires : goal.unwrap-requires
@@ -26,8 +26,8 @@ unwrap-record-requires c =
     c.unwrap.ensures
 
 pub returns : goal.returns
-returns c = λ found stands.
+returns c = λ found is_at.
     bare_found c.args.frame c.args.place found c.next_record.result c.unwrap-record.result
-    (found_at c.args.frame c.from_place.result c.args.place found stands c.from_place.ensures c.next_record.result c.next_record.new.self
+    (found_at c.args.frame c.from_place.result c.args.place found is_at c.from_place.ensures c.next_record.result c.next_record.new.self
     (rw c.of-records.ensures at c.next_record.ensures))
     (c.unwrap.ensures ∙ ap Ok c.unwrap-record.ensures) c.event_of.result c.event_of.ensures

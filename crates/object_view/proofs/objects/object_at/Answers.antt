@@ -43,7 +43,7 @@ returns-clause-found c =
     record {
       fits = c.ranges.offset.fits;
       aligned = c.if-offset-ne0.false;
-      behind = omega (arith, c.if-offset-end.false);
+      after = omega (arith, c.if-offset-end.false);
       named = sym read ∙ c.in-Some.ensures.known;
       within = omega (arith, left, c.if-offset-body.false, c.length.ensures, c.if-rest-length.false);
       bytes = c.split_at.ensures.front

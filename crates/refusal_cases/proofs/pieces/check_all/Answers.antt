@@ -1,4 +1,4 @@
-use Rattle.std.proofs.Common.{subst, sym, arith}
+use Rattle.std.proofs.Common.{subst, arith}
 use Rattle.std.proofs.lemmas.List.{take_all}
 use Rattle.audit_join.specs.Jobs.{AreSound}
 use Rattle.audit_join.proofs.FaultLaws.{sound_more}

@@ -1,4 +1,4 @@
-use Rattle.std.proofs.Common.{◌≡◌, ℕ, List, length, sym, ap, ap₂, ◌∙◌}
+use Rattle.std.proofs.Common.{◌≡◌, ℕ, List, length, ap, ap₂, ◌∙◌}
 use Rattle.std.proofs.lemmas.List.{length-map}
 use Rattle.std.proofs.lemmas.Result.{on_ok_weaker}
 use Rattle.transaction_view.specs.Grammar.{WholeFrame}
@@ -21,7 +21,7 @@ totals_told : (found : KeptFindings) (wholes : List WholeFrame) (outcomes : List
     → line ≡ totals (length found.frames) found.sections.events.records found.sections.events.opaque found.sections.missing
     → line ≡ totals_line_of (findings_of (wholes_of wholes) outcomes)
 totals_told found wholes outcomes line are is =
-    let count : length found.frames ≡ length (wholes_of wholes) = ap length are.show.stand ∙ length-map (wholes_of wholes) placed_text in
+    let count : length found.frames ≡ length (wholes_of wholes) = ap length are.show.in_order ∙ length-map (wholes_of wholes) placed_text in
     is ∙ ap₂ (λ (n : ℕ) (s : Sections ℕ). totals n s.events.records s.events.opaque s.missing) count are.are
 
 pub returns : goal.returns

@@ -1,8 +1,6 @@
 use Rattle.summary_law.specs.Sorted.{sorted}
-use Rattle.summary_law.proofs.GatherLaws.{entries_gathered, entries_sorted, gathered_sorted, map_each, map_none}
 use Rattle.summary_law.proofs.Members.{contained, in_list}
-use Rattle.summary_law.proofs.SortedLaws.{in_sorted, map_rows, rows_are, sorted_in, strictly_sorted}
-use Rattle.summary_law.proofs.TallyLaws.{tally_is}
+use Rattle.summary_law.proofs.SortedLaws.{in_sorted, sorted_in, strictly_sorted}
 use Rattle.summary_law.proofs.laws.sorted_lists.Goals as goal
 
 pub returns-clause-rising : goal.returns-clause-rising

@@ -9,7 +9,7 @@ add-requires g c =
     let i = c.loop-item.item-index in
     let more : take (i + 1) items ≡ take i items ++ c.item-item.result ∷ []
     = take_more items i c.item-item.result (omega arith) ∙ ap (λ x. take i items ++ x ∷ []) (sym c.item-item.is) in
-    let fits = (g.met.S.Summary.fits_parts (take (i + 1) items) (drop (i + 1) items)
+    let fits = (g.met.S.Summary.fits_halves (take (i + 1) items) (drop (i + 1) items)
     (subst g.S.Summary.fits (sym (take-append-drop (i + 1) items)) c.requires)).0 in
     (take i items, c.loop-item.invariant, subst g.S.Summary.fits more fits)
 
@@ -19,7 +19,7 @@ loop-item-preserved g c =
     let i = c.loop-item.item-index in
     let more : take (i + 1) items ≡ take i items ++ c.item-item.result ∷ []
     = take_more items i c.item-item.result (omega arith) ∙ ap (λ x. take i items ++ x ∷ []) (sym c.item-item.is) in
-    let fits = (g.met.S.Summary.fits_parts (take (i + 1) items) (drop (i + 1) items)
+    let fits = (g.met.S.Summary.fits_halves (take (i + 1) items) (drop (i + 1) items)
     (subst g.S.Summary.fits (sym (take-append-drop (i + 1) items)) c.requires)).0 in
     subst (g.S.Summary.sums c.add.new.self) (sym more) (c.in_ok-add.ensures (take i items) c.loop-item.invariant (subst g.S.Summary.fits more fits))
 

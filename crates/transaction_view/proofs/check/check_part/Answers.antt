@@ -4,7 +4,7 @@ use Rattle.capture_frame.specs.declared.version.Version.TheVariants.{Two}
 use Rattle.capture_frame.specs.Envelope.{Before, in_version, frame_text}
 use Rattle.capture_frame.proofs.UnitLaws.{state_after-snoc}
 use Rattle.transaction_view.specs.Grammar.{whole_format}
-use Rattle.transaction_view.proofs.CaptureWalk.{whole_of, stands_behind_next, left_falls, header_fails, content_fails}
+use Rattle.transaction_view.proofs.CaptureWalk.{whole_of, has_given_next, left_falls, header_fails, content_fails}
 use Rattle.transaction_view.proofs.check.check_part.Goals as goal
 
 pub returns-in_err-frame : goal.returns-in_err-frame
@@ -23,7 +23,7 @@ loop-frame-preserved c =
     let done = c.loop-frame.invariant.0 in
     let whole = whole_of (frame_text c.in-Some.frame) has.0.0 has.1.0 in (
       done ++ whole ∷ [],
-      stands_behind_next c.args.part.now c.args.before c.loop-frame.frames done c.loop-frame.invariant.1 c.in-Some.frame has.0.0 has.1.0 c.next_frame.new.self
+      has_given_next c.args.part.now c.args.before c.loop-frame.frames done c.loop-frame.invariant.1 c.in-Some.frame has.0.0 has.1.0 c.next_frame.new.self
           (rw c.in-Some.is at c.in_ok-frame.ensures) has.0.1 has.1.1,
       sym (ap (λ (s : Before). s.last) (state_after-snoc whole_format (in_version Two c.args.before) done whole)),
     )

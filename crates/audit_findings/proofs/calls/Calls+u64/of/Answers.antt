@@ -1,9 +1,7 @@
-use Rattle.std.proofs.Common.{◌≡◌, ℕ, ◌+◌, List, map, ap, ap₂, ◌∙◌}
-use Rattle.call_stacks.specs.Calls.{how_many, with_verdict}
-use Rattle.call_stacks.specs.Verdicts.{is_crossed, is_failed, is_open, lacks_reply}
-use Rattle.call_stacks.specs.declared.opener.Opener.{Opener}
+use Rattle.std.proofs.Common.{ℕ, ◌+◌, ap, ap₂, ◌∙◌}
+use Rattle.call_stacks.specs.Calls.{how_many}
+use Rattle.call_stacks.specs.Verdicts.{is_crossed, is_failed, is_open}
 use Rattle.call_stacks.specs.declared.verdict.Verdict.{Verdict}
-use Rattle.audit_findings.specs.Kept.{call_at_place}
 use Rattle.audit_findings.proofs.CallCounts.{crossed_lacks, failed_lacks, kept_many, open_lacks, unanswered_many}
 use Rattle.audit_findings.proofs.calls.Calls+u64.of.Goals as goal
 

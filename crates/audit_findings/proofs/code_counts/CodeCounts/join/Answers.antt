@@ -19,9 +19,9 @@ join-requires c =
 
 pub returns : goal.returns
 returns c first second sums others short =
-    let behind = subst (λ (rows : List CodeRow). CountListed rows second) (sym c.as_slice.ensures.value) others.listed in
+    let after = subst (λ (rows : List CodeRow). CountListed rows second) (sym c.as_slice.ensures.value) others.listed in
     record {
-      listed = c.in_ok-listed.ensures first second sums.listed behind short;
+      listed = c.in_ok-listed.ensures first second sums.listed after short;
       opaque = subst (TallySums nat_cmp c.in_ok-opaque.opaque) (sym (items-append first second))
           (c.in_ok-opaque.ensures (opaque_items first) (opaque_items second) sums.opaque others.opaque
           (subst AreWeighted (items-append first second) (weighted_items (first ++ second) short)));

@@ -2,7 +2,7 @@ use Rattle.std.proofs.Common.{sym, ap, subst, ◌∙◌}
 use Rattle.std.proofs.lemmas.List.Elements.{All-contains}
 use Rattle.capture_frame.specs.Envelope.{PlacedFrame, placed_frame}
 use Rattle.capture_frame.specs.Units.{placed_at}
-use Rattle.event_core.specs.Events.{RecordStandsAt, HasRecordAt, bare_event}
+use Rattle.event_core.specs.Events.{RecordIsAtPlace, HasRecordAt, bare_event}
 use Rattle.event_core.specs.Events.{events_of_wholes}
 use Rattle.capture_frame.specs.Lookup.{IsFrameAt}
 use Rattle.capture_frame.proofs.LookupLaws.{one_held, some_held}
@@ -27,11 +27,11 @@ returns c wholes show e there is =
     let in_frames = All-contains (IsEventIn c.args.self.now.frames) (events_of_wholes wholes) e (events_in c.args.self.now.frames wholes show) there in
     let event = in_frames.event in
     let has : HasRecordAt in_frames.frame c.args.place =
-    subst (λ n. HasRecordAt in_frames.frame n) is (event.found, event.stands) in
+    subst (λ n. HasRecordAt in_frames.frame n) is (event.found, event.is_at) in
     let same = one_held c.args.self.now.frames c.args.place c.unwrap-frame.result in_frames.frame at in_frames.there (record_held in_frames.frame c.args.place has) in
-    let stands : RecordStandsAt (placed_frame c.unwrap-frame.result) c.args.place event.found =
-    subst (λ (f : PlacedFrame). RecordStandsAt f c.args.place event.found) same
-    (subst (λ n. RecordStandsAt in_frames.frame n event.found) is event.stands) in
-    c.event_without_attachment_at.ensures event.found stands
+    let is_at : RecordIsAtPlace (placed_frame c.unwrap-frame.result) c.args.place event.found =
+    subst (λ (f : PlacedFrame). RecordIsAtPlace f c.args.place event.found) same
+    (subst (λ n. RecordIsAtPlace in_frames.frame n event.found) is event.is_at) in
+    c.event_without_attachment_at.ensures event.found is_at
     ∙ ap (λ (f : PlacedFrame). bare_event f.unit (placed_at c.args.place event.found)) (sym same)
     ∙ ap (λ n. bare_event in_frames.frame.unit (placed_at n event.found)) (sym is) ∙ event.bare

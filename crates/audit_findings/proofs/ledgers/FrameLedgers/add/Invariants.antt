@@ -8,7 +8,7 @@ use Rattle.audit_findings.specs.Ledgers.{SumsGiven}
 use Rattle.audit_findings.proofs.FrameLaws.{AreFewWith}
 use Rattle.audit_findings.proofs.ledgers.FrameLedgers.add.Given as goal
 
--- the reader has given these events, and the sums have them besides; the sequences and the processes stay
+-- the reader has given these events, and the sums have them too; the sequences and the processes stay
 abbrev pub invariant-loop-event : goal.invariant-loop-event
 invariant-loop-event l =
     (l.self.sequences ≡ l.initial.self.sequences) × (l.self.order ≡ l.initial.self.order)

@@ -19,7 +19,7 @@ use Rattle.audit_findings.proofs.ledgers.FrameLedgers.name_process.Goals as goal
 pub add-requires : goal.add-requires
 add-requires c = (map (λ w. (process_of_whole w, tt)) c.requires.0, c.requires.1.order, λ key. tt)
 
--- the sums of events, where the entries of the processes are the same
+-- the sums of events, if the entries of the processes are the same
 same_entries : (sums : EventSums) (processes : InOrder Process ProcessLedgers Event) → processes.entries ≡ sums.processes.entries
     → (events : List Event) → SumsGiven sums events → SumsGiven (record sums { processes = processes }) events
 same_entries sums processes same events given = record {

@@ -3,7 +3,7 @@ use Rattle.std.proofs.lemmas.List.{append-nil}
 use Rattle.event_core.specs.Reading.{event_text}
 use Rattle.audit_findings.specs.Kept.{bad_at_place}
 use Rattle.audit_findings.specs.Objects.{owned_by}
-use Rattle.audit_findings.proofs.FewLaws.{few_parts, last_small}
+use Rattle.audit_findings.proofs.FewLaws.{few_halves, last_small}
 use Rattle.audit_findings.proofs.OutcomeLaws.{counts_short, objects_last}
 use Rattle.audit_findings.proofs.objects.ObjectLedger.add.Goals as goal
 
@@ -11,7 +11,7 @@ pub count_attachment-requires : goal.count_attachment-requires
 count_attachment-requires c sort =
     let e = event_text c.args.event in
     let events = c.requires.0 in
-    let counts = counts_short c.args.self.now events c.requires.1 (few_parts events (e ∷ []) c.requires.2).0 sort in
+    let counts = counts_short c.args.self.now events c.requires.1 (few_halves events (e ∷ []) c.requires.2).0 sort in
     let small = last_small events e c.requires.2 in
     omega (arith, counts, small)
 

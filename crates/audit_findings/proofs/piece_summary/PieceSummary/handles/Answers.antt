@@ -4,7 +4,7 @@ use Rattle.event_core.specs.Events.{events_of_wholes}
 use Rattle.capture_frame.specs.declared.process.Process.{Process}
 use Rattle.process_ledgers.specs.EachProcess.{AreLedgersOf}
 use Rattle.summary_law.specs.declared.nothing.Nothing.{Nothing}
-use Rattle.audit_findings.specs.Buffers.{is_unfreed}
+use Rattle.audit_findings.specs.Buffers.{is_leaked}
 use Rattle.audit_findings.specs.Handles.{handles_in}
 use Rattle.audit_findings.specs.InTurn.{process_row, rows_in}
 use Rattle.audit_findings.specs.Places.{places_in}
@@ -20,5 +20,5 @@ returns c sums wholes outcomes d show are unfreed =
     (ap (λ order. slice_get order.entries.entries c.args.number) c.processes.ensures.order ∙ sym (rw c.unwrap.ensures at c.get_index.ensures.entry)) d in
     let own = subst (λ ledgers. AreLedgersOf ledgers events e.0) (sym c.ledgers-ledgers.ensures) (of.each e.0) in
     c.in_ok-push_rows_of.ensures ∙ ap (λ rows. rows ++ map (process_row e.0) c.as_slice.result.now) c.in_ok-rows.ensures.items
-    ∙ ap (map (process_row e.0)) (c.as_slice.ensures.value ∙ c.in_ok-own.ensures wholes outcomes e.0 show are own (unfreed ∙ ap (places_in is_unfreed events) is))
+    ∙ ap (map (process_row e.0)) (c.as_slice.ensures.value ∙ c.in_ok-own.ensures wholes outcomes e.0 show are own (unfreed ∙ ap (places_in is_leaked events) is))
     ∙ ap (rows_in (handles_in events outcomes)) (sym is)

@@ -7,7 +7,7 @@ use Rattle.capture_frame.specs.declared.process.Thread.{Thread}
 use Rattle.call_stacks.specs.Calls.{event_reads, mark_read}
 use Rattle.call_stacks.specs.declared.call_record.CallEvent.{CallEvent}
 use Rattle.audit_findings.specs.ThreadLedger.{fed_calls, leaves_mark}
-use Rattle.audit_findings.proofs.ThreadFits.{FitThreads, SumsFedCalls, fit_behind, fed_behind, fed_marked, fed_plain}
+use Rattle.audit_findings.proofs.ThreadFits.{FitThreads, SumsFedCalls, fit_after, fed_after, fed_marked, fed_plain}
 use Rattle.audit_findings.proofs.thread_ledger.ThreadLedger.add.Goals as goal
 
 pub add-requires : goal.add-requires
@@ -20,7 +20,7 @@ add-requires c =
     = fed_marked text is ∙ ap₂ (λ (t : Thread) (e : CallEvent). (t, e) ∷ []) (sym c.of_thread.ensures) (sym c.of-call.ensures) in (
       fed_calls events,
       c.requires.1.sums,
-      subst (λ (f : List (Thread × CallEvent)). FitThreads (fed_calls events ++ f)) fed (fit_behind events (text ∷ []) c.requires.2),
+      subst (λ (f : List (Thread × CallEvent)). FitThreads (fed_calls events ++ f)) fed (fit_after events (text ∷ []) c.requires.2),
     )
 
 pub returns-in-Some : goal.returns-in-Some
@@ -35,9 +35,9 @@ returns-in-Some c =
     let with = λ (f : List (Thread × CallEvent)). fed_calls events ++ f in
     record {
       placed = few.0;
-      sums = subst (SumsFedCalls c.add.new.self.entries.entries) (ap with (sym fed) ∙ sym (fed_behind events (text ∷ [])))
+      sums = subst (SumsFedCalls c.add.new.self.entries.entries) (ap with (sym fed) ∙ sym (fed_after events (text ∷ [])))
           (adds (fed_calls events) sums.sums
-          (subst (λ (f : List (Thread × CallEvent)). FitThreads (with f)) fed (fit_behind events (text ∷ []) few)));
+          (subst (λ (f : List (Thread × CallEvent)). FitThreads (with f)) fed (fit_after events (text ∷ []) few)));
     })
     c.add.ensures
 
@@ -50,6 +50,6 @@ returns-in-None c = λ events sums few.
       placed = few.0;
       sums = subst (SumsFedCalls c.args.self.now.threads.entries.entries)
           (sym (append-nil (fed_calls events)) ∙ ap (λ (f : List (Thread × CallEvent)). fed_calls events ++ f) (sym (fed_plain text is))
-          ∙ sym (fed_behind events (text ∷ [])))
+          ∙ sym (fed_after events (text ∷ [])))
           sums.sums;
     }

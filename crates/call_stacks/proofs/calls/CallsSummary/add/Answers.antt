@@ -29,7 +29,7 @@ not_none : (o : Option Mark) → is_some o ≡ true → o ≡ None → ⊥
 not_none None e none = cc
 not_none (Some mark) e none = cc
 
--- what a value holds, with this mark as the last one
+-- what a value holds, with this mark as the latest one
 abbrev with_last : {E : Type 0} → Option Mark → Calls E → Content E
 with_last mark calls = record (content_of calls) { last = mark }
 

@@ -1,7 +1,4 @@
-use Rattle.std.proofs.Common.{ℕ, ap, ap₂, ◌∙◌}
 use Rattle.handle_ledger.proofs.handles.HandleLedger.held_row.Goals as goal
-use Rattle.handle_ledger.specs.declared.handle_row.HandleRow.{HandleRow}
-use Rattle.handle_ledger.specs.declared.held_row.HeldRow.{HeldRow}
 
 pub returns : goal.returns
 returns c = λ items held mine theirs.

@@ -4,7 +4,7 @@ use Rattle.event_core.specs.declared.strength.Strength.TheVariants.{Strong, Weak
 use Rattle.handle_ledger.proofs.Counting.{can_join, count_both, sum_both, sum_small, sums_added}
 use Rattle.handle_ledger.proofs.node_counts.NodeCountsSummary.join.Goals as goal
 use Rattle.handle_ledger.specs.Nodes.{node_change, node_due_change}
-use Rattle.summary_law.specs.Fits.{short_parts}
+use Rattle.summary_law.specs.Fits.{short_halves}
 
 pub then-requires : goal.then-requires
 then-requires c =
@@ -20,14 +20,14 @@ then-requires-2 c =
 
 pub overflow_add-result : goal.overflow_add-result
 overflow_add-result c =
-    let few = short_parts c.requires.0 c.requires.1 c.requires.4 in
+    let few = short_halves c.requires.0 c.requires.1 c.requires.4 in
     let mine = sum_small (node_due_change Strong) c.args.self.strong_due c.requires.0 c.requires.2.strong_due few.0 in
     let theirs = sum_small (node_due_change Strong) c.args.later.strong_due c.requires.1 c.requires.3.strong_due few.1 in
     omega (arith, ints)
 
 pub overflow_add-result-2 : goal.overflow_add-result-2
 overflow_add-result-2 c =
-    let few = short_parts c.requires.0 c.requires.1 c.requires.4 in
+    let few = short_halves c.requires.0 c.requires.1 c.requires.4 in
     let mine = sum_small (node_due_change Weak) c.args.self.weak_due c.requires.0 c.requires.2.weak_due few.0 in
     let theirs = sum_small (node_due_change Weak) c.args.later.weak_due c.requires.1 c.requires.3.weak_due few.1 in
     omega (arith, ints)

@@ -9,14 +9,14 @@ use Rattle.pending_ledger.proofs.requests.Requests.outstanding.Goals as goal
 pub loop-cookie-preserved : goal.loop-cookie-preserved
 loop-cookie-preserved c =
     let entry : ℕ × CookieRequests = (c.in-Some._cookie.now, c.in-Some.requests.now) in
-    let behind = c.next.new.self in
+    let after = c.next.new.self in
     let places = c.loop-cookie.places.items in
-    let rest : c.loop-cookie._cookie-iterator ≡ entry ∷ behind = search rules in
+    let rest : c.loop-cookie._cookie-iterator ≡ entry ∷ after = search rules in
     record {
-      places = ap (λ t. t ++ gather standing_places behind) c.in_ok-push_standing.ensures.items
-          ∙ append_assoc places (standing_places c.in-Some.requests.now) (gather standing_places behind)
+      places = ap (λ t. t ++ gather standing_places after) c.in_ok-push_standing.ensures.items
+          ∙ append_assoc places (standing_places c.in-Some.requests.now) (gather standing_places after)
           ∙ sym (ap (λ es. places ++ gather standing_places es) rest) ∙ c.loop-cookie.invariant.places;
-      ordered = λ all. c.loop-cookie.invariant.ordered (subst (All HasOrder) (sym rest) (All-cons HasOrder entry behind c.push_standing.ensures.ordered all));
+      ordered = λ all. c.loop-cookie.invariant.ordered (subst (All HasOrder) (sym rest) (All-cons HasOrder entry after c.push_standing.ensures.ordered all));
     }
 
 pub returns : goal.returns

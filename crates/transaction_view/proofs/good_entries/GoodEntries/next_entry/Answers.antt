@@ -33,7 +33,7 @@ invariant_of-result c =
     let there = c.attachments_place.ensures in
     record {
       fits = omega (arith, within, fits, there);
-      behind_owner = omega (arith, named, start, offset, there);
+      after_owner = omega (arith, named, start, offset, there);
     }
 
 pub invariant_of-self : goal.invariant_of-self

@@ -1,4 +1,4 @@
-//! Of some frames: where they begin, and their first fault.
+//! Where the frames of a piece begin, and their first fault.
 
 ghost use Rattle.std.specs.Prelude.{◌≡◌, ◌≤◌, List, ◌∷◌, length, AllPairs, MatchOption};
 ghost use Rattle.capture_frame.specs.Envelope.{PlacedFrame};
@@ -29,13 +29,13 @@ pub(crate) fn first_in(frames: &FrameSlice<'_, '_>) -> Option<Fault>
     None
 }
 
-/// The first fault of these frames, which stands at this place.
+/// The first fault of these frames, which is at this place.
 pub(crate) fn fault_at(frames: &FrameSlice<'_, '_>, place: u64) -> Fault
     requires apart { AllPairs AreApart frames.now }
     requires there { HasFirstAt frames.now place }
     ensures { IsFirstIn frames.now result }
 {
-    // One frame holds the place, and its first fault is the one there.
+    // Only one frame holds the place, and the first fault of that frame is at the place.
     let frame = frames.frame_at(place).unwrap();
     check_frame(frame).unwrap()
 }

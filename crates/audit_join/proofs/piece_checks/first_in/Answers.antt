@@ -2,8 +2,8 @@ use Rattle.std.proofs.Common.{◌+◌, take, drop, subst, arith}
 use Rattle.std.proofs.lemmas.List.{take_all}
 use Rattle.capture_frame.specs.Envelope.{placed_frame}
 use Rattle.audit_join.specs.Jobs.{AreSound}
-use Rattle.audit_join.proofs.FaultLaws.{first_more, one_behind, sound_more}
-use Rattle.audit_join.proofs.run_checks.first_in.Goals as goal
+use Rattle.audit_join.proofs.FaultLaws.{first_more, one_after, sound_more}
+use Rattle.audit_join.proofs.piece_checks.first_in.Goals as goal
 
 pub returns-in-Some : goal.returns-in-Some
 returns-in-Some c =
@@ -13,8 +13,8 @@ returns-in-Some c =
     record {
       before = take i frames;
       frame = found;
-      behind = drop (i + 1) frames;
-      are = one_behind frames i found (first_more frames i found c.get.ensures);
+      after = drop (i + 1) frames;
+      are = one_after frames i found (first_more frames i found c.get.ensures);
       sound = c.loop-number.invariant;
       fails = c.in-Some.ensures.first;
     }

@@ -3,7 +3,7 @@ use Rattle.std.specs.Prelude.{IsSome}
 use Rattle.capture_frame.specs.Lookup.{IsFrameAt}
 use Rattle.audit_join.specs.Jobs.{IsFirstIn}
 use Rattle.audit_join.proofs.FaultLaws.{some_holds, fails_there}
-use Rattle.audit_join.proofs.run_checks.fault_at.Goals as goal
+use Rattle.audit_join.proofs.piece_checks.fault_at.Goals as goal
 
 pub unwrap-frame-requires : goal.unwrap-frame-requires
 unwrap-frame-requires c = some_holds c.args.frames.now c.args.place c.frame_at.result c.frame_at.ensures c.requires.there
