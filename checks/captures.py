@@ -2,13 +2,13 @@
 """The captures of crates/audit_cases/data, each made of its frames, records and attachments.
 
     checks/captures.py FOLDER           writes them into the folder
-    checks/captures.py --check FOLDER   compares the folder with them: silent where all is well,
-                                        else names each file that differs, with status 1
-    checks/captures.py --copies FOLDER  the same of a folder that has copies of some of them
+    checks/captures.py --check FOLDER   compares the folder with them: prints nothing if they are the
+                                        same, else names each file that differs, with status 1
+    checks/captures.py --copies FOLDER  the same for a folder with copies of some of them
 
-The format is in docs/ENVELOPE.md, the code words, fields and objects in docs/COMMANDS.md. The
-captures of samples/ lie in the folder too, and have to be the same bytes as there. What the program
-says of each capture is in crates/audit_cases/stdout.
+The format is in docs/ENVELOPE.md; code words, fields and objects are in docs/COMMANDS.md. The folder
+also has the captures of samples/, byte for byte. What the program writes for each capture is in
+crates/audit_cases/stdout.
 """
 
 import pathlib
@@ -26,8 +26,8 @@ def u64(number):
 
 
 def frame_header(direction, sequence, process, thread, commands, attachments, device=0):
-    """The header of a frame that tells of so many command bytes and attachment bytes. A device other
-    than 0 is for version 2."""
+    """The header of a frame with these lengths of command bytes and attachment bytes. A device other
+    than 0 needs version 2."""
     return (u64(sequence) + u32(process) + u32(thread) + bytes([direction, 0, 0, 0])
             + u32(commands) + u32(attachments) + u32(device))
 
@@ -48,7 +48,7 @@ def read(sequence, process, thread, *records, entries=(), device=0):
 
 
 def record(code, *numbers):
-    """A record whose payload is these numbers, each in bytes, and zeros up to the code's size."""
+    """A record whose payload is these numbers, given as bytes, and then zeros up to the code's size."""
     return u32(code) + b"".join(numbers).ljust(code >> 16 & 0x3FFF, b"\0")
 
 
@@ -73,7 +73,7 @@ def node(code, ptr, cookie):
 
 
 def watch(code, handle, cookie):
-    """A request to be told of a death, or its clear."""
+    """A request for a death notification, or its clear."""
     return record(code, u32(handle), u64(cookie))
 
 
@@ -88,7 +88,7 @@ def offsets(*numbers):
 
 
 def places_of(parts):
-    """Where each of the parts begins when they are joined."""
+    """Where each of these byte strings begins when they are joined."""
     return [sum(map(len, parts[:index])) for index in range(len(parts))]
 
 
@@ -152,12 +152,12 @@ CALL_AND_REPLY = HEADER + write(1, 100, 101, transaction(BC_TRANSACTION, target=
 
 
 def oneway(*sizes):
-    """A oneway transaction that arrives with these sizes."""
+    """A oneway transaction that is delivered with these sizes."""
     return transaction(BR_TRANSACTION, flags=1, sizes=sizes, buffer=0x9000)
 
 
 def attached(sequence, process, *attachments, device=0):
-    """A read of oneway transactions, each with an entry of its own of this body and list."""
+    """A read of oneway transactions, each with an attachment entry of its own: a body and a list."""
     return read(sequence, process, 101,
                 *(oneway(len(body), len(listed)) for body, listed in attachments),
                 entries=[entry(68 * at, *both) for at, both in enumerate(attachments)],
@@ -166,7 +166,7 @@ def attached(sequence, process, *attachments, device=0):
 
 ONE_HANDLE = HANDLE, offsets(0)
 
-# Version 2: process 100 takes a reference to handle 5 of device 1, and lets one go of device 0.
+# Version 2: process 100 takes a reference to handle 5 on device 1, and lets one go on device 0.
 TWO_DEVICES = (HEADER_2 + write(1, 100, 101, record(BC_ACQUIRE, u32(5)), device=1)
                + write(2, 100, 101, record(BC_RELEASE, u32(5)), device=0))
 
@@ -178,12 +178,12 @@ DELIVERIES = DELIVERY + attached(2, 100, ONE_HANDLE) + attached(3, 100, ONE_HAND
 
 
 def one_record(code, payload=b""):
-    """A write of this code and payload, whether or not the code tells of its length."""
+    """A write of this code and payload, whether or not the size in the code is the payload's."""
     return HEADER + write(1, 1, 1, u32(code) + payload)
 
 
 def loopers(frames, wrong=()):
-    """Writes of one BC_ENTER_LOOPER each, but for those whose code is BR_NOOP."""
+    """Writes of one BC_ENTER_LOOPER each; the frames in `wrong` have a BR_NOOP instead."""
     return HEADER + b"".join(
         write(k, 1, 1, record(BR_NOOP) if k in wrong else ENTER) for k in range(1, frames + 1))
 
@@ -195,7 +195,8 @@ def each_sort():
 
 
 def of_all_kinds(**fields):
-    """What a write, and what a read may have of transactions and replies, one of each kind."""
+    """The transactions and replies that a write may have, and those that a read may have, one of
+    each kind."""
     return [[transaction(kind, **fields) for kind in kinds] for kinds in (
         (BC_TRANSACTION, BC_REPLY, BC_TRANSACTION_SG, BC_REPLY_SG),
         (BR_TRANSACTION, BR_TRANSACTION_SEC_CTX, BR_REPLY))]
@@ -209,7 +210,7 @@ def attachments_of_all_kinds():
 
 
 def of_handle(sort, handle):
-    """An object of this sort that carries the handle."""
+    """An object of this sort with this handle."""
     return changed(SORTS[sort], (8, u32(handle)))
 
 
@@ -220,11 +221,11 @@ FREED = write(3, 100, 102, record(BC_FREE_BUFFER, u64(0x9000)))
 
 
 def held_references():
-    """Deliveries of each kind to three processes on two devices: a SEC_CTX one with a WEAK_HANDLE and
-    a HANDLE of 5, and a reply with two HANDLEs of 9, both kept; one that is freed, of an address that
-    is delivered again and kept, with 5 in it; one without an entry. Process 200 keeps a HANDLE of 5
-    too, and so does 100 on device 1, where a good object stands behind a bad one and counts as none.
-    A sent transaction has a HANDLE of 6, and a BINDER lies beside."""
+    """Deliveries of each kind to three processes on two devices. Two are kept: a SEC_CTX one with a
+    WEAK_HANDLE and a HANDLE of 5, and a reply with two HANDLEs of 9. One is freed, and its address is
+    delivered again with a HANDLE of 5 and kept. One has no attachment entry. Process 200 keeps a
+    HANDLE of 5 too. So does process 100 on device 1, where a good object comes after a bad one and
+    does not count. A sent transaction has a HANDLE of 6, and one delivery also has a BINDER."""
     def kept(kind, buffer, *objects, flags=0):
         body, listed = b"".join(objects), offsets(*places_of(objects))
         return transaction(kind, flags=flags, sizes=(len(body), len(listed)), buffer=buffer), (
@@ -264,9 +265,10 @@ def flags_of_all_kinds():
 
 
 def handles():
-    """Two processes, whose frames alternate. In the one each command alone names a handle, 1 to 4;
-    of 5 strong and weak go apart, 6 falls below 0 and comes back above it, 7 and 8 end at 0, and
-    9 stands in a transaction alone. The other refers to 5 and 6 too."""
+    """Two processes, whose frames alternate. In one of them each of the four commands names a handle
+    that no other command names, 1 to 4. The strong and the weak count of 5 differ, 6 falls below 0
+    and comes back above it, 7 and 8 end at 0, and 9 is only in a transaction. The other process
+    refers to 5 and 6 too."""
     return HEADER + write(
         1, 200, 201, *each(BC_ACQUIRE, 5), *each(BC_RELEASE, 6), *each(BC_DECREFS, 5),
     ) + write(
@@ -283,9 +285,10 @@ def handles():
 
 
 def nodes():
-    """In the first process each of the six records alone names a node, ptr 1 to 6. Two nodes have
-    one ptr; one falls below 0 and comes back, and is still due. The second process has a node of
-    the same ptr and cookie, which ends at 0, and one that is let go without having been asked."""
+    """In the first process each of the six records names a node that no other record names, ptr 1 to
+    6. Two nodes have one ptr. One falls below 0 and comes back, and is still due. The second process
+    has a node of the same ptr and cookie, which ends at 0, and one that the driver gives back without
+    having asked for it."""
     return HEADER + read(
         1, 100, 101, node(BR_INCREFS, 1, 1), node(BR_ACQUIRE, 2, 1), node(BR_RELEASE, 3, 1),
         node(BR_DECREFS, 4, 1), node(BR_ACQUIRE, 0x20, 0x30), node(BR_ACQUIRE, 0x20, 0x31),
@@ -305,11 +308,11 @@ def nodes():
 
 
 def buffers():
-    """0x10 is freed before its delivery and after it, by another thread. 0x20 comes twice and is
-    freed once; 0x30 comes twice and is freed three times; 0x40 comes again behind its free. 0x50
-    is freed by another process alone, once before and once after. Of replies 0x60 is freed and
-    0x70 not, with a security context 0x80 and not 0x90, of oneway ones 0xb0 and not 0xa0. The
-    other process has 0x20 too."""
+    """0x10 is freed before its delivery, and after it by another thread. 0x20 is delivered twice and
+    freed once; 0x30 is delivered twice and freed three times; 0x40 is delivered again after its free.
+    0x50 is freed only by another process, once before its delivery and once after it. Of the replies
+    0x60 is freed and 0x70 is not; of the deliveries with a security context 0x80 and not 0x90; of
+    the oneway ones 0xb0 and not 0xa0. The other process gets 0x20 too."""
     def deliver(address, kind=BR_TRANSACTION, **fields):
         return transaction(kind, buffer=address, **fields)
     return HEADER + write(
@@ -336,8 +339,8 @@ def buffers():
 
 
 def requests():
-    """What ends a request: a clear with its handle and cookie, or a death with its cookie. What
-    does not: a clear with one of the two, one that stands before it or in another process, an
+    """What ends a request: a clear with its handle and cookie, or a death with its cookie. What does
+    not: a clear with only one of the two, a clear or a death before it or in another process, an
     acknowledgement, a confirmation."""
     def request(*which):
         return watch(BC_REQUEST_DEATH_NOTIFICATION, *which)
@@ -366,9 +369,9 @@ def requests():
 
 
 def deaths_and_clears():
-    """The same of deaths and of clears, by the same cookies: 1 is answered by another thread, 2
-    before it, 3 comes twice and is answered once, 4 is answered twice, 5 by another process; 0 and
-    the greatest are not answered. The clears with cookie 3 have two handles."""
+    """Deaths and clears alike, with the same cookies: 1 is answered by another thread, 2 before it
+    comes, 3 comes twice and is answered once, 4 is answered twice, 5 is answered by another process;
+    0 and the greatest are not answered. The clears with cookie 3 have two handles."""
     clears = [watch(BC_CLEAR_DEATH_NOTIFICATION, *which) for which in (
         (7, 1), (7, 3), (8, 3), (7, 4), (7, 5), (7, 0), (MAX_32, MAX_64))]
     return HEADER + write(
@@ -389,8 +392,8 @@ def deaths_and_clears():
 
 
 def processes():
-    """Processes in falling number, of which some have an empty first frame. Their references come
-    later, in another order. The greatest number is first, and 0 last; 35 does nothing at all."""
+    """Processes whose numbers fall, each with an empty first frame but for 10 and 0. Their references
+    come later, in another order. The greatest number is first, and 0 last; 35 does nothing else."""
     falling = MAX_32, 40, 35, 30, 20
     return HEADER + b"".join(
         write(at, number, 1) for at, number in enumerate(falling, 1)
@@ -414,8 +417,8 @@ def processes():
 
 
 def oneway_replies():
-    """`TF_ONE_WAY` on a reply says nothing: the one that is got answers a call, the one that is
-    sent replies to a served call. The latter is refused, and no oneway transaction is."""
+    """`TF_ONE_WAY` on a reply means nothing: the received reply answers a call, and the sent one
+    replies to a served call. The sent one is refused; no oneway transaction is refused."""
     return HEADER + read(
         1, 100, 101, transaction(BR_TRANSACTION, code=3, sender=200, buffer=0x8000),
     ) + write(
@@ -432,8 +435,8 @@ def oneway_replies():
 
 
 def threads_of_one_number():
-    """Thread 7 of two processes. The reply is to the call of the one, which is not the last call,
-    and the error reply to that of the other, where no oneway transaction stands before it."""
+    """Thread 7 of two processes. The reply answers the call of one of them, which is not the last
+    call. The error reply answers the call of the other, whose thread sent no oneway transaction."""
     return HEADER + write(
         1, 100, 7, transaction(BC_TRANSACTION, target=1, code=1),
     ) + write(
@@ -450,8 +453,8 @@ def threads_of_one_number():
 
 
 def threads_that_fall():
-    """Threads 9, 5 and 1 of one process in this order, each with rows in some of the sections of
-    calls, which alternate."""
+    """Threads 9, 5 and 1 of one process in this order. Each has rows in some of the sections of
+    calls, and their rows alternate."""
     return HEADER + write(
         1, 100, 9, transaction(BC_TRANSACTION, target=1, code=1),
     ) + write(
@@ -476,7 +479,7 @@ def threads_that_fall():
 
 
 def refused_behind_a_call():
-    """A oneway transaction behind a call is refused, and the call answered. Then a call behind a
+    """A oneway transaction after a call is refused, and the call is answered. Then a call after a
     oneway transaction fails."""
     return HEADER + write(
         1, 100, 101, transaction(BC_TRANSACTION, target=1, code=2),
@@ -494,9 +497,10 @@ def refused_behind_a_call():
 
 
 def nested_calls():
-    """Two threads of a process whose frames alternate. In the one a call is made in a served call
-    in a call, and each has its reply; two more replies close nothing. In the other a served call in
-    a call in a served call has no reply of its own: so all three have a wrong closer or none."""
+    """Two threads of a process whose frames alternate. In one of them a call is made within a served
+    call within a call, and each has its reply; two more replies close nothing. In the other a served
+    call within a call within a served call has no reply of its own, so all three have a wrong closer
+    or none."""
     return HEADER + write(
         1, 100, 1, transaction(BC_TRANSACTION, target=1, code=1),
     ) + read(
@@ -525,13 +529,13 @@ def nested_calls():
 
 
 def in_a_frame(sequence, thread, one):
-    """A frame of process 100 with this record, a write or a read by its letter."""
+    """A frame of process 100 with this record: a write or a read, by the letter of its code."""
     return frame(1 if one[1:2] == b"c" else 2, sequence, 100, thread, [one])
 
 
 def in_threads_of_their_own(threads):
-    """The records of each of these threads, 1 and so on, a frame for each record; at the end the
-    buffers at 0 are freed."""
+    """The records of each of these threads, 1, 2 and so on, in a frame for each record. At the end
+    the buffers at 0 are freed."""
     told = [(at, one) for at, records in enumerate(threads, 1) for one in records]
     frames = [in_a_frame(sequence, *one) for sequence, one in enumerate(told, 1)]
     return HEADER + b"".join(frames) + write(
@@ -549,8 +553,8 @@ def verdicts():
 
 
 def marks():
-    """Between a oneway send and an error reply one record of each kind, in threads 1 to 41; in the
-    last two threads a oneway send and one that is received."""
+    """Between a oneway send and an error reply one record: of each kind in threads 1 to 41, and in the
+    last two threads another oneway send, and a oneway transaction that is received."""
     send = transaction(BC_TRANSACTION, flags=1)
     between = (*map(record, COMMANDS + RETURNS), transaction(BC_TRANSACTION_SG, flags=1),
                transaction(BR_TRANSACTION_SEC_CTX, flags=1))
@@ -558,9 +562,9 @@ def marks():
 
 
 def oneway_traffic():
-    """Three processes, the first of which has an empty first frame. Handles are sent to in no
-    order, by several threads; some sends have other flags beside `TF_ONE_WAY`. Calls and replies do
-    not count. Of three refused sends one is a reply."""
+    """Three processes; the first one has an empty first frame. Several threads send to handles in no
+    order, and some sends have other flags besides `TF_ONE_WAY`. Calls and replies do not count. Of
+    three refused sends one is a reply."""
     def send(target, size, kind=BC_TRANSACTION, flags=1):
         return transaction(kind, target=target, flags=flags, sizes=(size, 0))
 
@@ -594,9 +598,9 @@ def oneway_traffic():
 
 
 def one_number_on_two_devices():
-    """Thread 101 of process 100 on device 3 and on device 0, by the same handles, nodes, addresses
-    and cookies. What is opened on the one is closed on the other alone: so of each ledger all that
-    is open stays open, and each close is a stray. Each device has a oneway transaction besides."""
+    """Thread 101 of process 100 on device 3 and on device 0, with the same handles, nodes, addresses
+    and cookies. What is opened on one device is closed only on the other. So in each ledger all that
+    is opened stays open, and each close is a stray. Each device also has a oneway transaction."""
     def on_3(direction, sequence, *records):
         return frame(direction, sequence, 100, 101, records, device=3)
 
@@ -629,9 +633,9 @@ def one_number_on_two_devices():
 
 
 def threads_of_two_devices():
-    """Thread 7 of process 100 on devices 1 and 2. The reply is to the call on device 1, which is not
-    the last call. The error reply on device 2 is to the call there, as the oneway transaction before
-    it was sent on the other device."""
+    """Thread 7 of process 100 on devices 1 and 2. The reply answers the call on device 1, which is not
+    the last call. The error reply on device 2 answers the call there, since the oneway transaction
+    before it was sent on the other device."""
     return HEADER_2 + write(
         1, 100, 7, transaction(BC_TRANSACTION, target=1, code=1), device=1,
     ) + write(
@@ -648,8 +652,8 @@ def threads_of_two_devices():
 
 
 def sends_of_three_devices():
-    """Oneway sends of one thread number to one handle, of device 0 and of the greatest. Device 1 has
-    an error reply and no send; the greatest has one that refuses its own."""
+    """Oneway sends of one thread number to one handle, on device 0 and on the greatest device. Device
+    1 has an error reply and no send. The greatest has an error reply that refuses its own send."""
     def send(size):
         return transaction(BC_TRANSACTION, target=2, flags=1, sizes=(size, 0))
     return HEADER_2 + write(
@@ -666,9 +670,9 @@ def sends_of_three_devices():
 
 
 def turns_of_two_devices():
-    """A served call on device 1 and a call on device 0 by turns, of one thread number: neither is
-    within the other. The thread serves another call on the greatest device, which stays open beside
-    a reply on device 0."""
+    """A served call on device 1 and a call on device 0, of one thread number, by turns: neither is
+    within the other. On the greatest device the thread serves another call, which stays open in spite
+    of a reply on device 0."""
     return HEADER_2 + read(
         1, 100, 101, transaction(BR_TRANSACTION, sender=200), device=1,
     ) + write(
@@ -685,8 +689,8 @@ def turns_of_two_devices():
 
 
 def processes_of_devices():
-    """Processes of several devices, in the order of neither number. Some have an empty first frame;
-    device 1 with process 2 and device 2 with process 1 are two."""
+    """Processes on several devices, in the order of neither number. Some have an empty first frame.
+    Process 2 on device 1 and process 1 on device 2 are two processes."""
     first = (2, 1), (1, 2), (MAX_32, 1), (1, MAX_32), (0, 2), (2, 2)
     return HEADER_2 + b"".join(
         write(at, number, 1, device=device) for at, (device, number) in enumerate(first, 1)
@@ -708,7 +712,7 @@ def processes_of_devices():
 
 
 def rows_of_one_device():
-    """A row in each section that has places, all of device 7 and process 100."""
+    """A row in each section with places, all of process 100 on device 7."""
     return HEADER_2 + write(
         1, 100, 101, transaction(BC_TRANSACTION, target=1, code=2, flags=0x82),
         transaction(BC_TRANSACTION, target=2, code=3, flags=1, sizes=(5, 0)), device=7,
@@ -733,7 +737,7 @@ CAPTURES = {
     # -- what threads do
     # a reply's buffer is freed, by another thread of its process
     "freed-reply.cap": CALL_AND_REPLY + write(3, 100, 102, record(BC_FREE_BUFFER, u64(0x7000))),
-    # a handle is released before it is acquired
+    # a handle is released and then acquired
     "released-before-acquired.cap": HEADER + write(1, 100, 101, record(BC_RELEASE, u32(3)))
     + write(2, 100, 101, record(BC_ACQUIRE, u32(3))),
     # within a served call a oneway send is refused; the call around both stays open
@@ -797,11 +801,11 @@ CAPTURES = {
     # -- calls of threads, and oneway transactions
     # TF_ONE_WAY on replies
     "oneway-replies.cap": oneway_replies(),
-    # two threads of one number
+    # two threads with one number
     "threads-of-one-number.cap": threads_of_one_number(),
-    # threads of a process in falling number
+    # threads of a process whose numbers fall
     "threads-that-fall.cap": threads_that_fall(),
-    # a oneway transaction is refused behind a call
+    # a oneway transaction after a call is refused
     "refused-behind-a-call.cap": refused_behind_a_call(),
     # two oneway sends in one write, within a served call: the first is taken and the second refused
     "several-sends.cap": HEADER
@@ -810,7 +814,7 @@ CAPTURES = {
             transaction(BC_TRANSACTION, target=6, code=3, flags=1, sizes=(2000000, 0)))
     + read(3, 100, 101, record(BR_NOOP), record(BR_TRANSACTION_COMPLETE), record(BR_FAILED_REPLY))
     + write(4, 100, 101, *each_long(BC_FREE_BUFFER, 0x8000), transaction(BC_REPLY)),
-    # a frame is missing that had a call: its reply closes the served call around it
+    # a frame with a call is missing: its reply closes the served call around it
     "lost-call.cap": HEADER
     + read(1, 200, 201, transaction(BR_TRANSACTION, code=2, sender=100, buffer=0x8000))
     + read(3, 200, 201, record(BR_TRANSACTION_COMPLETE), transaction(BR_REPLY, buffer=0x9000))
@@ -825,7 +829,7 @@ CAPTURES = {
     "oneway.cap": oneway_traffic(),
 
     # -- devices
-    # version 2, and device 0 alone
+    # version 2, with device 0 only
     "version-2.cap": changed(ACQUIRES, (7, b"2")),
     # version 2 without frames
     "version-2-empty.cap": HEADER_2,
@@ -836,19 +840,19 @@ CAPTURES = {
     # Two files between which three frames are missing.
     "sequence-5.cap": HEADER + write(5, 1, 1),
     "sequence-9-of-version-2.cap": HEADER_2 + write(9, 1, 1),
-    # A frame that may stand before each other one.
+    # A frame that may come before any other.
     "sequence-0.cap": HEADER_2 + write(0, 100, 101, device=1),
     # Deaths and clears of two processes in three files.
     "deaths-1.cap": deaths_and_clears()[:312],
     "deaths-2.cap": HEADER + deaths_and_clears()[312:400],
     "deaths-3.cap": HEADER_2 + deaths_and_clears()[400:],
-    # one handle of one process on two devices
+    # one handle number of one process number on two devices
     "handle-of-two-devices.cap": TWO_DEVICES,
-    # the same bytes in version 1, where no device stands
+    # the same bytes in version 1, which has no device field
     "device-in-version-1.cap": changed(TWO_DEVICES, (7, b"1")),
-    # one process on two devices: what is opened on the one is closed on the other
+    # one process number on two devices: what is opened on one device is closed on the other
     "one-number-on-two-devices.cap": one_number_on_two_devices(),
-    # two threads of one number on two devices of one process
+    # two threads with one number, of one process number on two devices
     "threads-of-two-devices.cap": threads_of_two_devices(),
     # oneway sends and error replies of one thread number on three devices
     "sends-of-three-devices.cap": sends_of_three_devices(),
@@ -865,13 +869,13 @@ CAPTURES = {
     "rows-of-one-device.cap": rows_of_one_device(),
     # the greatest device
     "greatest-device.cap": HEADER_2 + write(1, 100, 101, *each(BC_ACQUIRE, 5), device=MAX_32),
-    # the highest bit of the device alone
+    # only the highest bit of the device
     "device-of-one-bit.cap": changed(ACQUIRES, (7, b"2"), (47, b"\x80")),
-    # sequences rise over all devices; the gap is of both together
+    # sequences rise over all devices; the gap is counted over both together
     "missing-of-two-devices.cap": HEADER_2 + write(5, 1, 1, device=1) + write(9, 1, 1, device=2),
     # the same sequence on two devices
     "sequence-of-two-devices.cap": HEADER_2 + write(5, 1, 1, device=1) + write(5, 1, 1, device=2),
-    # the byte behind the direction is reserved in version 2 too
+    # the byte after the direction is reserved in version 2 too
     "reserved-of-version-2.cap": changed(TWO_DEVICES, (33, b"\x01")),
     # so is the byte before the lengths; a length is wrong too, which is judged later
     "reserved-and-length-of-version-2.cap": changed(TWO_DEVICES, (35, b"\x80"), (36, b"\x60")),
@@ -882,10 +886,10 @@ CAPTURES = {
     # each command and each return of the tables, once
     "every-command.cap": HEADER + write(1, 100, 101, *map(record, COMMANDS))
     + read(2, 100, 101, *map(record, RETURNS)),
-    # numbers behind the tables, the second with the greatest number and size
+    # numbers after those of the tables, the second with the greatest number and size
     "opaque-edges.cap": HEADER + write(1, 100, 101, record(0x00006313), record(0x7FFF63FF))
     + read(2, 100, 101, record(0x00007215)),
-    # a number behind the table in place of BC_ACQUIRE
+    # a number after those of the table in place of BC_ACQUIRE
     "opaque-acquire.cap": changed(ACQUIRES, (48, b"\x13")),
     # a name that looks like an option
     "-name.cap": ACQUIRES,
@@ -913,9 +917,9 @@ CAPTURES = {
     # -- faults of a frame header
     # one byte of a frame header
     "frame-of-1-byte.cap": ACQUIRES[:17],
-    # all of it but one byte
+    # all but one byte of it
     "frame-of-31-bytes.cap": ACQUIRES[:47],
-    # the header alone, which tells of 16 command bytes
+    # the header only, with a length of 16 command bytes
     "no-command-bytes.cap": ACQUIRES[:48],
     # all command bytes but one
     "command-bytes-cut.cap": ACQUIRES[:63],
@@ -927,21 +931,21 @@ CAPTURES = {
     "direction-3.cap": changed(ACQUIRES, (32, b"\x03")),
     # no direction; the byte before the lengths is wrong too, which is judged later
     "direction-and-reserved.cap": changed(ACQUIRES, (32, b"\x00"), (35, b"\x01")),
-    # the byte behind the direction
+    # the byte after the direction
     "reserved-behind-direction.cap": changed(ACQUIRES, (33, b"\x01")),
     # the byte before the lengths
     "reserved-before-lengths.cap": changed(ACQUIRES, (35, b"\x80")),
-    # the byte behind the lengths
+    # the byte after the lengths
     "reserved-behind-lengths.cap": changed(ACQUIRES, (44, b"\x01")),
     # the last byte of the header; a length is wrong too, which is judged later
     "reserved-and-length.cap": changed(ACQUIRES, (36, b"\x11"), (47, b"\x80")),
     # one command byte more than there is
     "command-length-17.cap": changed(ACQUIRES, (36, b"\x11")),
-    # lengths whose sum, in 32 bits, would be what follows
+    # lengths whose sum would fit what follows if it were taken in 32 bits
     "lengths-past-32-bits.cap": changed(ACQUIRES, (36, u32(2**32 - 1)), (40, u32(17))),
     # the frame ends before its second record, and 8 bytes follow it
     "frame-of-8-bytes.cap": changed(ACQUIRES, (36, b"\x08")),
-    # a frame behind a good one tells of 100 bytes that are not there
+    # a frame after a good one has a length of 100 bytes that are not there
     "later-frame-past-the-end.cap": HEADER + write(1, 1, 1, ENTER)
     + frame_header(1, 2, 1, 1, 100, 0),
 
@@ -952,14 +956,14 @@ CAPTURES = {
     "code-of-2-bytes.cap": changed(ACQUIRES, (36, b"\x0a")),
     # three bytes
     "code-of-3-bytes.cap": changed(ACQUIRES, (36, b"\x0b")),
-    # a payload less one byte
+    # a payload without its last byte
     "payload-cut.cap": changed(ACQUIRES, (36, b"\x0f")),
-    # two bytes of a code word, and behind them a frame that is wrong too
+    # two bytes of a code word, and after them a frame that is wrong too
     "code-cut-before-a-bad-frame.cap": HEADER + write(1, 1, 1, ENTER, b"\x05\x63")
     + frame_header(1, 2, 1, 1, 100, 0),
-    # of 900 frames the second and the last have a return in a write
+    # 900 frames; the second and the last have a return in a write
     "two-wrong-directions.cap": loopers(900, wrong=(2, 900)),
-    # the last one alone
+    # only the last one has it
     "last-wrong-direction.cap": loopers(900, wrong=(900,)),
     # a command in a read
     "acquire-in-a-read.cap": changed(ACQUIRES, (32, b"\x02")),
@@ -999,7 +1003,7 @@ CAPTURES = {
     "entry-of-1-byte.cap": changed(DELIVERY, (40, b"\x01")),
     # all of its numbers but one byte
     "entry-of-11-bytes.cap": changed(DELIVERY, (40, b"\x0b")),
-    # its numbers alone
+    # only its numbers
     "entry-of-12-bytes.cap": changed(DELIVERY, (40, b"\x0c")),
     # all of it but one byte
     "entry-of-43-bytes.cap": changed(DELIVERY, (40, b"\x2b")),
@@ -1011,7 +1015,7 @@ CAPTURES = {
     "length-before-record.cap": changed(DELIVERY, (116, b"\x04"), (124, b"\x09")),
     # an entry for what is no record's first byte
     "entry-inside-a-record.cap": changed(DELIVERY, (116, b"\x04")),
-    # for the end of the command bytes
+    # for the end of the command bytes, after the records
     "entry-behind-the-records.cap": changed(DELIVERY, (116, b"\x44")),
     # for an opaque record
     "entry-of-an-opaque-record.cap": changed(DELIVERY, (48, b"\x15")),
@@ -1030,7 +1034,7 @@ CAPTURES = {
     "data-size-past-32-bits.cap": changed(DELIVERY, (88, b"\x01")),
     # the second of three frames has a wrong size, the third an entry for no record
     "attachment-before-next-frame.cap": changed(DELIVERIES, (264, b"\x17"), (404, b"\x04")),
-    # an attachment that its frame does not tell of is no frame
+    # an attachment that the lengths of its frame leave out is read as a frame, and is not one
     "attachment-behind-a-frame.cap": changed(DELIVERY, (40, b"\x00")),
 
     # -- good attachments and their objects
@@ -1040,12 +1044,12 @@ CAPTURES = {
     "attachment-of-a-reply.cap": changed(DELIVERY, (48, b"\x03")),
     # of each kind of record that may have one
     "attachments-of-all-kinds.cap": attachments_of_all_kinds(),
-    # of no bytes, behind a record that has none
+    # of no bytes, in a frame whose first record has no attachment
     "attachment-of-no-bytes.cap": HEADER + read(1, 100, 101, oneway(24, 8), oneway(0, 0), entries=[
         entry(68, b"", b"")]),
     # a body that begins with no sort
     "unknown-sort.cap": changed(DELIVERY, (128, b"\x00")),
-    # a reference that the delivery holds and the process takes too; then the buffer is freed; freed alone
+    # a delivery holds a reference that the process takes too; then the buffer is freed too; then only freed
     "held-and-taken.cap": HELD + TAKEN,
     "held-taken-and-freed.cap": HELD + TAKEN + FREED,
     "held-and-freed.cap": HELD + FREED,
@@ -1055,9 +1059,9 @@ CAPTURES = {
     "each-sort.cap": each_sort(),
     # the second object begins within the first; the third is good and is not read
     "overlapping-objects.cap": HEADER + attached(1, 100, (2 * HANDLE, offsets(0, 20, 24))),
-    # each cause in an attachment of its own, in two processes. The second is both misaligned and
-    # within the object before it, and behind it stands a good object, which is not read. The last
-    # attachment is good
+    # each cause in an attachment of its own, in two processes. In the second attachment the bad object
+    # is both misaligned and within the object before it; after it comes a good object, which is not
+    # read. The last attachment is good
     "every-cause.cap": HEADER + attached(
         1, 200,
         (HANDLE, bytes(7)),
@@ -1075,7 +1079,7 @@ CAPTURES = {
     # -- flags of transactions
     # each bit, in each kind of record that has flags, the greater process first
     "flags-of-all-kinds.cap": flags_of_all_kinds(),
-    # the six flags that are known; and records that have no flags, one of them opaque
+    # the six known flags; and records without flags, one of them opaque
     "known-flags.cap": HEADER + write(
         1, 100, 101, transaction(BC_TRANSACTION, target=1, flags=0x7D),
         record(BC_ACQUIRE, u32(2**32 - 1)), record(0x40406313, b"\xff" * 64)),
@@ -1091,14 +1095,14 @@ def expected():
 
 
 def differences(folder):
-    """The names of the files that differ, are not there or should not be."""
+    """The names of the files that differ, are missing, or should not be there."""
     files = {path.name: path.read_bytes() for path in folder.iterdir() if path.is_file()}
     wanted = expected()
     return sorted(name for name in files | wanted if files.get(name) != wanted.get(name))
 
 
 def other_copies(folder):
-    """The names of the files that are another capture than the one of that name, or no copy at all."""
+    """The names of the files that differ from the capture of that name, or are a copy of none."""
     wanted = expected()
     return sorted(path.name for path in folder.iterdir() if path.read_bytes() != wanted.get(path.name))
 

@@ -1,5 +1,5 @@
-/* Calls itself as often as the first word says, for checks/load: in its first thread, or with a second word in a
-   further one. Each call takes 16 bytes of stack at the least, so that a million of them do not fit into 256 KiB. */
+/* Calls itself as often as the first argument says, for checks/load: in its first thread, or with a second argument in
+   another thread. Each call takes at least 16 bytes of stack, so a million of them do not fit into 256 KiB. */
 #include <pthread.h>
 #include <stdlib.h>
 

@@ -1,13 +1,14 @@
-/* Devices that are slow, fail or change, for checks/devices. Preloaded, it stands in front of each read of the file
-   DEVICE_FILE and of each write to standard output. By its environment:
+/* Devices that are slow, fail or change, for checks/devices. Preloaded, this library replaces each read of the file
+   DEVICE_FILE and each write to standard output. Its environment says how:
 
-     READ_MOST, WRITE_MOST            how many bytes a call gives or takes at the most
+     READ_MOST, WRITE_MOST            the most bytes that a call gives or takes
      READ_FAILS_AT, WRITE_FAILS_AT    the number of the call that fails, from 1
-     READ_ERROR, WRITE_ERROR          by which error; without one that call gives or takes no byte
-     CHANGE_AT, CHANGE_TO             the number of the read before which the file gets the bytes of that other one
+     READ_ERROR, WRITE_ERROR          the error of that call; without it the call gives or takes no byte
+     CHANGE_AT, CHANGE_TO             before the read of this number, the file gets the bytes of this other file
 
-   Each call is a line in the file DEVICE_LOG, `read ASKED ANSWERED` or `write ASKED ANSWERED`, and what the reads gave
-   is put into the file DEVICE_BYTES. One thread of the program makes all these calls, so no count is for several. */
+   For each call a line is added to the file DEVICE_LOG, `read ASKED ANSWERED` or `write ASKED ANSWERED`, and the bytes
+   that a read gave are added to the file DEVICE_BYTES. One thread of the program makes all these calls, so the counts
+   need no lock. */
 #define _GNU_SOURCE
 #include <errno.h>
 #include <fcntl.h>
@@ -34,7 +35,7 @@ static long number(const char *name, long other)
 	return word ? atol(word) : other;
 }
 
-/* A file to append to, with a number that the program does not look for. */
+/* A file to append to, under a high descriptor number, out of the way of the program's own. */
 static int appended(const char *name)
 {
 	const char *path = getenv(name);
@@ -89,7 +90,7 @@ static void change(void)
 	close(to);
 }
 
-/* What the device answers to its next call. */
+/* What the device returns for its next call. */
 static long answer(struct device *device, long call, int file, const void *bytes, size_t asked)
 {
 	if (device->calls == device->fails_at) {

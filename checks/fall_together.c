@@ -1,14 +1,15 @@
-/* Numbers whose hashes fall together, for checks/load: as many as are asked for, each with a line of its own. Behind the
-   count stand the numbers in front of them: a device for numbers of its processes, a device and a process for numbers of
-   threads of that process.
+/* Prints numbers whose hashes collide, for checks/load: as many as the first argument says, one in a line. The further
+   arguments are the numbers that are hashed before: a device, for numbers of its processes; or a device and a process,
+   for numbers of the threads of that process.
 
-   The auditor keeps processes in a map of `indexmap`, and threads in another, with open addressing and a hasher of fixed
-   seed (`FoldHasher`). It takes in a number of 32 bits by the product below, whose two halves of 64 bits are joined by
-   xor: of a process its device and then its number, of a thread these two and then its own. The hash is what results,
-   its two halves of 32 bits joined by xor. The low bits say in which group of twelve entries a look-up begins, and the
-   highest 8 which entries of a group it compares. The numbers given agree in the highest 8 bits and begin in one of the
-   first two groups of 2,048, which is how many groups 10,000 entries have; with fewer groups they begin in the first two
-   as well. So a look-up goes through the full groups one by one, and compares all entries there. */
+   The auditor keeps processes in a map of `indexmap`, and threads in another, with open addressing and a hasher of
+   fixed seed (`FoldHasher`). The hasher takes in a number of 32 bits with the product below, and joins the two halves
+   of 64 bits by xor. For a process it takes in the device and then the process number, for a thread also the thread
+   number. The hash is the result, its two halves of 32 bits joined by xor. The low bits say in which group of twelve
+   entries a look-up begins, and the highest 8 bits which entries of a group it compares. The numbers printed agree in
+   the highest 8 bits, and begin in one of the first two groups of 2,048, which is how many groups 10,000 entries have;
+   with fewer groups they begin in the first two as well. So a look-up goes through the full groups one by one, and
+   compares every entry there. */
 #include <stdint.h>
 #include <stdio.h>
 #include <stdlib.h>

@@ -1,5 +1,5 @@
-"""What checks of the built program share: where it lies, its runs under limits and what they take, captures that are
-written piece by piece, tables, the command line, and how failures are told."""
+"""What the checks of the built program share: its path, runs under limits and what they take, captures that are written
+bit by bit, tables, the command line, and how failures are reported."""
 
 import argparse
 import os
@@ -19,7 +19,7 @@ HERE = os.path.dirname(os.path.realpath(__file__))
 ROOT = os.path.dirname(HERE)
 BUILT = os.path.join(ROOT, "crates/binder_audit/out/binder_audit")
 
-# How the program answers Memory: its status, standard output and standard error.
+# The program's answer Memory: its status, standard output and standard error.
 MEMORY = 3, b"", b"fault Memory\n"
 
 # The longest that a run may take.
@@ -37,7 +37,8 @@ def under(words, stack=None, address=None, processor=None):
 
 
 def answer(words, timeout=SECONDS, **options):
-    """The status of a command and both its texts; None for one that goes elsewhere by the options."""
+    """The status of a command, its standard output and its standard error; None for a stream that the options
+    redirect."""
     streams = {"stdout": subprocess.PIPE, "stderr": subprocess.PIPE, **options}
     ended = subprocess.run(words, timeout=timeout, **streams)
     return ended.returncode, ended.stdout, ended.stderr
@@ -51,7 +52,7 @@ class Used(NamedTuple):
 
 
 def measured_run(words, **streams):
-    """The status of a command, and what the system says that it took."""
+    """The status of a command, and what it took, as the system says."""
     begun = time.monotonic()
     child = subprocess.Popen(words, **streams)
     limit = threading.Timer(SECONDS, child.kill)
@@ -63,20 +64,20 @@ def measured_run(words, **streams):
 
 
 def at_once(count, work, things):
-    """What the work comes to for each thing, so many of them under way at once."""
+    """The results of the work for each thing, with this many under way at once."""
     with ThreadPoolExecutor(count) as pool:
         return list(pool.map(work, things))
 
 
 def compiled(room, source, *options):
-    """The program, or the library to preload, that a C file beside this script gives."""
+    """Compiles a C file beside this script to a program, or to a library to preload. Returns its path."""
     made = os.path.join(room, source.removesuffix(".c"))
     subprocess.run(["cc", "-O1", *options, "-o", made, os.path.join(HERE, source), "-ldl", "-lpthread"], check=True)
     return made
 
 
 def preloadable(room, source):
-    """The library of a C file, to run a program with."""
+    """Compiles a C file to a library that can be preloaded into a program."""
     return compiled(room, source, "-shared", "-fPIC")
 
 
@@ -84,7 +85,7 @@ def preloadable(room, source):
 
 
 def as_answer(status, lines):
-    """What the second reading says, in the form of `answer`."""
+    """An answer of the second reading, in the form of `answer`."""
     return status, "".join(f"{line}\n" for line in lines).encode(), b""
 
 
@@ -94,7 +95,7 @@ def due(capture, first_fault=False):
 
 
 def shown(answered):
-    """A wrong answer in short."""
+    """A wrong answer, in short."""
     status, out, err = answered
     return f"status {status}, {len(out)} bytes on standard output, {err[:80]!r} on standard error"
 
@@ -103,19 +104,20 @@ def shown(answered):
 
 
 def write_frames(path, *frames, header=HEADER):
-    """Writes the capture of these frames, or parts of frames."""
+    """Writes a capture of these byte strings: whole frames, or the bytes of a frame in several strings."""
     with open(path, "wb") as out:
         out.write(header)
         out.writelines(chain(*frames))
 
 
 def one_frame(path, direction, length, records, attachments=(0, ())):
-    """Writes a capture of one frame, whose parts come in pieces and are as long as is said."""
+    """Writes a capture of one frame. Its records and attachments are several byte strings, of these lengths
+    together."""
     write_frames(path, [frame_header(direction, 1, 1, 1, length, attachments[0])], records, attachments[1])
 
 
 def with_buffer(delivery, address):
-    """The transaction or reply with its buffer there."""
+    """The transaction or reply with its buffer at this address."""
     return delivery[:52] + u64(address) + delivery[60:]
 
 
@@ -132,9 +134,9 @@ FLAG = {"action": "store_true"}
 
 
 def check(judge, **options):
-    """A check from its command line to its status: `judge` gets what the line gives, a folder that is removed, and what
-    to tell failures to. The line may have these options, as argparse has them, and programs: where none is named
-    `given.programs` has the one that the gate left."""
+    """Runs a check, from its command line to its status. `judge` gets the parsed command line, a folder that is removed
+    afterwards, and a function that takes failures. The command line may have these options, in the form of argparse,
+    and programs. If it names no program, `given.programs` has the built one."""
     line = argparse.ArgumentParser(description=sys.modules["__main__"].__doc__, allow_abbrev=False,
                                    formatter_class=argparse.RawDescriptionHelpFormatter)
     line.add_argument("programs", metavar="PROGRAM", nargs="*", default=[BUILT])

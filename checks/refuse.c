@@ -1,7 +1,7 @@
 /* Refuses growths of a program's memory, for checks/refuse. Preloaded, it counts the calls of malloc, calloc, realloc
-   and their aligned forms, and refuses the one numbered REFUSE_AT or, with REFUSE_FROM, that one and all behind it. Each
-   refusal is a line in the file REFUSE_LOG, and so is each thread that was started. A line is written at once: a
-   program with threads may end without this library's end. */
+   and their aligned forms. It refuses call number REFUSE_AT, or, with REFUSE_FROM, that call and all later ones. Each
+   refusal adds a line to the file REFUSE_LOG, and so does each thread that is started. A line is written at once, since
+   a program with threads may end without running the end of this library. */
 #define _GNU_SOURCE
 #include <dlfcn.h>
 #include <errno.h>

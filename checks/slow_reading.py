@@ -1,17 +1,18 @@
 #!/usr/bin/env python3
 """A slow second reading of a capture, by the rules of the pages and nothing cleverer.
 
-    checks/slow_reading.py FILE...                 what `report` writes of the capture
-    checks/slow_reading.py --first-fault FILE...   what `first-fault` writes
+    checks/slow_reading.py FILE...                 prints what `report` writes about the capture
+    checks/slow_reading.py --first-fault FILE...   prints what `first-fault` writes
     checks/slow_reading.py --check FOLDER          compares the answers of the cases with its own
 
-Each of its rules stands in docs/ENVELOPE.md, docs/COMMANDS.md or docs/REPORT.md, and it shares no
-code with the auditor. It puts what belongs together into one list, goes through the lists and
-counts: it keeps no stack and no ledger, joins nothing, and takes some seconds for a million
-records. The status is 2 where the capture is malformed, and else 0.
+Each of its rules of the report is in docs/ENVELOPE.md, docs/COMMANDS.md or docs/REPORT.md, and it
+shares no code with the auditor. It puts what belongs together into one list, goes through the lists
+and counts. It has no stack, joins no sums, and takes some seconds for a million records. The status
+is 2 if the capture is malformed, 1 if --check finds a difference, 64 for another command line, and
+0 otherwise.
 
 FOLDER is crates/audit_cases. --check looks at the cases that have a capture and an answer about it.
-It is silent where all is well, else it names each case that differs, with status 1.
+If all is well it prints nothing. Otherwise it names each case that differs, with status 1.
 """
 
 import pathlib
@@ -21,7 +22,7 @@ from collections import Counter
 from itertools import accumulate
 from typing import NamedTuple
 
-# ---- the tables: by number, the payload sizes and the names that go with them
+# ---- the tables: for each number the payload sizes, and the name for each size
 
 COMMANDS = {
     0: {64: "BC_TRANSACTION"},
@@ -69,11 +70,11 @@ RETURNS = {
     20: {0: "BR_TRANSACTION_PENDING_FROZEN"},
 }
 
-# By direction: the letter of the codes, their direction bits where there is a payload, their table.
+# For each direction: the letter of the codes, their direction bits if there is a payload, their table.
 WRITE, READ = 1, 2
 DIRECTIONS = {WRITE: (ord("c"), 1, COMMANDS), READ: (ord("r"), 2, RETURNS)}
 
-# By sort: the name of the object in the report, and its length.
+# For each sort: the name of the object in the report, and its length.
 SORTS = {
     0x73622A85: ("binder", 24),
     0x77622A85: ("weak_binder", 24),
@@ -109,7 +110,7 @@ class PartFault(Exception):
 
 
 class Process(NamedTuple):
-    """A process is named by its device and its number, and so it stands in a row."""
+    """A process: its device and its number, as in a row."""
     device: int
     number: int
 
@@ -151,7 +152,7 @@ class Event(NamedTuple):
 
 
 def number(data, at, size):
-    """The number of so many bytes there, the lowest byte first."""
+    """The number in the `size` bytes there, the lowest byte first."""
     return int.from_bytes(data[at:at + size], "little")
 
 
@@ -189,7 +190,7 @@ VERSIONS = {b"BNDRCAP1": 1, b"BNDRCAP2": 2}
 
 
 def version_of(capture):
-    """The version that the file header tells."""
+    """The version in the file header."""
     if len(capture) < 16:
         raise Fault("HeaderShort", 0)
     if capture[:8] not in VERSIONS:
@@ -201,13 +202,13 @@ def version_of(capture):
     return VERSIONS[capture[:8]]
 
 
-# Sequence, process, thread, direction, reserved, command length, attachment length, and the device,
-# which version 1 has not: there the field is reserved too.
+# Sequence, process, thread, direction, reserved, command length, attachment length, device. In version
+# 1 the field of the device is reserved too.
 FRAME_HEADER = struct.Struct("<QIIB3sIII")
 
 
 def read_frame(capture, version, place, before):
-    """The frame that begins there, behind the frame before it, if there is one."""
+    """The frame that begins there. `before` is the frame before it, if there is one."""
     if place + 32 > len(capture):
         raise Fault("FrameShort", place)
     sequence, process, thread, direction, reserved, commands, attachments, device = (
@@ -227,7 +228,7 @@ def read_frame(capture, version, place, before):
 
 
 def kind_of(code, direction, place):
-    """The name of a code word in a frame of this direction; it stands at this place."""
+    """The name of a code word at this place, in a frame of this direction."""
     letter, bits, table = DIRECTIONS[direction]
     size = code >> 16 & 0x3FFF
     if code >> 8 & 0xFF != letter or code >> 30 != (bits if size else 0):
@@ -257,7 +258,7 @@ def read_records(frame):
 
 
 def read_entries(frame, records):
-    """The attachment entries of a frame, each by the offset of its record."""
+    """The attachment entries of a frame, by the offsets of their records."""
     if not frame.attachments:
         return {}
     owners = {record.offset: record for record in records
@@ -291,8 +292,7 @@ def events_of(frame):
 
 
 def read_part(part, before):
-    """The frames and the events of a part, which stands behind the frame before it, if there is
-    one."""
+    """The frames and the events of a part. `before` is the frame before it, if there is one."""
     version, place = version_of(part), 16
     frames, events = [], []
     while place < len(part):
@@ -304,7 +304,7 @@ def read_part(part, before):
 
 
 def moved(things, base):
-    """The frames or events, each so many bytes further on."""
+    """The frames or events, each this many bytes further on."""
     return [thing._replace(place=base + thing.place) for thing in things] if base else things
 
 
@@ -326,12 +326,12 @@ def read_parts(parts):
 
 
 def different(things):
-    """The different ones of these, each where it stands first."""
+    """These things without repetitions, each where it comes first."""
     return list(dict.fromkeys(things))
 
 
 def grouped(things, key):
-    """Of each key the list of the things that have it, in their order."""
+    """For each key the list of the things that have it, in their order."""
     groups = {}
     for thing in things:
         groups.setdefault(key(thing), []).append(thing)
@@ -377,7 +377,7 @@ def is_mark(event):
 
 
 def refused_sends(thread):
-    """Of each event of a thread the send that it tells to be refused; None where of none."""
+    """For each event of a thread the send that it reports as refused, or None."""
     sends, latest = [], None
     for event in thread:
         tells = (event.kind in ERROR_REPLIES and latest is not None
@@ -393,18 +393,18 @@ def is_opener(event):
 
 
 def is_closer(event, refused):
-    """Whether an event closes, which tells of this refused send or of none."""
+    """Whether an event closes a call. `refused` is the send that it reports as refused, or None."""
     return (event.kind in ("BR_REPLY", *SENT_REPLIES)
             or event.kind in ERROR_REPLIES and refused is None)
 
 
 def ends_of(openers, closers):
-    """Where each opener is closed: the first place up to which, the opener included, there are as
-    many closers as openers; None where there is none. The lists tell of each event of the thread
-    what it is.
+    """Where each opener is closed: the index of the first event at which the closers since the
+    opener are as many as the openers, the opener included; None if there is no such event. The lists
+    say for each event of the thread whether it is an opener, and whether it is a closer.
 
-    The height of a place is how many openers stand before it less how many closers. So an opener is
-    closed by the first event behind which the height is again what it was before the opener."""
+    The height at an event is the number of openers before it less the number of closers. So an opener
+    is closed by the first event after which the height is what it was before the opener."""
     steps = (opens - closes for opens, closes in zip(openers, closers))
     heights = list(accumulate(steps, initial=0))
     ends, first_behind = {}, {}
@@ -427,9 +427,9 @@ def verdict(opener, closer):
 
 class Calls(NamedTuple):
     """What became of the calls of all threads."""
-    judged: list  # of each opener the event, its verdict and its closer or None
+    judged: list  # for each opener: the event, its verdict, and its closer or None
     strays: list
-    refused: list  # of each refused send the event that tells of it, and the send
+    refused: list  # for each refused send: the event that reports it, and the send
 
 
 def calls_of_thread(thread):
@@ -460,7 +460,7 @@ def calls_of(events):
 
 
 def call_row(event, shown, verdict, closer):
-    """A row of `calls` or `served`; shown is the field that the two have different."""
+    """A row of `calls` or `served`. `shown` is the field in which the two sections differ."""
     return (f"  {event.place} {event.process} {event.thread} {shown} {transaction_code(event)}"
             f" {verdict} {'-' if closer is None else closer.place}")
 
@@ -500,8 +500,8 @@ def refused(found):
 
 
 def count(events, up, down):
-    """How many events of the one kind there are less those of the other, and the least that this
-    ever was, from the 0 at the begin on."""
+    """The number of events of kind `up` less those of kind `down`, and the least value that it ever
+    had, beginning with 0."""
     values = [0]
     for event in events:
         values.append(values[-1] + (event.kind == up) - (event.kind == down))
@@ -509,13 +509,13 @@ def count(events, up, down):
 
 
 def of_each_process(processes, events):
-    """Each of the processes, and with it those of the events that are its own."""
+    """Each of the processes, with its own events."""
     own = grouped(events, lambda event: event.process)
     return [(process, own.get(process, [])) for process in processes]
 
 
 def of_rising_keys(events, key):
-    """Each key of these events, rising, and with it the events that have it."""
+    """Each key of these events, in rising order, with the events that have it."""
     return sorted(grouped(events, key).items())
 
 
@@ -524,7 +524,7 @@ def handle_of(event):
 
 
 def held_by(deliveries):
-    """How many objects of each name that carry a handle these deliveries have, by the handle."""
+    """How many objects with a handle these deliveries have, by the name of the object and the handle."""
     held = Counter()
     for delivery in deliveries:
         if delivery.entry is not None:
@@ -572,18 +572,18 @@ def nodes(processes, events):
 
 
 class Ledger(NamedTuple):
-    """Records that open and close something by a key, of each process alone."""
+    """Records that open and close something by a key, each process for itself."""
     opens: tuple
     closes: tuple
-    key: object  # of an event, its key
+    key: object  # the function from an event to its key
 
     def of_each_key(self, events):
-        """The lists of those of these events that have one key in one process."""
+        """For each key in each process, the list of the events that have it."""
         ours = of_kind(events, *self.opens, *self.closes)
         return grouped(ours, lambda event: (event.process, self.key(event))).values()
 
     def outstanding(self, events):
-        """What is opened and has no later close of its key."""
+        """The opens without a later close of their key."""
         found = []
         for same in self.of_each_key(events):
             closes = [event.place for event in same if event.kind in self.closes]
@@ -591,7 +591,7 @@ class Ledger(NamedTuple):
         return by_place(found)
 
     def strays(self, events):
-        """The closes whose latest earlier event of their key is no open."""
+        """The closes whose latest earlier event of their key is not an open."""
         found = []
         for same in self.of_each_key(events):
             found += [event for before, event in zip([None, *same], same)
@@ -641,13 +641,14 @@ def frees(events):
 
 
 def last_places(events, key):
-    """Of each key the place of the last of these events that has it."""
+    """For each key the place of the last of these events that has it."""
     return {key(event): event.place for event in events}
 
 
 def requests(events):
-    """A request stands if nothing ends it behind it: a clear of its process with its handle and
-    cookie, which are the payload of both, or a death of its process with its cookie."""
+    """A request is standing if nothing after it ends it. It is ended by a clear in its process with
+    its handle and cookie, which are the payload of both, or by a death in its process with its
+    cookie."""
     made = of_kind(events, "BC_REQUEST_DEATH_NOTIFICATION")
     cleared = last_places(of_kind(events, "BC_CLEAR_DEATH_NOTIFICATION"),
                           lambda clear: (clear.process, clear.payload))
@@ -662,7 +663,7 @@ def requests(events):
 
 
 def open_and_stray(name, open_name, ledger, events):
-    """The section of a ledger whose open and stray ones stand in one list."""
+    """The section of a ledger that lists what is open and what is stray in one list."""
     outstanding, stray = ledger.outstanding(events), ledger.strays(events)
     told = [(event, open_name) for event in outstanding] + [(event, "stray") for event in stray]
     head = (f"{name} {len(of_kind(events, *ledger.opens))} {open_name} {len(outstanding)}"
@@ -683,7 +684,7 @@ def clears(events):
 
 
 def sizes(events):
-    """How many there are, and the sum of their data sizes."""
+    """The number of these events, and the sum of their data sizes."""
     return f"{len(events)} {sum(map(data_size, events))}"
 
 
@@ -705,7 +706,7 @@ def oneway(processes, events, found):
 
 
 def cause_of(body, end, offset):
-    """What makes the object at this offset bad, behind one that ends there; None of a good one."""
+    """What makes the object at this offset bad; None for a good one. The object before it ends at `end`."""
     if offset % 4 != 0:
         return "Misaligned"
     if offset < end:
@@ -720,8 +721,8 @@ def cause_of(body, end, offset):
 
 
 def objects_of(entry):
-    """The names and offsets of the good objects in front of the first bad one; and of that one the
-    index, the offset and the cause, or None."""
+    """The names and offsets of the good objects before the first bad one; and the index, the offset
+    and the cause of that one, or None."""
     if len(entry.listed) % 8 != 0:
         return [], (0, 0, "ListLength")
     good, end = [], 0
@@ -786,7 +787,7 @@ def report_of(frames, events):
 
 
 def reading_of_parts(parts, first_fault=False):
-    """The status and the lines that the auditor answers to a capture of these parts with."""
+    """The auditor's answer to a capture of these parts: its status and its lines."""
     try:
         frames, events = read_parts(parts)
     except PartFault as fault:
@@ -797,19 +798,19 @@ def reading_of_parts(parts, first_fault=False):
 
 
 def reading(capture, first_fault=False):
-    """The same of a capture, which is a single part."""
+    """The same for a capture of one part."""
     return reading_of_parts([capture], first_fault)
 
 
 def cases(folder):
-    """The cases of the folder: of each its line and the answer that is stored."""
+    """The cases of the folder, each with its line and the stored answer."""
     for case in (folder / "stdout").read_text().removeprefix(">").split("\n>"):
         line, _, answer = case.partition("\n")
         yield line.removeprefix(" "), answer.rstrip("\n").split("\n")
 
 
 def differences(folder):
-    """The lines of the cases whose stored answer about a capture is another one than here."""
+    """The lines of the cases whose stored answer about a capture differs from the one here."""
     for line, answer in cases(folder):
         words = line.split("\t")
         if answer[0] in ("status 0", "status 2"):

@@ -1,5 +1,5 @@
-/* Tells how large the stacks of a program's threads are, for checks/load. Preloaded, it writes into the file STACKS_LOG
-   a line for each thread that is started: the size of its stack in bytes. */
+/* Records how large the stacks of a program's threads are, for checks/load. Preloaded, it adds a line to the file
+   STACKS_LOG for each thread that is started: the size of its stack in bytes. */
 #define _GNU_SOURCE
 #include <dlfcn.h>
 #include <errno.h>

@@ -1,12 +1,13 @@
 #!/usr/bin/env python3
-"""A large capture of made-up traffic, as checks/limits and checks/load need.
+"""A large capture of made-up traffic, for checks/limits, checks/load and others.
 
-    checks/traffic.py BYTES FILE [DEVICES]    writes into the file a capture of at most so many bytes
+    checks/traffic.py BYTES FILE [DEVICES]    writes a capture of at most this many bytes into the file
 
-Where more devices than one are asked for the capture is one of version 2, and each conversation is of one device. Forty processes of eight threads each talk to one another: calls, some of them served within others, oneway
-transactions, attachments, buffers that are freed or forgotten, references to handles and nodes, requests to be told of
-a death with their clears and deaths, a few error replies, bad objects, unknown flags and gaps in the sequences. The
-same numbers give the same capture. `captures.py` has the frames and records.
+If more than one device is asked for, the capture has version 2, and each conversation is on one device. Forty processes
+of eight threads each talk to one another: calls, some of them served within others, oneway transactions, attachments,
+buffers that are freed or forgotten, references to handles and nodes, requests for death notifications with their clears
+and deaths, a few error replies, bad objects, unknown flags and gaps in the sequences. The same numbers give the same
+capture. `captures.py` has the frames and records.
 """
 
 import random
@@ -23,7 +24,7 @@ OBJECTS = (BINDER, WEAK_BINDER, HANDLE, HANDLE, HANDLE, HANDLE, WEAK_HANDLE, FD,
 
 
 class World:
-    """The threads that do nothing, and the buffers of each device that may be delivered into."""
+    """The idle threads, and the buffers of each device that are free for deliveries."""
 
     def __init__(self, devices):
         self.random = random.Random(1)
@@ -34,14 +35,14 @@ class World:
         self.next_buffer = [[0x7000_0000_0000] * PROCESSES for _ in range(devices)]
 
     def device(self):
-        """The device of a new conversation. Of one device nothing is drawn, so that its traffic stays what it is."""
+        """The device of a new conversation. For one device nothing is drawn, so that its traffic does not change."""
         return self.random.randrange(self.devices) if self.devices > 1 else 0
 
     def often(self, thousandths):
         return self.random.random() * 1000 < thousandths
 
     def thread(self, but=None):
-        """A thread that does nothing, of another process than `but`; None where none is found at once."""
+        """An idle thread of another process than `but`; None if none is found quickly."""
         for _ in range(8):
             if self.idle:
                 at = self.random.randrange(len(self.idle))
@@ -70,21 +71,21 @@ class World:
         return known | 0x100 if self.often(1) else known
 
     def free(self, device, process, buffer):
-        """The record that frees a buffer, but for two in a thousand that stay."""
+        """The record that frees a buffer; for two in a thousand there is none."""
         if self.often(2):
             return []
         self.buffers[device][process].append(buffer)
         return each_long(BC_FREE_BUFFER, buffer)
 
     def references(self):
-        """Now and then a write takes a reference to a handle or lets one go."""
+        """The records by which a write now and then takes a reference to a handle or lets one go."""
         if not self.often(300):
             return []
         return each(self.random.choice(self.random.choice(REFERENCES)), self.random.randrange(120))
 
 
 def shown(world, records, kind, data, **fields):
-    """The records and behind them a transaction of this data, which the frame mostly shows: its entry besides."""
+    """The records and after them a transaction of this data; and mostly its attachment entry."""
     body, listed = data
     at = sum(map(len, records))
     records = records + [transaction(kind, sizes=(len(body), len(listed)), **fields)]
@@ -92,7 +93,7 @@ def shown(world, records, kind, data, **fields):
 
 
 def call(world, device, client, depth=0):
-    """The frames of a call and its reply: the direction, the thread, the records and the entries of each."""
+    """The frames of a call and its reply. Each has the direction, the thread, the records and the entries."""
     target, code = world.random.randrange(40), world.random.randint(1, 60)
     data = world.data()
     kind = BC_TRANSACTION_SG if world.often(50) else BC_TRANSACTION
@@ -143,7 +144,7 @@ def oneway_call(world, device, client):
 
 
 def death(world, _, client):
-    """The frames of a request to be told of a death: it is told of, taken back, or stands."""
+    """The frames of a request for a death notification. The death comes, or the request is taken back or stays."""
     handle, cookie = world.random.randrange(120), 0x9000 + 8 * world.random.randrange(4000)
     yield 1, client, [watch(BC_REQUEST_DEATH_NOTIFICATION, handle, cookie)], []
     if world.often(300):
@@ -155,7 +156,7 @@ def death(world, _, client):
 
 
 def begun(world):
-    """What a thread does next, and on which device, and the thread; None where none is free."""
+    """What a thread does next, the device, and the thread; None if no thread is idle."""
     client = world.thread()
     if client is None:
         return None
@@ -164,7 +165,7 @@ def begun(world):
 
 
 def frames(devices):
-    """Frames without end, of many conversations at once."""
+    """Frames without end, of many conversations at the same time."""
     world, open_now, sequence = World(devices), [], 0
     while True:
         while len(open_now) < AT_ONCE and (new := begun(world)) is not None:
@@ -184,7 +185,7 @@ def frames(devices):
 
 
 def write_traffic(path, most, devices=1):
-    """Writes a capture of at most so many bytes, and gives the number of frames."""
+    """Writes a capture of at most this many bytes, and returns the number of frames."""
     with open(path, "wb") as out:
         length, count = out.write(HEADER if devices == 1 else HEADER_2), 0
         for one in frames(devices):

@@ -1,12 +1,12 @@
 #!/usr/bin/env bash
-# Builds the recorder into a folder: a static program, `record`.
+# Builds the recorder into a folder, as a static program `record`.
 #
 #     recorder/build.sh [--sanitize] [--machine MACHINE] FOLDER
 #
-# With --sanitize it is a dynamic one under the address and undefined-behaviour sanitizers, which end it at a fault. MACHINE
-# is x86_64 or aarch64, the one that it is built on where it is absent; CC is then to name a compiler for it that finds the
-# libraries. CC is gcc where it is absent. It wants clang, bpftool, libbpf-dev, libelf-dev, zlib1g-dev and the kernel's
-# headers for programs.
+# With --sanitize the program is dynamic, and runs under the address and undefined-behaviour sanitizers, which end it at
+# a fault. MACHINE is x86_64 or aarch64; by default it is this machine. For another machine CC must name a compiler for
+# it that finds the libraries; by default CC is gcc. The build needs clang, bpftool, libbpf-dev, libelf-dev, zlib1g-dev
+# and the kernel's headers for programs.
 set -euo pipefail
 
 here=$(dirname -- "$(readlink -f -- "${BASH_SOURCE[0]}")")

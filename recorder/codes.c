@@ -16,7 +16,7 @@ static const u32 returns_known[] = {
 	BR_ONEWAY_SPAM_SUSPECT,
 };
 
-/* A number that is listed has a size that is listed; any size goes with another number. */
+/* A number that is listed must have a listed size; any other number may have any size. */
 static int is_listed_or_opaque(u32 word, const u32 *known, size_t count)
 {
 	int is_number = 0;

@@ -1,4 +1,4 @@
-/* Which code words the driver knows: docs/COMMANDS.md has them. */
+/* Which code words the driver knows; docs/COMMANDS.md lists them. */
 #ifndef RECORDER_CODES_H
 #define RECORDER_CODES_H
 #include "common.h"

@@ -3,16 +3,16 @@
 #define RECORDER_COPY_BPF_H
 #include "state.bpf.h"
 
-/* Memory that a thread used a moment ago can be away for some time, as while the kernel puts small pages together. A
- * program here can't wait for it: it tries again, up to so many times. */
+/* Memory that a thread used a moment ago can be away for some time, for example while the kernel merges small pages. A
+ * program here can't wait for it; it tries again, up to this many times. */
 #define TRIES 1000
 #define CODE_WORD 4u
-#define DATA_AT 32u		/* where data_size stands in a transaction; offsets_size, buffer and offsets follow */
+#define DATA_AT 32u		/* where data_size is in a transaction; offsets_size, buffer and offsets follow */
 #define TRANSACTION_BYTES 64u
 #define ENTRY_HEAD 12u
 
-/* Copies memory of the process. On arm64 the topmost byte of an address can be a tag, with which some kernels take an
- * address for none of a process: then it is read without. */
+/* Copies memory of the process. On arm64 the topmost byte of an address can be a tag. Some kernels do not accept such
+ * an address as one of a process, so it is then read without the tag. */
 static __always_inline long read_memory(void *to, u64 bytes, u64 from)
 {
 	long failed = bpf_probe_read_user(to, bytes, (void *)from);
@@ -43,7 +43,7 @@ static long try_call(u32 i, void *unused)
 	return s->failed == 0;
 }
 
-/* Copies the binder_write_read at `call` into the scratch. Gives 0 where it could be read. */
+/* Copies the binder_write_read at `call` into the scratch. Returns 0 if it could be read. */
 static __noinline int read_call(u64 call)
 {
 	struct scratch *s = scratch();
@@ -56,7 +56,7 @@ static __noinline int read_call(u64 call)
 	return s->failed != 0;
 }
 
-/* One piece of an attachment that is too large to go with its frame. */
+/* Copies one piece of an attachment that is too large to go with its frame. */
 static long copy_piece(u32 i, void *unused)
 {
 	struct scratch *s = scratch();
@@ -98,7 +98,7 @@ static long copy_piece(u32 i, void *unused)
 	return l->failed != 0;
 }
 
-/* The large attachment of the scratch, in pieces. Gives 0, or why not all of it went. */
+/* Copies the large attachment of the scratch, in pieces. Returns 0, or the reason why some of it is missing. */
 static __noinline int copy_large(void)
 {
 	struct scratch *s = scratch();
@@ -117,7 +117,7 @@ struct place {
 	u64 data, offsets, data_from, offsets_from;
 };
 
-/* Keeps in mind an attachment that is not there at entry: the driver will fault it in. */
+/* Remembers an attachment whose memory is not there at entry: the driver will fault it in. */
 static __always_inline int remember_late(struct place *place, u32 record)
 {
 	u32 id = bpf_get_current_pid_tgid();
@@ -134,7 +134,7 @@ static __always_inline int remember_late(struct place *place, u32 record)
 	return 1;
 }
 
-/* Puts the attachment of the record at `at` behind the commands of the chunk. Gives 0, or why there is no entry. */
+/* Puts the attachment of the record at `at` after the commands of the chunk. Returns 0, or why there is no entry. */
 static __always_inline int attach(struct scratch *s, struct walk *w, struct place *place, u32 at)
 {
 	u32 data = place->data, offsets = place->offsets, end = w->end;
@@ -175,10 +175,10 @@ static __always_inline int has_data(u32 direction, u32 number)
 {
 	if (direction == DIRECTION_WRITE)
 		return number == 0 || number == 1 || number == 17 || number == 18;	/* BC_TRANSACTION, BC_REPLY, both with _SG */
-	return number == 2 || number == 3;	/* BR_TRANSACTION, with a security context too, and BR_REPLY */
+	return number == 2 || number == 3;	/* BR_TRANSACTION, also with a security context, and BR_REPLY */
 }
 
-/* One record of the chunk. Ends the walk before a record that the chunk has not whole. */
+/* Walks over one record of the chunk. Ends the walk before a record that is not whole in the chunk. */
 static long copy_record(u32 i, void *unused)
 {
 	struct scratch *s = scratch();
@@ -207,7 +207,7 @@ static long copy_record(u32 i, void *unused)
 	return 0;
 }
 
-/* Copies page by page what can be read of the chunk. Gives how many bytes that are. */
+/* Copies what can be read of the chunk, page by page. Returns how many bytes that is. */
 static __always_inline u32 read_pages(struct scratch *s, u64 from, u32 length)
 {
 	u32 got = 0, i;
@@ -225,7 +225,7 @@ static __always_inline u32 read_pages(struct scratch *s, u64 from, u32 length)
 	return got;
 }
 
-/* Copies up to CHUNK bytes of the frame, and of a last chunk of a write what is beyond its end too. */
+/* Copies up to CHUNK bytes of the frame; for the last chunk of a write also the bytes beyond its end. */
 static __always_inline void read_chunk(struct scratch *s, struct walk *w)
 {
 	u32 bytes = w->left > CHUNK ? CHUNK : w->left;
@@ -239,7 +239,7 @@ static __always_inline void read_chunk(struct scratch *s, struct walk *w)
 	w->have = bytes;
 	s->from = w->from;
 	s->length = bytes;
-	if (beyond) {			/* what is beyond may be on a page that is not there */
+	if (beyond) {			/* the bytes beyond may be on a page that is not there */
 		u64 over = -(u32)(w->from + bytes) & 4095;
 		if (over < beyond) {
 			w->have = bytes + over;
@@ -260,7 +260,7 @@ static __always_inline void read_chunk(struct scratch *s, struct walk *w)
 		w->bytes = w->have;
 }
 
-/* Copies one chunk of the frame, and the attachments of its records, and hands it over. */
+/* Copies one chunk of the frame with the attachments of its records, and puts it into the ring. */
 static long copy_chunk(u32 i, void *unused)
 {
 	struct scratch *s = scratch();
@@ -298,10 +298,10 @@ static long copy_chunk(u32 i, void *unused)
 	return 0;
 }
 
-/* Besides a direction: the driver is through with the write already. */
+/* A flag besides the direction: the driver has already finished the write. */
 #define IS_LATE 0x100u
 
-/* Copies the commands at `from`, and their attachments, and hands them over. Gives 0, or why the frame is lost. */
+/* Copies the commands at `from` and their attachments into the ring. Returns 0, or why the frame is lost. */
 static __noinline int capture(struct thread *t, u64 from, u64 bytes, u64 number, u32 which)
 {
 	struct scratch *s = scratch();

@@ -13,7 +13,7 @@
 #define MOST_NAME_BYTES 128u
 
 static const char *const folders[] = { "/dev", "/dev/binderfs" };
-static const char *const driver_names[] = {	/* of the devices that the driver makes without binderfs */
+static const char *const driver_names[] = {	/* name the devices that the driver makes without binderfs */
 	"/sys/module/binder_linux/parameters/devices",
 	"/sys/module/binder/parameters/devices",
 };
@@ -33,7 +33,7 @@ static u32 number_of(const struct stat *status)
 	return S_ISCHR(status->st_mode) ? major(status->st_rdev) << MINOR_BITS | minor(status->st_rdev) : 0;
 }
 
-/* Sysfs names all devices but those of binderfs. */
+/* Sysfs has the names of all devices except those of binderfs. */
 static int name_in_sysfs(u32 device, char *name)
 {
 	char path[80], line[MOST_NAME_BYTES + 16];
@@ -75,7 +75,7 @@ static int is_in_binderfs(const char *path)
 	return !statfs(path, &status) && status.f_type == BINDERFS_SUPER_MAGIC;
 }
 
-/* Whether the first line of the file, words with commas between, has the name. */
+/* Whether the first line of the file has the name; its words are separated by commas. */
 static int has_word(const char *path, const char *name)
 {
 	char line[4096];
@@ -95,7 +95,7 @@ static int is_made_by_driver(u32 device)
 	return name_in_sysfs(device, name) && (has_word(driver_names[0], name) || has_word(driver_names[1], name));
 }
 
-/* The number of a Binder device, or 0. */
+/* The number of the Binder device at this path; 0 if it is not one. */
 static u32 binder_device(const char *path)
 {
 	struct stat status;

@@ -5,8 +5,8 @@
 
 u32 device_major(u32 device);
 u32 device_minor(u32 device);
-/* The number of a Binder device by its path, or by its name in /dev or /dev/binderfs; 0 where there is none. */
+/* The number of a Binder device, given its path or its name in /dev or /dev/binderfs; 0 if there is none. */
 u32 device_by_name(const char *name);
-/* Writes the device's name into `name`, which has CLEAN_NAME_BYTES; a question mark where it has none. */
+/* Writes the device's name into `name`, which has CLEAN_NAME_BYTES; a question mark if it has none. */
 void device_name(u32 device, char *name);
 #endif

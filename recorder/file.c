@@ -34,7 +34,7 @@ void file_drop(struct file *file, int error)
 	file->waiting_bytes = 0;
 }
 
-/* After a write that failed the file ends where the last flush ended: so no frame in it is cut. */
+/* After a failed write the file ends where the last flush ended, so that no frame in it is cut. */
 static int cut_off(struct file *file, int error)
 {
 	file_drop(file, error);

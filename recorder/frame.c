@@ -39,7 +39,7 @@ void frame_free(struct frame *frame)
 	free(frame);
 }
 
-/* The entry of the record: a new and empty one, in the place of one that was there. */
+/* Makes a new, empty entry for the record. It replaces an entry that the record has. */
 static struct entry *new_entry(struct frame *frame, u32 record, u32 data, u32 offsets)
 {
 	struct entry **place = &frame->entries, *old;
@@ -133,7 +133,7 @@ static int is_whole(const struct entry *entry, u64 consumed)
 	return entry->record < consumed && entry->got == (u64)entry->data + entry->offsets;
 }
 
-/* The payload of a record says how large its attachment is. */
+/* Whether the attachment has the sizes that the payload of its record says. */
 static int fits_record(const struct frame *frame, const struct entry *entry)
 {
 	u64 sizes[2];

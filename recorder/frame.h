@@ -1,4 +1,4 @@
-/* A frame that is put together from its messages, and written into the capture. */
+/* A frame: it is put together from its messages, and written into the capture. */
 #ifndef RECORDER_FRAME_H
 #define RECORDER_FRAME_H
 #include "common.h"
@@ -9,11 +9,11 @@
 struct entry {
 	struct entry *next;
 	u32 record, data, offsets;
-	u64 got;			/* how many of its bytes are there */
+	u64 got;			/* how many of its bytes have come */
 	u8 bytes[];
 };
 
-/* What the side list says of a record: that its entry was read late, or why there is none. */
+/* What the side list says of a record: that its entry was read late, or why there is no entry. */
 struct note {
 	struct note *next;
 	u32 record, reason;		/* REASON_NONE: read late */
@@ -35,12 +35,12 @@ struct frame {
 
 struct frame *frame_make(u64 number);
 void frame_free(struct frame *frame);
-/* Adds a chunk. Gives 1 where it is the last one of its frame. */
+/* Adds a chunk. Returns 1 if it is the last one of its frame. */
 int frame_add_chunk(struct frame *frame, const struct chunk *chunk);
 void frame_add_piece(struct frame *frame, const struct piece *piece);
 void frame_add_note(struct frame *frame, u32 record, u32 reason);
-/* Writes the first `consumed` bytes and their entries, and the lines of the side list. Gives REASON_NONE, or why the frame
- * is lost; then nothing is written. */
+/* Writes the first `consumed` bytes and their entries, and the lines of the side list. Returns REASON_NONE, or why the
+ * frame is lost; then nothing is written. */
 enum reason frame_write(struct frame *frame, u64 consumed);
 /* How many entries were written in all frames. */
 u64 frame_entries_written(void);

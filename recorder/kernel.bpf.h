@@ -1,4 +1,4 @@
-/* The kernel's structures, no more of them than is read. libbpf finds the places of the fields by BTF. */
+/* The kernel's structures, with only the fields that are read. libbpf finds the offsets of the fields through BTF. */
 #ifndef RECORDER_KERNEL_BPF_H
 #define RECORDER_KERNEL_BPF_H
 #include <linux/types.h>

@@ -15,7 +15,7 @@ static struct record *program;
 static struct bpf_link *opens, *releases;
 static char last_words[512];
 
-/* Keeps the first line that libbpf says of a failure, for the line that the user gets. */
+/* Keeps the first line that libbpf writes about a failure, for the message to the user. */
 static int keep_words(enum libbpf_print_level level, const char *format, va_list arguments)
 {
 	if (level == LIBBPF_WARN && !last_words[0]) {
@@ -61,13 +61,13 @@ static void name_wanted(const struct options *options)
 	}
 }
 
-/* Without these two the beginnings and ends of openings are not seen, and all else is. */
+/* Without these two the beginnings and ends of openings are not seen; everything else is. */
 static void attach_probes(void)
 {
 	opens = bpf_program__attach(program->progs.at_open);
 	releases = bpf_program__attach(program->progs.at_release);
 	if (!opens || !releases)
-		complain("no kprobes: where openings begin and end is not seen");
+		complain("no kprobes: the beginnings and ends of openings are not recorded");
 }
 
 void kernel_load(const struct options *options, struct ring *ring)
@@ -103,7 +103,7 @@ void kernel_meet_openings(void)
 	while (descriptor >= 0 && (bytes = read(descriptor, &met, sizeof met)) == (ssize_t)sizeof met)
 		names_opening(met.opening, now(), (u32)met.device, (u32)met.process, met.start, met.name, MET_IN_MID_LIFE);
 	if (descriptor < 0 || bytes < 0)
-		complain("the openings that are there already could not be looked up: they are met at their first call");
+		complain("the openings that exist already could not be looked up: each is met at its first call");
 	if (descriptor >= 0)
 		close(descriptor);
 	bpf_link__destroy(link);

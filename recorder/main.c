@@ -20,7 +20,7 @@
 #define TELL_EVERY (1000u * MILLISECOND)
 #define LOOK_EVERY (2u * MILLISECOND)
 #define FEW_MESSAGES 256
-#define LAST_WAIT (1000u * MILLISECOND)		/* for writes that the driver is not through with */
+#define LAST_WAIT (1000u * MILLISECOND)		/* for writes that the driver has not finished */
 
 static volatile sig_atomic_t signal_got;
 
@@ -34,7 +34,7 @@ static void catch_signals(void)
 	struct sigaction action = { .sa_handler = on_signal }, before;
 	sigaction(SIGINT, &action, NULL);
 	sigaction(SIGTERM, &action, NULL);
-	if (!sigaction(SIGHUP, NULL, &before) && before.sa_handler != SIG_IGN)	/* as under nohup */
+	if (!sigaction(SIGHUP, NULL, &before) && before.sa_handler != SIG_IGN)	/* nohup ignores it */
 		sigaction(SIGHUP, &action, NULL);
 	signal(SIGPIPE, SIG_IGN);
 }
@@ -45,7 +45,7 @@ static void pause_for(u64 nanoseconds)
 	nanosleep(&time, NULL);
 }
 
-/* The line of the side list that says that the recording has begun. */
+/* Writes the line of the side list that says that the recording has begun. */
 static void tell_begin(void)
 {
 	struct utsname name;
@@ -55,7 +55,7 @@ static void tell_begin(void)
 	side_line(now(), "begin realtime=%lld%09ld kernel=%s machine=%s", (long long)wall.tv_sec, wall.tv_nsec, name.release, name.machine);
 }
 
-/* Makes the files, or ends: then neither is left. */
+/* Creates the files, or ends; then no file is left. */
 static void create_files(const struct options *options)
 {
 	int error = side_create(options->out);
@@ -76,7 +76,7 @@ static void create_files(const struct options *options)
 	}
 }
 
-/* Takes what is in the ring. Gives how many messages that were. */
+/* Takes what is in the ring. Returns how many messages that was. */
 static long take(struct ring *ring)
 {
 	u64 bound = kernel_bound();
@@ -93,7 +93,7 @@ static void tell_progress(void)
 		(unsigned long long)window_lost(), (double)parts_bytes() / 1e6);
 }
 
-/* Records until the program ends or a signal comes. Gives 0, or the errno of a write that failed. */
+/* Records until the program ends or a signal comes. Returns 0, or the errno of a write that failed. */
 static int record(struct ring *ring)
 {
 	int is_terminal = isatty(STDERR_FILENO), error = 0;
@@ -119,7 +119,7 @@ static int record(struct ring *ring)
 	return error;
 }
 
-/* Takes what still comes: the writes of calls that are in the driver. */
+/* Takes what still comes, from calls that are in the driver. */
 static void finish(struct ring *ring)
 {
 	u64 began = now();
@@ -158,7 +158,7 @@ static void add_count(char *text, size_t room, const char *what, u64 count)
 		snprintf(text + used, room - used, "; %s %llu", what, (unsigned long long)count);
 }
 
-/* The last line: what came about, and the command that comes next. */
+/* Writes the last line: the result, and the command to run next. */
 static void tell_end(const char *audit)
 {
 	static char commands[65536];
@@ -173,7 +173,7 @@ static void tell_end(const char *audit)
 		(unsigned long long)parts_bytes(), commands);
 }
 
-/* The auditor stands beside the script that was called. */
+/* The auditor is in the folder of the script that was called. */
 static const char *audit_beside(const char *self)
 {
 	static char path[4100];
@@ -182,12 +182,12 @@ static const char *audit_beside(const char *self)
 	return path;
 }
 
-/* The program goes on after a recording that a signal ended. A second signal ends the wait. */
+/* After a signal has ended the recording, the program goes on. A second signal ends the wait for it. */
 static int wait_for_program(void)
 {
 	if (program_has_ended())
 		return program_status();
-	complain("the recording has ended, and the program goes on: its end is waited for");
+	complain("the recording has ended; waiting for the program, which goes on");
 	signal_got = 0;
 	while (!program_has_ended() && !signal_got)
 		program_wait();
@@ -201,7 +201,7 @@ int main(int count, char **words)
 	options_read(&options, count, words);
 	const char *path = parts_in_the_way(options.out);
 	if (path)
-		fail("%s is there already, and is not written over", path);
+		fail("%s exists already, and is not overwritten", path);
 	need_capabilities();
 	need_kernel();
 	need_no_lockdown();

@@ -1,4 +1,4 @@
-/* The messages in the ring: what the BPF program tells the loader. Each begins with struct message. */
+/* The messages in the ring, from the BPF program to the loader. Each begins with struct message. */
 #ifndef RECORDER_MESSAGES_H
 #define RECORDER_MESSAGES_H
 
@@ -8,14 +8,14 @@
 #define MOST_CPUS 512u
 #define NAME_BYTES 16u
 
-/* The driver takes a last command that passes write_size. The longest one, BC_TRANSACTION_SG, may have all but its
- * first byte there: 4 + 72 - 1 bytes. */
+/* The driver takes a last command that goes past write_size. The longest command, BC_TRANSACTION_SG, may have all bytes
+ * but its first one there: 4 + 72 - 1 bytes. */
 #define BEYOND_END 76u
 
 enum message_type {
-	MESSAGE_CHUNK = 1,	/* commands of a frame and their whole entries; a write waits for its MESSAGE_WRITTEN */
+	MESSAGE_CHUNK = 1,	/* commands of a frame with their whole entries; a write waits for MESSAGE_WRITTEN */
 	MESSAGE_PIECE,		/* bytes of a large attachment */
-	MESSAGE_WRITTEN,	/* the driver is through with a write: of its bytes it consumed `a` */
+	MESSAGE_WRITTEN,	/* the driver has finished a write, and consumed `a` of its bytes */
 	MESSAGE_LOST,		/* the number goes unused, for reason `a` */
 	MESSAGE_UNATTACHED,	/* the record at `b` of the frame has no entry, for reason `a` */
 	MESSAGE_LATE,		/* the entry of the record at `b` was read after the driver had taken it */
@@ -34,11 +34,11 @@ enum reason {
 	REASON_TOO_LARGE,
 	REASON_UNREADABLE,	/* the commands or the data could not be read */
 	REASON_RING_FULL,
-	REASON_EFAULT,		/* it can't be told what the driver consumed */
-	REASON_OTHER_MEMORY,	/* the caller's memory is not that in which the device is mapped */
+	REASON_EFAULT,		/* it is not known what the driver consumed */
+	REASON_OTHER_MEMORY,	/* the device is not mapped in the caller's memory */
 	REASON_BROKEN,		/* the records do not fill the bytes exactly */
-	REASON_IN_FLIGHT,	/* the driver was not through with the write when the recording ended */
-	REASON_HELD_TOO_LONG,	/* the driver was not through with the write for too long: later frames could not wait */
+	REASON_IN_FLIGHT,	/* the driver had not finished the write when the recording ended */
+	REASON_HELD_TOO_LONG,	/* the driver took too long for the write: later frames had to wait */
 	REASON_FILE_TOO_SMALL,	/* the frame is larger than a file may be */
 	REASON_NOT_WRITTEN,	/* the disk had no room */
 	REASON_END,
@@ -48,24 +48,24 @@ enum direction { DIRECTION_WRITE = 1, DIRECTION_READ = 2 };
 
 struct message {
 	unsigned int type, direction;
-	unsigned long long number;	/* of the frame; in messages of no frame the last number taken before them */
+	unsigned long long number;	/* of the frame; without a frame the last number taken before the message */
 	unsigned long long time;	/* CLOCK_MONOTONIC, nanoseconds */
-	unsigned int opening, thread;	/* numbers of the BPF program's own, never used twice */
+	unsigned int opening, thread;	/* numbers that the BPF program gives, never twice */
 };
 
 struct chunk {
 	struct message head;
 	unsigned int commands, entries;	/* how many bytes of both follow, in this order */
-	unsigned int base;		/* where the commands stand in the frame */
-	unsigned int next;		/* where the next chunk begins; 0: this is the last one */
-	unsigned int late, unused;	/* 1: read after the driver had taken them; chunks before are to be forgotten */
+	unsigned int base;		/* where the commands begin in the frame */
+	unsigned int next;		/* where the next chunk begins; 0 if this is the last one */
+	unsigned int late, unused;	/* late: 1 if read after the driver took them; earlier chunks are void then */
 };
 
 struct piece {
 	struct message head;
 	unsigned int record;		/* where the record begins in the frame */
 	unsigned int data, offsets;	/* the two sizes of the attachment */
-	unsigned int at, bytes;		/* where the bytes that follow stand, data and offsets put together */
+	unsigned int at, bytes;		/* where the bytes that follow begin, in data and offsets together */
 	unsigned int unused;
 };
 
@@ -75,7 +75,7 @@ struct event {
 	char name[NAME_BYTES];
 };
 
-/* What the iterator over open files writes: an opening that was there before the recording. */
+/* What the iterator over open files writes: an opening from before the recording. */
 struct met_opening {
 	unsigned long long process, device, start;
 	unsigned int opening, unused;

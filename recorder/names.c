@@ -6,7 +6,7 @@
 #include <stdlib.h>
 #include <string.h>
 
-/* Linux gives ids below this number alone. Those that would mean two things get numbers from here on. */
+/* Linux gives only ids below this number. An id that would mean two things is replaced by a number from here on. */
 #define FIRST_OWN_NUMBER 4194304u
 
 struct known_opening {
@@ -22,7 +22,7 @@ struct known_thread {
 	u32 id, process_id;
 	u64 start;
 	char name[NAME_BYTES];
-	u32 *openings, opening_count;	/* those that it has a number for */
+	u32 *openings, opening_count;	/* the openings for which it has a number */
 };
 
 static struct known_opening *openings;
@@ -30,9 +30,9 @@ static struct known_thread *threads;
 static u32 opening_room, thread_room;
 static u32 *devices, device_count;
 static u32 next_own_number = FIRST_OWN_NUMBER;
-static struct table process_numbers;	/* of device and number: 1 where it is used */
-static struct table thread_numbers;	/* of device, process and number: 1 where it is used */
-static struct table threads_of;		/* of opening and thread: the number in the capture, and 1 */
+static struct table process_numbers;	/* by device and number: 1 if the number is used */
+static struct table thread_numbers;	/* by device, process and number: 1 if the number is used */
+static struct table threads_of;		/* by opening and thread: the number in the capture, plus 1 */
 
 static struct known_opening *opening_of(u32 opening)
 {
@@ -94,7 +94,7 @@ static u32 device_number(u32 system_device, u64 time)
 	return device_count++;
 }
 
-/* The wanted number where it stands for nothing else yet, or one of the recorder's own. */
+/* The wanted number if it means nothing else yet, or one of the recorder's own. */
 static u32 free_number(struct table *used, u64 key, u32 wanted, int is_usable)
 {
 	u64 *taken = table_make(used, key, wanted);
@@ -148,7 +148,7 @@ void names_closed(u32 opening, u64 time, u64 after)
 		later_line(time, after, "end opening %u %u after=%llu", o->device, o->process, (unsigned long long)after);
 }
 
-/* Ends the thread's number for the opening: its next call gets another one. */
+/* Ends the thread's number for the opening. The next call of the thread gets another number. */
 static void end_number(u32 opening, u32 thread, u64 time, u64 after, const char *why)
 {
 	struct known_opening *o = opening_of(opening);

@@ -1,10 +1,10 @@
-/* The numbers that devices, processes and threads have in the capture, and their lines in the side list. */
+/* The numbers of devices, processes and threads in the capture, and their lines in the side list. */
 #ifndef RECORDER_NAMES_H
 #define RECORDER_NAMES_H
 #include "common.h"
 #include "messages.h"
 
-/* Where a frame stands in the capture. */
+/* Whose a frame is, in the numbers of the capture. */
 struct who {
 	u32 device, process, thread;
 };
@@ -14,13 +14,13 @@ enum met { MET_FROM_START, MET_IN_MID_LIFE };
 
 void names_opening(u32 opening, u64 time, u32 device, u32 process, u64 start, const char *name, enum met met);
 void names_thread(u32 thread, u32 id, u32 process, u64 start, const char *name);
-/* The numbers of a thread that calls through an opening. New ones get their lines. */
+/* The numbers of a thread that calls through an opening. New numbers get their lines in the side list. */
 struct who names_of(u32 opening, u32 thread, u64 time);
-/* What ended, or has another name, with the last number before that. */
+/* Something ended, or has another name; `after` is the last number before that. */
 void names_closed(u32 opening, u64 time, u64 after);
 void names_left(u32 opening, u32 thread, u64 time, u64 after);
 void names_ended(u32 thread, u32 process, int is_last, u64 time, u64 after);
 void names_changed(u32 thread, const char *name, u64 time, u64 after);
-/* A line of something that came after a number: it is written as soon as that number is settled. */
+/* A line about something that came after a number. It is written as soon as that number is settled. */
 void later_line(u64 time, u64 after, const char *format, ...) __attribute__((format(printf, 3, 4)));
 #endif

@@ -7,7 +7,7 @@
 #include <sys/utsname.h>
 #include <unistd.h>
 
-const char need_driver_words[] = "the kernel has no Binder driver; where it is a module: modprobe binder_linux";
+const char need_driver_words[] = "the kernel has no Binder driver; if it is a module: modprobe binder_linux";
 
 static int has_capability(const struct __user_cap_data_struct *data, u32 capability)
 {
@@ -37,7 +37,7 @@ void need_kernel(void)
 		fail("/sys/kernel/btf/vmlinux is not there: a kernel with CONFIG_DEBUG_INFO_BTF is needed, and sysfs");
 }
 
-/* Where securityfs is not mounted nothing is known of a lockdown, and loading fails. */
+/* If securityfs is not mounted, a lockdown is not seen here; then loading the program fails instead. */
 void need_no_lockdown(void)
 {
 	char line[128] = "";

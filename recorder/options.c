@@ -15,16 +15,16 @@ static const char usage[] =
 
 static const char help[] =
 	"Records the Binder traffic of the whole system until PROGRAM ends, or until SIGINT or SIGTERM, into\n"
-	"OUT-1.cap, OUT-2.cap, .. and the side list OUT.side. Needs root. docs/RECORDER.md says more.\n"
+	"OUT-1.cap, OUT-2.cap and so on, and the side list OUT.side. It needs root. docs/RECORDER.md says more.\n"
 	"\n"
-	"-o OUT             the start of the files' names; `capture` where it is absent\n"
-	"--size BYTES       the most bytes of a file, 65536 to 1073741824; 268435456 where it is absent\n"
-	"--pid PID          records openings of this process alone; may be given again\n"
-	"--device NAME      records this device alone, as binder or /dev/binder; may be given again\n"
+	"-o OUT             the start of the files' names; by default `capture`\n"
+	"--size BYTES       the most bytes of a file, 65536 to 1073741824; by default 268435456\n"
+	"--pid PID          records only the openings of this process; may be given several times\n"
+	"--device NAME      records only this device, for example binder or /dev/binder; may be given several times\n"
 	"--no-attachments   leaves out the data of transactions and replies\n"
-	"--ring BYTES       room for what is on its way from the kernel, a power of two; 67108864 where it is absent\n"
+	"--ring BYTES       the size of the buffer between kernel and recorder, a power of two; by default 67108864\n"
 	"\n"
-	"The exit status is that of PROGRAM, or 128 and its signal; 1 where no recording came about.\n";
+	"The exit status is that of PROGRAM, or 128 and the number of its signal; 1 if no recording was made.\n";
 
 static u64 number(const char *name, const char *text, u64 least, u64 most)
 {

@@ -13,9 +13,9 @@ struct options {
 	const char *devices[MOST_NAMED];
 	u32 device_count;
 	int no_attachments;
-	char **program;			/* NULL: none */
+	char **program;			/* NULL if there is none */
 };
 
-/* Reads the command line, or ends: with status 0 after --help, with status 1 where it has another form. */
+/* Reads the command line, or ends: with status 0 after --help, with status 1 if the command line is not valid. */
 void options_read(struct options *options, int count, char **words);
 #endif

@@ -10,7 +10,7 @@
 static struct file part;
 static const char *prefix;
 static u64 most_bytes, bytes_before;
-static u64 *sizes;		/* of the files that are closed, and of the open one at the end */
+static u64 *sizes;		/* of the closed files; at the end also of the last one */
 static u32 count;
 static int first_error;
 static u64 frames_added, last_added, frames_whole, last_whole;
@@ -94,7 +94,7 @@ int parts_have_room(u64 bytes)
 	return bytes <= most_bytes - FILE_HEAD;
 }
 
-/* All frames before this one are in the files. */
+/* All frames that were added are in the files now. */
 static void frames_are_whole(void)
 {
 	frames_whole = frames_added;
@@ -185,11 +185,11 @@ u32 parts_count(void)
 	return count;
 }
 
-/* The word as a shell takes it. */
+/* Quotes the word for a shell. */
 static void quote(char *to, u64 room, const char *word)
 {
 	static const char plain[] = "ABCDEFGHIJKLMNOPQRSTUVWXYZabcdefghijklmnopqrstuvwxyz0123456789_./,:+@%-";
-	const char *end = to + room - 6;	/* room for one more quote in the word, and the last ones */
+	const char *end = to + room - 6;	/* leaves room for one more quote in the word, and for the last one */
 	if (!word[strspn(word, plain)]) {
 		snprintf(to, room, "%s", word);
 		return;

@@ -9,7 +9,7 @@
 #include <sys/wait.h>
 #include <unistd.h>
 
-static const int signals[] = { SIGINT, SIGTERM, SIGHUP, SIGPIPE };	/* that the recorder takes in another way */
+static const int signals[] = { SIGINT, SIGTERM, SIGHUP, SIGPIPE };	/* whose actions the recorder changes */
 #define SIGNALS (sizeof signals / sizeof *signals)
 
 static struct sigaction kept[SIGNALS];
@@ -29,7 +29,7 @@ static void run(char **words)
 	for (size_t i = 0; i < SIGNALS; i++)
 		sigaction(signals[i], kept + i, NULL);
 	if (read(gate[0], &byte, 1) != 1)
-		_exit(126);			/* there was no recording, and so there is no program */
+		_exit(126);			/* no recording has begun, so the program is not run */
 	execvp(words[0], words);
 	int error = errno;
 	complain("%s: %s", words[0], strerror(error));

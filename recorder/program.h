@@ -1,17 +1,17 @@
-/* The program that is run while the recording goes on. */
+/* The program that runs during the recording. */
 #ifndef RECORDER_PROGRAM_H
 #define RECORDER_PROGRAM_H
 
-/* Keeps what signals do now: so they will in the program. */
+/* Saves the actions of signals, which the program will have. */
 void program_keep_signals(void);
-/* Makes the process. It waits until program_go. */
+/* Creates the process. It waits for program_go. */
 void program_prepare(char **words);
 void program_go(void);
-/* Whether it has ended, or there is none. */
+/* Whether the program has ended, or there is none. */
 int program_has_ended(void);
 int program_is_there(void);
-/* Waits for its end, or for a signal. */
+/* Waits until it ends, or a signal comes. */
 void program_wait(void);
-/* Its exit status, or 128 and its signal; 0 where there is none, or it has not ended. */
+/* Its exit status, or 128 and its signal; 0 if there is no program, or it has not ended. */
 int program_status(void);
 #endif

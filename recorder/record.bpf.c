@@ -1,4 +1,4 @@
-/* The recorder's part in the kernel: what is done at each place where the driver and the scheduler tell something. */
+/* The recorder's program in the kernel: what it does at each event of the driver and of the scheduler. */
 #include "copy.bpf.h"
 
 extern const void binder_fops __ksym __weak;
@@ -10,7 +10,7 @@ static __always_inline int is_wanted(u32 process, u32 device)
 	return !by_device || bpf_map_lookup_elem(&wanted_devices, &device);
 }
 
-/* Fills in what is known of an opening. `task` is one of the process that opened it, as far as that is known. */
+/* Fills in what is known of an opening. `task` belongs to the process that opened it, as far as that is known. */
 static __always_inline void describe(struct opening *o, struct task_struct *task, struct file *file)
 {
 	o->id = __sync_fetch_and_add(&last_opening, 1) + 1;
@@ -22,7 +22,7 @@ static __always_inline void describe(struct opening *o, struct task_struct *task
 	o->recorded = is_wanted(o->process, o->device);
 }
 
-/* Where the driver opens a device. An opening that is met without this was there before the recording. */
+/* When the driver opens a device. An opening that is met without this is from before the recording. */
 SEC("kprobe/binder_open") int at_open(struct pt_regs *registers)
 {
 	struct file *file = (void *)PT_REGS_PARM2(registers);
@@ -73,7 +73,7 @@ static __noinline int add_thread(struct task_struct *task, u32 id, u32 process)
 	u32 one = 1;
 	if (!s)
 		return 1;
-	struct thread *t = &s->new_thread;	/* all that is not set here is 0, or set before it is read */
+	struct thread *t = &s->new_thread;	/* every other field is 0, or is set before it is read */
 	t->id = __sync_fetch_and_add(&last_thread, 1) + 1;
 	t->process = process;
 	t->start = BPF_CORE_READ(task, start_boottime);
@@ -83,7 +83,7 @@ static __noinline int add_thread(struct task_struct *task, u32 id, u32 process)
 	return bpf_map_update_elem(&threads, &id, t, BPF_NOEXIST);
 }
 
-/* Tells of the opening and of the thread, where that is still to be done. Gives 0 where both are told. */
+/* Reports the opening and the thread if they are not reported yet. Returns 0 if both are reported. */
 static __noinline int introduce(struct opening *o, struct thread *t, u32 id)
 {
 	if (!o || !t)
@@ -97,7 +97,7 @@ static __noinline int introduce(struct opening *o, struct thread *t, u32 id)
 
 static __noinline int look_at_name(struct thread *t, u32 id)
 {
-	char name[NAME_BYTES] = {};	/* a kernel before 6.2 does not clear what is behind the name */
+	char name[NAME_BYTES] = {};	/* a kernel before 6.2 does not clear the bytes after the name */
 	bpf_get_current_comm(name, sizeof name);
 	if (!t || (*(u64 *)name == *(u64 *)t->name && *(u64 *)(name + 8) == *(u64 *)(t->name + 8)))
 		return 0;
@@ -107,7 +107,7 @@ static __noinline int look_at_name(struct thread *t, u32 id)
 	return 0;
 }
 
-/* Begins a call of BINDER_WRITE_READ: keeps what it came in with, and copies what it writes. */
+/* Begins a call of BINDER_WRITE_READ: keeps its fields as they are at entry, and copies what it writes. */
 static __noinline int begin_call(struct thread *t, u64 call, u32 told)
 {
 	struct scratch *s = scratch();
@@ -188,7 +188,7 @@ static __always_inline int is_32_bit(struct pt_regs *registers)
 #endif
 }
 
-/* The opening is the file of the descriptor, which is the first argument of the system call. */
+/* The file of the descriptor that is the first argument of the system call: it identifies the opening. */
 static __noinline u64 file_of_call(struct task_struct *task, struct pt_regs *registers)
 {
 	u64 descriptor = 0;
@@ -223,7 +223,7 @@ SEC("raw_tp/binder_ioctl") int at_entry(struct bpf_raw_tracepoint_args *context)
 	return enter(task, file, context->args[0], context->args[1]);
 }
 
-/* The driver begins a command. */
+/* When the driver begins a command. */
 SEC("raw_tp/binder_command") int at_command(struct bpf_raw_tracepoint_args *context)
 {
 	u32 id = bpf_get_current_pid_tgid();
@@ -235,7 +235,7 @@ SEC("raw_tp/binder_command") int at_command(struct bpf_raw_tracepoint_args *cont
 	return 0;
 }
 
-/* Reads an attachment that was not there at entry. Other threads may have changed it since: the side list says so. */
+/* Reads an attachment that was not there at entry. Other threads may have changed it since; the side list says so. */
 static __noinline int read_late(struct thread *t, u32 i)
 {
 	struct scratch *s = scratch();
@@ -260,7 +260,7 @@ static __noinline int read_late(struct thread *t, u32 i)
 	return 0;
 }
 
-/* The driver is through with the write, of which it consumed so many bytes. */
+/* The driver has finished the write, and consumed this many of its bytes. */
 static __noinline int end_write(struct thread *t, u64 consumed)
 {
 	if (!t)
@@ -281,8 +281,8 @@ static __noinline int end_write(struct thread *t, u64 consumed)
 	return 0;
 }
 
-/* After an error the last command that the driver began is not consumed, or the next code word could not be read: what it
- * consumed is told at the return. */
+/* When the driver has finished the write. After an error the last command that it began is not consumed, or the next
+ * code word could not be read; then the return of the call says what it consumed. */
 SEC("raw_tp/binder_write_done") int at_write_done(struct bpf_raw_tracepoint_args *context)
 {
 	u32 id = bpf_get_current_pid_tgid();
@@ -291,7 +291,7 @@ SEC("raw_tp/binder_write_done") int at_write_done(struct bpf_raw_tracepoint_args
 		end_write(t, t->consumed);
 		t->late_count = 0;
 		t->partial = 0;
-		if (!t->write_told)	/* no room to tell it: it is tried once more at the return */
+		if (!t->write_told)	/* no room to report it: at the return it is tried once more */
 			t->write_told = 2;
 	}
 	return 0;
@@ -367,7 +367,7 @@ SEC("raw_tp/sched_process_exit") int at_exit(struct bpf_raw_tracepoint_args *con
 	return 0;
 }
 
-/* A thread that was not the first one of its process takes the first one's id. */
+/* A thread that calls exec, and is not the first one of its process, takes the id of the first one. */
 SEC("raw_tp/sched_process_exec") int at_exec(struct bpf_raw_tracepoint_args *context)
 {
 	u64 both = bpf_get_current_pid_tgid();

@@ -1,4 +1,4 @@
-/* What the BPF program keeps: its tables, the counter of numbers, and how a message goes into the ring. */
+/* What the BPF program keeps: its tables, the counter of numbers, and the way of a message into the ring. */
 #ifndef RECORDER_STATE_BPF_H
 #define RECORDER_STATE_BPF_H
 #include "kernel.bpf.h"
@@ -12,7 +12,7 @@ struct opening {
 	u8 born;		/* it was opened after the recording began */
 	u8 unused;
 	u32 process, device;
-	u64 memory;		/* the mm of the process that opened it: the one where the device is mapped */
+	u64 memory;		/* the mm of the process that opened it, where the device is mapped */
 	u64 start;
 	char name[NAME_BYTES];
 };
@@ -27,10 +27,10 @@ struct late_attachment {
 struct thread {
 	u32 id, opening;
 	u8 told, in_call, write_told, partial;	/* partial: not all of the write's bytes could be read at entry */
-	u32 commands;			/* that the driver began in this call */
-	u64 write_number;		/* 0: the call writes nothing */
+	u32 commands;			/* how many the driver began in this call */
+	u64 write_number;		/* 0 if the call writes nothing */
 	u64 consumed;			/* bytes of those commands */
-	u64 had;			/* bytes of the write that were read */
+	u64 had;			/* how many bytes of the write could be read */
 	u64 call;			/* the address of the binder_write_read */
 	u64 write_from, write_bytes;
 	u64 write_consumed, read_consumed, read_size, read_buffer;	/* at entry */
@@ -41,7 +41,7 @@ struct thread {
 	char name[NAME_BYTES];
 };
 
-/* An attachment that goes in pieces. */
+/* An attachment that goes in several messages. */
 struct large {
 	u64 number, data_from, offsets_from;
 	u32 data, offsets, record, at, failed, opening, thread, direction;
@@ -50,11 +50,11 @@ struct large {
 /* A walk through the commands of a frame. */
 struct walk {
 	u64 number, from, left;		/* from, left: what is not read yet */
-	u32 base, at, bytes, have, end;	/* of the chunk: where it stands; the record; its bytes; those that were read; of the message */
+	u32 base, at, bytes, have, end;	/* of the chunk: its start; the record; its bytes; the bytes read; its end */
 	u32 direction, opening, thread, reads_own_memory, last, late, failed, partial;
 };
 
-/* Memory for one run of a program: its stack has 512 bytes. */
+/* Memory for one run of a program, whose stack has only 512 bytes. */
 struct scratch {
 	struct large large;
 	struct walk walk;
@@ -70,7 +70,7 @@ struct scratch {
 
 struct { __uint(type, BPF_MAP_TYPE_RINGBUF); __uint(max_entries, 1 << 26); } ring SEC(".maps");
 
-/* One for each CPU. A map of a value for each CPU has no values of this size. */
+/* One for each CPU. A map with a value for each CPU cannot have values of this size. */
 struct {
 	__uint(type, BPF_MAP_TYPE_ARRAY);
 	__uint(max_entries, 1);
@@ -89,11 +89,11 @@ struct {
 
 TABLE(threads, u32, struct thread);	/* by the thread's id */
 TABLE(openings, u64, struct opening);	/* by the address of the file */
-TABLE(processes, u32, u32);		/* those whose end is to be told */
+TABLE(processes, u32, u32);		/* those whose end will be reported */
 TABLE(wanted_processes, u32, u32);	/* of --pid */
 TABLE(wanted_devices, u32, u32);	/* of --device */
 
-/* Above this the ring is for events alone, which have the rest. */
+/* From here on the room of the ring is only for events. */
 const volatile u64 ring_limit = 60 << 20;
 const volatile u32 by_process = 0, by_device = 0, no_attachments = 0;
 
@@ -102,13 +102,13 @@ u64 last_number = 0;
 u32 last_thread = 0, last_opening = 0;
 u64 calls_32_bit = 0, calls_without_room = 0, calls_without_file = 0;
 
-/* For each CPU: no number below this one is without its message because of the program that runs there; 0: none runs. */
+/* For each CPU: no number below this one waits for the program that runs there; 0 if none runs. */
 struct { u64 number, unused[7]; } taking[MOST_CPUS];
 
-/* The loader looks by itself. A wake-up for each message costs much. */
+/* The loader looks into the ring by itself. A wake-up for each message would cost much. */
 #define QUIETLY BPF_RB_NO_WAKEUP
 
-/* The verifier wants to see each bound where it is used: a mask that the compiler can't move. */
+/* The verifier must see each bound where it is used: as a mask that the compiler can't move. */
 #define BOUND(value, mask) asm volatile("%0 &= " #mask : "+r"(value))
 
 static __always_inline struct scratch *scratch(void)
@@ -117,8 +117,8 @@ static __always_inline struct scratch *scratch(void)
 	return bpf_map_lookup_elem(&scratches, &cpu);
 }
 
-/* Takes the next number. The loader reads `last_number` first and `taking` second: so it sees here each number that it
- * read there and that has no message yet. */
+/* Takes the next number. The loader reads `last_number` first and `taking` second. So for each number up to what it
+ * read that has no message yet, it sees a value in `taking` that is not above the number. */
 static __always_inline u64 take_number(void)
 {
 	u32 cpu = bpf_get_smp_processor_id() & (MOST_CPUS - 1);
@@ -126,7 +126,7 @@ static __always_inline u64 take_number(void)
 	return __sync_fetch_and_add(&last_number, 1) + 1;
 }
 
-/* The message of the number that was taken is in the ring, or there was no room for it. */
+/* The message of the number that was taken is in the ring, or had no room there. */
 static __always_inline void number_is_told(void)
 {
 	u32 cpu = bpf_get_smp_processor_id() & (MOST_CPUS - 1);
@@ -138,7 +138,7 @@ static __always_inline int is_full(u64 bytes)
 	return bpf_ringbuf_query(&ring, BPF_RB_AVAIL_DATA) + bytes > ring_limit;
 }
 
-/* Puts an event into the ring. Gives 0 where it had room. */
+/* Puts an event into the ring. Returns 0 if there was room. */
 static __always_inline long say(u32 type, u32 thread, u32 opening, u64 number, u64 a, u64 b, u64 c, const char *name)
 {
 	struct scratch *s = scratch();
@@ -159,7 +159,8 @@ static __always_inline long say(u32 type, u32 thread, u32 opening, u64 number, u
 	return bpf_ringbuf_output(&ring, e, sizeof *e, QUIETLY);
 }
 
-/* Half of the room for events is left for those that can't be found out later. That a number has no message is seen. */
+/* Reports a lost frame. For REASON_RING_FULL half of the room for events is left to other events, which could not be
+ * found out later; that a number has no message is seen anyway. */
 static __noinline int lose(struct thread *t, u64 number, u64 reason)
 {
 	if (!t)

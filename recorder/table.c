@@ -7,7 +7,7 @@ static u64 first_place(const struct table *table, u64 key, u32 second)
 	return (mixed ^ mixed >> 32) & (table->size - 1);
 }
 
-/* The slot of the two keys, or the free one where they would be put. */
+/* The slot of the two keys, or the free slot for them. */
 static struct table_slot *slot_of(const struct table *table, u64 key, u32 second)
 {
 	u64 place = first_place(table, key, second);

@@ -13,8 +13,8 @@ struct table {
 	u64 size, used;
 };
 
-/* The value of the two keys, or 0 where there is none. */
+/* The value of the two keys, or NULL if there is none. */
 u64 *table_find(const struct table *table, u64 key, u32 second);
-/* The value of the two keys; a new one is 0. It is good until the next call of this. */
+/* The value of the two keys; a new value is 0. The pointer is valid until the next call. */
 u64 *table_make(struct table *table, u64 key, u32 second);
 #endif

@@ -7,9 +7,9 @@
 #include <stdlib.h>
 #include <string.h>
 
-#define MOST_SLOTS (1u << 22)			/* numbers that are not settled */
-#define MOST_MEMORY (256u << 20)		/* bytes of their frames */
-#define LONGEST_WAIT 10000000000u		/* nanoseconds that a write may hold later frames back */
+#define MOST_SLOTS (1u << 22)			/* the most numbers that are not settled */
+#define MOST_MEMORY (256u << 20)		/* the most bytes of their frames */
+#define LONGEST_WAIT 10000000000u		/* how long a write may hold back later frames, in nanoseconds */
 
 enum state { SILENT, WAITING, WHOLE, LOST };
 
@@ -21,7 +21,7 @@ struct slot {
 	struct frame *frame;
 	u64 consumed;
 	u64 since;				/* when it began to wait */
-	char *lines;				/* of the side list, that come after this number */
+	char *lines;				/* lines of the side list that come after this number */
 };
 
 static struct slot *slots;
@@ -29,7 +29,7 @@ static u64 room;
 static u64 next = 1, end = 1;			/* the numbers from `next` to before `end` have a slot */
 static u64 checked;				/* no number up to this one is silent */
 static u64 memory, waiting, frames, lost, lost_because[REASON_END];
-static u64 *waits_of;				/* by thread: the write that waits, or 0 */
+static u64 *waits_of;				/* by thread: its write that waits, or 0 */
 static u32 wait_room;
 
 u64 window_waiting(void) { return waiting; }
@@ -65,7 +65,7 @@ static void lose_slot(struct slot *slot, u32 reason)
 	slot->reason = reason < REASON_END ? reason : REASON_NONE;
 }
 
-/* Makes slots up to this number, which is not below `next`. Gives its slot. */
+/* Makes slots up to this number, which must not be below `next`. Returns its slot. */
 static struct slot *add_slots(u64 number)
 {
 	if (number - next >= room)
@@ -75,12 +75,12 @@ static struct slot *add_slots(u64 number)
 	return at(number);
 }
 
-/* The slot of a number, or NULL where the number is settled already. */
+/* The slot of a number, or NULL if the number is settled already. */
 static struct slot *slot_of(u64 number)
 {
 	if (number < next)
 		return NULL;
-	while (number - next >= MOST_SLOTS) {		/* too many to wait for: the lowest one is given up */
+	while (number - next >= MOST_SLOTS) {		/* too many are waiting: give up the lowest one */
 		struct slot *lowest = next < end ? at(next) : add_slots(next);
 		if (lowest->state == SILENT || lowest->state == WAITING)
 			lose_slot(lowest, REASON_HELD_TOO_LONG);
@@ -102,7 +102,7 @@ static void write_lost(const struct slot *slot)
 	lost_because[slot->reason]++;
 }
 
-/* Writes what the slot of `next` has. */
+/* Writes the contents of the slot of `next`. */
 static void settle_slot(struct slot *slot)
 {
 	if (slot->state == WHOLE) {
@@ -195,7 +195,7 @@ static u64 *wait_of(u32 thread)
 	return waits_of + thread;
 }
 
-/* A thread that begins something else is through with the write before, though the ring had no room to say so. */
+/* A thread that begins something else has finished its last write, even if the ring had no room to say so. */
 static void end_wait(u32 thread, u64 but_not)
 {
 	u64 *number = wait_of(thread);

@@ -1,18 +1,18 @@
-/* The numbers that are not settled yet. A frame is written as soon as all lower numbers are written or lost. */
+/* The numbers that are not settled yet. A frame is written as soon as every lower number is written or lost. */
 #ifndef RECORDER_WINDOW_H
 #define RECORDER_WINDOW_H
 #include "common.h"
 #include "messages.h"
 
-/* A message of the ring. */
+/* Takes a message of the ring. */
 void window_hear(const void *message, u64 bytes);
-/* All numbers up to `bound` have their messages: of those that are silent the ring had no room for one. */
+/* All numbers up to `bound` have their messages. If one is silent, the ring had no room for its message. */
 void window_silent_until(u64 bound);
-/* Writes what can be written. */
+/* Writes all frames that can be written. */
 void window_settle(void);
 /* The recording has ended with this number. */
 void window_end(u64 last_number);
-/* How many writes wait to hear what the driver consumed. */
+/* How many writes wait for the driver to say what it consumed. */
 u64 window_waiting(void);
 u64 window_frames(void);
 u64 window_lost(void);

@@ -1,7 +1,7 @@
 -- Findings in groups, and who talks to whom: what the page shows first. After rules.sql.
 BEGIN;
 
--- What a finding is called: by its rule, or by its section and what it is there.
+-- The title of a finding: by its rule, or by its section and what it is in that section.
 CREATE TABLE title(rule TEXT, section TEXT, what TEXT, title TEXT NOT NULL) STRICT;
 INSERT INTO title VALUES
   (NULL, 'calls', 'open', 'calls without an answer'), (NULL, 'calls', 'failed', 'calls that failed'),
@@ -24,7 +24,7 @@ INSERT INTO title VALUES
   ('T1', 'nodes', NULL, 'references not acknowledged yet'), ('F1', 'frees', NULL, 'buffers freed twice'),
   ('S1', NULL, NULL, 'sends that were refused'), ('S2', NULL, NULL, 'replies without a call');
 
--- The finding that leads: an open call leads its served end and its buffer.
+-- The group of each finding, named by its leading finding: an open call leads its served end and its buffer.
 CREATE TABLE finding_head(id INTEGER PRIMARY KEY, grp INTEGER NOT NULL) STRICT;
 CREATE TEMP TABLE named AS
 SELECT f.id, f.path, f.rule,
@@ -34,7 +34,7 @@ SELECT f.id, f.path, f.rule,
     AND (t.section IS NULL OR t.section = f.section) AND (t.what IS NULL OR t.what = f.what)
     ORDER BY t.rule IS NULL, t.what IS NULL LIMIT 1) AS title
 FROM finding f JOIN rule r ON r.id = f.rule WHERE f.lead IS NULL;
--- Of one path what is real and what may be is one group, of the strongest verdict of its findings.
+-- What is real and what is maybe on one path is one group, with the strongest verdict of its findings.
 INSERT INTO finding_head SELECT id, min(id) OVER (PARTITION BY title, path, max(rank, 2), upid) FROM named;
 INSERT INTO finding_head
 SELECT f.id, h.grp FROM finding f JOIN finding_head h ON h.id = f.lead;
@@ -45,8 +45,8 @@ SELECT grp, min(rank) AS rank, group_concat(rule) AS rules
 FROM (SELECT DISTINCT h.grp, n.rank, n.rule FROM named n JOIN finding_head h USING (id) ORDER BY 1, 2, 3) GROUP BY grp;
 CREATE UNIQUE INDEX temp.ranked_group ON ranked(grp);
 
--- A group: n findings, without those that are led, of n_all of the path. Its rules are those of its strongest verdict
--- first.
+-- A group has n findings of the n_all of its path; those that are led do not count. Its rules begin with those of its
+-- strongest verdict.
 CREATE TABLE finding_group(grp INTEGER PRIMARY KEY, verdict TEXT NOT NULL, title TEXT NOT NULL, path TEXT NOT NULL,
   n INTEGER NOT NULL, n_all INTEGER, processes INTEGER NOT NULL, who TEXT NOT NULL, first INTEGER, last INTEGER,
   rules TEXT NOT NULL) STRICT;

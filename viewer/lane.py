@@ -1,12 +1,13 @@
-"""What a thread did around a place: a line for each record, with its calls drawn as brackets."""
+"""What a thread did around a place: a line for each record, with the calls drawn as brackets."""
 
 import sqlite3
 from typing import Iterator, NamedTuple
 
-# So many records before the place, and after it, of so many frames of all threads; of a frame at most so many bytes.
+# At most RECORDS records before the place, and as many after it, within FRAMES frames of all threads; of each frame at
+# most BYTES bytes are looked at.
 RECORDS, FRAMES, BYTES = 6, 20_000, 4000
 
-# BR_TRANSACTION_COMPLETE and BR_NOOP tell least.
+# BR_TRANSACTION_COMPLETE and BR_NOOP say least.
 LEFT_OUT = "(262, 268)"
 
 
@@ -44,7 +45,8 @@ def records(database: sqlite3.Connection, query: str, utid: int, place: int, cou
 
 
 def open_calls(database: sqlite3.Connection, utid: int, place: int) -> list[int]:
-    """The closers of the calls that a thread has open before a place, the outermost first; 2^63 for none."""
+    """The closers of the calls that a thread has open before a place, the outermost first; 2^63 for a call without
+    one."""
     row = database.execute("SELECT place, closer, parent FROM raw_call WHERE utid = ? AND place < ?"
                            " ORDER BY place DESC LIMIT 1", (utid, place)).fetchone()
     found = []
@@ -56,7 +58,7 @@ def open_calls(database: sqlite3.Connection, utid: int, place: int) -> list[int]
 
 
 def lane_of(database: sqlite3.Connection, utid: int, place: int) -> Iterator[tuple[str, bool]]:
-    """The lines of a lane, each with whether it is the one of the place."""
+    """The lines of a lane, each with whether it is that of the place."""
     lines = records(database, BEFORE, utid, place, RECORDS + 1) + records(database, AFTER, utid, place, RECORDS)
     if not lines:
         return

@@ -3,13 +3,13 @@
  *
  *     load DATABASE FOLDER SCHEMA [SIDE]
  *
- * DATABASE is made and may not exist. SCHEMA is a file of SQL statements that makes the tables: each one whose name
- * begins with raw_ takes the rows of FOLDER/NAME.rows, where NAME is what follows raw_. docs/DATABASE.md says what a
- * row is. How many columns a table has, the schema alone says. side_time takes the lines of frames of SIDE, a side list.
- * All is one transaction.
+ * DATABASE is created, and must not exist. SCHEMA is a file of SQL statements that create the tables. Each table whose
+ * name begins with raw_ takes the rows of FOLDER/NAME.rows, where NAME is what follows raw_. docs/DATABASE.md says what
+ * a row is. Only the schema says how many columns a table has. side_time takes the lines of frames of SIDE, a side
+ * list. Everything is one transaction.
  *
- * Status 0: all is loaded. Status 1: standard error has a line that says why not, and DATABASE is not whole.
- * This is no part of what is proved: it copies numbers, and checks that rows are whole.
+ * Status 0: everything is loaded. Status 1: a line on standard error says why not, and DATABASE is not whole.
+ * Nothing of this is proved: it copies numbers, and checks that rows are whole.
  */
 #include <errno.h>
 #include <fcntl.h>
@@ -53,7 +53,7 @@ static sqlite3_stmt *prepared(sqlite3 *database, const char *statement)
 	return made;
 }
 
-/* The bytes of a file, for `forget`. They are read as they are asked for: a file may be longer than the memory. */
+/* Maps the bytes of a file; `forget` unmaps them. They are read only when used: a file may be larger than memory. */
 static unsigned char *bytes_of(const char *path, size_t *length)
 {
 	int file = open(path, O_RDONLY);
@@ -75,8 +75,8 @@ static void forget(unsigned char *bytes, size_t length)
 }
 
 /*
- * The rows of a file, as a virtual table: one statement then loads a whole table, in half the time that one statement a
- * row takes.
+ * The rows of a file, as a virtual table: so one statement loads a whole table, in half the time that a statement for
+ * each row takes.
  */
 struct rows {
 	sqlite3_vtab base;
@@ -112,7 +112,7 @@ static size_t numbers_of(uint64_t mask)
 	return (size_t)__builtin_popcountll(mask);
 }
 
-/* What was read is given back to the system from time to time: else the whole file would stay in memory. */
+/* Gives back to the system what was read, from time to time: otherwise the whole file would stay in memory. */
 static void give_back(struct cursor *cursor, const struct rows *rows)
 {
 	if (cursor->at - cursor->given_back < KEPT)
@@ -134,7 +134,7 @@ static int go_on(sqlite3_vtab_cursor *base)
 		stop("%s ends within a row", rows->path);
 	cursor->mask = number_at(rows, cursor->at);
 	if (cursor->mask >> rows->columns)
-		stop("%s has a row with more than %d columns: it is of another layout", rows->path, rows->columns);
+		stop("%s has a row with more than %d columns: it has another layout", rows->path, rows->columns);
 	size_t size = 8 + 8 * numbers_of(cursor->mask);
 	if (left < size)
 		stop("%s ends within a row", rows->path);
@@ -183,7 +183,7 @@ static int close_cursor(sqlite3_vtab_cursor *cursor)
 	return SQLITE_OK;
 }
 
-/* The rows are those of the table that is loaded; SQLite is told how many columns they have. */
+/* Makes the virtual table of the rows that are loaded now, and declares their columns to SQLite. */
 static int connect(sqlite3 *database, void *current, int count, const char *const *words, sqlite3_vtab **table, char **why)
 {
 	(void)count, (void)words, (void)why;
@@ -256,7 +256,7 @@ static void load_tables(sqlite3 *database, const char *folder, struct rows **cur
 	sqlite3_finalize(next);
 }
 
-/* What follows a number of at most 18 digits; NULL where there is none. */
+/* Reads a number of at most 18 digits. Returns what follows it; NULL if there is no number. */
 static const char *after_number(const char *at, const char *end, sqlite3_int64 *number)
 {
 	const char *begin = at;
@@ -322,7 +322,7 @@ int main(int count, char **words)
 	if (sqlite3_open_v2(words[1], &database, SQLITE_OPEN_READWRITE, NULL) != SQLITE_OK)
 		stop("%s: %s", words[1], sqlite3_errmsg(database));
 	sqlite3_create_module(database, "rows", &rows_module, &current);
-	/* Nobody else has the file, and one that is not whole is made again: so no journal, and no waiting for the disk. */
+	/* The file has no other user, and is made again if it is not whole: no journal, no waiting for the disk. */
 	run(database, "PRAGMA page_size=8192; PRAGMA journal_mode=OFF; PRAGMA synchronous=OFF; PRAGMA locking_mode=EXCLUSIVE; BEGIN");
 	run_file(database, words[3]);
 	load_tables(database, words[2], &current);

@@ -22,7 +22,7 @@ HEADER_KINDS, FRAME_KINDS, RECORD_KINDS = range(1, 5), range(5, 10), range(10, 1
 
 
 class Stopped(Exception):
-    """What ends `./view` early: the status, and the line that says why."""
+    """Ends `./view` early, with a status and a line that says why."""
 
     def __init__(self, status: int, line: str):
         super().__init__(line)
@@ -46,7 +46,7 @@ def missing_tool() -> tuple[str, str] | None:
 
 @functools.cache
 def loader() -> pathlib.Path | None:
-    """The loader, which is built where it is not there, or older than its source; None where it can't be built."""
+    """The loader. It is built if it is missing or older than its source; None if it can't be built."""
     source, program = FOLDER / "load.c", FOLDER / "out" / "load"
     if program.exists() and program.stat().st_mtime >= source.stat().st_mtime:
         return program
@@ -73,7 +73,7 @@ def load_by_program(program: pathlib.Path, database: pathlib.Path, rows: pathlib
 
 
 def rows_of(path: pathlib.Path, columns: int) -> Iterator[tuple[int | None, ...]]:
-    """The rows of a file, as docs/DATABASE.md has them."""
+    """The rows of a file, in the form that docs/DATABASE.md describes."""
     if path.stat().st_size:
         with open(path, "rb") as file, mmap.mmap(file.fileno(), 0, access=mmap.ACCESS_READ) as data:
             try:
@@ -83,13 +83,14 @@ def rows_of(path: pathlib.Path, columns: int) -> Iterator[tuple[int | None, ...]
 
 
 def rows_in(data: mmap.mmap, path: pathlib.Path, columns: int) -> Iterator[tuple[int | None, ...]]:
-    """Of each mask it is kept which numbers follow, and where in the row they go; a column without one is None."""
+    """The rows of these bytes; a column without a number is None. What a mask means is worked out once for each
+    mask."""
     at, shapes = 0, {}
     while at < len(data):
         mask = MASK.unpack_from(data, at)[0]
         if mask not in shapes:
             if mask >> columns:
-                raise Stopped(4, f"{path} has a row with more than {columns} columns: it is of another layout")
+                raise Stopped(4, f"{path} has a row with more than {columns} columns: it has another layout")
             there = [column for column in range(columns) if mask >> column & 1]
             order = [there.index(column) if column in there else len(there) for column in range(columns)]
             shapes[mask] = struct.Struct(f"<{len(there)}q"), operator.itemgetter(*order)
@@ -99,7 +100,7 @@ def rows_in(data: mmap.mmap, path: pathlib.Path, columns: int) -> Iterator[tuple
 
 
 def load_by_python(database: pathlib.Path, rows: pathlib.Path) -> None:
-    """The same as the loader in C, but for times of frames, and some five times slower."""
+    """Does the same as the loader in C, without the times of frames, and some five times slower."""
     with open(database, "xb"):
         pass
     made = open_database(database)
@@ -118,8 +119,8 @@ def load_by_python(database: pathlib.Path, rows: pathlib.Path) -> None:
 
 
 def load_rows(database: pathlib.Path, rows: pathlib.Path, side: str | None) -> bool:
-    """A new database of the `.rows` files of a folder: by the loader, or where it can't be built by Python. Answers
-    whether it has the times of frames of the side list, which the loader takes too."""
+    """Makes a new database from the `.rows` files of a folder: with the loader, or with Python if it can't be built.
+    Returns whether the database has the times of frames, which only the loader takes from the side list."""
     program = loader()
     if program is None:
         load_by_python(database, rows)
@@ -132,8 +133,8 @@ def load_rows(database: pathlib.Path, rows: pathlib.Path, side: str | None) -> b
 
 
 def answer(root: pathlib.Path, to: pathlib.Path, program: str, *words: object) -> int:
-    """The status of a program of the repository, 0 or 2; what it writes goes into a file, since a report may be as long
-    as the capture. What it tells, while it builds itself or of a fault, goes to standard error."""
+    """Runs a program of the repository and returns its status, 0 or 2. Its standard output goes into a file, since a
+    report may be as long as the capture. Its standard error is not redirected."""
     try:
         with open(to, "wb") as out:
             ended = subprocess.run([root / program, *map(str, words)], stdin=subprocess.DEVNULL, stdout=out)
@@ -146,7 +147,7 @@ def answer(root: pathlib.Path, to: pathlib.Path, program: str, *words: object) -
 
 
 def fault_in(status: int, answered: pathlib.Path) -> str | None:
-    """The line of the first fault that a program wrote; None where it found none."""
+    """The line of the first fault that a program wrote; None if it found no fault."""
     return answered.read_text().strip() if status else None
 
 
@@ -164,8 +165,8 @@ def copy_begin(source: str, length: int, target: pathlib.Path) -> None:
 
 
 def before_fault(database: sqlite3.Connection, files: list[str], folder: pathlib.Path) -> list[str]:
-    """Files with what comes before the first fault, a good capture with the same places. Where the fault lies within a
-    frame, its good records, or its good entries, make a shorter frame."""
+    """Files with what comes before the first fault: a good capture, with the same places. If the fault is within a
+    frame, the good records of that frame, or its good attachment entries, make a shorter frame."""
     kind, place, part = database.execute("SELECT fault, fault_place, fault_part FROM raw_capture").fetchone()
     if kind in HEADER_KINDS and part > 1:
         return files[:part - 1]
@@ -202,7 +203,7 @@ def number(word: str) -> int:
 
 
 def numbers(words: list[str], count: int) -> list[int]:
-    """The first so many of some numbers; fewer are an error."""
+    """The first `count` of some numbers; it is an error if there are fewer."""
     if len(words) < count:
         raise IndexError(count)
     return [number(word) for word in words[:count]]
@@ -216,7 +217,7 @@ LONGEST_NAME = 256
 
 
 def unescaped(name: str) -> str:
-    """A name of the side list: a control character or a backslash is in it as `\\x` and two digits."""
+    """A name of the side list. In the list a control character or a backslash is written as `\\x` and two digits."""
     if len(name) > LONGEST_NAME:
         name = name[:LONGEST_NAME] + "…"
     return re.sub(r"\\x([0-9a-f]{2})", lambda found: chr(int(found[1], 16)), name)
@@ -241,7 +242,7 @@ FRAME_LINE = re.compile(r"([0-9]{1,18}) frame ([0-9]{1,18})\n")
 
 
 class SideList:
-    """Puts the lines of a side list into the database, those of frames where it has not got them yet."""
+    """Puts the lines of a side list into the database, those of frames only if the database does not have them yet."""
 
     def __init__(self, database: sqlite3.Connection, has_times: bool):
         self.database, self.has_times = database, has_times
@@ -251,29 +252,29 @@ class SideList:
         self.told = 0
 
     def last(self) -> int:
-        """The last number that the list has told of so far, of a frame or of a lost one."""
+        """The last number that has come in the list, of a frame or of a lost frame."""
         return max(self.told, int(self.frame[2])) if self.frame else self.told
 
     def load(self, path: str) -> None:
-        """All lines of a side list. A last one that was cut short is left out."""
+        """Takes all lines of a side list. A last line that was cut is left out."""
         try:
             with open(path, encoding="utf-8", errors="replace", newline="\n") as lines:
                 if next(lines, "") != "binder side list 1\n":
-                    raise Stopped(4, f"{path} is no side list of version 1")
+                    raise Stopped(4, f"{path} is not a side list of version 1")
                 self.take_lines(lines, path)
         except OSError as error:
             raise Stopped(4, f"{path}: {error.strerror}") from error
         self.flush()
 
     def judge(self) -> None:
-        """Ends the view of a capture that the list is surely not of, and notes where it may not be of it."""
+        """Refuses a list that certainly belongs to another capture, and keeps the doubt if it may belong to another."""
         if why := fit.why_other(self.database, self.last(), "end_ts" in self.facts):
             raise Stopped(1, why)
         self.facts["side_doubt"] = fit.doubt(self.database, self.last())
 
     def take_lines(self, lines: Iterable[str], path: str) -> None:
         for line in lines:
-            # Nearly all lines are those of frames, so they are not taken apart like the others.
+            # Nearly all lines are those of frames, so they are not split like the others.
             if frame := FRAME_LINE.match(line):
                 self.frame = frame
                 if not self.has_times:
@@ -289,7 +290,7 @@ class SideList:
         try:
             taker(time, positional, keyed)
         except (KeyError, ValueError, IndexError) as error:
-            raise Stopped(4, f"{path}: a line '{word}' at {time} is not as the format says") from error
+            raise Stopped(4, f"{path}: the line '{word}' at {time} is not valid") from error
 
     def flush(self) -> None:
         self.database.executemany("INSERT OR REPLACE INTO side_time(ts, seq) VALUES (?, ?)", self.pending)
@@ -324,7 +325,7 @@ class SideList:
                               (*numbers(positional, 3), number(keyed["tid"]), keyed["name"], self.last() + 1))
 
     def take_name(self, _: int, __: list[str], keyed: dict[str, str]) -> None:
-        """The last name counts. That of a process is the name of its first thread; what has ended keeps its own."""
+        """The last name counts. A process has the name of its first thread. What has ended keeps its name."""
         pid, tid, name = number(keyed["pid"]), number(keyed["tid"]), keyed["name"]
         self.database.execute("UPDATE side_thread SET name = ? WHERE tid = ? AND ended IS NULL", (name, tid))
         if tid == pid:
@@ -354,7 +355,7 @@ class SideList:
 # ---- the report
 
 
-# The sections whose rows begin with a device; those of `codes` have none, and all others begin with a place.
+# The sections whose rows begin with a device. Rows of `codes` have no device, and all others begin with a place.
 OF_PROCESSES = {"handles", "nodes", "oneway"}
 
 
@@ -401,7 +402,7 @@ class Row:
 
 
 def findings_of(database: sqlite3.Connection) -> Iterator[tuple]:
-    """Each row of the report that says something of one thing."""
+    """The rows of the report that become findings: all but those of `codes` and `oneway`."""
     upids = {(device, process): upid for upid, device, process in
              database.execute("SELECT upid, device, process FROM raw_process")}
     for number, section, place, device, process, text in database.execute(
@@ -412,7 +413,7 @@ def findings_of(database: sqlite3.Connection) -> Iterator[tuple]:
 
 
 def load_findings(database: sqlite3.Connection) -> None:
-    """They are findings; the rules judge them."""
+    """Puts the findings into the database. The rules give their verdicts later."""
     database.executemany("INSERT INTO finding(report, section, what, place, upid, handle, code, ptr, cookie)"
                          " VALUES (?, ?, ?, ?, ?, ?, ?, ?, ?)", findings_of(database))
 
@@ -436,7 +437,7 @@ def run_statements(database: sqlite3.Connection, name: str) -> None:
 
 
 def open_database(path: pathlib.Path) -> sqlite3.Connection:
-    """The database, for one who has it alone and makes it again where it is not whole: without a journal."""
+    """The database, without a journal: it has no other user, and is made again if it is not whole."""
     database = sqlite3.connect(path, isolation_level=None)
     for setting in ("journal_mode=OFF", "synchronous=OFF", "locking_mode=EXCLUSIVE", "cache_size=-131072",
                     "temp_store=MEMORY"):
@@ -468,13 +469,13 @@ def refuse_unreadable(files: list[str]) -> None:
 
 def database_of(root: pathlib.Path, files: list[str], side: str | None, made: pathlib.Path,
                 tell: Callable[[str], None]) -> str | None:
-    """Makes the database of a capture, with the report and what the rules say of it. Answers the line of its first
-    fault; None where it has none."""
+    """Makes the database of a capture, with the report and the verdicts of the rules. Returns the line of the capture's
+    first fault, or None."""
     refuse_unreadable(files)
     rows, report, told = (made.with_suffix(f".{what}") for what in ("rows", "report", "told"))
     rows.mkdir()
-    # One after another: each of them may need more memory than the capture has bytes.
-    tell("judging the capture")
+    # One after another, since each of them may need more memory than the capture has bytes.
+    tell("checking the capture")
     malformed = fault_in(answer(root, report, "audit", "report", *files), report)
     tell("reading the capture")
     listed = fault_in(answer(root, told, "listing", "--tables", rows, *files), told)
@@ -486,7 +487,7 @@ def database_of(root: pathlib.Path, files: list[str], side: str | None, made: pa
     database = open_database(made)
     if malformed:
         answer(root, report, "audit", "report", *before_fault(database, files, made.parent))
-    tell("judging")
+    tell("applying the rules")
     database.execute("BEGIN")
     taken = SideList(database, has_times)
     if side is not None:
@@ -504,7 +505,7 @@ def database_of(root: pathlib.Path, files: list[str], side: str | None, made: pa
 
 
 def keep(made: pathlib.Path, path: pathlib.Path) -> None:
-    """Keeps a database under a name that is not there yet."""
+    """Keeps a database under a name that must not exist."""
     try:
         with open(path, "xb"):
             pass

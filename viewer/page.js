@@ -1,5 +1,5 @@
-// Sorts a table by the column whose head is pressed, and hides the rows and groups that have not the words of the box.
-// The page is read without it.
+// Sorts a table by the column whose head is pressed, and hides the rows and groups without the words in the box. The
+// page can be read without this script.
 'use strict';
 
 const numberOr = text => {

@@ -1,4 +1,4 @@
-"""The page of a capture: what the queries over its database say, as HTML that needs no network and no script."""
+"""The page of a capture: the answers of queries over its database, as HTML that needs no network and no script."""
 
 import base64
 import hashlib
@@ -15,12 +15,12 @@ from viewer.loading import Stopped
 
 FOLDER = pathlib.Path(__file__).resolve().parent
 
-# At most so many rows a block, findings a group and lanes a page; the rest is counted.
+# The most rows of a block, findings of a group and lanes of a page. The rest is counted.
 ROWS, FINDINGS, LANES = 1000, 100, 300
 
 VERDICTS = ("real", "maybe", "explained", "normal")
 
-# What the fields of a row of the report are, as docs/REPORT.md says.
+# The fields of a row of the report, as in docs/REPORT.md.
 COLUMNS = {
     "calls": "place device process thread handle code verdict closer",
     "served": "place device process thread sender_pid code verdict closer",
@@ -40,12 +40,12 @@ COLUMNS = {
 
 
 def is_sign(character: str) -> bool:
-    """Whether a character is not seen, or changes how others are: controls, marks of direction, what has no name."""
+    """Whether a character is invisible or changes others: controls, marks of direction, characters without a name."""
     return unicodedata.category(character) in ("Cc", "Cf", "Cs", "Co", "Cn", "Zl", "Zp")
 
 
 def text_of(value: object) -> str:
-    """A value as text of the page. What is not seen is written as its number, apart from the rest."""
+    """A value as text of the page. An invisible character is written as its number, set off from the rest."""
     if value is None:
         return ""
     shown = str(value)
@@ -56,12 +56,12 @@ def text_of(value: object) -> str:
 
 
 def name_of(value: object) -> str:
-    """A name from a stranger: its letters may run from right to left, and what is beside it does not."""
+    """A name from a stranger: its letters may run from right to left, without effect on the text around it."""
     return f"<bdi>{text_of(value)}</bdi>"
 
 
 def counted(count: int, what: str, many: str | None = None) -> str:
-    """So many of something: 1 row, 2 rows."""
+    """A number of things: 1 row, 2 rows."""
     return f"{count:,} {what if count == 1 else many or what + 's'}"
 
 
@@ -70,7 +70,7 @@ def number_of(value: int | None) -> str:
 
 
 def duration_of(nanoseconds: int | None) -> str:
-    """A time in three digits."""
+    """A time, with three digits."""
     if nanoseconds is None:
         return ""
     for unit, size in (("s", 10**9), ("ms", 10**6), ("µs", 10**3)):
@@ -81,8 +81,8 @@ def duration_of(nanoseconds: int | None) -> str:
 
 
 def lasted(age: int | None, good: int | None, longest: int | None) -> str:
-    """How long a finding has lasted, and how long at most what came to a good end of its path, where that is counted;
-    nothing where times are not known."""
+    """How long a finding has lasted, and the longest of its path that came to a good end, if that is counted; nothing
+    if times are not known."""
     if age is None:
         return ""
     than = "" if good is None else ", none of its path came to a good end" if longest is None else \
@@ -91,7 +91,7 @@ def lasted(age: int | None, good: int | None, longest: int | None) -> str:
 
 
 class Cell(NamedTuple):
-    """What is in a cell: its HTML, whether it is a number, and what it is sorted by where its text is not that."""
+    """A cell: its HTML, whether it is a number, and what it is sorted by if not by its text."""
     inner: str
     is_number: bool = False
     key: int | None = None
@@ -102,7 +102,7 @@ def number_cell(value: int | None) -> Cell:
 
 
 def duration_cell(seconds: int | None, frames: int | None) -> Cell:
-    """How long something took: a time, or where there is none a number of frames."""
+    """How long something took: a time, or a number of frames if there is no time."""
     if seconds is not None:
         return Cell(duration_of(seconds), True, seconds)
     return Cell("" if frames is None else counted(frames, "frame"), True, frames)
@@ -114,7 +114,7 @@ def cell_of(cell: Cell) -> str:
 
 
 def table_of(name: str, heads: list[str], rows: list[list[Cell]], all_rows: int | None = None) -> str:
-    """A table that can be sorted. A head that begins with # is of numbers."""
+    """A table that can be sorted. A head that begins with # is that of a column of numbers."""
     if not rows:
         return '<p class="dim">none</p>'
     left = (all_rows or len(rows)) - len(rows)
@@ -154,7 +154,7 @@ def strip(places: list[int], whole: int, width: int = 112, height: int = 14) -> 
 
 
 class Page:
-    """The parts of the page, each by queries of its own."""
+    """The sections of the page, each made by queries of its own."""
 
     def __init__(self, database: sqlite3.Connection, files: list[str], side: str | None):
         self.database = database
@@ -170,7 +170,7 @@ class Page:
         return self.database.execute(query, values).fetchall()
 
     def asked(self, name: str, *values: object) -> list[tuple]:
-        """What the query in a file answers."""
+        """The answer of the query in a file."""
         return self.ask((FOLDER / "queries" / f"{name}.sql").read_text(), *values)
 
     def count(self, table: str, condition: str = "1", *values: object) -> int:
@@ -184,7 +184,7 @@ class Page:
     def unknown(self) -> Iterator[str]:
         """What is not known of the capture."""
         if not self.facts["side_list"]:
-            yield "No side list: no times, no names, no ends, and what came before the capture is not known."
+            yield "There is no side list, so times, names, ends and what came before the capture are not known."
             return
         if self.facts["side_doubt"]:
             yield f"<b>{text_of(self.facts['side_doubt'].capitalize())}.</b>"
@@ -198,14 +198,14 @@ class Page:
         if lost:
             yield "Lost frames: " + ", ".join(f"{number_of(count)} {text_of(why)}" for why, count in lost) + "."
         if "end_ts" not in self.facts:
-            yield "The side list has no end: the recorder was killed, or had no more room."
+            yield "The side list has no end: the recorder was killed, or the disk was full."
 
     def head(self) -> str:
         facts = self.facts
         span = ""
         if facts.get("first_ts") is not None and facts.get("last_ts") is not None:
             span = f" over {duration_of(facts['last_ts'] - facts['first_ts'])}"
-        first = f'<p class="fault">{text_of(facts["malformed"])}: all below is of what comes before it.</p>' \
+        first = f'<p class="fault">{text_of(facts["malformed"])}: this page shows what comes before it.</p>' \
             if facts["malformed"] else ""
         missing = counted(facts["missing"] % 2**64, "frame") if facts["missing"] else "no frames"
         told = "".join(f'<p class="dim">{one}</p>' for one in self.unknown())
@@ -221,7 +221,7 @@ class Page:
                         f'<span class="of"> · {counted(rows.get(verdict, 0), "row")}</span></div>'
                         for verdict in VERDICTS)
         return (f'<div class="counts">{boxes}</div><p class="dim">Verdicts, paths and counts are <b>inferred</b> by the'
-                ' rules of docs/VIEW.md. What is in <span class="proved">green</span> is the proved report, word by'
+                ' rules of docs/VIEW.md. What is <span class="proved">green</span> is the proved report, word by'
                 ' word.</p><div class="filter"></div>')
 
     # -- findings
@@ -262,12 +262,12 @@ class Page:
         return f'<div class="scroll" tabindex=0 role=region aria-label="findings"><table>{rows}</table></div>{more}'
 
     def names(self, who: str | None) -> str:
-        """Some names, of which there may be many."""
+        """At most eight of these names, and how many more there are."""
         names = (who or "").split(",")
         return ", ".join(map(name_of, names[:8])) + (f" and {len(names) - 8:,} more" if len(names) > 8 else "")
 
     def growth(self, group: int) -> str:
-        """How many findings of a group there are at the end of each of 16 slices of the capture."""
+        """How many findings a group has at the end of each of 16 slices of the capture."""
         slices = dict(self.asked("group_growth", group))
         values, so_far = [], 0
         for at in range(16):
@@ -356,7 +356,7 @@ class Page:
     def heads(self) -> str:
         lines = "".join(f'<div class="proved">{text_of(text)}</div>' for text, in
                         self.ask("SELECT text FROM report WHERE section = 'head' ORDER BY id"))
-        return (f'<p class="dim"><code>{text_of(self.report)}</code> writes the whole of it, and docs/REPORT.md'
+        return (f'<p class="dim"><code>{text_of(self.report)}</code> writes the whole report, and docs/REPORT.md'
                 f' explains each section.</p><div class="box heads">{lines}</div>')
 
     def parts(self) -> Iterator[str]:
@@ -365,26 +365,26 @@ class Page:
         yield "<h2>Look at these</h2>" + self.groups("real", "maybe")
         yield ('<h2>Explained</h2><p class="dim">Ends, what was under way when the capture ended, and what began before'
                " it.</p>" + self.groups("explained"))
-        yield ('<h2>Processes</h2><p class="dim">Times of ends count from the first frame of the capture.</p>'
+        yield ('<h2>Processes</h2><p class="dim">The time of an end counts from the first frame of the capture.</p>'
                + self.processes())
         yield ('<h2>Who talks to whom</h2><p class="dim">Which process and node a handle leads to is inferred from'
-               " sends and deliveries that fit. The last column says of how many deliveries one send alone fits; of the"
-               " others the counts are right together, and which send is which is not certain. Failed are sends that an"
-               " error reply ended. Open calls and buffers that are not freed count those of ended processes too."
+               " sends and deliveries that fit. The last column says for how many deliveries only one send fits. For"
+               " the others the sums are right, but which send is which is not certain. Failed sends are those that an"
+               " error reply ended. Open calls, and buffers that are not freed, also count those of ended processes."
                " Buffers at the peak are those of all callers.</p>" + self.talk())
         yield ('<h2>Growth</h2><p class="dim">Each step is the most that a process held in one of 16 slices of the'
-               " capture; so what it let go of in a slice makes the next step lower. Below the steps are the most of"
-               " all, and what it held at the very end, or when it ended. Steps that rise, and about as much at the"
-               " end, are what a leak looks like. After its end a process holds nothing, and a call ends with its"
-               " thread.</p>" + self.levels())
+               " capture, so what it let go of in a slice only makes the next step lower. The numbers below the steps"
+               " are the most of all, and what the process held at the very end, or when it ended. A leak looks like"
+               " this: the steps rise, and the end is about as high. After its end a process holds nothing, and a call"
+               " ends with its thread.</p>" + self.levels())
         yield "<h2>Calls without an answer, and those that took longest</h2>" + self.slow_calls()
-        yield ('<details class="fold"><summary>Normal rows: references that are held or let go of, and requests that wait'
-               "</summary>" + self.groups("normal") + "</details>")
+        yield ('<details class="fold"><summary>Normal rows: references that are held or were let go, and requests that'
+               " wait</summary>" + self.groups("normal") + "</details>")
         yield "<h2>The heads of the proved report</h2>" + self.heads()
 
 
 def document(page: Page) -> Iterator[str]:
-    """The whole page. Its policy lets nothing be loaded, and no script run but its own."""
+    """The whole page. Its policy lets it load nothing, and run no script but its own."""
     style, script = ((FOLDER / name).read_text() for name in ("page.css", "page.js"))
     digest = base64.b64encode(hashlib.sha256(script.encode()).digest()).decode()
     yield ('<!doctype html>\n<html lang="en"><meta charset="utf-8"><meta name="viewport"'
@@ -396,7 +396,7 @@ def document(page: Page) -> Iterator[str]:
 
 
 def text_title(value: object) -> str:
-    """A title has no markup: what is not seen is left out of it."""
+    """The text of a title, which has no markup: invisible characters are left out."""
     return html.escape("".join(one for one in str(value)[:200] if not is_sign(one)))
 
 
@@ -413,13 +413,13 @@ def write(database: sqlite3.Connection, files: list[str], side: str | None, path
 
 
 def field_of(value: object) -> str:
-    """A field of a line: what would end it is written as a number."""
+    """A field of a line. A character that would end it is written as a number."""
     return "-" if value in (None, "") else "".join(
         f"\\x{ord(one):02x}" if one == "\\" or is_sign(one) else one for one in str(value))
 
 
 def group_lines(database: sqlite3.Connection) -> Iterator[str]:
-    """The groups as lines of fields with tabs between: verdict, kind, n, all, device, process, path, rule."""
+    """The groups as lines of fields, separated by tabs: verdict, kind, n, all, device, process, path, rule."""
     for number, *fields in database.execute(
             "SELECT grp, verdict, title, n, n_all, path, rules FROM finding_group"
             " ORDER BY CASE verdict WHEN 'real' THEN 1 WHEN 'maybe' THEN 2 WHEN 'explained' THEN 3 ELSE 4 END, n DESC,"

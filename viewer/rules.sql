@@ -1,8 +1,9 @@
--- Verdicts over the rows of the report: first what is known of each finding, then the rules. The first rule that fits a
--- finding decides. docs/VIEW.md has them in words. Times are used where the side list has them, and else frames.
+-- The verdicts on the rows of the report: first what is known of each finding, then the rules. The first rule that fits
+-- a finding decides. docs/VIEW.md has the rules in words. Times are used if the side list has them, and frames
+-- otherwise.
 BEGIN;
 
--- ---- indexes: each is here since a query below, or one of the page, was slow without it
+-- ---- indexes: a query below, or one of the page, was slow without them
 
 CREATE INDEX call_of_thread ON raw_call(utid, place);
 CREATE INDEX object_of_record ON raw_object(place, idx);
@@ -26,7 +27,7 @@ SELECT s.generation, t.upid, r.ptr, r.cookie, count(*), sum(s.certain)
 FROM raw_send s JOIN raw_record r ON r.place = s.delivery JOIN raw_thread t ON t.utid = r.utid
 WHERE s.generation IS NOT NULL GROUP BY 1, 2, 3, 4;
 
--- The one that is taken: the only one of which a delivery is certain, or else the only one at all.
+-- The node that is taken: the only one with a certain delivery, or else the only one at all.
 CREATE TABLE node_of(generation INTEGER PRIMARY KEY, upid INTEGER NOT NULL, ptr INTEGER NOT NULL,
   cookie INTEGER NOT NULL, certain INTEGER NOT NULL) STRICT;
 INSERT INTO node_of
@@ -34,8 +35,8 @@ SELECT generation, node_upid, ptr, cookie, 1 FROM peer WHERE certain > 0 GROUP B
 INSERT INTO node_of
 SELECT generation, node_upid, ptr, cookie, 0 FROM peer WHERE generation NOT IN (SELECT generation FROM node_of)
 GROUP BY generation HAVING count(*) = 1;
--- A handle that was never used leads to the object that was handed over: the sender's own, or one that it has a handle
--- of.
+-- A handle that was never used leads to the object that was handed over: one of the sender's own, or one that the
+-- sender has a handle of.
 CREATE TEMP TABLE handed AS
 SELECT g.id AS generation, o.sort, t.upid, o.binder AS ptr, o.cookie, o.handle, s.place, s.certain
 FROM raw_generation g JOIN raw_delivery d ON d.place = g.given_by JOIN raw_send s ON s.place = d.send
@@ -53,7 +54,7 @@ WHERE h.sort IN (0x73682a85, 0x77682a85) GROUP BY h.generation;
 CREATE TEMP TABLE manager AS
 SELECT DISTINCT n.upid FROM node_of n JOIN raw_generation g ON g.id = n.generation WHERE g.handle = 0;
 
--- ---- findings that are no row of the report: oneway sends that were taken and are not seen to come
+-- ---- findings that are not rows of the report: oneway sends that the driver took and that were never seen to come
 
 INSERT INTO finding(section, what, place, upid, handle, code)
 SELECT 'oneway', 'undelivered', s.place, t.upid, r.handle, r.code
@@ -68,7 +69,7 @@ WHERE r.kind IN (14, 15, 16, 271, 272);
 CREATE INDEX temp.dead_cookie ON dead_record(upid, cookie, kind, place);
 CREATE INDEX temp.dead_handle ON dead_record(upid, handle, kind, place);
 CREATE UNIQUE INDEX temp.dead_place ON dead_record(place);
--- The deaths that a process was told of, each with the generation that the latest request with its cookie names.
+-- The deaths that were reported to a process, each with the generation that the latest request with its cookie names.
 CREATE TEMP TABLE told AS
 SELECT d.place, d.upid, d.cookie, q.handle, (SELECT g.id FROM raw_generation g WHERE g.upid = q.upid
   AND g.handle = q.handle AND g.begin <= q.place ORDER BY g.begin DESC LIMIT 1) AS generation
@@ -77,13 +78,13 @@ FROM dead_record d JOIN dead_record q ON q.place = (SELECT max(x.place) FROM dea
 WHERE d.kind = 271;
 CREATE INDEX temp.told_generation ON told(generation);
 
--- A handle: the generation that is held, or else the last one; where it was taken or given.
+-- For a handle: the generation that is held, or else the last one; and the place where it was taken or given.
 UPDATE finding SET generation = (SELECT g.id FROM raw_generation g WHERE g.upid = finding.upid
   AND g.handle = finding.handle ORDER BY g.strong + g.weak + g.held_strong + g.held_weak > 0 DESC, g.n DESC LIMIT 1)
 WHERE section = 'handles';
 UPDATE finding SET place = coalesce(g.held_since, g.given_by, g.begin)
 FROM raw_generation g WHERE g.id = finding.generation AND section = 'handles';
--- A node: the last record by which the driver asks for it.
+-- For a node: the last record by which the driver asks for a reference to it.
 CREATE TEMP TABLE asked AS
 SELECT t.upid, r.ptr, r.cookie, max(r.place) AS place FROM raw_record r JOIN raw_thread t USING (utid)
 WHERE r.kind IN (263, 264) AND EXISTS (SELECT 1 FROM finding WHERE section = 'nodes') GROUP BY 1, 2, 3;
@@ -91,7 +92,7 @@ CREATE UNIQUE INDEX temp.asked_node ON asked(upid, ptr, cookie);
 UPDATE finding SET place = a.place FROM asked a
 WHERE section = 'nodes' AND (a.upid, a.ptr, a.cookie) = (finding.upid, finding.ptr, finding.cookie);
 
--- What a record of a finding says of it. An error reply is about the send that it refuses.
+-- What the record of a finding says of it. An error reply is about the send that it refuses.
 UPDATE finding SET seq = r.seq, utid = r.utid FROM raw_record r WHERE r.place = finding.place;
 UPDATE finding SET generation = s.generation, code = r.code, handle = r.handle
 FROM raw_send s JOIN raw_record r ON r.place = s.place
@@ -119,9 +120,9 @@ UPDATE finding SET target = n.upid, ptr = coalesce(finding.ptr, n.ptr), cookie =
   'clears'), finding.cookie, coalesce(finding.cookie, n.cookie))
 FROM node_of n WHERE n.generation = finding.generation;
 
--- ---- until when: the end of its thread or process, or of the capture; and how old it is then
+-- ---- how long it lasted: to the end of its thread, its process or the capture
 
--- A side list that goes on after the capture, since this was cut, says nothing of its end.
+-- A side list that goes on after a capture that was cut says nothing of the end of the capture.
 CREATE TEMP TABLE last AS
 SELECT c.last_seq AS seq, c.missing, iif(EXISTS (SELECT 1 FROM side_time s WHERE s.seq > c.last_seq),
   (SELECT ts FROM side_time s WHERE s.seq = c.last_seq),
@@ -140,14 +141,14 @@ SELECT t.utid, min(coalesce(t.ended_after, p.ended_after), coalesce(p.ended_afte
 FROM (SELECT utid, upid, iif(ended_after <= last.seq, ended_after, NULL) AS ended_after,
     iif(ended_after <= last.seq, ended, NULL) AS ended FROM thread, last) t JOIN process_life p USING (upid);
 CREATE UNIQUE INDEX temp.life_of_thread ON life(utid);
--- Processes of which frames are missing. A side list says whose they were; of those of which it does not, all may be.
+-- Processes with missing frames. If the side list does not say whose a missing frame was, it may be of any process.
 CREATE TEMP TABLE lossy AS
 WITH lost AS (SELECT l.* FROM side_lost l, raw_capture c WHERE l.seq BETWEEN c.first_seq AND c.last_seq)
 SELECT upid FROM raw_process p, last
 WHERE last.missing <> 0 AND (last.missing <> (SELECT count(*) FROM lost WHERE process IS NOT NULL)
   OR EXISTS (SELECT 1 FROM lost l WHERE (l.device, l.process) = (p.device, p.process)));
 
--- Of a call its thread counts, of a oneway send its receiver, and of all else its process.
+-- For a call the end of its thread counts, for a oneway send that of its receiver, for all else that of its process.
 UPDATE finding SET
   age_seq = max(0, coalesce(iif(section IN ('calls', 'served'), l.ended_after, p.ended_after), last.seq) - finding.seq),
   age = coalesce(iif(section IN ('calls', 'served'), l.ended, p.ended), last.ts)
@@ -155,9 +156,9 @@ UPDATE finding SET
 FROM last, life l, process_life p
 WHERE l.utid = finding.utid AND p.upid = iif(section = 'oneway', finding.target, finding.upid);
 
--- later: what its thread began after it, up to 4. A call that is open takes in all that its thread does after it: so a
--- call counts that lies no deeper than one that would begin there. Of what is no transaction write frames count; they
--- are looked for among the next 2,000 frames, and after these at least one is known of.
+-- later: how many calls its thread began after it, at most 4. All that a thread does after an open call is within that
+-- call, so a call counts if it is no deeper than a call that would begin at the finding. For what is not a transaction,
+-- write frames count: those among the next 2,000 frames, or one if the thread wrote only after these.
 UPDATE finding SET later = (SELECT count(*) FROM (SELECT 1 FROM (SELECT depth FROM raw_call c
   WHERE c.utid = finding.utid AND c.place > finding.place ORDER BY c.place LIMIT 64) c WHERE c.depth <= coalesce(
     (SELECT o.depth FROM raw_delivery d JOIN raw_call o ON o.place = d.call WHERE d.place = finding.place),
@@ -172,7 +173,7 @@ WHERE t.utid = finding.utid AND section NOT IN ('calls', 'served')
   AND (later IS NULL OR EXISTS (SELECT 1 FROM raw_record r
     WHERE r.place = finding.place AND r.kind IN (258, 514) AND r.flags & 1));
 
--- ---- paths: what findings are grouped by, and all that took the same one
+-- ---- paths: findings are grouped by them; and everything that took the same path
 
 UPDATE finding SET path = CASE
   WHEN section IN ('calls', 'refused', 'oneway') OR section IN ('strays', 'objects', 'flags') AND generation IS NOT NULL
@@ -195,8 +196,8 @@ UPDATE finding SET path = CASE
   ELSE '' END;
 UPDATE finding SET path = '' WHERE path IS NULL;
 
--- Buffers, by what they came for. Those of the paths that findings have, whole: how many, how many were freed, and how
--- long these were held at most.
+-- Buffers, by what they came for. For each path that has a finding: how many buffers there are, how many were freed,
+-- and how long these were held at most.
 CREATE TEMP TABLE buffer_path AS
 WITH d AS (
   SELECT d.place, r.kind = 259 AS reply, iif(r.kind = 259, c.code, r.code) AS code, coalesce(n.upid, t.upid) AS upid,
@@ -216,7 +217,7 @@ WHERE f.section = 'buffers';
 UPDATE finding SET n_all = b.n, n_good = b.good, longest_seq = b.longest_seq, longest = b.longest
 FROM (SELECT path, sum(n) AS n, sum(good) AS good, max(longest_seq) AS longest_seq, max(longest) AS longest
   FROM buffer_text GROUP BY path) b WHERE b.path = finding.path AND section = 'buffers';
--- Calls and oneway sends to a target, by code: how many were answered, or delivered, and how long that took.
+-- Calls and oneway sends to a target, by code: how many were answered or delivered, and how long that took.
 CREATE TEMP TABLE send_path AS
 SELECT r.code, coalesce(n.upid, -t.upid) AS upid, coalesce(n.ptr, r.handle) AS ptr, coalesce(n.cookie, 0) AS cookie,
   r.flags & 1 AS oneway, count(*) AS n, count(e.seq) AS good, max(e.seq - s.seq) AS longest_seq,
@@ -237,7 +238,7 @@ WHERE section IN ('calls', 'refused', 'oneway', 'strays', 'objects') AND r.place
   AND p.cookie = iif(finding.target IS NULL, 0, finding.cookie)
   AND p.oneway = coalesce((SELECT x.flags & 1 FROM raw_send s JOIN raw_record x USING (place)
     WHERE s.refused = finding.place), iif(section = 'calls', 0, r.flags & 1));
--- Served calls, of a node by code.
+-- Served calls of a node, by code.
 UPDATE finding SET n_all = p.n, n_good = p.good, longest_seq = p.longest_seq, longest = p.longest
 FROM (SELECT r.code, t.upid, r.ptr, r.cookie, count(*) AS n, sum(c.verdict = 2) AS good,
     max(iif(c.verdict = 2, c.dur_seq, NULL)) AS longest_seq, max(iif(c.verdict = 2, z.ts - x.ts, NULL)) AS longest
@@ -246,7 +247,8 @@ FROM (SELECT r.code, t.upid, r.ptr, r.cookie, count(*) AS n, sum(c.verdict = 2) 
   WHERE c.served AND r.code IN (SELECT code FROM finding WHERE section = 'served') GROUP BY 1, 2, 3, 4) p
 WHERE section = 'served'
   AND (p.code, p.upid, p.ptr, p.cookie) = (finding.code, finding.upid, finding.ptr, finding.cookie);
--- Handles, by what gave them: calls of a code, or replies to one. A handle that no delivery gave has no way.
+-- Handles, by the way they came: with calls of a code, or with replies to a code. If no delivery gave it, it has no
+-- way.
 CREATE TEMP TABLE given AS
 SELECT g.id AS generation, g.upid, d.code, d.kind = 'BR_REPLY' AS reply, d.handle AS asked,
   iif(d.kind = 'BR_REPLY', 'given by replies to code ' || d.code || ' of '
@@ -263,8 +265,8 @@ SELECT upid, way, count(*) AS n, sum(kept) AS kept FROM given WHERE way NOTNULL 
 UPDATE finding SET n_all = w.n FROM given g JOIN given_way w ON w.upid = g.upid AND w.way = g.way
 WHERE section = 'handles' AND g.generation = finding.generation AND g.kept;
 
--- Whether something is old: older than ten times the longest of its path, or where there is none ten times the median
--- of all buffers or calls, of which 10,000 are looked at; 0.1 s at least.
+-- What is old: older than ten times the longest of its path or, if there is none, ten times the median of all buffers
+-- or calls, of which some 10,000 are looked at; and older than 0.1 s.
 CREATE TEMP TABLE usual AS
 WITH held AS (SELECT z.ts - x.ts AS dur FROM raw_delivery d JOIN side_time x ON x.seq = d.seq
     JOIN side_time z ON z.seq = d.seq + d.dur_seq
@@ -337,9 +339,9 @@ INSERT INTO rule VALUES
   ('W2', 'explained', 'It waits for the oneway delivery before it to be freed.'),
   ('W3', 'maybe', 'Sent and confirmed, and never seen to come.');
 
--- Calls that are open, and what they wait for: the thread that got the call, and the innermost call that this one made
--- meanwhile; or, of a call that nobody got, the calls of the process that should. A call back to a process that waits
--- for this very thread is got by the thread that waits: it is under way.
+-- Open calls, and what they wait for: the innermost call that the thread that got the call has made since; or, for a
+-- call that nobody got, the calls of the process that should get it. A call back to a process that waits for this very
+-- thread goes to the thread that waits: it is under way.
 CREATE TEMP TABLE waits AS
 SELECT f.id, f.place, f.upid, f.utid, s.delivery, v.utid AS server, v.verdict AS replied,
   coalesce(st.upid, f.target) AS server_upid
@@ -365,7 +367,7 @@ SELECT DISTINCT w.id FROM chain c JOIN waits w ON w.id = c.id JOIN waits e ON e.
 WHERE c.length > 0 AND e.server_upid = w.upid AND coalesce(e.server, 0) <> w.utid AND coalesce(e.replied, 0) = 0;
 INSERT INTO ring SELECT n.next FROM waits_for n JOIN ring r ON r.id = n.id WHERE n.next NOT IN (SELECT id FROM ring);
 
--- An error reply closes a call as failed; which one, and what it says.
+-- The error reply that closed a failed call or refused a send: its kind, and the send.
 CREATE TEMP TABLE failure AS
 SELECT f.id, e.kind, f.generation, f.place, s.refused = e.place AS refused FROM finding f
   JOIN raw_call c USING (place) JOIN raw_record e ON e.place = c.closer LEFT JOIN raw_send s USING (place)
@@ -380,7 +382,7 @@ CREATE INDEX temp.failure_before ON failure(generation, kind, place);
 -- A: one finding with an open call.
 UPDATE finding SET rule = 'A1', lead = w.id FROM waits w
 WHERE section IN ('served', 'buffers') AND w.delivery = finding.place AND (w.replied = 0 OR section = 'served');
--- A call that failed since its server ended, and the end of this one.
+-- A call that failed because its server ended, and the served call there.
 UPDATE finding SET rule = 'A1', lead = f.id FROM raw_delivery d JOIN finding f ON f.place = d.send
 WHERE finding.section = 'served' AND finding.what = 'open' AND d.place = finding.place AND f.section = 'calls'
   AND f.what = 'failed' AND finding.rule IS NULL;
@@ -435,7 +437,7 @@ UPDATE finding SET rule = CASE
   WHEN (SELECT known FROM process_life p WHERE p.upid = finding.upid) THEN 'S4' ELSE 'P1' END
 WHERE rule IS NULL AND (section = 'strays' OR what = 'crossed');
 
--- M: where frames are missing, an error reply may be taken for that of another send; but not of one with bad objects.
+-- M: if frames are missing, an error reply may belong to another send, but not if the send has bad objects.
 UPDATE finding SET rule = 'M3' WHERE rule IN ('E1', 'E5', 'E6', 'S1', 'S2') AND upid IN (SELECT upid FROM lossy)
   AND place NOT IN (SELECT place FROM finding WHERE section = 'objects');
 
@@ -494,7 +496,8 @@ UPDATE finding SET rule = CASE WHEN later = 0 AND finding.id IN (SELECT id FROM 
   WHEN finding.upid IN (SELECT upid FROM lossy) THEN 'M1' WHEN later > 1 THEN 'U4' ELSE 'U6' END
 WHERE rule IS NULL AND section = 'nodes' AND EXISTS (SELECT 1 FROM report r WHERE r.id = finding.report
   AND NOT r.text GLOB '* 0 0');
--- What is let go of is not in use, but for what buffers hold. Handles in use are one group with those that came so.
+-- What was let go is not in use, unless buffers hold it. Handles in use are one group with those that came the same
+-- way.
 UPDATE finding SET rule = 'H7' FROM handle_row h
 WHERE rule IS NULL AND h.id = finding.id AND h.what = 'balanced' AND h.text GLOB '* 0 0';
 UPDATE finding SET rule = 'H6', path = g.way, note = path FROM given g

@@ -1,42 +1,212 @@
--- The database of a capture. docs/DATABASE.md explains it: it is an interface, and this is its version.
+-- The database of a capture. docs/DATABASE.md describes it as an interface, and this is the version of that interface.
+-- Since version 1, traffic.longest is new, traffic.failed counts each send once, process.name and thread.name are the
+-- last names, and finding.n_all is also set for handles that are held.
 PRAGMA user_version = 2;
 
--- ---- raw tables: as the rows of `./listing --tables` come, column by column. They may change; the views below may
--- not.
--- They are not STRICT: the loader has whole numbers alone, and to look at each took a quarter of its time.
+-- ---- raw tables: the rows that `./listing --tables` writes, column by column
+--
+-- docs/DATABASE.md has the form of a row. These tables may change; the views below may not. A change of a column, of
+-- its meaning or of the order raises the layout. They are not STRICT: the loader has only whole numbers, and checking
+-- each took a quarter of its time.
+--
+-- A column is present in every row unless it may be NULL. A place is the place of a record's code word unless said
+-- otherwise. A difference of two sequences is taken in 64 bits without a sign. Rows rise by the first column, in
+-- raw_object and raw_level by the first two. Wherever the end of the capture is meant, a malformed capture ends at its
+-- first fault.
 
+-- The capture, in one row.
+--   layout                1
+--   parts                 the number of files
+--   bytes                 the length of the joined capture; of a malformed one, the place of its fault in that
+--   frames, records       the numbers of rows of raw_frame and raw_record
+--   first_seq, last_seq   the sequences of the first and the last frame; NULL without frames
+--   missing               as in the totals of the report
+--   fault                 the number of its kind in the list of docs/ENVELOPE.md, 1 HeaderShort to 15 AttachSize
+--   fault_place           as the auditor names it: the place in its own file
+--   fault_part            the number of that file, from 1, even if it is the only one; all three are NULL without a
+--                         fault
 CREATE TABLE raw_capture(layout INTEGER NOT NULL, parts INTEGER NOT NULL, bytes INTEGER NOT NULL,
   frames INTEGER NOT NULL, records INTEGER NOT NULL, first_seq INTEGER, last_seq INTEGER, missing INTEGER NOT NULL,
   fault INTEGER, fault_place INTEGER, fault_part INTEGER);
+
+-- A row for each process and for each thread, in the order of their first frames. An empty frame counts.
+--   upid, utid            1, 2 and so on. A process is a device and a process number together, a thread is a device, a
+--                         process number and a thread number together
+--   process, thread       the number in the frames
+--   first_seq, last_seq   the sequences of its first and its last frame
+--   frames                how many it has
+--   last_record           the place of its last record; NULL without records
+--   last_write            the place of its last record in a write frame; NULL without one
 CREATE TABLE raw_process(upid INTEGER PRIMARY KEY, device INTEGER NOT NULL, process INTEGER NOT NULL,
   first_seq INTEGER NOT NULL, last_seq INTEGER NOT NULL, frames INTEGER NOT NULL);
 CREATE TABLE raw_thread(utid INTEGER PRIMARY KEY, upid INTEGER NOT NULL, thread INTEGER NOT NULL,
   first_seq INTEGER NOT NULL, last_seq INTEGER NOT NULL, frames INTEGER NOT NULL,
   last_record INTEGER, last_write INTEGER);
+
+-- A row for each frame, empty ones too.
+--   place       of its frame header
+--   direction   1 a write, 2 a read
+--   records     how many records it has
 CREATE TABLE raw_frame(seq INTEGER PRIMARY KEY, place INTEGER NOT NULL, utid INTEGER NOT NULL,
   direction INTEGER NOT NULL, command_length INTEGER NOT NULL, attachment_length INTEGER NOT NULL,
   records INTEGER NOT NULL);
+
+-- A row for each record, opaque ones too. A field that the record does not have is NULL.
+--   seq, utid    of its frame
+--   kind         the number in docs/COMMANDS.md of a BC_ record, and that number plus 256 of a BR_ record; 514 of
+--                BR_TRANSACTION_SEC_CTX; 255 of an opaque record in a write frame, 511 in a read frame
+--   handle       the target of BC_TRANSACTION and BC_TRANSACTION_SG; the handle of BC_INCREFS, BC_ACQUIRE, BC_RELEASE,
+--                BC_DECREFS, BC_ATTEMPT_ACQUIRE, BC_REQUEST_DEATH_NOTIFICATION and BC_CLEAR_DEATH_NOTIFICATION
+--   ptr          the target of BR_TRANSACTION and BR_TRANSACTION_SEC_CTX; the ptr of BR_INCREFS, BR_ACQUIRE,
+--                BR_RELEASE, BR_DECREFS, BC_INCREFS_DONE, BC_ACQUIRE_DONE and BR_ATTEMPT_ACQUIRE
+--   cookie       of all that have a ptr, and of BC_REQUEST_DEATH_NOTIFICATION, BC_CLEAR_DEATH_NOTIFICATION,
+--                BR_DEAD_BINDER, BC_DEAD_BINDER_DONE and BR_CLEAR_DEATH_NOTIFICATION_DONE
+--   address      the field buffer of the seven transactions and replies, and the address of BC_FREE_BUFFER
+--   code to offsets   fields of the seven transactions and replies; sender_pid has a sign
+--   extra        buffers_size of the two _SG forms, secctx of BR_TRANSACTION_SEC_CTX
+--   attachment   the place of the record's attachment entry; NULL without one
+--   value        the code word of an opaque record. With a sign: the error of BR_ERROR, the result of BC_ACQUIRE_RESULT
+--                and BR_ACQUIRE_RESULT, the priority of BC_ATTEMPT_ACQUIRE and BR_ATTEMPT_ACQUIRE
+-- The target of a reply means nothing, so BC_REPLY, BC_REPLY_SG and BR_REPLY have no handle, ptr or cookie. A sent
+-- transaction goes to a handle and a received one to a ptr and a cookie; the other reading of these bytes is left out.
+-- Indexes are those that a query of the page, or of docs/DATABASE.md, was measured to need: rules.sql begins with them.
+-- A look at all records of a capture of 82 MB takes a quarter of a second.
 CREATE TABLE raw_record(place INTEGER PRIMARY KEY, seq INTEGER NOT NULL, utid INTEGER NOT NULL, kind INTEGER NOT NULL,
   handle INTEGER, ptr INTEGER, cookie INTEGER, address INTEGER, code INTEGER, flags INTEGER, sender_pid INTEGER,
   sender_euid INTEGER, data_size INTEGER, offsets_size INTEGER, offsets INTEGER, extra INTEGER, attachment INTEGER,
   value INTEGER);
+
+-- A row for each object of an attachment, up to the first bad one, which has a row too (docs/REPORT.md#objects). Of a
+-- bad object only place, idx, offset and bad are there.
+--   place                   of the record that owns the attachment
+--   idx, offset             the number in the list of offsets, from 0, and the offset in the list; both 0 of ListLength
+--   sort                    its four bytes as a number, for example 0x73622a85
+--   flags                   of BINDER, WEAK_BINDER, HANDLE, WEAK_HANDLE and PTR
+--   binder                  of BINDER and WEAK_BINDER
+--   handle                  of HANDLE and WEAK_HANDLE
+--   fd                      of FD
+--   cookie                  of BINDER, WEAK_BINDER, HANDLE, WEAK_HANDLE and FD
+--   num_fds                 of FDA
+--   buffer, length          of PTR
+--   parent, parent_offset   of PTR and FDA
+--   bad                     1 ListLength, 2 Misaligned, 3 Overlap, 4 Short, 5 UnknownSort; NULL of a good object
 CREATE TABLE raw_object(place INTEGER NOT NULL, idx INTEGER NOT NULL, offset INTEGER NOT NULL, sort INTEGER,
   flags INTEGER, binder INTEGER, handle INTEGER, fd INTEGER, cookie INTEGER, num_fds INTEGER, buffer INTEGER,
   length INTEGER, parent INTEGER, parent_offset INTEGER, bad INTEGER);
+
+-- A row for each call that a thread makes or gets to serve, answered and replied ones too. Openers, closers and
+-- verdicts follow docs/REPORT.md#calls-of-each-thread to the letter.
+--   place, seq   of the opener
+--   served       0 a call that the thread makes, 1 one that it gets to serve
+--   depth        how many calls of the thread are open right after the opener, itself included
+--   parent       the place of the innermost call of the thread that was open before; NULL at depth 1
+--   verdict      0 open, 1 answered, 2 replied, 3 failed, 4 crossed
+--   closer       the place of the record that closes it; NULL of an open call
+--   dur_seq      the closer's seq less the opener's; NULL of an open call
 CREATE TABLE raw_call(place INTEGER PRIMARY KEY, seq INTEGER NOT NULL, utid INTEGER NOT NULL, served INTEGER NOT NULL,
   depth INTEGER NOT NULL, parent INTEGER, verdict INTEGER NOT NULL, closer INTEGER, dur_seq INTEGER);
+
+-- A row for each generation of a handle: a span in which the handle of a process means one object, as far as its
+-- references show. Once a process has let go of its last reference by a handle, the driver may give the number to
+-- another object.
+-- A record of a process names a handle if it is BC_TRANSACTION or BC_TRANSACTION_SG to it, if it is another record with
+-- handle in raw_record, or if it is a transaction or reply, sent or delivered, with a good HANDLE or WEAK_HANDLE object
+-- of it. Within a record the target comes first, then the objects by idx.
+-- Begin: the first record that names a handle of a process begins generation 1 of it. After the end of a generation,
+-- the next BC_ACQUIRE, BC_INCREFS, or object in a delivery (BR_TRANSACTION, BR_TRANSACTION_SEC_CTX, BR_REPLY) that
+-- names the handle begins the next one. Any other record that names the handle before that belongs to the ended
+-- generation.
+-- Counts: strong, weak, held_strong and held_weak begin at 0. BC_ACQUIRE raises strong and BC_RELEASE lowers it,
+-- BC_INCREFS raises weak and BC_DECREFS lowers it. A count of 0 is not lowered, since the driver ignores such a record.
+-- Each HANDLE object of a delivery raises held_strong by one, and each WEAK_HANDLE object held_weak, until the delivery
+-- is freed.
+-- End: BC_RELEASE or BC_DECREFS of the handle, or a BC_FREE_BUFFER that frees a delivery with an object of it, ends the
+-- generation if all four counts are 0 after it. A generation of handle 0 never ends: 0 is always the context manager.
+-- Rows are in the order of begin, and of one begin in the order in which the record names the handles.
+--   id                      1, 2 and so on
+--   n                       1 of the first generation of this handle of this process, then 2 and so on
+--   begin, end              the places of the records that begin and end it; end is NULL if none does
+--   given_by                the place of its first delivery that has an object of the handle; NULL if none has
+--   held_since              the place of the BC_ACQUIRE that last raised strong from 0; NULL if strong is 0 at the end
+--   acquired to decrefs     how many BC_ACQUIRE, BC_RELEASE, BC_INCREFS and BC_DECREFS name it, ignored ones too
+--   strong to held_weak     the four counts at the end of the capture; all 0 of an ended generation
+-- In the report's row of a handle, strong is acquired less released over all its generations, weak is increfs less
+-- decrefs, and the held counts come from the last generation.
 CREATE TABLE raw_generation(id INTEGER PRIMARY KEY, upid INTEGER NOT NULL, handle INTEGER NOT NULL, n INTEGER NOT NULL,
   begin INTEGER NOT NULL, end INTEGER, given_by INTEGER, held_since INTEGER, acquired INTEGER NOT NULL,
   released INTEGER NOT NULL, increfs INTEGER NOT NULL, decrefs INTEGER NOT NULL, strong INTEGER NOT NULL,
   weak INTEGER NOT NULL, held_strong INTEGER NOT NULL, held_weak INTEGER NOT NULL);
+
+-- A row for each BC_TRANSACTION, BC_TRANSACTION_SG, BC_REPLY and BC_REPLY_SG: what became of it.
+--   generation   the id of the generation of its target handle; NULL of a reply
+--   confirmed    the place of the confirmation of it that the thread read; NULL without one
+--   refused      the place of the error reply by which the driver refused it; NULL without one
+--   delivery     the place of its delivery; NULL if none was found
+--   certain      1 if it is certain that this process and this handle sent what was delivered, else 0
+--   fits         how many sends fit that delivery; if 1, it was this one. Both are NULL without a delivery
+-- confirmed, refused: each thread has a queue of sends that wait to be confirmed, empty at first. A send joins its end.
+-- A confirmation (BR_TRANSACTION_COMPLETE, BR_ONEWAY_SPAM_SUSPECT, BR_TRANSACTION_PENDING_FROZEN) takes out the first
+-- one and is its `confirmed`. An error reply (BR_DEAD_REPLY, BR_FAILED_REPLY, BR_FROZEN_REPLY) takes out the first one
+-- and is its `refused`. If the queue is empty, neither does anything. Unlike the report's rule for refused sends, this
+-- also finds the sends of docs/REPORT.md#several-sends-in-one-write.
+-- delivery of a transaction: the driver hands these on unchanged, so the send and the delivery (BR_TRANSACTION or
+-- BR_TRANSACTION_SEC_CTX) must agree in them: the device, code, flags, data_size, offsets_size, and the sum of the
+-- body. Together they are the key. The sum is FNV-1a of 64 bits: it begins at 0xcbf29ce484222325; for each byte,
+-- exclusive or, then times 0x100000001b3 modulo 2^64. It covers the body bytes that lie in no good object, in order,
+-- and if there is a bad object, everything after the last good one. If both sizes are 0 it is the sum of no bytes, with
+-- or without an entry; otherwise a record without an entry has the sum 0.
+-- The capture is walked twice, in the order of places. On each walk:
+-- 1. A send that is not refused joins the end of the waiting ones of its key. The closer of a call that a thread makes
+--    takes that call out of them, if it is still there.
+-- 2. For a delivery, the first 64 waiting ones of its key are looked at. The second walk passes over those whose
+--    generation has a known node other than the delivery's. Each of the others has a rank, which is a sum: 1 if the
+--    calls do not lie as they should, and 2 if the sender_pid is not as it should be. Those of the least rank fit. A
+--    oneway delivery takes the first one that fits. Any other takes the one whose closer has the least place, an open
+--    one last; among equals, the first. What is taken leaves the waiting ones.
+-- 3. fits is how many fit. certain is 1 if the least rank is 0 and all that fit have one generation.
+-- 4. After the first walk, a generation has a known node if at least one delivery taken from it was certain, and all of
+--    these have the same upid, ptr and cookie. What the second walk finds is written.
+-- How the calls should lie matters for calls alone, not for oneway transactions. Let c be the row of raw_call of the
+-- call that is sent, and d the row of the served one:
+--    d is replied and c is answered: the two replies have the same key, and the BC_REPLY comes before the BR_REPLY.
+--    d is replied and c is not answered: c is open, or its closer comes after the BC_REPLY.
+--    d is not replied: c is not answered.
+-- sender_pid matters for calls alone too. It is as it should be if it is 0 or the sender's process number, or if that
+-- number is 4,194,304 or more: `./record` gives such a number to a process whose id is taken.
+-- delivery of a reply: if a BC_REPLY closes a served call as replied, if that served call is the delivery of a call,
+-- and if a BR_REPLY of the same key answers that call, then this BR_REPLY is the delivery. certain and fits are those
+-- of the call.
 CREATE TABLE raw_send(place INTEGER PRIMARY KEY, seq INTEGER NOT NULL, utid INTEGER NOT NULL, generation INTEGER,
   confirmed INTEGER, refused INTEGER, delivery INTEGER, certain INTEGER, fits INTEGER);
+
+-- A row for each BR_TRANSACTION, BR_TRANSACTION_SEC_CTX and BR_REPLY: a buffer that a process got. A free frees all
+-- earlier deliveries of its address that are not freed.
+--   utid       the thread that read it
+--   freed_by   the place of the first later BC_FREE_BUFFER of its process with its address; NULL if there is none: then
+--              it is leaked, as in the report
+--   dur_seq    the seq of that less its own; NULL without freed_by
+--   call       for a transaction that opens a served call, its own place; for a BR_REPLY, the place of the call that it
+--              closes as answered; otherwise NULL
+--   send       the place of the send that it delivers; NULL if none was found
+--   held       how many deliveries of its path the process has not freed right after it, itself included
+-- The path of a transaction is its code, ptr, cookie, and whether it is oneway. The path of a BR_REPLY with a call is
+-- the code and the handle of that call. All BR_REPLY of a process without one have one path.
 CREATE TABLE raw_delivery(place INTEGER PRIMARY KEY, seq INTEGER NOT NULL, utid INTEGER NOT NULL, freed_by INTEGER,
   dur_seq INTEGER, call INTEGER, send INTEGER, held INTEGER NOT NULL);
+
+-- What each process holds at most in each of 16 slices of the capture. The slice of a frame is (seq - first_seq) * 16 /
+-- (last_seq - first_seq + 1), rounded down, without overflow. A slice starts from the level at the end of the slice
+-- before, so a slice in which a level does not change, or only falls, has the level that it began with.
+--   slice     0 to 15; each process has all 16
+--   buffers   deliveries that are not freed
+--   bytes     the sum of their data_size; 2^63 - 1 if it is above that
+--   refs      the sum of strong over all generations of the process
+--   calls     calls that it makes and that are open
+--   served    calls that it serves and that are open
 CREATE TABLE raw_level(upid INTEGER NOT NULL, slice INTEGER NOT NULL, buffers INTEGER NOT NULL, bytes INTEGER NOT NULL,
   refs INTEGER NOT NULL, calls INTEGER NOT NULL, served INTEGER NOT NULL);
 
--- ---- what `./view` adds: the side list, the proved report, and what the rules make of it
+-- ---- what `./view` adds: the side list, the proved report, and the findings of the rules
 
 CREATE TABLE side_device(device INTEGER PRIMARY KEY, name TEXT NOT NULL) STRICT;
 CREATE TABLE side_process(device INTEGER, process INTEGER, pid INTEGER, opening INTEGER, met TEXT, name TEXT,
@@ -48,12 +218,15 @@ CREATE TABLE side_lost(seq INTEGER PRIMARY KEY, device INTEGER, process INTEGER,
 CREATE TABLE capture(key TEXT PRIMARY KEY, value) WITHOUT ROWID;
 CREATE TABLE report(id INTEGER PRIMARY KEY, section TEXT NOT NULL, place INTEGER, device INTEGER, process INTEGER,
   text TEXT NOT NULL) STRICT;
+-- n_all is NULL where a path is not counted: for handles that are let go of or that no delivery gave, for nodes,
+-- requests, deaths, clears, frees and flags, and for replies that are sent. later counts calls no deeper than the
+-- finding itself; for what is neither a call nor its buffer, it counts write frames.
 CREATE TABLE finding(id INTEGER PRIMARY KEY, report INTEGER, section TEXT NOT NULL, what TEXT NOT NULL, place INTEGER,
   seq INTEGER, upid INTEGER NOT NULL, utid INTEGER, handle INTEGER, code INTEGER, ptr INTEGER, cookie INTEGER,
   generation INTEGER, target INTEGER, path TEXT, n_all INTEGER, n_good INTEGER, longest_seq INTEGER, longest INTEGER,
   age_seq INTEGER, age INTEGER, later INTEGER, lead INTEGER, rule TEXT, note TEXT) STRICT;
 
--- ---- names of numbers
+-- ---- the names of numbers
 
 CREATE TABLE kind(number INTEGER PRIMARY KEY, name TEXT NOT NULL) STRICT;
 INSERT INTO kind VALUES (0, 'BC_TRANSACTION'), (1, 'BC_REPLY'), (2, 'BC_ACQUIRE_RESULT'), (3, 'BC_FREE_BUFFER'),
@@ -129,7 +302,7 @@ SELECT s.place, s.seq, s.utid, t.upid, k.name AS kind, r.handle, s.generation, r
 FROM raw_send s JOIN raw_thread t USING (utid) JOIN raw_record r USING (place) LEFT JOIN kind k ON k.number = r.kind
   LEFT JOIN side_time x ON x.seq = s.seq;
 
--- The code of a reply is that of the call that it answers, and its handle too.
+-- The code and the handle of a BR_REPLY are those of the call that it answers.
 CREATE VIEW delivery AS
 SELECT d.place, d.seq, d.utid, t.upid, k.name AS kind, r.address, r.data_size,
   iif(r.kind = 259, c.code, r.code) AS code, iif(r.kind = 259, c.handle, NULL) AS handle, r.ptr, r.cookie,
@@ -142,7 +315,7 @@ FROM raw_delivery d JOIN raw_thread t USING (utid) JOIN raw_record r USING (plac
 
 CREATE VIEW level AS SELECT upid, slice, buffers, bytes, refs, calls, served FROM raw_level;
 
--- Each reference that is taken or let go, with the counts after it, as the report counts.
+-- Each reference that is taken or let go, with the counts after it. The report counts in the same way.
 CREATE VIEW reference AS
 SELECT r.place, r.seq, r.utid, t.upid, r.handle, k.name AS kind,
   sum((r.kind = 5) - (r.kind = 6)) OVER changes AS strong, sum((r.kind = 4) - (r.kind = 7)) OVER changes AS weak
@@ -150,13 +323,13 @@ FROM raw_record r JOIN raw_thread t USING (utid) JOIN kind k ON k.number = r.kin
 WHERE r.kind BETWEEN 4 AND 7
 WINDOW changes AS (PARTITION BY t.upid, r.handle ORDER BY r.place ROWS UNBOUNDED PRECEDING);
 
--- A line of `./listing`.
+-- A row is a line of `./listing`.
 CREATE VIEW listing AS
 SELECT r.place, r.seq, p.device, p.process, t.thread, k.name AS kind, r.handle, printf('0x%x', r.ptr) AS ptr,
   printf('0x%x', r.cookie) AS cookie, r.code, r.flags, r.sender_pid, r.data_size, printf('0x%x', r.address) AS address
 FROM raw_record r JOIN raw_thread t USING (utid) JOIN raw_process p USING (upid) LEFT JOIN kind k ON k.number = r.kind;
 
--- ---- what each of them rests on
+-- ---- what each name rests on
 
 CREATE TABLE about(name TEXT PRIMARY KEY, rests_on TEXT NOT NULL
   CHECK (rests_on IN ('bytes', 'rule', 'proved', 'side', 'inferred')), text TEXT NOT NULL) STRICT;

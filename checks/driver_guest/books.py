@@ -24,7 +24,7 @@ class Transaction(NamedTuple):
 
 
 class Opening:
-    """What the driver's state says of one opening of a device."""
+    """One opening of a device, as the driver's state shows it."""
 
     def __init__(self, pid):
         self.pid, self.context = pid, ""
@@ -62,7 +62,7 @@ class Opening:
 
 
 def state(text):
-    """The openings, the latest first, as the driver lists them."""
+    """The openings, the latest first, as in the driver's list."""
     openings, thread = [], 0
     for line in text.splitlines():
         if found := re.match(r"proc (\d+)$", line):
@@ -113,7 +113,7 @@ def texts(folder):
 
 
 class Books:
-    """The books of one scenario: what is in them at its end, and what they counted since its beginning."""
+    """The books of one scenario: their state at its end, and what they counted since its beginning."""
 
     def __init__(self, text):
         self.openings = state(text["state"])

@@ -138,7 +138,7 @@ static void two(void)
 	wait_until(&shared->resting, 1);
 }
 
-/* ---- sends: several sends in one write, of which one is refused */
+/* ---- sends: several sends in one write; one of them is refused */
 
 static void sender_of_several(void)
 {
@@ -165,7 +165,7 @@ static void sends(void)
 	wait_until(&shared->resting, 1);
 }
 
-/* ---- oneway: a flood of a receiver that does not read, until the driver refuses; then some that are not read at all */
+/* ---- oneway: sends to a receiver that does not read, until the driver refuses one; then some that are never read */
 
 static void late_reader(void)
 {
@@ -241,7 +241,7 @@ static void erring_client(void)
 	if (hand_over(&opening, unknown, sizeof unknown) != -EINVAL) fail("errors: unknown command");
 	if (hand_over(&opening, attempt, 12) != -EINVAL) fail("errors: BC_ATTEMPT_ACQUIRE");
 	if (hand_over(&opening, (void *)16, 8) != -EFAULT) fail("errors: bad pointer");
-	hand_over(&opening, cut, 10);	/* the second command passes the end */
+	hand_over(&opening, cut, 10);	/* the second command goes past the end */
 	command(&exchange, BC_FREE_BUFFER, &nowhere);
 	command(&exchange, BC_DEAD_BINDER_DONE, &nowhere);
 	number_command(&exchange, BC_RELEASE, 78);

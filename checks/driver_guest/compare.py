@@ -1,10 +1,11 @@
 #!/usr/bin/env python3
-"""Compares what the guest left: compare.py AUDITOR FOLDER [whole]
+"""Compares the results of a guest: compare.py AUDITOR FOLDER [whole]
 
-Each folder in FOLDER is a scenario. The capture has to be well formed, and what the recorder lost has to be in the side
-list. The report is compared with the driver's books by sections.py, and, where the witness was there too, the two
-recordings frame by frame. A difference that is explained is in the list `explained`, with its reason; any other one
-is named, and the status is then 1. So it is where wrong books are not found: of each section one count is changed.
+Each folder in FOLDER is a scenario. The capture must be well formed, and what the recorder lost must be in the side
+list. sections.py compares the report with the driver's books. If the witness recorded too, the two recordings are
+compared frame by frame. The list `explained` has the differences that are explained, with their reasons. Any other
+difference is named, and the status is then 1. To test the comparison itself, one count of each section is changed in
+the books: if that is not found, the status is 1 too.
 """
 
 import pathlib
@@ -21,7 +22,7 @@ HERE = pathlib.Path(__file__).resolve().parent
 
 
 def lines_of(name):
-    """The lines of a list in words; the comment before a line is its reason."""
+    """The lines of a list, as words; the comment before a line is its reason."""
     reason = ""
     for line in (HERE / name).read_text().splitlines():
         if line.startswith("#"):
@@ -35,14 +36,14 @@ def explained():
 
 
 def row_of(scenario, difference):
-    """A difference as a row of the list: no spaces in it, numbers of processes by their names."""
+    """A difference as a row of the list: without spaces, and with names in place of the numbers of processes."""
     return (scenario, *(re.sub(r"[ ()']", "", str(part)).replace("byprocess", "-by-process") for part in difference))
 
 
 # ---- what a scenario did on purpose, which the books do not have
 
 def purposes(scenario):
-    """The heads that the report has to have: those that are named, and else nothing that went wrong."""
+    """The numbers that the heads of the report must have: those that `purposes` names, and otherwise no fault."""
     heads = {("strays", "strays"): 0, ("frees", "stray"): 0, ("flags", "flags"): 0, ("objects", "bad"): 0}
     for words, _ in lines_of("purposes"):
         if words[0] == scenario:
@@ -60,7 +61,7 @@ def purpose_differences(scenario, report):
 # ---- the two recordings
 
 def threads(frames, openings):
-    """The frames of each thread, in their order; of each opening its device, its process id and which of them it is."""
+    """The frames of each thread, in order. An opening is its device, its process id, and which of these it is."""
     out = defaultdict(list)
     for frame in frames:
         if frame.commands:
@@ -69,7 +70,7 @@ def threads(frames, openings):
 
 
 def numbered(devices, processes):
-    """Openings by device, process id and place among those: the two recorders number devices by other orders."""
+    """Openings by device, process id and rank among these: the two recorders number devices in different orders."""
     counts, out = Counter(), {}
     for device, number, pid in processes:
         counts[device, pid] += 1
@@ -78,7 +79,7 @@ def numbered(devices, processes):
 
 
 def witness_differences(recording, folder):
-    """Frames by device, process and thread, in their order: the same bytes, and where both have them the same data."""
+    """Compares the frames of each device, process and thread, in order: their bytes and their attachments."""
     names = (folder / "names").read_text()
     devices = {int(a): b for a, b in re.findall(r"^device (\d+) name (\S+)", names, re.M)}
     openings = numbered(devices, [tuple(map(int, m)) for m in re.findall(r"^process (\d+) (\d+) pid (\d+)", names, re.M)])
@@ -96,7 +97,7 @@ def witness_differences(recording, folder):
 # ---- one scenario
 
 def lost_differences(recording):
-    """Each number that goes unused has its line in the side list."""
+    """Each number that no frame has must have its line in the side list."""
     told = {number for number, _ in recording.lost}
     used = [frame.sequence for frame in recording.frames]
     unused = set(range(1, used[-1] + 1)) - set(used) if used else set()
@@ -106,8 +107,8 @@ def lost_differences(recording):
         yield "lost", "all", why, count, 0
 
 
-PARTIAL = {"late", "killed", "stopped", "full", "narrow"}	# the recorder was not there from the beginning to the end
-MOST_CUT = 8192		# bytes of a last frame of the load, which a recorder that is killed may leave cut
+PARTIAL = {"late", "killed", "stopped", "full", "narrow"}	# the recorder did not record all, from beginning to end
+MOST_CUT = 8192		# bytes of a last frame of the load that a killed recorder may leave cut
 
 
 class Scenario:
@@ -127,7 +128,7 @@ class Scenario:
         self.books = books_of.texts(folder) if (folder / "state").exists() else None
 
     def differences(self, texts=None):
-        """All that is not as it should be, and the sections that were looked at."""
+        """The differences, and the sections that were looked at."""
         if found := re.search("Sanitizer: [a-z-]*|runtime error", self.output):
             return [("status", "all", found[0], 1, 0)], {"status"}
         if self.report is None:
@@ -160,7 +161,7 @@ class Scenario:
 
 # ---- wrong books
 
-WRONG = {	# of each section a count in a file of the books
+WRONG = {	# for each section a count in a file of the books
     "codes": ("stats", r"^(BC_REPLY: )(\d+)"),
     "codes by process": ("stats", r"^(  BC_FREE_BUFFER: )(\d+)"),
     "handles": ("state", r"(  ref \d+: desc \d+ (?:dead )?node \d+ s )(\d+)"),
@@ -178,17 +179,17 @@ WRONG = {	# of each section a count in a file of the books
 
 
 def wrong(text, section):
-    """The books with one count changed, or None where they have none of the section."""
+    """The books with one count of the section changed; None if they have no such count."""
     name, pattern = WRONG[section]
 
     def change(found):
         return found[1] + (str(int(found[2], 16) + 1) if re.fullmatch(r"[0-9a-f]+", found[2]) else "lost")
-    head, mark, rest = text[name].partition("\nproc ")	# nodes without a process come first, and no row is about them
+    head, mark, rest = text[name].partition("\nproc ")	# nodes without a process come first, and have no row
     if section in ("nodes", "due"):
         rest, times = re.subn(pattern, change, rest, count=1, flags=re.M)
         changed = head + mark + rest
     else:
-        old = set(text.get(name + ".before", "").splitlines())	# what the log has of earlier scenarios
+        old = set(text.get(name + ".before", "").splitlines())	# lines of earlier scenarios
         lines, times = text[name].splitlines(), 0
         for at, line in enumerate(lines):
             if line not in old and not times:
@@ -198,7 +199,7 @@ def wrong(text, section):
 
 
 def unfound(scenarios):
-    """The sections whose wrong books no scenario finds, with how many it was tried in."""
+    """For each section: in how many scenarios its books were made wrong, and in how many that was found."""
     for section in WRONG:
         tried = found = 0
         for scenario in scenarios:

@@ -1,5 +1,5 @@
 #!/usr/bin/env python3
-"""cost.py FOLDER: how long the loads of a boot took, bare, under the recorder and under the witness."""
+"""cost.py FOLDER: prints how long the loads of a boot took, bare, with the recorder and with the witness."""
 
 import pathlib
 import re
@@ -8,7 +8,7 @@ from collections import defaultdict
 
 
 def seconds(folder):
-    """From the books before the load to those after it, of which 0.3 seconds are a pause."""
+    """The seconds from the books before the load to those after it, without a pause of 0.3 seconds."""
     first, last = (int((folder / name).read_text().split()[0]) for name in ("moment.before", "moment"))
     return (last - first) / 1e9 - 0.3
 

@@ -120,7 +120,7 @@ static void right_side(void)
 	}
 	turn(&exchange, false);
 	wait_until(&shared->stage, 1);
-	usleep(50000);		/* the call of the left side is on its way, and nobody reads here */
+	usleep(50000);		/* the call of the left side is under way, and nobody reads it here */
 	shared->resting++;
 	call(&exchange, other, ECHO);
 	rest();
@@ -519,7 +519,7 @@ static void spaced_client(void)
 	uint32_t handle = look_up(&exchange);
 	for (int i = 0; i < 7; i++) {
 		calls(&exchange, handle, 1);
-		usleep(30000);		/* the second reply is on its way */
+		usleep(30000);		/* the second reply is under way */
 	}
 	ready_to_rest(&exchange);
 }

@@ -1,4 +1,4 @@
-/* Scenarios of which the recorder loses frames: gaps, bulk. See `narrow` in init. */
+/* Scenarios whose frames the recorder loses in part: gaps, bulk. See `narrow` in init. */
 #define _GNU_SOURCE
 #include <signal.h>
 #include <stdio.h>
@@ -12,7 +12,7 @@
 
 enum {
 	NOISE = 150,		/* calls that fill a ring of 65536 bytes */
-	BULK = 1200000,		/* commands of 4 bytes, more than the recorder takes of one write */
+	BULK = 1200000,		/* commands of 4 bytes: more than the recorder takes in one write */
 };
 
 static void calls(struct exchange *exchange, uint32_t handle, uint32_t code, int count)
@@ -21,7 +21,7 @@ static void calls(struct exchange *exchange, uint32_t handle, uint32_t code, int
 		if (call(exchange, handle, code) != BR_REPLY) fail("gaps: call");
 }
 
-/* A handle of an object that the service replies with, and has a reference to; the reply is not freed. */
+/* Gets an object from the service, takes a reference to it, and returns its handle. The reply is not freed. */
 static uint32_t given(struct exchange *exchange, uint32_t handle, transaction *reply)
 {
 	if (send_parcel(exchange, handle, GIVE, 0, NULL, reply) != BR_REPLY) fail("gaps: object");
@@ -30,7 +30,7 @@ static uint32_t given(struct exchange *exchange, uint32_t handle, transaction *r
 }
 
 /* ---- gaps: nothing is wrong: what is taken is given back, some of it while the recorder is stopped and its small ring
- * is full. Of most of what is lost then the side list has the number alone. */
+ * is full. For most frames that are lost then, the side list has only the number. */
 
 /* The recorder is the parent of this program. */
 static void signal_recorder(int number)
@@ -60,7 +60,7 @@ static void noisy_client(void)
 	ready_to_rest(&exchange);
 }
 
-/* Stops the recorder and has noise fill its ring. What follows is lost, until `end_gap`. */
+/* Stops the recorder, and lets noise fill its ring. What follows is lost, until `end_gap`. */
 static void begin_gap(void)
 {
 	signal_recorder(SIGSTOP);
@@ -90,7 +90,7 @@ static void straddling_client(void)
 	shared->resting++;
 	wait_until(&shared->stage, 2);
 
-	/* While frames are lost: what was taken before is given back, and other things are taken. */
+	/* While frames are lost, what was taken before is given back, and other things are taken. */
 	for (int i = 0; i < BEFORE; i++) {
 		number_command(&exchange, BC_RELEASE, handle_in(before + i));
 		free_buffer(&exchange, before + i);
@@ -103,7 +103,7 @@ static void straddling_client(void)
 	shared->stage++;
 	wait_until(&shared->stage, 4);
 
-	/* And these are given back when frames are recorded again. */
+	/* These are given back when frames are recorded again. */
 	for (int i = 0; i < WITHIN; i++) {
 		number_command(&exchange, BC_RELEASE, handle_in(within + i));
 		free_buffer(&exchange, within + i);
@@ -119,8 +119,8 @@ static void straddling_client(void)
 	ready_to_rest(&exchange);
 }
 
-/* Calls all the time, and the service takes its time for each call: so one is answered while frames are lost, and another
- * one is sent then. */
+/* Calls all the time, and the service takes its time for each call: so one call is answered while frames are lost, and
+ * another one is sent then. */
 static void calling_client(void)
 {
 	struct exchange exchange;
@@ -174,8 +174,8 @@ static void gaps(void)
 	wait_until(&shared->resting, 7);
 }
 
-/* ---- bulk: a client gives all back in one write, which is too large for the recorder; the side list tells whose it was. And
- * another client never frees the replies to one code. */
+/* ---- bulk: a client gives everything back in one write that is too large for the recorder; the side list says whose
+ * write it was. Another client never frees the replies to one code. */
 
 static void bulky_client(void)
 {

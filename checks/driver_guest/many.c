@@ -7,7 +7,7 @@
 
 static uint32_t service_handle;
 
-/* Of four transactions one is a oneway send; every other call has an object. */
+/* Every fourth transaction is a oneway send, and every eighth is a call with an object. */
 static void *work_in_thread(void *opening)
 {
 	struct exchange *exchange = malloc(sizeof *exchange);
@@ -53,7 +53,7 @@ static void serving_pool(void)
 	wait_until(&shared->ready, 2);
 }
 
-/* However long it takes: a load is no scenario that hangs. The oneway sends are served after their senders rest. */
+/* Waits without a limit: a load takes long, but does not hang. The oneway sends are served after their senders rest. */
 static void wait_for_rest(int clients, int threads)
 {
 	while (shared->resting < clients || shared->served < clients * threads * scale) usleep(10000);

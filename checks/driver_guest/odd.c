@@ -1,4 +1,4 @@
-/* Scenarios about what is rare: objects, fork, descriptors, secctx, reuse, large, unread. */
+/* Scenarios about rare things: objects, fork, descriptors, secctx, reuse, large, unread. */
 #define _GNU_SOURCE
 #include <fcntl.h>
 #include <pthread.h>
@@ -52,7 +52,7 @@ static void object_client(void)
 	put_flat(&parcel, BINDER_TYPE_WEAK_HANDLE, handle, 0, 0);
 	put_descriptor(&parcel, descriptors[0]);
 	if (send_parcel(&exchange, handle, KEEP_BUFFER, TF_ACCEPT_FDS, &parcel, NULL) != BR_REPLY) fail("objects: call");
-	put_bytes(&gathered, "8 bytes.", 8);	/* the driver takes no array whose buffer object is at offset 0 */
+	put_bytes(&gathered, "8 bytes.", 8);	/* the driver refuses an array whose buffer object is at offset 0 */
 	put_pointer_and_array(&gathered, descriptors, 2);
 	if (send_parcel(&exchange, handle, ECHO, 0, &gathered, NULL) != BR_REPLY) fail("objects: gathered");
 	parcel.offsets[1] += 2;		/* not aligned: the driver refuses it */
@@ -67,7 +67,7 @@ static void objects(void)
 	wait_until(&shared->resting, 1);
 }
 
-/* ---- fork: children on their parent's opening, and a program that another one starts */
+/* ---- fork: children that call through their parent's opening, and a program that another one starts */
 
 static void forking_client(void)
 {
@@ -99,7 +99,7 @@ static void forks(void)
 	wait_until(&shared->resting, 1);
 }
 
-/* ---- descriptors: a receiver that has no room for one: a call fails, and a oneway send vanishes */
+/* ---- descriptors: a receiver that has no room for a descriptor: a call fails, and a oneway send vanishes */
 
 static void full_service(void)
 {

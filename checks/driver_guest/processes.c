@@ -83,7 +83,7 @@ void dump_books(const char *suffix)
 	write_moment(suffix);
 }
 
-/* Interrupts each thread that waits in the driver: it then has no call under way, and makes no other. */
+/* Interrupts each thread that waits in the driver: it then has no call under way, and begins no other. */
 static void interrupt(pid_t process)
 {
 	char path[40];

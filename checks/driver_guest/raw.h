@@ -1,4 +1,4 @@
-/* Raw Binder for the scenarios: openings of a device, commands in, returns out. Nothing here knows of a recorder. */
+/* Raw Binder for the scenarios: openings of a device, commands in, returns out. It knows nothing of a recorder. */
 #ifndef RAW_H
 #define RAW_H
 #include <stdbool.h>
@@ -7,7 +7,7 @@
 #include <sys/types.h>
 #include <linux/android/binder.h>
 
-extern size_t mapping_size;	/* the room for what an opening gets */
+extern size_t mapping_size;	/* the room for what an opening receives */
 
 struct exchange;
 typedef struct binder_transaction_data transaction;
@@ -16,10 +16,10 @@ typedef struct binder_transaction_data transaction;
 struct opening {
 	int descriptor;
 	uint8_t *mapping;
-	void (*serve)(struct exchange *, transaction *);	/* what is done with a transaction that is delivered */
-	bool keeps_deaths;	/* does not acknowledge that an object died */
+	void (*serve)(struct exchange *, transaction *);	/* called for a transaction that is delivered */
+	bool keeps_deaths;	/* does not acknowledge deaths */
 	bool keeps_references;	/* does not acknowledge references that the driver asks for */
-	void (*spawn)(struct opening *);	/* what is done where the driver asks for one more thread */
+	void (*spawn)(struct opening *);	/* called when the driver asks for one more thread */
 };
 
 /* One thread of an opening: the commands that it writes next, and the returns that it has read. */
@@ -32,7 +32,7 @@ struct exchange {
 /* What all processes of a scenario share. */
 struct shared {
 	_Atomic int ready, resting, deaths, cleared, stage, served;
-	_Atomic int ending;	/* a call that a signal interrupts is not made again: its thread does nothing more */
+	_Atomic int ending;	/* a call that a signal interrupts is not repeated: its thread does nothing more */
 	_Atomic int processes;
 	pid_t process[256];
 	_Atomic int mappings;
@@ -51,7 +51,7 @@ void number_command(struct exchange *, uint32_t code, uint32_t number);
 void death_command(struct exchange *, uint32_t code, uint32_t handle, uint64_t cookie);
 void free_buffer(struct exchange *, const transaction *);
 
-int turn(struct exchange *, bool wait);		/* one BINDER_WRITE_READ; 0, or the error below 0 */
+int turn(struct exchange *, bool wait);		/* one BINDER_WRITE_READ; returns 0, or an error below 0 */
 uint32_t next_return(struct exchange *, void *payload);
 void take(struct exchange *, uint32_t code, void *payload);	/* does what a return asks for */
 void drain(struct exchange *);			/* takes all returns that were read */
@@ -68,13 +68,13 @@ void put_bytes(struct parcel *, const void *, size_t);
 void put_flat(struct parcel *, uint32_t type, uint64_t value, uint64_t cookie, uint32_t flags);
 void put_descriptor(struct parcel *, int descriptor);
 
-/* Sends; waits for the reply, or for the confirmation of a oneway send. The answer is BR_REPLY, BR_TRANSACTION_COMPLETE or
- * the code of the error reply; below 0 it is an error of the system call. The reply's buffer is not freed. */
+/* Sends, and waits for the reply, or for the confirmation of a oneway send. Returns BR_REPLY, BR_TRANSACTION_COMPLETE
+ * or the code of the error reply; below 0 an error of the system call. If `reply` is given, its buffer is not freed. */
 long send_parcel(struct exchange *, uint32_t handle, uint32_t code, uint32_t flags, const struct parcel *, transaction *reply);
 long call(struct exchange *, uint32_t handle, uint32_t code);	/* without data; the reply is freed */
 void queue_send(struct exchange *, uint32_t handle, uint32_t code, uint32_t flags, const struct parcel *);
 void queue_reply(struct exchange *, const void *data, size_t size, const binder_size_t *offsets, size_t count, uint32_t flags);
-uint32_t handle_in(const transaction *);	/* the handle of the first object, 0 where there is none */
+uint32_t handle_in(const transaction *);	/* the handle of the first object; 0 if there is none */
 
 pid_t start(const char *name, void (*process)(void));
 void wait_until(_Atomic int *counter, int least);

@@ -1,4 +1,4 @@
-"""What a recording left: the frames of a capture, the names of its side list, the report on it."""
+"""The results of a recording: the frames of a capture, the names in its side list, the report on it."""
 
 import pathlib
 import re
@@ -21,7 +21,7 @@ class Frame(NamedTuple):
 
 
 def frames_of(data):
-    """The whole frames. A recorder that was killed may leave its last frame cut."""
+    """The whole frames. The last frame of a recorder that was killed may be cut."""
     at = 0
     while len(data) - at >= HEADER.size:
         sequence, process, thread, direction, size, more, device = HEADER.unpack_from(data, at)
@@ -33,7 +33,7 @@ def frames_of(data):
 
 
 def records_of(commands):
-    """Of each record its code word and its payload."""
+    """The code word and the payload of each record."""
     at = 0
     while at < len(commands):
         word, = struct.unpack_from("<I", commands, at)
@@ -53,7 +53,7 @@ class Recording:
         self.devices = {int(a): b for a, b in re.findall(r"^\d+ device (\d+) .*name=(\S+)", self.side, re.M)}
         self.lost = [(int(n), why) for n, why in re.findall(r"^\d+ lost (\d+) .*why=(\S+)", self.side, re.M)]
         self.names, self.pids, self.tids = {}, {}, {}
-        self.cut = 0	# bytes of a last frame that is cut
+        self.cut = 0	# bytes of a cut last frame
         for device, number, pid, name in re.findall(
                 r"^\d+ process (\d+) (\d+) pid=(\d+) .*name=(.*)$", self.side, re.M):
             self.names[int(device), int(number)] = name
@@ -63,7 +63,7 @@ class Recording:
             self.tids[int(device), int(number), int(thread)] = int(tid)
 
     def cut_off(self, room):
-        """The captures, the last one in this folder without a frame that is cut."""
+        """The captures; of the last one a copy in this folder, without a cut frame at its end."""
         last = self.captures[-1].read_bytes()
         length = 16 + sum(HEADER.size + len(frame.commands) + len(frame.attached) for frame in frames_of(last[16:]))
         whole = pathlib.Path(room) / self.captures[-1].name
@@ -82,7 +82,7 @@ class Recording:
         return numbers
 
     def records(self):
-        """Of each record its place in the joined capture, its offset in its frame, the frame, its code word, its payload."""
+        """Each record: its place in the joined capture, offset in its frame, frame, code word and payload."""
         place = 16
         for frame in self.frames:
             offset = 0
@@ -101,7 +101,7 @@ class Recording:
 
 
 class Report:
-    """A report by its sections: of each the numbers of its head by name, and its rows."""
+    """A report by its sections: for each the words of its head, and its rows."""
 
     def __init__(self, text):
         self.heads, self.rows, section = {}, defaultdict(list), None

@@ -1,5 +1,5 @@
-/* scenarios NAME DIRECTORY [NUMBER]: plays a scenario in raw Binder, saves the driver's books before and after it to
- * DIRECTORY, and ends its processes. */
+/* scenarios NAME DIRECTORY [NUMBER]: plays a scenario in raw Binder, saves the driver's books in DIRECTORY before and
+ * after it, and ends its processes. */
 #define _GNU_SOURCE
 #include <signal.h>
 #include <stdio.h>
@@ -35,7 +35,7 @@ int main(int count, char **words)
 		fprintf(stderr, "usage: scenarios NAME DIRECTORY [NUMBER]\n");
 		return 64;
 	}
-	if (!strcmp(words[1], "once")) {	/* a call by a program that another one started; there are no books of it alone */
+	if (!strcmp(words[1], "once")) {	/* started by another scenario for one call; no books are saved */
 		shared = mmap(NULL, SHARED_SIZE, PROT_READ | PROT_WRITE, MAP_SHARED | MAP_ANONYMOUS, -1, 0);
 		scenario->run();
 		return 0;

@@ -1,4 +1,4 @@
-/* The scenarios by name. Each starts its processes and returns when they have done what they do. */
+/* The scenarios by name. Each starts its processes, and returns when they have done their work. */
 #ifndef SCENARIOS_H
 #define SCENARIOS_H
 struct scenario {
@@ -7,5 +7,5 @@ struct scenario {
 };
 extern const struct scenario call_scenarios[], held_scenarios[], end_scenarios[], odd_scenarios[], many_scenarios[], fault_scenarios[],
 	gap_scenarios[];
-extern int scale;	/* how much of it is done, where the scenario can do more or less */
+extern int scale;	/* how much is done, for scenarios that can do more or less */
 #endif

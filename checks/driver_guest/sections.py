@@ -1,16 +1,16 @@
-"""The report on a capture beside the driver's books, section by section. Each section gives what the report says and what
-the books say, by a key; what is not the same is a difference."""
+"""Compares the report on a capture with the driver's books, section by section. For each section a function puts what
+the report says and what the books say under keys. Values that are not the same are a difference."""
 
 import struct
 from collections import Counter, defaultdict
 
 JOINED = {"BR_TRANSACTION_SEC_CTX": "BR_TRANSACTION"}	# one number in the driver's counts
 UNCOUNTED = {"BR_NOOP"}		# the driver does not count it
-FAILED_REPLY = 0x7211	# of a sent reply without a target: there was no call; a caller that had ended is BR_DEAD_REPLY
+FAILED_REPLY = 0x7211	# for a sent reply without a call; if the caller has ended, it is BR_DEAD_REPLY
 
 
 class Sides:
-    """What both sides say in each section: by section, process and key the two values."""
+    """What both sides say: for each section, process and key the two values."""
 
     def __init__(self):
         self.values = defaultdict(lambda: [0, 0])
@@ -74,7 +74,7 @@ def handles(sides, recording, report, books, pairs):
 
 
 def of_openings(report, section, pairs, process_at=0):
-    """The rows of the processes that the books know, with their names."""
+    """The rows of the processes that are in the books, with their names."""
     known = {key: who for _, key, who in pairs}
     for row in report.rows[section]:
         key = int(row[process_at]), int(row[process_at + 1])
@@ -82,11 +82,11 @@ def of_openings(report, section, pairs, process_at=0):
             yield known[key], row
 
 
-OBJECT, WEAK_OBJECT = b"\x85*bs", b"\x85*bw"		# an object of the receiver itself, by its first four bytes
+OBJECT, WEAK_OBJECT = b"\x85*bs", b"\x85*bw"		# the first four bytes of an object of the receiver itself
 
 
 def held_by_deliveries(recording, report):
-    """Of each node the references that deliveries not freed yet hold to it in its own process."""
+    """For each node the references to it that unfreed deliveries hold in its own process."""
     unfreed = {int(row[0]) for row in report.rows["buffers"]}
     strong, weak = Counter(), Counter()
     for place, offset, frame, word, payload in recording.records():
@@ -142,7 +142,7 @@ def buffers(sides, recording, report, books, pairs):
         for number, (address, size) in opening.buffers.items():
             if number in unread:
                 continue
-            key = address if address >= base else base + address, size	# newer kernels tell the offset
+            key = address if address >= base else base + address, size	# newer kernels write the offset
             sides.books("buffers", who, key, sides.values["buffers", who, key][1] + 1)
     sides.seen.add("buffers")
 
@@ -188,7 +188,7 @@ def deaths(sides, recording, report, books, pairs):
 
 
 def refused(sides, recording, report, books, pairs):
-    """What the driver's log of failed transactions has, of the last 32: refused sends and sent replies by their thread."""
+    """The refused sends and sent replies of each thread, as in the driver's log of the last 32 failed transactions."""
     if books.log_is_full:
         return
     names = {pid: recording.names[key] for key, pid in recording.pids.items()}
@@ -213,7 +213,7 @@ SECTIONS = (codes, handles, nodes, buffers, calls, served, requests, deaths, ref
 
 
 def pairs_of(recording, books):
-    """Each opening of the books with its number in the capture and its name, the first one first."""
+    """Each opening in the books with its number in the capture and its name, the earliest first."""
     alive, pairs = recording.open_at(books.moment), []
     for opening in books.openings:
         numbers = alive.get((opening.context, opening.pid))

@@ -23,7 +23,7 @@ static void put_object(struct parcel *parcel, const void *object, size_t size)
 void put_flat(struct parcel *parcel, uint32_t type, uint64_t value, uint64_t cookie, uint32_t flags)
 {
 	struct flat_binder_object object = {.hdr.type = type, .flags = flags, .cookie = cookie};
-	object.binder = value;		/* of a handle the lower half */
+	object.binder = value;		/* a handle is its lower half */
 	put_object(parcel, &object, sizeof object);
 }
 

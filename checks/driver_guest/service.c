@@ -37,7 +37,7 @@ static void call_back(struct exchange *exchange, const transaction *delivered)
 	number_command(exchange, BC_RELEASE, handle);
 }
 
-/* What a code asks for before the reply; false where there is to be none. */
+/* Does what a code asks for before the reply. */
 static bool work(struct exchange *exchange, transaction *delivered)
 {
 	switch (delivered->code) {

@@ -7,9 +7,9 @@ enum {
 	ECHO = 1,	/* replies with what it got */
 	KEEP_BUFFER,	/* replies, and never frees the buffer */
 	NEVER,		/* never replies */
-	TAKE,		/* takes a strong reference by the handle that it got */
-	TAKE_AND_WATCH,	/* the same, and asks to be told of the death */
-	DROP,		/* lets go of the reference that it took last */
+	TAKE,		/* takes references to the handle that it got */
+	TAKE_AND_WATCH,	/* the same, and requests a death notification */
+	DROP,		/* lets go of the references that it took last */
 	GIVE,		/* replies with an object of its own */
 	REGISTER,	/* the manager keeps the handle that it got, as number `handle` of the shared page */
 	LOOK_UP,	/* the manager replies with that handle */
@@ -28,5 +28,5 @@ void service(void);			/* registers an object with the manager and serves it, one
 struct opening registered(struct exchange *);	/* opens, registers, and is ready to serve */
 uint32_t look_up(struct exchange *);	/* a strong reference to the service */
 void let_go(struct exchange *, uint32_t handle);
-void ready_to_rest(struct exchange *) __attribute__((noreturn));	/* tells that its work is done, then serves */
+void ready_to_rest(struct exchange *) __attribute__((noreturn));	/* says that its work is done, then serves */
 #endif

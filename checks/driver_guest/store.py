@@ -1,5 +1,5 @@
 #!/usr/bin/env python3
-"""store.py AUDITOR FROM TO: keeps the small scenarios of a guest, with their books and the report on each."""
+"""store.py AUDITOR FROM TO: stores the small scenarios of a guest, with their books and the report on each."""
 
 import pathlib
 import shutil
@@ -14,7 +14,7 @@ LARGEST = 200_000	# bytes of a capture with its side list
 def main(auditor, source, to):
     to = pathlib.Path(to)
     if to.resolve() == pathlib.Path(source).resolve():
-        sys.exit("store.py: the captures are there already")
+        sys.exit("store.py: FROM and TO are the same folder")
     for folder in sorted(pathlib.Path(source).iterdir()):
         captures = Recording(folder).captures if folder.is_dir() else []
         files = [*captures, folder / "capture.side"]

@@ -1,6 +1,6 @@
-/* A second witness of the traffic, for the checks alone: LD_PRELOAD=witness.so WITNESS=DIRECTORY PROGRAM. It writes the
- * frames of the program to DIRECTORY/frames as they become whole, and names them in DIRECTORY/names. It sees what a
- * program does by the functions of the C library, and changes how long that takes. */
+/* A second witness of the traffic, only for the checks: LD_PRELOAD=witness.so WITNESS=DIRECTORY PROGRAM. It writes the
+ * frames of the program to DIRECTORY/frames as they become whole, and their devices and processes to DIRECTORY/names.
+ * It sees what a program does through the functions of the C library, and makes that slower. */
 #define _GNU_SOURCE
 #include <errno.h>
 #include <fcntl.h>
@@ -226,7 +226,7 @@ static uint32_t thread_of(struct seen opening, int leaves)
 
 struct written { uint64_t sequence; size_t size; struct bytes bytes, attached; };
 
-/* What the call hands over. The driver takes a last command that passes the end, so some bytes more are copied. */
+/* What the call hands over. The driver takes a last command that goes past the end, so some more bytes are copied. */
 static struct written before(const struct binder_write_read *entry)
 {
 	struct written write = {0};

@@ -1,4 +1,4 @@
--- Calls that are not answered, and the 50 that took longest; with what became of each. ?1: at most so many rows.
+-- Calls that are not answered, and the 50 that took longest, with what became of each. ?1: the most rows.
 WITH asked AS (
   SELECT place, utid, verdict, closer, dur_seq, seq FROM raw_call WHERE served = 0 AND verdict <> 1
   UNION ALL SELECT * FROM (SELECT place, utid, verdict, closer, dur_seq, seq FROM raw_call

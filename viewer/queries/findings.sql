@@ -1,4 +1,4 @@
--- The findings of a group, those that are led by another one last. ?1: the group, ?2: at most so many rows.
+-- The findings of a group; those that another one leads come last. ?1: the group, ?2: the most rows.
 SELECT f.section, f.place, f.utid, f.upid, f.rule, f.note, r.text, t.thread,
   iif(f.what IN ('open', 'held', 'unacknowledged', 'unconfirmed', 'undelivered') OR f.section = 'buffers', f.age, NULL),
   f.n_good, f.longest

@@ -1,5 +1,5 @@
--- What each process holds at most in each slice, and at the very end, or at its own; those that held most first. After
--- its end a process holds nothing, and a call ends with its thread. ?1: at most so many rows.
+-- The most that each process holds in each slice, and what it holds at the very end or at its own end; those that held
+-- most come first. After its end a process holds nothing, and a call ends with its thread. ?1: the most rows.
 WITH lived AS MATERIALIZED (SELECT p.upid, iif(p.ended_after <= c.last_seq, p.ended_after, NULL) AS ended_after,
     (p.ended_after - c.first_seq) * 16 / (c.last_seq - c.first_seq + 1) AS slice FROM process p, raw_capture c),
   left_over AS MATERIALIZED (
