@@ -103,10 +103,16 @@ pub(crate) fn report_by(workers: Workers) -> Question {
 impl<T: Threads + Sync> Given<'_, T> {
     /// Prints the findings of the parts, or their first fault.
     pub(crate) fn audited_parts<W: Write>(&self, workers: Workers, out: &mut W) -> Printed {
-        let (rt, alloc) = (self.rt, self.alloc);
-        let parts = parts_of(alloc, self.bytes)?;
+        let parts = parts_of(self.alloc, self.bytes)?;
+        self.tell_findings(parts.as_slice(), workers, out)
+    }
+
+    fn tell_findings<W: Write>(&self, parts: &[&[u8]], workers: Workers, out: &mut W) -> Printed
+        requires few { length parts.now ≤ 256 }
+        requires limit { sum_by length (map (λ part. part.now) parts.now) ≤ CAPTURE_LIMIT }
+    {
         let piece = Piece::new(1).unwrap();
-        match audit_parts(rt, alloc, parts.as_slice(), workers, piece, &NoGate) {
+        match audit_parts(self.rt, self.alloc, parts, workers, piece, &NoGate) {
             Ok(found) => told::findings(&found, out),
             Err(PartsError::Memory) => Err(NoAnswer::Memory),
             Err(PartsError::Malformed(found)) => told::value(&found, out),

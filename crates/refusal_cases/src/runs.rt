@@ -5,7 +5,7 @@ use crate::no_answer::{NoAnswer, Printed};
 use crate::told;
 use audit_join::{AuditError, CAPTURE_LIMIT, Findings, Piece, audit, audit_one};
 use audit_program::program;
-use audit_run::{Question, Request, answer_files, run, run_first_fault, run_gated};
+use audit_run::{HostFiles, Question, Request, answer_files, run, run_first_fault, run_gated};
 use audit_streams::read_capture;
 use claim_board::{NoGate, Workers};
 use report_text::{rows, text};
@@ -71,7 +71,11 @@ impl<T: Threads + Sync> Given<'_, T> {
 
     pub(crate) fn rows_told<W: Write>(&self, out: &mut W) -> Printed {
         let found = self.findings()?;
-        let rows = rows(self.rt, self.alloc, &found)?;
+        self.tell_rows(&found, out)
+    }
+
+    fn tell_rows<W: Write>(&self, found: &Findings<'_>, out: &mut W) -> Printed {
+        let rows = rows(self.rt, self.alloc, found)?;
         for row in &rows {
             let row = row.as_str();
             writeln!(out, "{row}")?;
@@ -81,7 +85,11 @@ impl<T: Threads + Sync> Given<'_, T> {
 
     pub(crate) fn text_told<W: Write>(&self, out: &mut W) -> Printed {
         let found = self.findings()?;
-        let text = text(self.rt, self.alloc, &found)?;
+        self.tell_text(&found, out)
+    }
+
+    fn tell_text<W: Write>(&self, found: &Findings<'_>, out: &mut W) -> Printed {
+        let text = text(self.rt, self.alloc, found)?;
         writeln!(out, "{text}")?;
         Ok(())
     }
@@ -151,7 +159,9 @@ impl<T: Files + Threads + Sync> Given<'_, T> {
             return Err(NoAnswer::Unfit);
         }
         let files = files.as_slice();
-        let status = answer_files(self.rt, self.alloc, Request { question, files }, out)?;
+        let store = HostFiles { files: self.rt };
+        let request = Request { question, files };
+        let status = answer_files(self.rt, self.alloc, &store, request, out)?;
         told::value(&status, out)
     }
 }
