@@ -66,7 +66,7 @@ strictly_rising (x ∷ xs) rises = (below xs rises.0, strictly_rising xs rises.1
     below (y ∷ ys) all = (sym (nat_cmp_is x y Less (all y (inl refl))), below ys (λ z there. all z (inr there)))
 
 -- numbers that compare as equal are equal, and others are not
-same_key : (key word : ℕ) → eq_by_cmp nat_cmp key word ≡ eqb word key
+pub same_key : (key word : ℕ) → eq_by_cmp nat_cmp key word ≡ eqb word key
 same_key key word = elim (cases_eq word key) [
   | inl same ↦ rw (eq-eqb word key same, same) ((eq_by_cmp_equiv nat_cmp_total).refl key)
   | inr other ↦ rw (ne_eqb word key other) (not_true (eq_by_cmp nat_cmp key word) (λ is. other (sym (tells_apart exact_unsigned key word is))))

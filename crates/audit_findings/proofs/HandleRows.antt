@@ -32,7 +32,7 @@ use Rattle.audit_findings.proofs.Rising.{rising_kept}
 -- ---- some of the events, chosen from all by their places
 
 -- an event that is among some by its place has the place of one of them
-among_at : (some : List EventRead) (e : EventRead) → is_among some e ≡ true → (other : EventRead) × In other some × (other.place ≡ e.place)
+pub among_at : (some : List EventRead) (e : EventRead) → is_among some e ≡ true → (other : EventRead) × In other some × (other.place ≡ e.place)
 among_at [] e is = let none : ⊥ = cc in absurd none
 among_at (other ∷ some) e is =
     elim (eqb other.place e.place) as (λ b. (eqb other.place e.place ≡ b) → (b || is_among some e) ≡ true
@@ -58,7 +58,7 @@ module _ (events : List EventRead) (rise : RiseInPlace events) (some : List Even
       (in_any (λ (other : EventRead). eqb other.place e.place) some e here (eq-eqb e.place e.place refl)))
 
 module _ (test : EventTest) (process : Process) (events : List EventRead) (rise : RiseInPlace events) where
-  listed_there : (e : EventRead) → In e (listed_in test process events) → In e events
+  pub listed_there : (e : EventRead) → In e (listed_in test process events) → In e events
   listed_there e here =
       let own = events_in process events in
       let at = read-at (chosen test) [] own e here in

@@ -3,7 +3,7 @@ pub mod ObjectWalk
 pub mod FewLaws
 pub mod OutcomeLaws
 pub mod SequenceLaws
-mod KindWords
+pub mod KindWords
 mod CodeCountLaws
 pub mod CodeLaws
 pub mod FrameLaws
@@ -24,6 +24,9 @@ mod CallCounts
 mod ThreadTurns
 mod CallEvents
 mod ThreadLists
+mod CallsTold
+mod KeyReadings
+mod MatchedLaws
 mod RecordCountLaws
 mod OnewayCountLaws
 pub mod SomeObjects
@@ -31,3 +34,12 @@ pub mod TurnLaws
 pub mod EventLists
 pub mod HandleRows
 pub mod RowsThere
+mod EventCountLaws
+mod HandleValues
+mod NodeValues
+mod KeyRows
+mod Outstanding
+mod HeldObjects
+mod HandleRowLaws
+mod NodeRowLaws
+pub mod RowKinds

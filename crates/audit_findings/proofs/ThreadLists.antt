@@ -1,5 +1,5 @@
 -- What is read of the events of each thread, from the ledgers of the threads.
-use Rattle.std.proofs.Common.{◌≡◌, ℕ, ◌+◌, ◌<◌, ◌≤◌, Bool, true, false, cond, eqb, not, List, [], ◌∷◌, ◌++◌, length, map, filter, All, Option, Some, None, ◌⊎◌, inl, inr, refl, sym, ap, ap₂, subst, ◌∙◌, ⊎_elim, arith}
+use Rattle.std.proofs.Common.{◌≡◌, ℕ, ◌+◌, ◌<◌, ◌≤◌, Bool, true, false, cond, eqb, not, List, [], ◌∷◌, ◌++◌, length, map, filter, All, Option, Some, None, inl, inr, refl, sym, ap, ap₂, subst, ◌∙◌, ⊎_elim, arith}
 use Rattle.std.specs.Prelude.{◌&&◌, count_by, option_and_then, slice_get}
 use Rattle.std.specs.Option.{is_some}
 use Rattle.std.specs.List.{AllZip, IsDistinct, cons_option, filter_map, flat_map, fold, sum_by}
@@ -93,7 +93,7 @@ read-kept {X} {Y} test read before (x ∷ later) =
     ]
 
 -- a reading that looks at each element by itself
-read-plain : {X Y : Type 0} (read : X → Option Y) (before xs : List X) → filter_map read xs ≡ read_each (λ b x l. read x) before xs
+pub read-plain : {X Y : Type 0} (read : X → Option Y) (before xs : List X) → filter_map read xs ≡ read_each (λ b x l. read x) before xs
 read-plain read before [] = refl
 read-plain read before (x ∷ later) = ap (cons_option (read x)) (read-plain read (before ++ x ∷ []) later)
 
@@ -369,6 +369,21 @@ reply_tells Served Sent = (λ is. let no : ⊥ = cc in absurd no, λ is. refl)
 reply_tells Served _ = (λ is. let no : ⊥ = cc in absurd no, λ is. refl)
 reply_tells _ _ = (λ is. let no : ⊥ = cc in absurd no, λ is. let no : ⊥ = cc in absurd no)
 
+-- what holds of every call that an event opens, whatever answers it, holds of all openers
+pub openers_are : (P : Opener EventRead → Type 0) → ((event : EventRead) (answer : Option (Bracketed EventRead)) → P (opener_by text_reads event answer))
+    → (events : List EventRead) (o : Opener EventRead) → In o (openers events) → P o
+openers_are P each events o there =
+    let at = read-at (by_key same_thread thread_of (as_bracketed text_reads (opener_read text_reads))) [] events o there in
+    let before = with_key same_thread thread_of (thread_of at.1) at.0 in
+    let later = with_key same_thread thread_of (thread_of at.1) at.2 in
+    let mark = fold (mark_after text_reads) None before in
+    let answer = slice_get (unmatched_closers (bracketed_with text_reads (bracket_read text_reads) (mark_after text_reads mark at.1) later)) 0 in
+    subst P (told_if (is_opener (side_of (bracket_read text_reads mark at.1))) (opener_by text_reads at.1 answer) o at.4) (each at.1 answer)
+
+-- there are no more openers than events
+pub openers_short : (events : List EventRead) → length (openers events) ≤ length events
+openers_short events = read-short (by_key same_thread thread_of (as_bracketed text_reads (opener_read text_reads))) [] events
+
 -- an answered call is made, and one that is replied to is served
 abbrev Tells : Opener EventRead → Type 0
 Tells o = (is_answered o.verdict ≡ true → is_made o ≡ true) × (is_replied o.verdict ≡ true → is_served o ≡ true)
@@ -381,13 +396,7 @@ opener_tells event (Some answer) =
     (λ is. ap is_call_bracket (tells.0 is), λ is. ap (λ (b : Bracket). not (is_call_bracket b)) (tells.1 is))
 
 all_tell : (events : List EventRead) (o : Opener EventRead) → In o (openers events) → Tells o
-all_tell events o there =
-    let at = read-at (by_key same_thread thread_of (as_bracketed text_reads (opener_read text_reads))) [] events o there in
-    let before = with_key same_thread thread_of (thread_of at.1) at.0 in
-    let later = with_key same_thread thread_of (thread_of at.1) at.2 in
-    let mark = fold (mark_after text_reads) None before in
-    let answer = slice_get (unmatched_closers (bracketed_with text_reads (bracket_read text_reads) (mark_after text_reads mark at.1) later)) 0 in
-    subst Tells (told_if (is_opener (side_of (bracket_read text_reads mark at.1))) (opener_by text_reads at.1 answer) o at.4) (opener_tells at.1 answer)
+all_tell events o there = openers_are Tells opener_tells events o there
 
 -- ---- the rows of all threads
 
@@ -406,7 +415,7 @@ count_kept entries events sums founds zip test count tells of passes number smal
     let moved = sum_by-IsPermutation (λ (o : Opener EventRead). cond (test o.verdict) 1 0) (flat_map own (keys_of entries)) (openers events)
     (gathered entries events sums read opener_quiet) in
     let few = count_by-le-length (λ (o : Opener EventRead). test o.verdict) (openers events) in
-    let short = read-short (by_key same_thread thread_of (as_bracketed text_reads read)) [] events in
+    let short = openers_short events in
     let most = sums.placed.0 in
     let whole : sum_by count founds ≡ how_many test (openers events) = told ∙ all ∙ sym moved in
     small (omega (arith, few, short, most, whole)) ∙ whole ∙ sym (kept_count (λ (o : Opener EventRead). test o.verdict) of (openers events) passes)

@@ -1,5 +1,5 @@
 -- The sections `calls`, `served`, `strays` and `refused`: what became of the calls of each thread (docs/REPORT.md).
-use Rattle.std.specs.Prelude.{not, Bool, true, false, List, filter, map, count_by, None}
+use Rattle.std.specs.Prelude.{not, Bool, true, false, List, filter, length, map, count_by, None}
 use Rattle.event_core.specs.Events.{EventRead}
 use Rattle.event_core.specs.declared.marks.Bracket.{Bracket}
 use Rattle.event_core.specs.declared.marks.Bracket.TheVariants.{Call}
@@ -40,20 +40,22 @@ is_unanswered Crossed = true
 is_unanswered Open = true
 is_unanswered _ = false
 
--- what `calls` says of the calls that threads make: how many are answered, failed and unanswered, and the calls that
--- lack their reply
+-- what `calls` says of the calls that threads make: how many there are, how many are answered, failed and unanswered,
+-- and the calls that lack their reply
 abbrev pub calls_of : List (Opener EventRead) → Calls EventRead
 calls_of made = record {
+  all = length made;
   answered = how_many is_answered made;
   failed = how_many is_failed made;
   unanswered = how_many is_unanswered made;
   rows = with_verdict lacks_reply made;
 }
 
--- what `served` says of the calls that threads serve: how many are replied, crossed and open, and the calls that lack
--- their reply
+-- what `served` says of the calls that threads serve: how many there are, how many are replied, crossed and open, and
+-- the calls that lack their reply
 abbrev pub served_of : List (Opener EventRead) → Served EventRead
 served_of served = record {
+  all = length served;
   replied = how_many is_replied served;
   crossed = how_many is_crossed served;
   left_open = how_many is_open served;

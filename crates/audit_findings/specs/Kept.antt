@@ -49,6 +49,7 @@ events_at_places s = record {
 -- `calls`, with the place of each listed call
 abbrev pub made_at_places : Calls EventRead → Calls ℕ
 made_at_places c = record {
+  all = c.all;
   answered = c.answered;
   failed = c.failed;
   unanswered = c.unanswered;
@@ -58,6 +59,7 @@ made_at_places c = record {
 -- `served`, with the place of each listed call
 abbrev pub served_at_places : Served EventRead → Served ℕ
 served_at_places c = record {
+  all = c.all;
   replied = c.replied;
   crossed = c.crossed;
   left_open = c.left_open;

@@ -1,11 +1,13 @@
 -- Laws of the definitions.
-use Rattle.std.specs.Prelude.{ℕ, List, map}
+use Rattle.std.specs.Prelude.{◌≡◌, ℕ, ◌+◌, List, length, map}
 use Rattle.std.specs.List.Sorted.{IsStrictlyIncreasing}
-use Rattle.capture_frame.specs.Units.{IsBytes}
-use Rattle.event_core.specs.Events.{events_of_wholes, wholes_of}
+use Rattle.capture_frame.specs.Units.{IsBytes, Placed}
+use Rattle.event_core.specs.Events.{EventRead, events_of_wholes, wholes_of}
 use Rattle.transaction_view.specs.Grammar.{WholeFrame, IsInGrammar}
 use Rattle.audit_findings.specs.Findings.{findings_of}
 use Rattle.audit_findings.specs.Objects.{AreOutcomes, Outcome, attachments_of}
+use Rattle.audit_findings.specs.declared.calls.Calls.{Calls}
+use Rattle.audit_findings.specs.declared.served.Served.{Served}
 
 -- in a capture in the grammar, the records of the bad objects rise strictly in place
 abbrev pub BadObjectsRise : Type 0
@@ -22,3 +24,18 @@ FlagsRise = (capture : List ℕ) (wholes : List WholeFrame) (outcomes : List Out
 abbrev pub HaveObjects : Type 0
 HaveObjects = (capture : List ℕ) (wholes : List WholeFrame) → IsBytes capture → IsInGrammar capture wholes
     → (outcomes : List Outcome) × AreOutcomes (attachments_of (events_of_wholes (wholes_of wholes))) outcomes
+
+-- each call that threads make is counted once, as answered, failed or unanswered, and is listed unless it is answered
+pub record AllMadeTold (calls : Calls EventRead) : Type 0 where
+  pub counted : calls.all ≡ calls.answered + calls.failed + calls.unanswered
+  pub listed : calls.all ≡ calls.answered + length calls.rows
+
+-- each call that threads serve is counted once, as replied, crossed or open, and is listed unless it is replied
+pub record AllServedTold (served : Served EventRead) : Type 0 where
+  pub counted : served.all ≡ served.replied + served.crossed + served.left_open
+  pub listed : served.all ≡ served.replied + length served.rows
+
+-- the findings of any frames leave out no call
+abbrev pub LeaveOutNoCall : Type 0
+LeaveOutNoCall = (wholes : List (Placed WholeFrame)) (outcomes : List Outcome)
+    → AllMadeTold (findings_of wholes outcomes).calls.calls × AllServedTold (findings_of wholes outcomes).calls.served

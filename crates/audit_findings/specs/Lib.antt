@@ -5,6 +5,7 @@ pub mod TextReads
 pub mod Threads
 pub mod Verdicts
 pub mod Calls
+pub mod MatchedCalls
 pub mod RecordCounts
 pub mod CodeCounts
 pub mod InTurn
@@ -28,4 +29,8 @@ pub mod ThreadRows
 pub mod Ledgers
 pub mod Summary
 pub mod Lookup
+pub mod EventCounts
+pub mod HandleRows
+pub mod NodeRows
+pub mod RowsInTurn
 pub mod Laws

@@ -1,5 +1,5 @@
 -- The calls of all threads, and what is kept of them.
-use Rattle.std.specs.Prelude.{◌≡◌, ℕ, ◌+◌, ◌-◌, ◌<◌, ◌^◌, min, ◌++◌, not, Bool, false, List, map, filter, None}
+use Rattle.std.specs.Prelude.{◌≡◌, ℕ, ◌+◌, ◌-◌, ◌<◌, ◌^◌, min, ◌++◌, not, Bool, false, List, map, filter, length, None}
 use Rattle.std.specs.List.{AllZip, flat_map, sum_by}
 use Rattle.std.specs.List.Sorted.{IsPermutation, IsNonDecreasingBy}
 use Rattle.capture_frame.specs.declared.process.Thread.{Thread}
@@ -97,6 +97,11 @@ pub record AreSortedRows (old new : ThreadRows) : Type 0 where
   pub strays_rise : IsNonDecreasingBy (λ n. n) new.strays.items
   pub sends : IsPermutation old.sends.items new.sends.items
   pub sends_rise : IsNonDecreasingBy (λ s. s.event) new.sends.items
+
+-- the calls are those of this number and of this list together, and 64 bits can count them
+pub record AreAll (told : List (Opener EventRead)) (number : ℕ) (list : List (Opener ℕ)) : Type 0 where
+  pub together : length told ≡ number + length list
+  pub few : length told < 2 ^ 64
 
 -- the rows keep the calls that lack their reply, the strays and the refused sends of all threads of these events, and
 -- how many calls have their reply

@@ -1,2 +1,4 @@
 pub mod RequestLemmas
 pub mod ProgramLemmas
+pub mod WordWalk
+pub mod WordLaws

@@ -1,11 +1,12 @@
 -- The command line that clap reads, and what its words ask for (docs/REPORT.md). The rows are what clap found: each has
 -- the name of an option or argument and its values.
-use Rattle.std.specs.Prelude.{◌≡◌, ℕ, ◌≤◌, List, [], ◌∷◌, ◌⊎◌, length, map, Option, Some, None, true, codes}
+use Rattle.std.specs.Prelude.{◌≡◌, ℕ, ◌≤◌, List, [], ◌∷◌, ◌⊎◌, length, Option, Some, None, true, codes}
 use Rattle.std.specs.Str.Parse.{IsNumeral, digits_value, without_leading_plus}
 use Rattle.clap.specs.Words.{App, Row, Rule, Text, all_of, fault_of, new_app, new_rule, one_of, subcommand_of, with_rule, with_subcommand}
 use Rattle.clap.specs.Lexer.{usize_max}
 use Rattle.clap.specs.declared.builder.action.ArgAction.TheVariants.{Set, Append}
 use Rattle.clap.specs.declared.builder.value_parser.ValueParser.TheVariants.{Unsigned}
+use Rattle.audit_run.specs.Question.{names_of}
 use Rattle.audit_run.specs.declared.answers.Question.{Question}
 use Rattle.audit_run.specs.declared.answers.Question.TheVariants.{Report, FirstFault}
 use Rattle.audit_run.specs.declared.answers.Request.{Request}
@@ -50,10 +51,6 @@ ReadsNumber name rows n =
 abbrev pub NamesFiles : List Row → List Text → Type 0
 NamesFiles rows files = (all_of (codes "files") rows ≡ Some files) × (length files ≤ 256)
 
--- the names of the files of a request
-abbrev pub files_of : Request → List Text
-files_of request = map (λ file. file.now) request.files.now
-
 -- the question is for the report, by the numbers that the rows have for the two options
 abbrev pub HasNumbers : List Row → Question → Type 0
 HasNumbers rows (Report workers piece) =
@@ -62,11 +59,11 @@ HasNumbers rows FirstFault = ⊥
 
 -- the rows of the subcommand `report` ask for this request
 abbrev pub AsksReport : List Row → Request → Type 0
-AsksReport rows request = HasNumbers rows request.question × NamesFiles rows (files_of request)
+AsksReport rows request = HasNumbers rows request.question × NamesFiles rows (names_of request)
 
 -- the rows of the subcommand `first-fault` ask for this request
 abbrev pub AsksFirstFault : List Row → Request → Type 0
-AsksFirstFault rows request = (request.question ≡ FirstFault) × NamesFiles rows (files_of request)
+AsksFirstFault rows request = (request.question ≡ FirstFault) × NamesFiles rows (names_of request)
 
 -- the subcommand of this name, with these rows, asks for this request; without a subcommand nothing is asked for
 abbrev pub AsksFor : Option (Text × List Row) → Request → Type 0

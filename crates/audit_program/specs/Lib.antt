@@ -1,3 +1,4 @@
 pub mod CommandLine
 pub mod Failure
 pub mod Program
+pub mod Words

@@ -3,29 +3,31 @@ ghost use Rattle.std.specs.Prelude.{map, string_bytes, IfErr, IfOk};
 ghost use Rattle.audit_program.specs.Program.{AnswersWords, FailureLeaves};
 
 use crate::command_line::{matches_of, request_of};
-use audit_run::answer_files;
+use audit_run::{Store, answer_files};
 use audit_streams::Failure;
 use std::alloc::Global;
-use std::fs::Files;
 use std::io::Write;
 use std::thread::Threads;
 
 /// Answers what the words ask for. The first word is the program's own name.
-pub(crate) fn answer_words<T: Files + Threads + Sync, W: Write>(
+pub(crate) fn answer_words<T: Threads + Sync, S: Store, W: Write>(
     rt: &T,
     alloc: Global,
+    store: &S,
     words: &[String],
     out: &mut W,
 ) -> Result<u8, Failure>
     ensures answered { IfOk result
-        (AnswersWords (map string_bytes words.now) (W.contents out.old) (W.contents out.new)) }
+        (AnswersWords (S.bytes_of store.now) (map string_bytes words.now)
+        (W.contents out.old) (W.contents out.new)) }
     ensures failed { IfErr result
-        (FailureLeaves (map string_bytes words.now) (W.contents out.old) (W.contents out.new)) }
+        (FailureLeaves (S.bytes_of store.now) (map string_bytes words.now)
+        (W.contents out.old) (W.contents out.new)) }
 {
     let matches = matches_of(alloc, words)?;
     let Some(request) = request_of(&matches) else {
         return Err(Failure::Usage);
     };
-    let status = answer_files(rt, alloc, request, out)?;
+    let status = answer_files(rt, alloc, store, request, out)?;
     Ok(status)
 }

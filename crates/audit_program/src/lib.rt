@@ -3,6 +3,7 @@
 
 mod answers;
 mod command_line;
+pub mod laws;
 mod status;
 
-pub use crate::status::{ended, program};
+pub use crate::status::{Ending, ended, program, program_on};

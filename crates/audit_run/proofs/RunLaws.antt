@@ -1,8 +1,8 @@
 -- Lemmas about how a run ends: from readers to their files, from one form of the capture or of the answer to another,
 -- and if a line could not be written.
-use Rattle.std.proofs.Common.{◌≡◌, ℕ, ◌<◌, List, length, map, Vec, Global, Bor, Option, Result, Ok, Err, sym, ap, subst, ◌∙◌, arith}
+use Rattle.std.proofs.Common.{◌≡◌, ℕ, ◌+◌, ◌<◌, List, [], ◌∷◌, ◌++◌, length, map, take, get_or, Vec, Global, Bor, Option, Some, None, Result, Ok, Err, sym, ap, ap₂, subst, ◌∙◌, arith}
 use Rattle.std.specs.List.{AllZip}
-use Rattle.std.proofs.lemmas.List.{length-map}
+use Rattle.std.proofs.lemmas.List.{length-map, map-append, take_more}
 use Rattle.capture_frame.specs.declared.fault.PartFault.{PartFault}
 use Rattle.report_text.specs.Fault.{part_fault_line}
 use Rattle.std.proofs.lemmas.Slice.Zip.{AllZip-long}
@@ -11,32 +11,75 @@ use Rattle.audit_streams.specs.declared.run_error.RunError.TheVariants.{Memory, 
 use Rattle.audit_streams.specs.KnownBytes.{AppendsPrefix}
 use Rattle.audit_streams.specs.Parts.{IsAllOf}
 use Rattle.audit_run.specs.PartRuns.{FilesGive, IsOpeningError, ReadersGive}
+use Rattle.audit_run.specs.Store.{HasLeft}
 use Rattle.audit_run.specs.Run.{EndsWithError, IsAnswered, RunEnds, given, none_given}
 
--- an error that readers may give is one that files may give
-files_give : (files : ℕ) (had : List (Option (List ℕ))) (error : RunError) → ReadersGive had (Err error) → FilesGive files (Err error)
-files_give files had Memory gives = gives
-files_give files had TooLarge gives = tt
-files_give files had Read gives = gives
-files_give files had Write gives = gives
-files_give files had Open gives = absurd gives
+-- a part is all of what is known of its file, if its reader had all of that left
+all_known : (known left : List (Option (List ℕ))) (parts : List (List ℕ)) → AllZip HasLeft known left → AllZip IsAllOf left parts
+    → AllZip IsAllOf known parts
+all_known [] [] parts has read = read
+all_known [] (l ∷ left) parts has read = absurd has
+all_known (k ∷ known) [] parts has read = absurd has
+all_known (k ∷ known) (l ∷ left) [] has read = absurd read
+all_known (None ∷ known) (l ∷ left) (p ∷ parts) has read = (tt, all_known known left parts has.1 read.1)
+all_known (Some bytes ∷ known) (l ∷ left) (p ∷ parts) has read = (rw has.0 at read.0, all_known known left parts has.1 read.1)
+
+-- if the bytes of all files are known, their readers had just these left
+left_of_known : (known left : List (Option (List ℕ))) (bytes : List (List ℕ)) → AllZip HasLeft known left → known ≡ map Some bytes
+    → left ≡ map Some bytes
+left_of_known [] [] bytes has is = is
+left_of_known [] (l ∷ left) bytes has is = absurd has
+left_of_known (k ∷ known) [] bytes has is = absurd has
+left_of_known (k ∷ known) (l ∷ left) [] has is = absurd (cc)
+left_of_known (k ∷ known) (l ∷ left) (b ∷ bytes) has is =
+    let first : k ≡ Some b = cc in
+    let rest : known ≡ map Some bytes = cc in
+    ap₂ (λ x xs. x ∷ xs) (rw first at has.0) (left_of_known known left bytes has.1 rest)
+
+-- an error that readers may give is one that their files may give
+files_give : (known left : List (Option (List ℕ))) (error : RunError) → AllZip HasLeft known left → ReadersGive left (Err error)
+    → FilesGive known (Err error)
+files_give known left Memory has gives = gives
+files_give known left TooLarge has gives = λ bytes is. gives bytes (left_of_known known left bytes has is)
+files_give known left Read has gives = gives
+files_give known left Write has gives = gives
+files_give known left Open has gives = absurd gives
 
 -- how a run on the readers ends is how the run on their files ends
-pub run_on_files : {A : Type 0} (files : ℕ) (had : List (Option (List ℕ))) (IsOn : List (List ℕ) → List ℕ → Type 0)
-    (GoesWith : List (List ℕ) → A → Type 0) (old new : Option (List ℕ)) (result : Result A RunError) → length had ≡ files
-    → RunEnds (ReadersGive had) IsOn GoesWith old new result → RunEnds (FilesGive files) IsOn GoesWith old new result
-run_on_files files had IsOn GoesWith old new result many (given parts gives writes) =
-    given parts (AllZip-long IsAllOf had parts gives.0.0 ∙ many, gives.0.1, gives.1) writes
-run_on_files files had IsOn GoesWith old new result many (none_given error gives is keeps) =
-    none_given error (files_give files had error gives) is keeps
+pub run_on_files : {A : Type 0} (known left : List (Option (List ℕ))) (IsOn : List (List ℕ) → List ℕ → Type 0)
+    (GoesWith : List (List ℕ) → A → Type 0) (old new : Option (List ℕ)) (result : Result A RunError) → AllZip HasLeft known left
+    → RunEnds (ReadersGive left) IsOn GoesWith old new result → RunEnds (FilesGive known) IsOn GoesWith old new result
+run_on_files known left IsOn GoesWith old new result has (given parts gives writes) =
+    given parts ((all_known known left parts has gives.0.0, gives.0.1), gives.1) writes
+run_on_files known left IsOn GoesWith old new result has (none_given error gives is keeps) =
+    none_given error (files_give known left error has gives) is keeps
 
 -- an error of opening files is one that files may give
-pub opening_gives : (files : ℕ) (error : RunError) → IsOpeningError error → FilesGive files (Err error)
-opening_gives files Memory fault = tt
-opening_gives files TooLarge fault = absurd fault
-opening_gives files Read fault = absurd fault
-opening_gives files Write fault = absurd fault
-opening_gives files Open fault = tt
+pub opening_gives : (known : List (Option (List ℕ))) (error : RunError) → IsOpeningError error → FilesGive known (Err error)
+opening_gives known Memory fault = tt
+opening_gives known TooLarge fault = absurd fault
+opening_gives known Read fault = absurd fault
+opening_gives known Write fault = absurd fault
+opening_gives known Open fault = tt
+
+has_next : {R : Type 0} (bytes_of : List ℕ → Option (List ℕ)) (remaining : R → Option (List ℕ)) (names : List (List ℕ)) (readers : List R)
+    (name : List ℕ) (reader : R) → AllZip HasLeft (map bytes_of names) (map remaining readers) → HasLeft (bytes_of name) (remaining reader)
+    → AllZip HasLeft (map bytes_of (names ++ name ∷ [])) (map remaining (readers ++ reader ∷ []))
+has_next bytes_of remaining [] [] name reader each one = (one, tt)
+has_next bytes_of remaining [] (r ∷ readers) name reader each one = absurd each
+has_next bytes_of remaining (n ∷ names) [] name reader each one = absurd each
+has_next bytes_of remaining (n ∷ names) (r ∷ readers) name reader each one =
+    (each.0, has_next bytes_of remaining names readers name reader each.1 one)
+
+-- with one file more, and its reader, each reader still has left what is known of its file
+pub open_next : {F R : Type 0} (name_of : F → List ℕ) (bytes_of : List ℕ → Option (List ℕ)) (remaining : R → Option (List ℕ)) (files : List F)
+    (readers : List R) (reader : R) (i : ℕ) (default : F) → i < length files
+    → AllZip HasLeft (map bytes_of (map name_of (take i files))) (map remaining readers)
+    → HasLeft (bytes_of (name_of (get_or files i default))) (remaining reader)
+    → AllZip HasLeft (map bytes_of (map name_of (take (i + 1) files))) (map remaining (readers ++ reader ∷ []))
+open_next name_of bytes_of remaining files readers reader i default inside each one =
+    rw (take_more files i default inside, map-append name_of (take i files) (get_or files i default ∷ []))
+    (has_next bytes_of remaining (map name_of (take i files)) readers (name_of (get_or files i default)) reader each one)
 
 -- there are as many parts as readers
 pub a_part_each : {R : Type 0} (remaining : R → Option (List ℕ)) (readers : List R) (parts : List (Vec ℕ Global))

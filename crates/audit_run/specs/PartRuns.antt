@@ -1,8 +1,8 @@
 -- What reading gives of a capture in several parts, one from each reader or from each file.
-use Rattle.std.specs.Prelude.{◌≡◌, ℕ, ◌≤◌, List, length, All, Option, Result, Ok, Err, ⊤}
+use Rattle.std.specs.Prelude.{ℕ, List, All, Option, Result, Ok, Err, ⊤}
 use Rattle.capture_frame.specs.Units.{IsBytes}
 use Rattle.audit_join.specs.declared.limits.TheConstants.{CAPTURE_LIMIT}
-use Rattle.audit_streams.specs.Parts.{bytes_of, AreRead, ArePastLimit}
+use Rattle.audit_streams.specs.Parts.{AreRead, ArePastLimit}
 use Rattle.audit_streams.specs.declared.run_error.RunError.{RunError}
 use Rattle.audit_streams.specs.declared.run_error.RunError.TheVariants.{Memory, TooLarge, Read, Write, Open}
 
@@ -18,13 +18,11 @@ ReadersGive had (Err Read) = ⊤
 ReadersGive had (Err Write) = ⊥
 ReadersGive had (Err Open) = ⊥
 
--- This many files, which are opened first, give parts or an error. There is a part from each file. Each part consists
--- of bytes, and together they are within the limit. Which bytes a file has, no contract can say. Any error but `Write`
--- may come at any time.
-abbrev pub FilesGive : ℕ → Result (List (List ℕ)) RunError → Type 0
-FilesGive files (Ok parts) = (length parts ≡ files) × (bytes_of parts ≤ CAPTURE_LIMIT) × All IsBytes parts
-FilesGive files (Err Write) = ⊥
-FilesGive files (Err _) = ⊤
+-- Files that have these bytes, which are all opened before the first is read, give what their readers give, or
+-- `Open`, which may come at any time.
+abbrev pub FilesGive : List (Option (List ℕ)) → Result (List (List ℕ)) RunError → Type 0
+FilesGive had (Err Open) = ⊤
+FilesGive had given = ReadersGive had given
 
 -- an error that opening files may end with: `Memory` or `Open`
 abbrev pub IsOpeningError : RunError → Type 0

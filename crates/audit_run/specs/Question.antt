@@ -1,10 +1,15 @@
 -- The answer to a question about the parts of a capture, and the status that goes with it (docs/REPORT.md).
-use Rattle.std.specs.Prelude.{◌≡◌, ℕ, List}
+use Rattle.std.specs.Prelude.{◌≡◌, ℕ, List, map}
 use Rattle.capture_frame.specs.declared.fault.PartFault.{PartFault}
 use Rattle.transaction_view.specs.Grammar.{AreReadable, HasFirstPartFault}
 use Rattle.report_text.specs.Answers.{IsTextOfParts, IsLineOnParts}
 use Rattle.audit_run.specs.declared.answers.Question.{Question}
 use Rattle.audit_run.specs.declared.answers.Question.TheVariants.{Report, FirstFault}
+use Rattle.audit_run.specs.declared.answers.Request.{Request}
+
+-- the names of the files of a request, in order
+abbrev pub names_of : Request → List (List ℕ)
+names_of request = map (λ file. file.now) request.files.now
 
 -- The text is the answer to the question about these parts. For a report it is their text: the report on their joined
 -- capture, or the line that names their first fault. The numbers of workers and of frames in a piece do not matter. For

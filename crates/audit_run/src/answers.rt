@@ -1,17 +1,18 @@
 //! Answers a question about a capture whose parts come from readers or from files.
-ghost use Rattle.std.specs.Prelude.{◌≡◌, ◌<◌, ◌^◌, length, map, vec_len, IfErr, IfOk};
+ghost use Rattle.std.specs.Prelude.{◌<◌, ◌^◌, length, map, vec_len, IfErr, IfOk, IsOkUnless};
+ghost use Rattle.std.specs.List.{AllZip};
 ghost use Rattle.audit_run.specs.PartRuns.{FilesGive, IsOpeningError, ReadersGive};
-ghost use Rattle.audit_run.specs.Question.{GoWithStatus, IsAnswer};
+ghost use Rattle.audit_run.specs.Question.{GoWithStatus, IsAnswer, names_of};
 ghost use Rattle.audit_run.specs.Run.{RunEnds};
+ghost use Rattle.audit_run.specs.Store.{HasLeft};
 
 use crate::part_runs::{run_first_fault_parts, run_parts};
+use crate::store::Store;
 use crate::written::PartsWritten;
 use audit_join::Piece;
 use audit_streams::RunError;
 use claim_board::{NoGate, Workers};
 use std::alloc::Global;
-use std::fs;
-use std::fs::Files;
 use std::io::{Read, Write};
 use std::thread::Threads;
 
@@ -32,33 +33,46 @@ pub struct Request<'a> {
 }
 
 /// Opens the files that the request names, in order and all before the first is read, and answers
-/// its question as `answer` does. No contract can say which bytes a file has. So the clause speaks
-/// of some parts, one from each file, within the limit together.
-pub fn answer_files<T: Files + Threads + Sync, W: Write>(
+/// its question as `answer` does.
+pub fn answer_files<T: Threads + Sync, S: Store, W: Write>(
     rt: &T,
     alloc: Global,
+    store: &S,
     request: Request<'_>,
     out: &mut W,
 ) -> Result<u8, RunError>
     requires { length request.files.now < 2 ^ 32 }
-    ensures { RunEnds (FilesGive (length request.entry.files.now)) (IsAnswer request.entry.question)
-        GoWithStatus (W.contents out.old) (W.contents out.new) result }
+
+    // The answer is about the files that the request names, in its order.
+    ensures { RunEnds (FilesGive (map (S.bytes_of store.now) (names_of request.entry)))
+        (IsAnswer request.entry.question) GoWithStatus
+        (W.contents out.old) (W.contents out.new) result }
 {
-    let readers = open_files(rt, alloc, request.files)?;
+    let readers = open_files(alloc, store, request.files)?;
     answer(rt, alloc, request.question, readers, out)
 }
 
 /// Opens these files in order. Memory for the list of all of them is taken first.
-fn open_files<T: Files>(rt: &T, alloc: Global, files: &[&str]) -> Result<Vec<T::File>, RunError>
-    ensures each { IfOk result (λ opened. vec_len opened ≡ length files.now) }
+fn open_files<S: Store>(alloc: Global, store: &S, files: &[&str]) -> Result<Vec<S::Part>, RunError>
+    ensures each { IfOk result (λ opened. AllZip HasLeft
+        (map (S.bytes_of store.now) (map (λ file. file.now) files.now))
+        (map S.Part.remaining opened.items)) }
     ensures faults { IfErr result IsOpeningError }
 {
     let mut opened = Vec::with_capacity(alloc, files.len()).map_err(|_| RunError::Memory)?;
     for file in files {
-        let reader = fs::open(rt, file).map_err(|_| RunError::Open)?;
+        let reader = open_file(store, file)?;
         opened.push(reader).map_err(|_| RunError::Memory)?;
     }
     Ok(opened)
+}
+
+fn open_file<S: Store>(store: &S, file: &str) -> Result<S::Part, RunError>
+    ensures left { IfOk result (λ part.
+        HasLeft (S.bytes_of store.now file.now) (S.Part.remaining part)) }
+    ensures fault { IsOkUnless result RunError.Open }
+{
+    store.open(file).map_err(|_| RunError::Open)
 }
 
 /// Reads the parts of a capture in order, writes the answer to the question about them, and gives

@@ -5,11 +5,13 @@
 mod answers;
 mod part_runs;
 mod runs;
+mod store;
 mod written;
 
 pub use crate::answers::{Question, Request, answer, answer_files};
 pub use crate::part_runs::{run_first_fault_parts, run_parts};
 pub use crate::runs::{run, run_first_fault, run_gated, write_first_fault};
+pub use crate::store::{HostFiles, Store};
 pub use crate::written::{PartsWritten, Written};
 pub use audit_join::{CAPTURE_LIMIT, Piece};
 pub use audit_streams::{RunError, read_capture, read_parts, write_text};

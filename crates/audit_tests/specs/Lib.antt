@@ -1,1 +1,2 @@
 pub mod SpacedJobs
+pub mod TwoFiles

@@ -1,8 +1,9 @@
 //! Tests of `audit_run`: devices that fail, the gate that is handed on, refused memory, captures in
-//! parts, and how many bytes a read asks for.
+//! parts, how many bytes a read asks for, and files whose bytes are known.
 
 mod devices;
 mod gate;
 mod memory;
 mod parts;
 mod read_sizes;
+mod store;

@@ -2,10 +2,10 @@
 #![tactic(auto)]
 
 use audit_program::ended;
-pub use audit_program::program;
+pub use audit_program::{Ending, program, program_on};
 pub use audit_run::{
-    CAPTURE_LIMIT, Gate, NoGate, PartsWritten, Piece, RunError, Workers, Written, read_capture,
-    read_parts, run, run_first_fault, run_first_fault_parts, run_gated, run_parts,
+    CAPTURE_LIMIT, Gate, HostFiles, NoGate, PartsWritten, Piece, RunError, Store, Workers, Written,
+    read_capture, read_parts, run, run_first_fault, run_first_fault_parts, run_gated, run_parts,
 };
 use std::env;
 use std::process::ExitCode;

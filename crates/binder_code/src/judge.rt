@@ -170,6 +170,7 @@ const RETURNS: [(u32, Kind); 21] = [
 ];
 
 // The protocol's words.
+#[inline(always)]
 fn words(protocol: Protocol) -> &'static [(u32, Kind)]
     ensures { AreWords protocol result.now }
 {
@@ -180,6 +181,7 @@ fn words(protocol: Protocol) -> &'static [(u32, Kind)]
 }
 
 // The kind of a code that is one of the words. Most records of a capture have such a code.
+#[inline(always)]
 fn of_word(protocol: Protocol, code: Code) -> Option<Kind>
     ensures { IfSome result (λ kind. kind_of protocol code.0 ≡ Ok kind) }
 {
@@ -202,6 +204,7 @@ fn by_fields(protocol: Protocol, code: Code) -> Result<Kind, CodeFault>
 
 // What a code word means in a frame of the protocol: by the word as a whole, otherwise by its
 // fields.
+#[inline(always)]
 fn meaning(protocol: Protocol, code: Code) -> Result<Kind, CodeFault>
     ensures { result ≡ kind_of protocol code.0 }
 {
@@ -212,6 +215,7 @@ fn meaning(protocol: Protocol, code: Code) -> Result<Kind, CodeFault>
 }
 
 /// What a code word means in a frame of the protocol.
+#[inline(always)]
 pub fn kind(protocol: Protocol, code: Code) -> Result<Kind, CodeFault>
     ensures exact { result ≡ kind_of protocol code.0 }
 

@@ -1,5 +1,5 @@
 -- The openers and the unmatched closers of bracketed events, as they are defined and as they are read from the end.
-use Rattle.std.proofs.Common.{◌≡◌, ℕ, zero, suc, ◌+◌, ◌-◌, ◌==◌, ◌&&◌, Bool, true, false, cond, Option, Some, None, refl, sym, ap, ap₂, ◌∙◌, arith, ne_eqb}
+use Rattle.std.proofs.Common.{◌≡◌, ℕ, zero, suc, ◌+◌, ◌-◌, ◌==◌, ◌&&◌, Bool, true, false, cond, Option, Some, None, refl, sym, ap, ap₂, subst, ◌∙◌, arith, ne_eqb}
 use Rattle.std.proofs.Common.{List, [], ◌∷◌, ◌++◌, map, drop}
 use Rattle.std.proofs.lemmas.List.{map-append}
 use Rattle.std.proofs.lemmas.List.Sums.{fold-append}
@@ -8,13 +8,17 @@ use Rattle.std.specs.List.{cons_option, fold}
 use Rattle.std.specs.Prelude.{slice_get, option_map}
 use Rattle.call_stacks.specs.declared.opener.Opener.{Opener}
 use Rattle.event_core.specs.declared.marks.Mark.{Mark}
-use Rattle.call_stacks.specs.Calls.{Reads, Bracketed, as_bracketed, bracket_read, bracketed_with, bracketed_of, mark_after, is_unmatched, open_after, open_count, opener_by, opener_read, openers_in, sides_of, strays_in, unmatched_closers}
+use Rattle.call_stacks.specs.Calls.{Reads, Bracketed, as_bracketed, bracket_read, bracketed_with, bracketed_of, mark_after, is_unmatched, open_after, open_count, opener_by, opener_place, opener_read, openers_in, openers_of, sides_of, strays_in, unmatched_closers}
+use Rattle.call_stacks.specs.Matched.{IsOpener, IsStrayEvent}
 use Rattle.call_stacks.specs.Matching.{Side, opener, closer, neither, is_closer, is_opener}
 use Rattle.call_stacks.specs.Verdicts.{side_of}
 use Rattle.call_stacks.proofs.Bracketing.{bracketed-append, pair, side}
-use Rattle.call_stacks.proofs.Lists.{event_of, found, openers_found, strays_found}
+use Rattle.call_stacks.proofs.Lists.{event_of, found, openers_found, openers_listed, strays_found, strays_listed}
 use Rattle.call_stacks.proofs.Model.{both, entry, first_of, openers, openers-map, put, strays, strays-map}
+use Rattle.summary_law.proofs.Members.{rises_from_pairs}
 use Rattle.summary_law.proofs.ReadingLaws.{read-made}
+use Rattle.summary_law.specs.Fits.{PlacesRise}
+use Rattle.summary_law.specs.Ranked.{ListsInOrder}
 use Rattle.summary_law.specs.Readings.{chosen, read_each}
 
 module _ {E : Type 0} where
@@ -97,6 +101,19 @@ module _ {E : Type 0} (reads : Reads E) where
   openers-found items =
       each-found [] items
       ∙ sym (ap (map (found reads)) (openers-map pair side items) ∙ map-map (found reads) (both pair) (openers own_side items))
+
+module _ {E : Type 0} (reads : Reads E) (events : List E) (rise : PlacesRise reads.place events) where
+  -- the openers of a thread are the openers that are matched, or that nothing matches
+  pub openers-listed : ListsInOrder (opener_place reads) (IsOpener reads (bracketed_of reads events)) (openers_of reads events)
+  openers-listed =
+      subst (ListsInOrder (opener_place reads) (IsOpener reads (bracketed_of reads events))) (sym (openers-found reads (bracketed_of reads events)))
+      (openers_listed reads (bracket_read reads) None events (rises_from_pairs reads.place events rise))
+
+  -- the strays are the closers that match nothing
+  pub strays-listed : ListsInOrder reads.place (IsStrayEvent (bracketed_of reads events)) (strays_in (bracketed_of reads events))
+  strays-listed =
+      subst (ListsInOrder reads.place (IsStrayEvent (bracketed_of reads events))) (sym (strays-found (bracketed_of reads events)))
+      (strays_listed reads (bracket_read reads) None events (rises_from_pairs reads.place events rise))
 
 -- what is read of bracketed events is what is read of the events
 pub bracketed-read : {E Y : Type 0} (reads : Reads E) (read : List (Bracketed E) → Bracketed E → List (Bracketed E) → Option Y) (before events : List E)

@@ -6,6 +6,7 @@ pub mod Bracketing
 pub mod Kept
 pub mod Lists
 pub mod Found
+mod Latest
 pub mod Steps
 pub mod Sums
 pub mod Joins

@@ -71,6 +71,7 @@ impl<E: CallRecord> Calls<E> {
     }
 
     /// Takes in an event with its bracket.
+    #[inline(always)]
     fn enter(&mut self, event: E, bracket: Bracket) -> Result<(), AllocError>
         ensures { OnOk result
             (Enters E.reads E.all_kept bracket event (content_of self.old) (content_of self.new)) }
@@ -84,6 +85,7 @@ impl<E: CallRecord> Calls<E> {
     }
 
     /// Opens a call.
+    #[inline(always)]
     fn begin(&mut self, event: E) -> Result<(), AllocError>
         ensures { OnOk result (content_of self.new ≡ begun event (content_of self.old)) }
     {
@@ -102,6 +104,7 @@ impl<E: CallRecord> Calls<E> {
     }
 
     /// Closes the innermost call that is open. If none is open, the closer is a stray.
+    #[inline(always)]
     fn close(&mut self, closer: E) -> Result<(), AllocError>
         ensures { OnOk result
             (Closes E.reads E.all_kept (content_of self.old) closer (content_of self.new)) }
@@ -115,6 +118,7 @@ impl<E: CallRecord> Calls<E> {
 
     /// Takes in a closed call. A call that has its reply is only counted, unless all calls are
     /// kept.
+    #[inline(always)]
     fn take(&mut self, call: Opener<E>) -> Result<(), AllocError>
         ensures { OnOk result
             (content_of self.new ≡ taken E.all_kept call (content_of self.old)) }
@@ -217,6 +221,7 @@ impl<E: CallRecord> Summary for Calls<E> {
         }
     }
 
+    #[inline(always)]
     fn add(&mut self, item: E) -> Result<(), AllocError> {
         let bracket = item.bracket(self.last);
         if self.last.is_none() && bracket == Bracket::Error {

@@ -1,9 +1,12 @@
 //! Laws of the definitions, as contracts of functions that do nothing.
 
-ghost use Rattle.std.specs.Prelude.{◌≡◌, ℕ, List};
+ghost use Rattle.std.specs.Prelude.{◌≡◌, ℕ, List, Option, Some, slice_get};
 ghost use Rattle.summary_law.specs.Fits.{PlacesRise};
 ghost use Rattle.summary_law.specs.Ranked.{ListsInOrder};
-ghost use Rattle.call_stacks.specs.Calls.{Reads, bracketed_of, opener_place, openers_of, strays_in};
+ghost use Rattle.summary_law.specs.Readings.{read_all};
+ghost use Rattle.call_stacks.specs.Calls.{Reads, Bracketed, as_bracketed, bracketed_of};
+ghost use Rattle.call_stacks.specs.Calls.{opener_place, openers_of, strays_in};
+ghost use Rattle.call_stacks.specs.Marks.{IsBracketedAt};
 ghost use Rattle.call_stacks.specs.Matched.{IsOpener, IsStrayEvent};
 ghost use Rattle.call_stacks.specs.Matching.{Side, Match, JoinedMatches};
 
@@ -32,4 +35,20 @@ pub fn found_calls<E>()
     ensures strays { (reads : Reads E) (events : List E) → PlacesRise reads.place events →
         ListsInOrder reads.place (IsStrayEvent (bracketed_of reads events))
         (strays_in (bracketed_of reads events)) }
+{}
+
+/// In a thread, each event is bracketed by the latest mark that the events before it leave.
+pub fn latest_marks<E>()
+    ensures { (reads : Reads E) (events : List E) (n : ℕ) (found : Bracketed E) →
+        slice_get (bracketed_of reads events) n ≡ Some found →
+        IsBracketedAt reads events n found }
+{}
+
+/// A reading of bracketed events, turned into a reading of the plain events of a thread, reads the
+/// same of them as it reads of the bracketed events.
+pub fn bracketed_readings<E, Y>()
+    ensures { (reads : Reads E)
+        (read : List (Bracketed E) → Bracketed E → List (Bracketed E) → Option Y)
+        (events : List E) →
+        read_all (as_bracketed reads read) events ≡ read_all read (bracketed_of reads events) }
 {}

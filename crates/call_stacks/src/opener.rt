@@ -20,6 +20,7 @@ pub struct Opener<E> {
 
 impl<E: CallRecord> Opener<E> {
     /// A call that nothing has closed so far.
+    #[inline(always)]
     pub(crate) fn new(event: E) -> Self
         ensures { result ≡ open_call event }
     {
@@ -31,6 +32,7 @@ impl<E: CallRecord> Opener<E> {
     }
 
     /// The call with its verdict and its closer's place, once this event closes it.
+    #[inline(always)]
     pub(crate) fn closed_with(self, closer: E) -> Self
         ensures { result ≡ closed_with E.reads closer self }
     {

@@ -1,7 +1,6 @@
 -- Frames that are kept by their places: each is read back from the bytes at its place.
-use Rattle.std.proofs.Common.{◌≡◌, ℕ, zero, suc, Option, ◌+◌, ◌-◌, ◌<◌, ◌≤◌, List, [], ◌∷◌, ◌++◌, length, drop, map, All, Some, None, get_or, Result, Ok, Err, refl, sym, ap, subst, ◌∙◌, append_assoc, append-nil, length-append, arith, inl, inr}
-use Rattle.std.specs.Prelude.{AllPairs, Contains, slice_get, slice_index_or, leb, true, false, option_map, IfErr}
-use Rattle.std.specs.Result.{IsOk}
+use Rattle.std.proofs.Common.{◌≡◌, ℕ, zero, suc, Option, ◌+◌, ◌-◌, ◌<◌, ◌≤◌, List, [], ◌∷◌, ◌++◌, length, drop, map, All, Some, None, get_or, refl, sym, ap, subst, ◌∙◌, append_assoc, append-nil, length-append, arith, inl, inr}
+use Rattle.std.specs.Prelude.{AllPairs, Contains, slice_get, slice_index_or, leb, true, false, option_map}
 use Rattle.std.specs.List.{flat_map}
 use Rattle.std.specs.List.Sorted.{IsNonDecreasingBy, IsPartitionedBy, IsPartitionPoint}
 use Rattle.std.proofs.lemmas.Bool.{cases_lt, leb-false, leb-true}
@@ -14,19 +13,17 @@ use Rattle.std.proofs.lemmas.List.Kept.{AllPairs-cons}
 use Rattle.std.proofs.lemmas.List.Sorted.{IsPartitionedBy-leb}
 use Rattle.capture_frame.specs.declared.direction.Direction.{Direction}
 use Rattle.capture_frame.specs.declared.direction.Direction.TheVariants.{Write, Read}
-use Rattle.capture_frame.specs.declared.fault.FaultKind.{FaultKind}
 use Rattle.capture_frame.specs.declared.frame.Frame.{Frame}
 use Rattle.capture_frame.specs.declared.frame_list.PartBytes.{PartBytes}
 use Rattle.capture_frame.specs.declared.version.Version.{Version}
 use Rattle.capture_frame.specs.declared.version.Version.TheVariants.{Two}
 use Rattle.capture_frame.specs.Units.{AllMayCome, placed_at, placed}
-use Rattle.capture_frame.specs.Envelope.{PlacedFrame, FrameText, FitsHeader, MayCome, in_version, frame_bytes, frame_text, placed_frame, direction_at, direction_number}
-use Rattle.capture_frame.specs.FirstFault.{FrameFails, frame_format}
+use Rattle.capture_frame.specs.Envelope.{PlacedFrame, FrameText, FitsHeader, MayCome, in_version, frame_bytes, placed_frame, direction_at, direction_number, command_length, attachment_length}
+use Rattle.capture_frame.specs.FirstFault.{frame_format}
 use Rattle.capture_frame.specs.Lookup.{AreApart, IsSplitAt}
-use Rattle.capture_frame.specs.Reading.{BeginsWithFrame}
 use Rattle.capture_frame.specs.FrameList.{direction_of, frame_at_start, bodies, frames_at, AreInRow, BeginWithFrame, HasFrameAt, AreKept, AreBytesFrom}
 use Rattle.capture_frame.proofs.LookupLaws.{frames_in_order}
-use Rattle.capture_frame.proofs.FrameLaws.{frames_decided, header_said, text_at, text_at-spelled, length-frame_bytes}
+use Rattle.capture_frame.proofs.FrameLaws.{header_said, text_at, text_at-spelled, length-frame_bytes}
 
 -- ---- a frame is read back from its bytes
 
@@ -166,6 +163,13 @@ within_part parts at has =
     let left = length-drop (at - has.part.start) has.part.bytes.now in
     omega (arith, long, left)
 
+-- a single part is the part with the frame
+pub only_part : (parts : List PartBytes) (at : ℕ) (has : HasFrameAt parts at) (d : PartBytes) → length parts ≡ 1 → slice_index_or parts 0 d ≡ has.part
+only_part parts at has d one =
+    let inside = has.there.1 in
+    let first : 0 ≡ has.there.0 = omega (arith, inside, one) in
+    ap (λ (k : ℕ). slice_index_or parts k d) first ∙ sym (get_or_default parts has.there.0 has.part d inside) ∙ has.there.2
+
 -- of these parts the last one is the part with the frame
 module _ (parts : List PartBytes) (at : ℕ) (row : AreInRow 16 parts) (has : HasFrameAt parts at) (n : ℕ) (few : n ≤ length parts)
     (count : IsBegunCount parts at n) where
@@ -280,27 +284,25 @@ start_there body places frames number frame is there =
     let here = there_is body places frames number is (slice_get_within frames number frame there) in
     ap (λ (f : PlacedFrame). f.place) (same_some (frame_from body (get_or places number 0)) frame (sym here ∙ there))
 
-abbrev as_some : (bytes : List ℕ) (place : ℕ) (found : Frame) → BeginsWithFrame bytes place (in_version Two None) found → BeginWithFrame bytes
-as_some bytes place found begins =
-    record { frame = frame_text found; rest = drop (length (frame_bytes (frame_text found))) bytes; may_come = begins.may_come; are = begins.joined }
-
 -- the frame that is read again is the frame with this number
 pub read_at : (parts : List PartBytes) (places : List ℕ) (frames : List PlacedFrame) (number : ℕ) (bytes : List ℕ) (found : Frame)
     → frames_at (bodies parts) places ≡ frames → number < length frames → AreBytesFrom parts (get_or places number 0) bytes
-    → BeginsWithFrame bytes (get_or places number 0) (in_version Two None) found → slice_get frames number ≡ Some (placed_frame found)
-read_at parts places frames number bytes found is within in_order begins =
+    → placed_frame found ≡ placed_at (get_or places number 0) (frame_at_start bytes) → slice_get frames number ≡ Some (placed_frame found)
+read_at parts places frames number bytes found is within in_order read =
     let at = get_or places number 0 in
+    let alone : frame_at_start bytes ≡ in_order.begins.frame = ap frame_at_start (sym (append-nil bytes)) ∙ here_is bytes [] in_order.begins in
     there_is (bodies parts) places frames number is within
-    ∙ ap (λ (f : FrameText). Some (placed_at at f)) (read_there parts at bytes in_order (as_some bytes at found begins))
-    ∙ ap (λ (n : ℕ). Some (placed_at n (frame_text found))) (sym begins.view.place_is)
+    ∙ ap (λ (f : FrameText). Some (placed_at at f)) (read_there parts at bytes in_order in_order.begins ∙ sym alone)
+    ∙ ap (λ (f : PlacedFrame). Some f) (sym read)
 
--- and it can be read
-pub can_read : (bytes : List ℕ) (result : Result Frame FaultKind) → IfErr result (λ kind. FrameFails (in_version Two None) bytes kind) → BeginWithFrame bytes
-    → IsOk result
-can_read bytes (Ok found) fails begins = refl
-can_read bytes (Err kind) fails begins =
-    absurd (frames_decided.never_both (in_version Two None) begins.frame begins.rest kind 0 begins.may_come
-    (subst (λ (l : List ℕ). FrameFails (in_version Two None) l kind) begins.are fails, refl))
+-- all of it is there
+pub whole_there : (bytes : List ℕ) → BeginWithFrame bytes → 32 + (command_length bytes + attachment_length bytes) ≤ length bytes
+whole_there bytes begins =
+    let said = header_said begins.frame begins.rest begins.may_come.fits in
+    let commands = ap command_length begins.are ∙ said.commands in
+    let attachments = ap attachment_length begins.are ∙ said.attachments in
+    let whole = ap length begins.are ∙ length-append (frame_bytes begins.frame) begins.rest in
+    omega (arith, commands, attachments, whole, length-frame_bytes begins.frame)
 
 -- ---- the frames that have begun
 

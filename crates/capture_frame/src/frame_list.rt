@@ -6,8 +6,7 @@ ghost use Rattle.capture_frame.specs.Envelope.{placed_frame};
 ghost use Rattle.capture_frame.specs.Lookup.{span_of};
 
 use crate::frame::Frame;
-use crate::frames::read_frame;
-use crate::version::Version;
+use crate::frames::frame_of;
 use std::alloc::{AllocError, Global};
 use std::marker::Model;
 
@@ -119,9 +118,8 @@ impl<'f, 'c> FrameSlice<'f, 'c> {
         let places = self.places;
         let place = places[number];
         let bytes = bytes_from(self.parts, place);
-        // It was read before, so its header has no fault. What a frame says of itself does not
-        // depend on the version, nor on the frame before it.
-        read_frame(bytes, place, Version::Two, None).unwrap()
+        // It was judged when it was listed, so its fields are read alone.
+        frame_of(bytes, place)
     }
 
     /// The frames without the first `count`.
@@ -218,6 +216,9 @@ fn part_with<'c>(parts: &[PartBytes<'c>], place: u64) -> PartBytes<'c>
     requires { AreKept parts.now (place ∷ []) }
     ensures { (has : HasFrameAt parts.now place) × (has.part ≡ result) }
 {
+    if parts.len() == 1 {
+        return parts[0];
+    }
     let count = parts.partition_point(
         |part: &PartBytes<'_>| -> bool
             ensures { result ≡ leb part.now.start place }

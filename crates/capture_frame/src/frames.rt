@@ -2,9 +2,11 @@
 
 ghost use Rattle.std.specs.Prelude.{◌≡◌, ◌<◌, ◌≤◌, ◌+◌, ◌^◌, ◌↔◌, length, take, IsTrue, MatchResult, IfOk, IfErr};
 ghost use Rattle.capture_frame.specs.declared.version.Version.{Version};
-ghost use Rattle.capture_frame.specs.Envelope.{file_header, in_version, IsAbove, AreZero};
+ghost use Rattle.capture_frame.specs.Envelope.{file_header, in_version, placed_frame, frame_header_length, command_length, attachment_length, IsAbove, AreZero};
 ghost use Rattle.capture_frame.specs.FirstFault.{HeaderFails, FrameFails};
+ghost use Rattle.capture_frame.specs.FrameList.{frame_at_start};
 ghost use Rattle.capture_frame.specs.Reading.{BeginsWithFrame};
+ghost use Rattle.capture_frame.specs.Units.{placed_at};
 
 use crate::direction::Direction;
 use crate::fault::{Fault, FaultKind};
@@ -163,28 +165,40 @@ pub(crate) fn read_frame(
     if !is_above(sequence, last) {
         return Err(FaultKind::FrameSequence);
     }
-    let Some(direction) = Direction::of(bytes[16]) else {
+    if !Direction::is_named_by(bytes[16]) {
         return Err(FaultKind::FrameDirection);
-    };
+    }
     if !are_zero(bytes, version) {
         return Err(FaultKind::FrameReserved);
     }
+    let body = &bytes[FRAME_HEADER..];
+    if (body.len() as u64) < u64::from(u32_at(bytes, 20)) + u64::from(u32_at(bytes, 24)) {
+        return Err(FaultKind::FrameLength);
+    }
+    Ok(frame_of(bytes, place))
+}
+
+/// The frame that these bytes begin with, field by field. They begin at `place`. Nothing is judged.
+#[inline(always)]
+pub(crate) fn frame_of(bytes: &[u8], place: u64) -> Frame<'_>
+    requires fits { place + length bytes.now < 2 ^ 64 }
+    requires whole { frame_header_length
+        + (command_length bytes.now + attachment_length bytes.now) ≤ length bytes.now }
+    ensures { placed_frame result ≡ placed_at place (frame_at_start bytes.now) }
+{
     let command_length = u32_at(bytes, 20);
     let attachment_length = u32_at(bytes, 24);
     let body = &bytes[FRAME_HEADER..];
-    if (body.len() as u64) < u64::from(command_length) + u64::from(attachment_length) {
-        return Err(FaultKind::FrameLength);
-    }
     let (commands, rest) = body.split_at(command_length as usize);
     let (attachments, _) = rest.split_at(attachment_length as usize);
-    Ok(Frame {
+    Frame {
         place,
-        sequence,
+        sequence: u64_at(bytes, 0),
         device: u32_at(bytes, 28),
         process: u32_at(bytes, 8),
         thread: u32_at(bytes, 12),
-        direction,
+        direction: Direction::of(bytes[16]),
         commands,
         attachments,
-    })
+    }
 }

@@ -22,10 +22,10 @@ use Rattle.summary_law.specs.Fits.{IsShort, short_halves}
 use Rattle.summary_law.specs.Sorted.{sorted}
 use Rattle.summary_law.specs.Summary.{CanAdd, Adds}
 
-node_cmp_total : IsTotalOrder node_cmp
+pub node_cmp_total : IsTotalOrder node_cmp
 node_cmp_total = then_total (on_total (λ (key : NodeKey). key.ptr) nat_cmp_total) (on_total (λ (key : NodeKey). key.cookie) nat_cmp_total)
 
-node_cmp_exact : CmpEqualImpliesEq node_cmp
+pub node_cmp_exact : CmpEqualImpliesEq node_cmp
 node_cmp_exact x y e =
     let both = exact_pairs nat_cmp nat_cmp exact_unsigned exact_unsigned (x.ptr, x.cookie) (y.ptr, y.cookie) e in
     ap (λ (key : ℕ × ℕ). record { ptr = key.0; cookie = key.1 }) both

@@ -30,6 +30,7 @@ impl Summary for KeyLedger {
         }
     }
 
+    #[inline(always)]
     fn add(&mut self, item: KeyEvent) -> Result<(), AllocError> {
         self.opens.add(item)?;
         self.strays.add(item)

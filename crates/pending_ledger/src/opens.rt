@@ -33,6 +33,7 @@ impl Summary for Opens {
         }
     }
 
+    #[inline(always)]
     fn add(&mut self, item: KeyEvent) -> Result<(), AllocError> {
         match item.change {
             PendingChange::Open => {

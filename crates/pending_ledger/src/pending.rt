@@ -63,6 +63,7 @@ impl<K: Ord + Copy> Summary for Pending<K> {
         }
     }
 
+    #[inline(always)]
     fn add(&mut self, item: PendingItem<K>) -> Result<(), AllocError> {
         self.keys.add((
             item.key,

@@ -61,6 +61,7 @@ impl Summary for Strays {
         }
     }
 
+    #[inline(always)]
     fn add(&mut self, item: KeyEvent) -> Result<(), AllocError> {
         if is_unmet(self.last, item.change) {
             self.places.push(item.place)?;

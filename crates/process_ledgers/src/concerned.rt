@@ -7,6 +7,7 @@ use binder_code::Kind;
 
 /// Whether records of the kind can be items of some ledger of their process. Most events concern no
 /// ledger, and one look at the kind passes all seven.
+#[inline(always)]
 pub fn concerns(kind: Kind) -> bool
     ensures { result ≡ concerns kind }
 {

@@ -38,6 +38,7 @@ impl Summary for OnewayLedger {
         }
     }
 
+    #[inline(always)]
     fn add(&mut self, item: OnewayItem) -> Result<(), AllocError> {
         self.tally.add((item.key, item.data_size))
     }

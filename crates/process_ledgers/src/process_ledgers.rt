@@ -46,6 +46,7 @@ impl<'c> Summary for ProcessLedgers<'c> {
         }
     }
 
+    #[inline(always)]
     fn add(&mut self, item: Event<'c>) -> Result<(), AllocError> {
         self.handles.add(item)?;
         self.nodes.add(item)?;

@@ -22,6 +22,7 @@ impl<'c> Picks for HandleItems<'c> {
 
     ghost picks = { λ event. handle_item_of (event_text event) };
 
+    #[inline(always)]
     fn pick(event: Event<'c>) -> Option<HandleItem> {
         handle_step(event)
     }
@@ -39,6 +40,7 @@ impl<'c> Picks for NodeItems<'c> {
 
     ghost picks = { λ event. node_item_of (event_text event) };
 
+    #[inline(always)]
     fn pick(event: Event<'c>) -> Option<NodeItem> {
         node_step(event)
     }
@@ -56,6 +58,7 @@ impl<'c> Picks for BufferItems<'c> {
 
     ghost picks = { λ event. buffer_item_of (event_text event) };
 
+    #[inline(always)]
     fn pick(event: Event<'c>) -> Option<BufferItem> {
         buffer_step(event)
     }
@@ -73,6 +76,7 @@ impl<'c> Picks for RequestItems<'c> {
 
     ghost picks = { λ event. request_item_of (event_text event) };
 
+    #[inline(always)]
     fn pick(event: Event<'c>) -> Option<RequestItem> {
         request_step(event)
     }
@@ -90,6 +94,7 @@ impl<'c> Picks for DeathItems<'c> {
 
     ghost picks = { λ event. death_item_of (event_text event) };
 
+    #[inline(always)]
     fn pick(event: Event<'c>) -> Option<PendingItem<u64>> {
         death_step(event)
     }
@@ -107,6 +112,7 @@ impl<'c> Picks for ClearItems<'c> {
 
     ghost picks = { λ event. clear_item_of (event_text event) };
 
+    #[inline(always)]
     fn pick(event: Event<'c>) -> Option<PendingItem<u64>> {
         clear_step(event)
     }
@@ -124,6 +130,7 @@ impl<'c> Picks for OnewayItems<'c> {
 
     ghost picks = { λ event. oneway_item_of (event_text event) };
 
+    #[inline(always)]
     fn pick(event: Event<'c>) -> Option<OnewayItem> {
         oneway_step(event)
     }

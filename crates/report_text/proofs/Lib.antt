@@ -5,5 +5,7 @@ pub mod Listed
 pub mod AnswerLaws
 pub mod OneText
 mod SomeText
+mod CodeNames
+mod Payloads
 pub mod Vectors
 pub mod PartText

@@ -1,20 +1,31 @@
 -- The lines of a section that is kept.
 use Rattle.std.proofs.Common.{◌≡◌, ℕ, List, ◌∷◌, length, map, sym, ap, ap₂, subst, ◌∙◌}
-use Rattle.std.specs.Prelude.{All}
+use Rattle.std.specs.Prelude.{All, Bool, IsTrue, slice_index_or}
 use Rattle.std.specs.List.{AllZip}
 use Rattle.std.proofs.lemmas.List.{length-map}
 use Rattle.std.proofs.lemmas.List.Elements.{All-map}
+use Rattle.binder_code.specs.declared.record_kind.Kind.{Kind}
 use Rattle.transaction_view.specs.Grammar.{WholeFrame}
+use Rattle.capture_frame.specs.Envelope.{PlacedFrame}
 use Rattle.event_core.specs.Events.{EventRead, wholes_of}
+use Rattle.event_core.specs.declared.event.Event.{Event}
 use Rattle.audit_findings.specs.Findings.{findings_of}
 use Rattle.audit_findings.specs.Kept.{AreOfFrames, AreSectionsOf, KeptFindings}
-use Rattle.audit_findings.specs.Lookup.{HasRecordIn}
+use Rattle.audit_findings.specs.Lookup.{HasRecordIn, SaysEventAt}
 use Rattle.audit_findings.specs.Objects.{Outcome}
 use Rattle.audit_findings.specs.declared.findings.Sections.{Sections}
 use Rattle.audit_findings.proofs.RecordsThere.{has_record_in}
-use Rattle.report_text.specs.Pushed.{HaveEvents, Keeps, ShowsEvent}
+use Rattle.report_text.specs.Pushed.{AreOfKinds, HasRowAt, HaveEvents, IsRowAt, Keeps, ShowsEvent}
 use Rattle.report_text.specs.Section.{AreLinesOf, SectionText, lines_of}
 use Rattle.report_text.proofs.Sections.{IsShownBy, shown_lines}
+
+-- the event that is read again at the place of a row is of the kind of that row
+pub row_kind : (kinds : Kind → Bool) (frames : List PlacedFrame) (place : ℕ) (found : Event) → IsRowAt kinds frames place → SaysEventAt frames place found
+    → IsTrue (kinds found.kind)
+row_kind kinds frames place found row says =
+    let at = row.1 in
+    let same = says at.wholes at.views at.event at.inside at.there in
+    subst (λ (kind : Kind). IsTrue (kinds kind)) (sym (ap (λ (e : EventRead). e.kind) same)) at.kind
 
 module _ {R K : Type 0} (section : SectionText R) (keep : R → K) (head_of : Sections ℕ → ℕ → List ℕ) (rows_of : Sections ℕ → List K)
     (keeps : Keeps section keep head_of rows_of) (found : KeptFindings) (kept : List K) (are : kept ≡ rows_of found.sections) where
@@ -49,6 +60,28 @@ module _ {R K : Type 0} (section : SectionText R) (keep : R → K) (head_of : Se
         (λ j s inside.
         subst (HasRecordIn found.frames) (sym (same_place _))
         (has_record_in found.frames (wholes_of wholes) _ of.show (have (wholes_of wholes) outcomes of.objects j s inside))) in
+        subst (All P) (sym (kept_rows wholes outcomes of)) each
+
+    -- and if all are of some kinds, it is of one of these
+    pub listed_rows : (kinds : Kind → Bool) → AreOfKinds section owner kinds → AreOfFrames found.frames found.sections
+        → All (λ k. IsRowAt kinds found.frames (place k)) kept
+    listed_rows kinds of_kinds (wholes, outcomes, of) =
+        let said = findings_of (wholes_of wholes) outcomes in
+        let P : K → Type 0 = λ k. IsRowAt kinds found.frames (place k) in
+        let each : All P (map keep (section.rows said)) =
+        All-map P keep (section.rows said)
+        (λ j s inside.
+        let here = have (wholes_of wholes) outcomes of.objects j s inside in
+        let begins = subst (HasRecordIn found.frames) (sym (same_place _)) (has_record_in found.frames (wholes_of wholes) _ of.show here) in
+        let at : HasRowAt kinds found.frames (place (keep (slice_index_or (section.rows said) j s))) = record {
+          wholes = wholes_of wholes;
+          views = of.show;
+          event = owner (slice_index_or (section.rows said) j s);
+          inside = here;
+          there = sym (same_place _);
+          kind = of_kinds (wholes_of wholes) outcomes j s inside;
+        } in
+        (begins, at)) in
         subst (All P) (sym (kept_rows wholes outcomes of)) each
 
     pub listed_lines : (made : K → EventRead → List ℕ) → ((row : R) → made (keep row) (owner row) ≡ section.line row) → (shown : List (List ℕ))

@@ -48,8 +48,8 @@ nothing = record {
     flags = [];
   };
   calls = record {
-    calls = record { answered = 0; failed = 0; unanswered = 0; rows = [] };
-    served = record { replied = 0; crossed = 0; left_open = 0; rows = [] };
+    calls = record { all = 0; answered = 0; failed = 0; unanswered = 0; rows = [] };
+    served = record { all = 0; replied = 0; crossed = 0; left_open = 0; rows = [] };
     strays = [];
     refused = record { oneway = 0; rows = [] };
   };
@@ -194,11 +194,6 @@ widest_row : codes_row (record { word = 0x80087210; count = 18446744073709551615
     ≡ codes "  0x80087210 BR_CLEAR_DEATH_NOTIFICATION_DONE 18446744073709551615"
 unfolding digits
 widest_row = refl
-
--- a code word that means no kind has no name
-nameless_row : codes_row (record { word = 0xffffffff; count = 7 }) ≡ codes "  0xffffffff  7"
-unfolding digits
-nameless_row = refl
 
 list_length_named : cause_name ListLength ≡ codes "ListLength"
 list_length_named = refl

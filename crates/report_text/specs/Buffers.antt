@@ -1,11 +1,9 @@
 -- The lines of the section `buffers` (docs/REPORT.md).
-use Rattle.std.specs.Prelude.{ℕ, List, [], ◌++◌, codes, Option, Some}
+use Rattle.std.specs.Prelude.{ℕ, List, ◌++◌, codes}
 use Rattle.std.specs.Fmt.{decimal}
 use Rattle.binder_code.specs.Commands.{name_of}
+use Rattle.transaction_view.specs.Transaction.{buffer, data_size}
 use Rattle.event_core.specs.Events.{EventRead}
-use Rattle.event_core.specs.declared.buffer.BufferItem.{BufferItem}
-use Rattle.event_core.specs.declared.buffer.BufferItem.TheVariants.{Delivery}
-use Rattle.process_ledgers.specs.Items.{buffer_item_of}
 use Rattle.report_text.specs.EventRow.{row_start}
 use Rattle.report_text.specs.Line.{hex_number}
 use Rattle.report_text.specs.Section.{SectionText}
@@ -14,15 +12,11 @@ use Rattle.report_text.specs.Section.{SectionText}
 abbrev pub buffers_head : ℕ → ℕ → List ℕ
 buffers_head deliveries leaked = codes "buffers " ++ decimal deliveries ++ codes " leaked " ++ decimal leaked
 
--- what a row says of a delivery: address, data_size, kind; nothing if it is not a delivery
-abbrev pub delivery_fields : Option BufferItem → List ℕ
-delivery_fields (Some (Delivery place address data_size kind)) =
-    codes " " ++ hex_number address ++ codes " " ++ decimal data_size ++ codes " " ++ name_of kind
-delivery_fields _ = []
-
--- a row: place, device, process, and these fields
+-- a row: place, device, process, address, data_size, kind
 abbrev pub buffers_row : EventRead → List ℕ
-buffers_row e = row_start e ++ delivery_fields (buffer_item_of e)
+buffers_row e =
+    row_start e ++ codes " " ++ hex_number (buffer e.payload) ++ codes " " ++ decimal (data_size e.payload)
+    ++ codes " " ++ name_of e.kind
 
 -- the section: its head, and a row for each leaked delivery
 abbrev pub buffers_section : SectionText EventRead

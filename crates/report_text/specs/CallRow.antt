@@ -1,8 +1,8 @@
 -- What the sections `calls` and `served` have in common: the row of a call (docs/REPORT.md). One field differs: what it
 -- says of the other side of the call.
-use Rattle.std.specs.Prelude.{ℕ, if◌then◌else◌, List, [], ◌++◌, codes, Option, Some, None}
+use Rattle.std.specs.Prelude.{ℕ, List, ◌++◌, codes, Option, Some, None}
 use Rattle.std.specs.Fmt.{decimal}
-use Rattle.transaction_view.specs.Transaction.{has_transaction_data, code}
+use Rattle.transaction_view.specs.Transaction.{code}
 use Rattle.event_core.specs.Events.{EventRead}
 use Rattle.call_stacks.specs.declared.opener.Opener.{Opener}
 use Rattle.call_stacks.specs.declared.verdict.Verdict.{Verdict}
@@ -22,18 +22,14 @@ abbrev pub closer_field : Option ℕ → List ℕ
 closer_field None = codes "-"
 closer_field (Some place) = decimal place
 
--- what a row says of a call's record: the field of the other side, and the code; nothing if it is not a transaction or
--- a reply
-abbrev pub record_fields : (List ℕ → List ℕ) → EventRead → List ℕ
-record_fields other_side e =
-    if has_transaction_data e.kind
-    then codes " " ++ other_side e.payload ++ codes " " ++ decimal (code e.payload)
-    else []
+-- what a row says of a call's record: the field of the other side, and the code
+abbrev pub record_fields : (List ℕ → List ℕ) → List ℕ → List ℕ
+record_fields other_side payload = codes " " ++ other_side payload ++ codes " " ++ decimal (code payload)
 
 -- a row: place, device, process, thread, these fields, verdict, closer
 abbrev pub call_row : (List ℕ → List ℕ) → Opener EventRead → List ℕ
 call_row other_side call =
-    thread_start call.event ++ record_fields other_side call.event
+    thread_start call.event ++ record_fields other_side call.event.payload
     ++ codes " " ++ verdict_name call.verdict ++ codes " " ++ closer_field call.closer
 
 -- the row of a call that is kept with its verdict and its closer, and whose event is read again

@@ -1,5 +1,5 @@
 -- The lines of the section `calls` (docs/REPORT.md).
-use Rattle.std.specs.Prelude.{ℕ, ◌+◌, List, ◌++◌, codes}
+use Rattle.std.specs.Prelude.{ℕ, List, ◌++◌, codes}
 use Rattle.std.specs.Fmt.{decimal}
 use Rattle.transaction_view.specs.Transaction.{target_handle}
 use Rattle.event_core.specs.Events.{EventRead}
@@ -8,9 +8,9 @@ use Rattle.report_text.specs.CallRow.{call_row}
 use Rattle.report_text.specs.Section.{SectionText}
 
 -- the head: how many calls there are, and how many of them are answered, failed and unanswered
-abbrev pub calls_head : ℕ → ℕ → ℕ → List ℕ
-calls_head answered failed unanswered =
-    codes "calls " ++ decimal (answered + failed + unanswered) ++ codes " answered " ++ decimal answered
+abbrev pub calls_head : ℕ → ℕ → ℕ → ℕ → List ℕ
+calls_head all answered failed unanswered =
+    codes "calls " ++ decimal all ++ codes " answered " ++ decimal answered
     ++ codes " failed " ++ decimal failed ++ codes " unanswered " ++ decimal unanswered
 
 -- the target handle of a call
@@ -24,7 +24,9 @@ calls_row call = call_row target_field call
 -- the section: its head, and a row for each call that is not answered
 abbrev pub calls_section : SectionText (Opener EventRead)
 calls_section = record {
-  head = λ found rows. calls_head found.calls.calls.answered found.calls.calls.failed found.calls.calls.unanswered;
+  head = λ found rows.
+      let calls = found.calls.calls in
+      calls_head calls.all calls.answered calls.failed calls.unanswered;
   rows = λ found. found.calls.calls.rows;
   line = calls_row;
 }

@@ -1,7 +1,9 @@
 -- The lines of the section `clears`: unconfirmed clears and stray confirmations (docs/REPORT.md).
 use Rattle.std.specs.Prelude.{ℕ, List, codes}
+use Rattle.binder_code.specs.declared.record_kind.Kind.{Kind}
+use Rattle.binder_code.specs.declared.record_kind.Kind.TheVariants.{BcClearDeathNotification}
 use Rattle.event_core.specs.Events.{EventRead}
-use Rattle.process_ledgers.specs.Items.{clear_item_of}
+use Rattle.event_core.specs.Requests.{cookie_alone, request_key}
 use Rattle.report_text.specs.OpenAndStray.{open_and_stray_head, open_and_stray_row}
 use Rattle.report_text.specs.Section.{SectionText}
 
@@ -9,9 +11,19 @@ use Rattle.report_text.specs.Section.{SectionText}
 abbrev pub clears_head : ℕ → ℕ → ℕ → List ℕ
 clears_head all unclosed strays = open_and_stray_head (codes "clears") (codes "unconfirmed") all unclosed strays
 
+-- the word of a row: `unconfirmed` for a clear, `stray` for a confirmation
+abbrev pub clear_word : Kind → List ℕ
+clear_word BcClearDeathNotification = codes "unconfirmed"
+clear_word _ = codes "stray"
+
+-- the cookie of a clear, whose payload also has a handle, or that of a confirmation
+abbrev pub clear_cookie : Kind → List ℕ → ℕ
+clear_cookie BcClearDeathNotification payload = (request_key payload).cookie
+clear_cookie _ payload = cookie_alone payload
+
 -- a row: place, device, process, cookie, and `unconfirmed` or `stray`
 abbrev pub clears_row : EventRead → List ℕ
-clears_row e = open_and_stray_row (codes "unconfirmed") clear_item_of e
+clears_row e = open_and_stray_row (clear_word e.kind) (clear_cookie e.kind e.payload) e
 
 -- the section: its head, and a row for each unconfirmed clear and each stray confirmation
 abbrev pub clears_section : SectionText EventRead

@@ -1,21 +1,18 @@
 -- The lines of the section `codes` (docs/REPORT.md).
-use Rattle.std.specs.Prelude.{ℕ, List, ◌++◌, [], codes, Option, Some, None}
+use Rattle.std.specs.Prelude.{ℕ, List, ◌++◌, codes, find}
 use Rattle.std.specs.Fmt.{decimal}
-use Rattle.std.specs.Result.{result_ok}
+use Rattle.std.specs.Option.{unwrap_or}
 use Rattle.binder_code.specs.declared.record_kind.Kind.{Kind}
-use Rattle.binder_code.specs.Commands.{kind_of, protocol_of_word, name_of}
+use Rattle.binder_code.specs.declared.record_kind.Kind.TheVariants.{Opaque}
+use Rattle.binder_code.specs.Commands.{listed, name_of}
+use Rattle.audit_findings.specs.RecordCounts.{is_word_of}
 use Rattle.audit_findings.specs.declared.codes.CodeRow.{CodeRow}
 use Rattle.report_text.specs.Line.{hex_word}
 use Rattle.report_text.specs.Section.{SectionText}
 
--- the name of a kind; nothing if there is no kind
-abbrev pub name_of_kind : Option Kind → List ℕ
-name_of_kind None = []
-name_of_kind (Some kind) = name_of kind
-
--- the name of the kind that a code word means; nothing if it means none
-abbrev pub name_of_word : ℕ → List ℕ
-name_of_word word = name_of_kind (result_ok (kind_of (protocol_of_word word) word))
+-- the kind whose code word this is; that of opaque records, if it is the code word of no listed kind
+abbrev pub kind_of_word : ℕ → Kind
+kind_of_word word = unwrap_or (find (λ kind. is_word_of kind word) listed) Opaque
 
 -- the head: how many different code words there are
 abbrev pub codes_head : ℕ → List ℕ
@@ -23,7 +20,9 @@ codes_head different = codes "codes " ++ decimal different
 
 -- a row: code word, name, count
 abbrev pub codes_row : CodeRow → List ℕ
-codes_row row = codes "  " ++ hex_word row.word ++ codes " " ++ name_of_word row.word ++ codes " " ++ decimal row.count
+codes_row row =
+    codes "  " ++ hex_word row.word ++ codes " " ++ name_of (kind_of_word row.word) ++ codes " "
+    ++ decimal row.count
 
 -- the section: its head, and a row for each different code word
 abbrev pub codes_section : SectionText CodeRow

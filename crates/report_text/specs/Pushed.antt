@@ -1,14 +1,16 @@
 -- What is pushed while a report is made. No public clause names these definitions.
 use Rattle.capture_frame.specs.Envelope.{PlacedFrame}
-use Rattle.std.specs.Prelude.{◌≡◌, ℕ, List, All, Contains, map}
+use Rattle.std.specs.Prelude.{◌≡◌, ℕ, Bool, IsTrue, List, All, Contains, map}
 use Rattle.std.specs.List.{AllZip, FoldsTo}
 use Rattle.capture_frame.specs.Units.{Placed}
+use Rattle.binder_code.specs.declared.record_kind.Kind.{Kind}
 use Rattle.transaction_view.specs.Grammar.{WholeFrame}
 use Rattle.event_core.specs.Events.{EventRead, events_of_wholes}
 use Rattle.audit_findings.specs.Findings.{findings_of}
 use Rattle.audit_findings.specs.Frames.{AreViews}
 use Rattle.audit_findings.specs.Kept.{KeptFindings, at_places}
 use Rattle.audit_findings.specs.Ledgers.{AreOutcomesOf}
+use Rattle.audit_findings.specs.Lookup.{HasRecordIn}
 use Rattle.audit_findings.specs.Objects.{Outcome}
 use Rattle.audit_findings.specs.declared.findings.Sections.{Sections}
 use Rattle.report_text.specs.Section.{AreLinesOf, SectionText}
@@ -36,6 +38,25 @@ pub record Keeps {R K : Type 0} (section : SectionText R) (keep : R → K) (head
     (rows_of : Sections ℕ → List K) : Type 0 where
   pub head : (found : Sections EventRead) (rows : ℕ) → head_of (at_places found) rows ≡ section.head found rows
   pub rows : (found : Sections EventRead) → rows_of (at_places found) ≡ map keep (section.rows found)
+
+-- an event of some whole frames that the frames show is at this place, and its record is of one of these kinds
+pub record HasRowAt (kinds : Kind → Bool) (frames : List PlacedFrame) (place : ℕ) : Type 0 where
+  pub wholes : List (Placed WholeFrame)
+  pub views : AreViews frames wholes
+  pub event : EventRead
+  pub inside : Contains (events_of_wholes wholes) event
+  pub there : event.place ≡ place
+  pub kind : IsTrue (kinds event.kind)
+
+-- a record of the frames begins at this place, and it is of one of these kinds
+abbrev pub IsRowAt : (Kind → Bool) → List PlacedFrame → ℕ → Type 0
+IsRowAt kinds frames place = HasRecordIn frames place × HasRowAt kinds frames place
+
+-- the record of each row of the section is of one of these kinds
+abbrev pub AreOfKinds : {R : Type 0} → SectionText R → (R → EventRead) → (Kind → Bool) → Type 0
+AreOfKinds section owner kinds =
+    (wholes : List (Placed WholeFrame)) (outcomes : List Outcome)
+    → All (λ row. IsTrue (kinds (owner row).kind)) (section.rows (findings_of wholes outcomes))
 
 -- the owner of each row of the section is an event of the frames
 abbrev pub HaveEvents : {R : Type 0} → SectionText R → (R → EventRead) → Type 0

@@ -1,9 +1,9 @@
 //! The section `buffers`.
 
-use crate::events::{EventSection, row_start};
+use crate::events::{EventSection, fields, row_start};
 use crate::line::{Row, push_counted, push_hex_number};
 use audit_findings::{Findings, Sections};
-use event_core::{BufferItem, Event, buffer_step};
+use event_core::Event;
 
 /// The section.
 #[derive(Clone, Copy)]
@@ -13,6 +13,8 @@ impl EventSection for Buffers {
     ghost use Rattle.std.specs.Prelude.{refl};
     ghost use Rattle.event_core.specs.Events.{events_of_wholes};
     ghost use Rattle.audit_findings.specs.Buffers.{is_leaked};
+    ghost use Rattle.transaction_view.specs.Transaction.{has_transaction_data};
+    ghost use Rattle.audit_findings.proofs.RowKinds.{leaked_kinds};
     ghost use Rattle.audit_findings.proofs.RowsThere.{listed_there};
     ghost use Rattle.report_text.specs.Buffers.{buffers_head, buffers_section};
 
@@ -25,6 +27,10 @@ impl EventSection for Buffers {
     ghost keeps = { record { head = λ found rows. refl; rows = λ found. refl } };
 
     ghost events = { λ wholes outcomes are. listed_there is_leaked (events_of_wholes wholes) };
+
+    ghost kinds = { has_transaction_data };
+
+    ghost of_kinds = { λ wholes outcomes. leaked_kinds (events_of_wholes wholes) };
 
     ghost bare = { λ e. refl };
 
@@ -40,22 +46,13 @@ impl EventSection for Buffers {
     }
 
     fn line(&self, event: Event<'_>) -> Row {
+        let delivery = fields(event);
         let mut line = row_start(event);
-        if let Some(
-            BufferItem::Delivery {
-                address,
-                data_size,
-                kind,
-                ..
-            },
-        ) = buffer_step(event)
-        {
-            line.push_str(" ");
-            push_hex_number(&mut line, address);
-            push_counted(&mut line, " ", data_size);
-            line.push_str(" ");
-            line.push_str(kind.name());
-        }
+        line.push_str(" ");
+        push_hex_number(&mut line, delivery.buffer());
+        push_counted(&mut line, " ", delivery.data_size());
+        line.push_str(" ");
+        line.push_str(event.kind.name());
         line
     }
 }

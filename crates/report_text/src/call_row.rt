@@ -1,11 +1,12 @@
 //! What the sections `calls` and `served` have in common: the row of a call.
 
-ghost use Rattle.std.specs.Prelude.{◌≡◌, ◌≤◌, ◌+◌, ◌++◌, length};
+ghost use Rattle.std.specs.Prelude.{◌≡◌, ◌≤◌, ◌+◌, ◌++◌, length, IsTrue};
 ghost use Rattle.arrayvec.specs.ArrayString.{array_string_len};
 ghost use Rattle.event_core.specs.Reading.{event_text};
+ghost use Rattle.transaction_view.specs.Transaction.{has_transaction_data};
 ghost use Rattle.report_text.specs.CallRow.{verdict_name, closer_field, record_fields, row_of_kept};
 
-use crate::events::thread_start;
+use crate::events::{fields, thread_start};
 use crate::line::{Row, push_counted, push_decimal};
 use crate::section::Section;
 use audit_findings::{Findings, Sections};
@@ -20,10 +21,11 @@ pub(crate) trait CallSection {
     ghost use Rattle.arrayvec.specs.ArrayString.{array_string_len};
     ghost use Rattle.event_core.specs.Events.{EventRead};
     ghost use Rattle.call_stacks.specs.declared.opener.Opener.{Opener};
+    ghost use Rattle.transaction_view.specs.Transaction.{has_transaction_data};
     ghost use Rattle.audit_findings.specs.declared.findings.Sections.{Sections};
     ghost use Rattle.audit_findings.specs.Kept.{call_at_place};
     ghost use Rattle.report_text.specs.CallRow.{call_row};
-    ghost use Rattle.report_text.specs.Pushed.{HaveEvents, Keeps};
+    ghost use Rattle.report_text.specs.Pushed.{AreOfKinds, HaveEvents, Keeps};
     ghost use Rattle.report_text.specs.Section.{SectionText};
 
     /// The section.
@@ -40,6 +42,9 @@ pub(crate) trait CallSection {
 
     /// The events of its calls are events of the frames.
     ghost events: { HaveEvents section (λ call. call.event) };
+
+    /// They are transactions.
+    ghost of_kinds: { AreOfKinds section (λ call. call.event) has_transaction_data };
 
     /// What a row says of the other side of a call, from the payload of the call's record.
     ghost field: { List ℕ → List ℕ };
@@ -68,9 +73,9 @@ pub(crate) trait CallSection {
 pub(crate) struct OfCalls<S>(pub S);
 
 impl<S: CallSection> Section for OfCalls<S> {
-    ghost use Rattle.audit_findings.specs.Lookup.{HasRecordIn};
+    ghost use Rattle.transaction_view.specs.Transaction.{has_transaction_data};
     ghost use Rattle.report_text.specs.CallRow.{row_of_kept};
-    ghost use Rattle.report_text.specs.Pushed.{ShowsEvent};
+    ghost use Rattle.report_text.specs.Pushed.{IsRowAt, ShowsEvent};
     ghost use Rattle.report_text.specs.Section.{lines_of};
 
     type Kept = Opener<u64>;
@@ -79,7 +84,7 @@ impl<S: CallSection> Section for OfCalls<S> {
 
     ghost head_of = { S.head_of };
 
-    ghost can_show = { λ frames call. HasRecordIn frames call.event };
+    ghost can_show = { λ frames call. IsRowAt has_transaction_data frames call.event };
 
     ghost shows = { λ frames call line.
         ShowsEvent (row_of_kept S.field call) frames call.event line };
@@ -98,6 +103,7 @@ impl<S: CallSection> Section for OfCalls<S> {
 }
 
 fn call_row<S: CallSection>(section: &S, event: Event<'_>, call: Opener<u64>) -> Row
+    requires { IsTrue (has_transaction_data event.kind) }
     ensures { result.bytes ≡ row_of_kept S.field call (event_text event.entry) }
 {
     let mut line = thread_start(event);
@@ -111,16 +117,16 @@ fn call_row<S: CallSection>(section: &S, event: Event<'_>, call: Opener<u64>) ->
 
 /// Pushes what a row says of the call's record.
 fn push_record<S: CallSection>(section: &S, line: &mut Row, event: Event<'_>)
-    requires { array_string_len line.old ≤ 85 }
+    requires room { array_string_len line.old ≤ 85 }
+    requires fields { IsTrue (has_transaction_data event.kind) }
     ensures text { line.new.bytes ≡ line.old.bytes
-        ++ record_fields S.field (event_text event.entry) }
+        ++ record_fields S.field event.entry.payload.now }
     ensures short { array_string_len line.new ≤ array_string_len line.old + 42 }
 {
-    if let Some(transaction) = event.transaction {
-        line.push_str(" ");
-        section.push_field(line, transaction);
-        push_counted(line, " ", u64::from(transaction.code()));
-    }
+    let transaction = fields(event);
+    line.push_str(" ");
+    section.push_field(line, transaction);
+    push_counted(line, " ", u64::from(transaction.code()));
 }
 
 /// Pushes the place of a closer, or `-` if there is none.

@@ -4,7 +4,9 @@ use crate::events::EventSection;
 use crate::line::Row;
 use crate::open_and_stray::{open_and_stray_head, open_and_stray_row};
 use audit_findings::{Findings, Sections};
-use event_core::{Event, clear_step};
+use binder_code::Kind;
+use capture_frame::u64_at;
+use event_core::Event;
 
 /// The section.
 #[derive(Clone, Copy)]
@@ -14,6 +16,7 @@ impl EventSection for Clears {
     ghost use Rattle.std.specs.Prelude.{refl};
     ghost use Rattle.event_core.specs.Events.{events_of_wholes};
     ghost use Rattle.process_ledgers.specs.Items.{clear_item_of};
+    ghost use Rattle.audit_findings.proofs.RowKinds.{clear_kinds, is_of_clear};
     ghost use Rattle.audit_findings.proofs.RowsThere.{both_there};
     ghost use Rattle.report_text.specs.Clears.{clears_head, clears_section};
 
@@ -28,6 +31,10 @@ impl EventSection for Clears {
     ghost keeps = { record { head = λ found rows. refl; rows = λ found. refl } };
 
     ghost events = { λ wholes outcomes are. both_there clear_item_of (events_of_wholes wholes) };
+
+    ghost kinds = { is_of_clear };
+
+    ghost of_kinds = { λ wholes outcomes. clear_kinds (events_of_wholes wholes) };
 
     ghost bare = { λ e. refl };
 
@@ -45,6 +52,10 @@ impl EventSection for Clears {
     }
 
     fn line(&self, event: Event<'_>) -> Row {
-        open_and_stray_row(event, clear_step(event), "unconfirmed")
+        if event.kind == Kind::BcClearDeathNotification {
+            open_and_stray_row(event, u64_at(event.payload, 4), "unconfirmed")
+        } else {
+            open_and_stray_row(event, u64_at(event.payload, 0), "stray")
+        }
     }
 }

@@ -1,12 +1,13 @@
 //! The section `codes`.
 
-ghost use Rattle.std.specs.Prelude.{◌≡◌, ◌≤◌, length};
-ghost use Rattle.report_text.specs.Codes.{name_of_word};
+ghost use Rattle.std.specs.Prelude.{◌≡◌};
+ghost use Rattle.binder_code.specs.Commands.{protocol_of_word};
+ghost use Rattle.report_text.specs.Codes.{kind_of_word};
 
 use crate::line::{Row, push_counted, push_hex_word};
 use crate::whole_rows::WholeSection;
 use audit_findings::{CodeRow, Findings, Sections};
-use binder_code::{Code, Protocol, kind};
+use binder_code::{Code, Kind, Protocol, kind};
 
 /// The section.
 #[derive(Clone, Copy)]
@@ -42,25 +43,27 @@ impl WholeSection for Codes {
         line.push_str("  ");
         push_hex_word(&mut line, row.word);
         line.push_str(" ");
-        line.push_str(word_name(row.word));
+        line.push_str(kind_of_word(row.word).name());
         push_counted(&mut line, " ", row.count);
         line
     }
 }
 
-/// The name of the kind that a code word means; empty if it means none.
-fn word_name(word: u32) -> &'static str
-    ensures name { result.now ≡ name_of_word word }
-    ensures short { length result.now ≤ 32 }
+/// The kind whose code word this is; opaque, if it is that of no listed kind.
+fn kind_of_word(word: u32) -> Kind
+    ensures { result ≡ kind_of_word word }
 {
     let code = Code(word);
-    let protocol = if code.letter() == b'c' {
+    kind(protocol_of(code), code).unwrap_or(Kind::Opaque)
+}
+
+/// The protocol that the letter of a code word names.
+fn protocol_of(code: Code) -> Protocol
+    ensures { result ≡ protocol_of_word code.0 }
+{
+    if code.letter() == b'c' {
         Protocol::Command
     } else {
         Protocol::Return
-    };
-    match kind(protocol, code) {
-        Ok(kind) => kind.name(),
-        Err(_) => "",
     }
 }

@@ -4,7 +4,9 @@ use crate::events::EventSection;
 use crate::line::Row;
 use crate::open_and_stray::{open_and_stray_head, open_and_stray_row};
 use audit_findings::{Findings, Sections};
-use event_core::{Event, death_step};
+use binder_code::Kind;
+use capture_frame::u64_at;
+use event_core::Event;
 
 /// The section.
 #[derive(Clone, Copy)]
@@ -14,6 +16,7 @@ impl EventSection for Deaths {
     ghost use Rattle.std.specs.Prelude.{refl};
     ghost use Rattle.event_core.specs.Events.{events_of_wholes};
     ghost use Rattle.process_ledgers.specs.Items.{death_item_of};
+    ghost use Rattle.audit_findings.proofs.RowKinds.{death_kinds, is_of_death};
     ghost use Rattle.audit_findings.proofs.RowsThere.{both_there};
     ghost use Rattle.report_text.specs.Deaths.{deaths_head, deaths_section};
 
@@ -28,6 +31,10 @@ impl EventSection for Deaths {
     ghost keeps = { record { head = λ found rows. refl; rows = λ found. refl } };
 
     ghost events = { λ wholes outcomes are. both_there death_item_of (events_of_wholes wholes) };
+
+    ghost kinds = { is_of_death };
+
+    ghost of_kinds = { λ wholes outcomes. death_kinds (events_of_wholes wholes) };
 
     ghost bare = { λ e. refl };
 
@@ -45,6 +52,8 @@ impl EventSection for Deaths {
     }
 
     fn line(&self, event: Event<'_>) -> Row {
-        open_and_stray_row(event, death_step(event), "unacknowledged")
+        let dies = event.kind == Kind::BrDeadBinder;
+        let word = if dies { "unacknowledged" } else { "stray" };
+        open_and_stray_row(event, u64_at(event.payload, 0), word)
     }
 }

@@ -1,8 +1,9 @@
 //! Sections whose rows are events, which are read again from the capture.
 
-ghost use Rattle.std.specs.Prelude.{◌≡◌, ◌≤◌};
+ghost use Rattle.std.specs.Prelude.{◌≡◌, ◌≤◌, IsTrue};
 ghost use Rattle.arrayvec.specs.ArrayString.{array_string_len};
 ghost use Rattle.event_core.specs.Reading.{event_text};
+ghost use Rattle.transaction_view.specs.Transaction.{has_transaction_data};
 ghost use Rattle.report_text.specs.EventRow.{row_start, thread_start, kind_row};
 
 use crate::line::{Row, push_counted};
@@ -10,14 +11,16 @@ use crate::process::{push_process, push_thread};
 use crate::section::Section;
 use audit_findings::{Findings, Sections};
 use event_core::Event;
+use transaction_view::Transaction;
 
 /// A section of events. Of each event the place of its record is kept.
 pub(crate) trait EventSection {
-    ghost use Rattle.std.specs.Prelude.{◌≡◌, ℕ, List, None};
+    ghost use Rattle.std.specs.Prelude.{◌≡◌, ℕ, Bool, IsTrue, List, None};
+    ghost use Rattle.binder_code.specs.declared.record_kind.Kind.{Kind};
     ghost use Rattle.event_core.specs.Events.{EventRead};
     ghost use Rattle.event_core.specs.Reading.{event_text};
     ghost use Rattle.audit_findings.specs.declared.findings.Sections.{Sections};
-    ghost use Rattle.report_text.specs.Pushed.{HaveEvents, Keeps};
+    ghost use Rattle.report_text.specs.Pushed.{AreOfKinds, HaveEvents, Keeps};
     ghost use Rattle.report_text.specs.Section.{SectionText};
 
     /// The section.
@@ -35,6 +38,12 @@ pub(crate) trait EventSection {
     /// Its rows are events of the frames.
     ghost events: { HaveEvents section (λ e. e) };
 
+    /// The kinds that the records of its rows can have.
+    ghost kinds: { Kind → Bool };
+
+    /// They have them.
+    ghost of_kinds: { AreOfKinds section (λ e. e) kinds };
+
     /// A row says nothing of an attachment.
     ghost bare: { (e : EventRead) → section.line (record e { entry = None }) ≡ section.line e };
 
@@ -48,6 +57,7 @@ pub(crate) trait EventSection {
 
     /// The row of an event, without its line feed.
     fn line(&self, event: Event<'_>) -> Row
+        requires { IsTrue (kinds event.kind) }
         ensures { result.bytes ≡ section.line (event_text event.entry) };
 }
 
@@ -56,8 +66,7 @@ pub(crate) trait EventSection {
 pub(crate) struct OfEvents<S>(pub S);
 
 impl<S: EventSection> Section for OfEvents<S> {
-    ghost use Rattle.audit_findings.specs.Lookup.{HasRecordIn};
-    ghost use Rattle.report_text.specs.Pushed.{ShowsEvent};
+    ghost use Rattle.report_text.specs.Pushed.{IsRowAt, ShowsEvent};
     ghost use Rattle.report_text.specs.Section.{lines_of};
 
     type Kept = u64;
@@ -66,7 +75,7 @@ impl<S: EventSection> Section for OfEvents<S> {
 
     ghost head_of = { S.head_of };
 
-    ghost can_show = { HasRecordIn };
+    ghost can_show = { IsRowAt S.kinds };
 
     ghost shows = { ShowsEvent S.section.line };
 
@@ -114,4 +123,12 @@ pub(crate) fn kind_row(event: Event<'_>) -> Row
     line.push_str(" ");
     line.push_str(event.kind.name());
     line
+}
+
+/// The fields of an event that is a transaction or a reply.
+pub(crate) fn fields(event: Event<'_>) -> Transaction<'_>
+    requires { IsTrue (has_transaction_data event.kind) }
+    ensures { result.carrier.payload.now ≡ event.entry.payload.now }
+{
+    event.transaction.unwrap()
 }

@@ -15,7 +15,7 @@ use event_core::Event;
 pub(crate) struct Flags;
 
 impl EventSection for Flags {
-    ghost use Rattle.std.specs.Prelude.{refl};
+    ghost use Rattle.std.specs.Prelude.{refl, true};
     ghost use Rattle.event_core.specs.Events.{events_of_wholes};
     ghost use Rattle.audit_findings.proofs.RowsThere.{flagged_there};
     ghost use Rattle.report_text.specs.Flags.{flags_head, flags_section};
@@ -29,6 +29,10 @@ impl EventSection for Flags {
     ghost keeps = { record { head = λ found rows. refl; rows = λ found. refl } };
 
     ghost events = { λ wholes outcomes are. flagged_there (events_of_wholes wholes) };
+
+    ghost kinds = { λ _. true };
+
+    ghost of_kinds = { λ _ _ _ _ _. refl };
 
     ghost bare = { λ e. refl };
 

@@ -3,7 +3,8 @@
 use crate::events::{EventSection, row_start};
 use crate::line::{Row, push_counted, push_hex_number};
 use audit_findings::{Findings, Sections};
-use event_core::{BufferItem, Event, buffer_step};
+use capture_frame::u64_at;
+use event_core::Event;
 
 /// The section.
 #[derive(Clone, Copy)]
@@ -14,6 +15,7 @@ impl EventSection for Frees {
     ghost use Rattle.event_core.specs.Events.{events_of_wholes};
     ghost use Rattle.audit_findings.specs.Places.{is_stray_close};
     ghost use Rattle.process_ledgers.specs.Items.{buffer_pending_of};
+    ghost use Rattle.audit_findings.proofs.RowKinds.{free_kinds, is_free};
     ghost use Rattle.audit_findings.proofs.RowsThere.{listed_there};
     ghost use Rattle.report_text.specs.Frees.{frees_head, frees_section};
 
@@ -26,6 +28,10 @@ impl EventSection for Frees {
     ghost keeps = { record { head = λ found rows. refl; rows = λ found. refl } };
 
     ghost events = { λ wholes outcomes are. listed_there (is_stray_close buffer_pending_of) (events_of_wholes wholes) };
+
+    ghost kinds = { is_free };
+
+    ghost of_kinds = { λ wholes outcomes. free_kinds (events_of_wholes wholes) };
 
     ghost bare = { λ e. refl };
 
@@ -42,10 +48,8 @@ impl EventSection for Frees {
 
     fn line(&self, event: Event<'_>) -> Row {
         let mut line = row_start(event);
-        if let Some(BufferItem::Free { address, .. }) = buffer_step(event) {
-            line.push_str(" ");
-            push_hex_number(&mut line, address);
-        }
+        line.push_str(" ");
+        push_hex_number(&mut line, u64_at(event.payload, 0));
         line
     }
 }

@@ -40,18 +40,6 @@ pub(crate) fn push_wide(line: &mut Row, number: u128)
     line.push_str(buffer.format(number));
 }
 
-/// Pushes the sum of three counts in decimal. Nothing here says that it fits 64 bits.
-pub(crate) fn push_sum(line: &mut Row, first: u64, second: u64, third: u64)
-    requires { array_string_len line.old + 39 ≤ 256 }
-    ensures text { line.new.bytes ≡ line.old.bytes ++ decimal (first + second + third) }
-    ensures short { array_string_len line.new ≤ array_string_len line.old + 39 }
-{
-    push_wide(
-        line,
-        u128::from(first) + u128::from(second) + u128::from(third),
-    );
-}
-
 /// Pushes a number in decimal, with `-` before a negative one.
 pub(crate) fn push_signed(line: &mut Row, number: i64)
     requires { array_string_len line.old + 20 ≤ 256 }

@@ -1,14 +1,13 @@
 //! What the sections `deaths` and `clears` have in common.
 
-ghost use Rattle.std.specs.Prelude.{◌≡◌, ◌≤◌, ◌++◌, length};
+ghost use Rattle.std.specs.Prelude.{◌≡◌, ◌≤◌, length};
 ghost use Rattle.event_core.specs.Reading.{event_text};
-ghost use Rattle.report_text.specs.EventRow.{row_start};
-ghost use Rattle.report_text.specs.OpenAndStray.{open_and_stray_head, open_and_stray_fields};
+ghost use Rattle.report_text.specs.OpenAndStray.{open_and_stray_head, open_and_stray_row};
 
 use crate::events::row_start;
 use crate::line::{Row, push_counted, push_hex_number};
 use audit_findings::OpenAndStray;
-use event_core::{Event, PendingChange, PendingItem};
+use event_core::Event;
 
 /// The head of a section with this name and this word for an unclosed open. `all` is the number of
 /// opens.
@@ -28,25 +27,15 @@ pub(crate) fn open_and_stray_head(name: &str, word: &str, all: u64, kept: &OpenA
     line
 }
 
-/// The row of an event that is this open or close, with this word for an open.
-pub(crate) fn open_and_stray_row(
-    event: Event<'_>,
-    item: Option<PendingItem<u64>>,
-    word: &str,
-) -> Row
+/// The row of an event with this cookie and this word.
+pub(crate) fn open_and_stray_row(event: Event<'_>, cookie: u64, word: &str) -> Row
     requires { length word.now ≤ 16 }
-    ensures { result.bytes ≡ row_start (event_text event.entry)
-        ++ open_and_stray_fields word.now item }
+    ensures { result.bytes ≡ open_and_stray_row word.now cookie (event_text event.entry) }
 {
     let mut line = row_start(event);
-    if let Some(PendingItem { key, change, .. }) = item {
-        line.push_str(" ");
-        push_hex_number(&mut line, key);
-        line.push_str(" ");
-        line.push_str(match change {
-            PendingChange::Open => word,
-            PendingChange::Close => "stray",
-        });
-    }
+    line.push_str(" ");
+    push_hex_number(&mut line, cookie);
+    line.push_str(" ");
+    line.push_str(word);
     line
 }

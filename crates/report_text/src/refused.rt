@@ -10,7 +10,7 @@ use event_core::Event;
 pub(crate) struct Refused;
 
 impl EventSection for Refused {
-    ghost use Rattle.std.specs.Prelude.{refl};
+    ghost use Rattle.std.specs.Prelude.{refl, true};
     ghost use Rattle.event_core.specs.Events.{events_of_wholes};
     ghost use Rattle.audit_findings.proofs.RowsThere.{refused_there};
     ghost use Rattle.report_text.specs.Refused.{refused_head, refused_section};
@@ -24,6 +24,10 @@ impl EventSection for Refused {
     ghost keeps = { record { head = λ found rows. refl; rows = λ found. refl } };
 
     ghost events = { λ wholes outcomes are. refused_there (events_of_wholes wholes) };
+
+    ghost kinds = { λ _. true };
+
+    ghost of_kinds = { λ _ _ _ _ _. refl };
 
     ghost bare = { λ e. refl };
 

@@ -3,7 +3,8 @@
 use crate::events::{EventSection, row_start};
 use crate::line::{Row, push_counted, push_hex_number};
 use audit_findings::{Findings, Sections};
-use event_core::{Event, RequestChange, RequestItem, request_step};
+use capture_frame::{u32_at, u64_at};
+use event_core::Event;
 
 /// The section.
 #[derive(Clone, Copy)]
@@ -13,6 +14,7 @@ impl EventSection for Requests {
     ghost use Rattle.std.specs.Prelude.{refl};
     ghost use Rattle.event_core.specs.Events.{events_of_wholes};
     ghost use Rattle.audit_findings.specs.Requests.{is_standing_request};
+    ghost use Rattle.audit_findings.proofs.RowKinds.{is_request, request_kinds};
     ghost use Rattle.audit_findings.proofs.RowsThere.{listed_there};
     ghost use Rattle.report_text.specs.Requests.{requests_head, requests_section};
 
@@ -25,6 +27,10 @@ impl EventSection for Requests {
     ghost keeps = { record { head = λ found rows. refl; rows = λ found. refl } };
 
     ghost events = { λ wholes outcomes are. listed_there is_standing_request (events_of_wholes wholes) };
+
+    ghost kinds = { is_request };
+
+    ghost of_kinds = { λ wholes outcomes. request_kinds (events_of_wholes wholes) };
 
     ghost bare = { λ e. refl };
 
@@ -41,17 +47,9 @@ impl EventSection for Requests {
 
     fn line(&self, event: Event<'_>) -> Row {
         let mut line = row_start(event);
-        if let Some(
-            RequestItem {
-                change: RequestChange::Request(key),
-                ..
-            },
-        ) = request_step(event)
-        {
-            push_counted(&mut line, " ", u64::from(key.handle));
-            line.push_str(" ");
-            push_hex_number(&mut line, key.cookie);
-        }
+        push_counted(&mut line, " ", u64::from(u32_at(event.payload, 0)));
+        line.push_str(" ");
+        push_hex_number(&mut line, u64_at(event.payload, 4));
         line
     }
 }

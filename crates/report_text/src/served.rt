@@ -1,7 +1,7 @@
 //! The section `served`.
 
 use crate::call_row::CallSection;
-use crate::line::{Row, push_counted, push_signed, push_sum};
+use crate::line::{Row, push_counted, push_signed};
 use audit_findings::{Findings, Sections};
 use call_stacks::Opener;
 use transaction_view::Transaction;
@@ -14,13 +14,14 @@ impl CallSection for Served {
     ghost use Rattle.std.specs.Prelude.{refl};
     ghost use Rattle.event_core.specs.Events.{events_of_wholes};
     ghost use Rattle.audit_findings.specs.Calls.{is_served};
+    ghost use Rattle.audit_findings.proofs.RowKinds.{lacking_kinds};
     ghost use Rattle.audit_findings.proofs.RowsThere.{lacking_there};
     ghost use Rattle.report_text.specs.Served.{served_head, served_section, sender_field};
 
     ghost section = { served_section };
 
     ghost head_of = { λ kept _.
-        served_head kept.calls.served.replied kept.calls.served.crossed
+        served_head kept.calls.served.all kept.calls.served.replied kept.calls.served.crossed
         kept.calls.served.left_open };
 
     ghost rows_of = { λ kept. kept.calls.served.rows };
@@ -29,6 +30,8 @@ impl CallSection for Served {
 
     ghost events = { λ wholes outcomes are. lacking_there is_served (events_of_wholes wholes) };
 
+    ghost of_kinds = { λ wholes outcomes. lacking_kinds is_served (events_of_wholes wholes) };
+
     ghost field = { sender_field };
 
     ghost tells = { λ call. refl };
@@ -36,8 +39,7 @@ impl CallSection for Served {
     fn head(&self, sections: &Sections<u64>, _rows: usize) -> Row {
         let served = &sections.calls.served;
         let mut line = Row::new();
-        line.push_str("served ");
-        push_sum(&mut line, served.replied, served.crossed, served.left_open);
+        push_counted(&mut line, "served ", served.all);
         push_counted(&mut line, " replied ", served.replied);
         push_counted(&mut line, " crossed ", served.crossed);
         push_counted(&mut line, " open ", served.left_open);

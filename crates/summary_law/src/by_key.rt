@@ -1,7 +1,10 @@
 //! A summary for each key of a list of pairs.
 
+ghost use Rattle.std.specs.Prelude.{◌≡◌, None, OnOk};
+ghost use Rattle.std.specs.BTreeMap.{get};
 ghost use Rattle.std.specs.Ordering.{eq_by_cmp};
 ghost use Rattle.summary_law.specs.ByKey.{SumsByKey, EachFits, each_fits_halves};
+ghost use Rattle.summary_law.specs.Summary.{CanAdd, Adds};
 
 use crate::summary::Summary;
 use std::alloc::{AllocError, Global};
@@ -19,6 +22,23 @@ impl<K: Ord + Copy, S: Summary> ByKey<K, S> {
     /// Where its memory comes from.
     pub fn allocator(&self) -> Global {
         self.alloc
+    }
+
+    /// Adds the first item of a key.
+    // Apart from `add`, whose every call would otherwise clear room for an empty summary.
+    #[cold]
+    #[inline(never)]
+    fn add_first(&mut self, key: K, inner: S::Item) -> Result<(), AllocError>
+        requires missing { get K.cmp self.old.entries key ≡ None }
+        requires fits { CanAdd (SumsByKey K.cmp S.sums) (EachFits (eq_by_cmp K.cmp) S.fits)
+            self.old.entries (key, inner) }
+        ensures { OnOk result (Adds (SumsByKey K.cmp S.sums) (EachFits (eq_by_cmp K.cmp) S.fits)
+            self.old.entries (key, inner) self.new.entries) }
+    {
+        let mut part = S::empty(self.alloc);
+        part.add(inner)?;
+        self.entries.insert(key, part)?;
+        Ok(())
     }
 }
 
@@ -41,12 +61,7 @@ impl<K: Ord + Copy, S: Summary> Summary for ByKey<K, S> {
         let (key, inner) = item;
         match self.entries.get_mut(&key) {
             Some(part) => part.add(inner),
-            None => {
-                let mut part = S::empty(self.alloc);
-                part.add(inner)?;
-                self.entries.insert(key, part)?;
-                Ok(())
-            }
+            None => self.add_first(key, inner),
         }
     }
 

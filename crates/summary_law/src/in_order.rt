@@ -1,11 +1,12 @@
 //! A summary for each key of a list of pairs, in the order in which the keys first come.
 
-ghost use Rattle.std.specs.Prelude.{◌≡◌};
+ghost use Rattle.std.specs.Prelude.{◌≡◌, None, OnOk};
 ghost use Rattle.std.specs.Map.{lookup};
 ghost use Rattle.std.specs.Option.{is_some, unwrap_or};
 ghost use Rattle.indexmap.specs.IndexMap.{index_of, IsUnique};
 ghost use Rattle.summary_law.specs.ByKey.{EachFits, each_fits_halves};
 ghost use Rattle.summary_law.specs.InOrder.{SumsInOrder};
+ghost use Rattle.summary_law.specs.Summary.{CanAdd, Adds};
 
 use crate::summary::Summary;
 use indexmap::IndexMap;
@@ -33,6 +34,24 @@ impl<K: Eq + Hash + Copy, S: Summary> InOrder<K, S> {
             Some((there, _part)) if *there == key => Some(guess),
             _ => self.entries.get_index_of(&key),
         }
+    }
+
+    /// Adds the first item of a key.
+    // Apart from `add`, whose every call would otherwise clear room for an empty summary.
+    #[cold]
+    #[inline(never)]
+    fn add_first(&mut self, key: K, inner: S::Item) -> Result<(), AllocError>
+        requires missing { index_of K.eq self.old.entries key ≡ None }
+        requires fits { CanAdd (λ v items. SumsInOrder K.eq S.sums v.entries.entries items)
+            (EachFits K.eq S.fits) self.old (key, inner) }
+        ensures { OnOk result (Adds (λ v items. SumsInOrder K.eq S.sums v.entries.entries items)
+            (EachFits K.eq S.fits) self.old (key, inner) self.new) }
+    {
+        let mut part = S::empty(self.alloc);
+        part.add(inner)?;
+        let (index, _) = self.entries.insert_full(key, part)?;
+        self.latest = index;
+        Ok(())
     }
 
     /// Whether the key has items. If so, an `add` of the same key that comes next takes no look-up.
@@ -90,13 +109,7 @@ impl<K: Eq + Hash + Copy, S: Summary> Summary for InOrder<K, S> {
                 self.latest = index;
                 self.entries[index].add(inner)
             }
-            None => {
-                let mut part = S::empty(self.alloc);
-                part.add(inner)?;
-                let (index, _) = self.entries.insert_full(key, part)?;
-                self.latest = index;
-                Ok(())
-            }
+            None => self.add_first(key, inner),
         }
     }
 

@@ -188,7 +188,7 @@ fn expect_parts<T: Threads + Sync + Abort>(
 
 // ---- as many parts as the program takes
 
-const HEADER: &[u8] = b"BNDRCAP1\x08\0\0\0\0\0\0\0";
+pub(super) const HEADER: &[u8] = b"BNDRCAP1\x08\0\0\0\0\0\0\0";
 
 /// A part with a fault in a record of the first frame.
 const RECORD_FAULT: &[u8] = b"BNDRCAP1\x08\0\0\0\0\0\0\0\
@@ -341,7 +341,7 @@ fn each_read_of_parts_fails(rt: HostRuntime) -> Result<(), Fail> {
 // ---- the gate
 
 /// A part with this file header and these frames.
-fn part_of(alloc: Global, header: &[u8], frames: &[u8]) -> Result<Vec<u8>, AllocError> {
+pub(super) fn part_of(alloc: Global, header: &[u8], frames: &[u8]) -> Result<Vec<u8>, AllocError> {
     let mut part = Vec::new(alloc);
     part.extend_from_slice(header)?;
     part.extend_from_slice(frames)?;

@@ -7,7 +7,7 @@ pub returns-in_err-status-clause-failed : goal.returns-in_err-status-clause-fail
 returns-in_err-status-clause-failed g c =
     let asked = rw c.in_ok-matches.ensures.rows at c.in-Some.ensures.some in
     let failure = err_from_is_err_and c.from_residual-in_err-status.result c.from_residual-in_err-status.ensures.1 in
-    rw (failure.1, failure.2) (failed_on_files (map string_bytes c.args.words.now) c.in-Some.request _ _ _
+    rw (failure.1, failure.2) (failed_on_files _ (map string_bytes c.args.words.now) c.in-Some.request _ _ _
     (c.in_ok-matches.ensures.taken, asked) c.in_err-status.ensures)
 
 pub returns-clause-answered : goal.returns-clause-answered

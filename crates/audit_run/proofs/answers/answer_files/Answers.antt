@@ -1,6 +1,4 @@
-use Rattle.std.proofs.Common.{length, sym, ◌∙◌}
 use Rattle.std.proofs.KnownBytes.{Keeps-refl}
-use Rattle.std.proofs.lemmas.List.{length-map}
 use Rattle.std.proofs.lemmas.Result.{err_from_is_err_and}
 use Rattle.audit_run.specs.Question.{GoWithStatus, IsAnswer}
 use Rattle.audit_run.specs.Run.{none_given}
@@ -10,9 +8,8 @@ use Rattle.audit_run.proofs.answers.answer_files.Goals as goal
 pub returns-in_err-readers : goal.returns-in_err-readers
 returns-in_err-readers g c =
     let error = err_from_is_err_and c.from_residual.result c.from_residual.ensures.1 in
-    none_given _ (opening_gives (length c.args.request.files.now) _ c.in_err-readers.ensures.faults) (rw (← error.2) error.1) (Keeps-refl _)
+    none_given _ (opening_gives _ _ c.in_err-readers.ensures.faults) (rw (← error.2) error.1) (Keeps-refl _)
 
 pub returns : goal.returns
 returns g c =
-    run_on_files _ _ (IsAnswer c.args.request.question) GoWithStatus _ _ c.answer.result
-    (length-map c.in_ok-readers.readers.items _ ∙ sym c.in_ok-readers.readers.ok.0 ∙ c.in_ok-readers.ensures.each) c.answer.ensures
+    run_on_files _ _ (IsAnswer c.args.request.question) GoWithStatus _ _ c.answer.result c.in_ok-readers.ensures.each c.answer.ensures

@@ -1,14 +1,15 @@
 use Rattle.std.proofs.Common.{refl}
 use Rattle.audit_findings.specs.Kept.{call_at_place}
 use Rattle.report_text.specs.CallRow.{row_of_kept}
-use Rattle.report_text.proofs.Listed.{listed, listed_lines}
+use Rattle.transaction_view.specs.Transaction.{has_transaction_data}
+use Rattle.report_text.proofs.Listed.{listed_lines, listed_rows}
 use Rattle.report_text.proofs.call_row.OfCallsSection.rows.Goals as goal
 
 pub returns-clause-readable : goal.returns-clause-readable
 returns-clause-readable g c =
     let S = g.S.CallSection in
-    listed S.section call_at_place S.head_of S.rows_of S.keeps c.args.found.now c.calls.result.now c.calls.ensures (λ call. call.event)
-    (λ call. call.event) (λ call. refl) S.events
+    listed_rows S.section call_at_place S.head_of S.rows_of S.keeps c.args.found.now c.calls.result.now c.calls.ensures (λ call. call.event)
+    (λ call. call.event) (λ call. refl) S.events has_transaction_data S.of_kinds
 
 pub returns-clause-told : goal.returns-clause-told
 returns-clause-told g c =

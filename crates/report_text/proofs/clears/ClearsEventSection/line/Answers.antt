@@ -1,11 +1,9 @@
-use Rattle.std.proofs.Common.{ℕ, codes, Option, ◌++◌, ap, ◌∙◌}
-use Rattle.event_core.specs.Reading.{event_text}
-use Rattle.event_core.specs.declared.pending.PendingItem.{PendingItem}
-use Rattle.report_text.specs.EventRow.{row_start}
-use Rattle.report_text.specs.OpenAndStray.{open_and_stray_fields}
+use Rattle.std.proofs.Common.{sym, ◌∙◌}
+use Rattle.report_text.proofs.Payloads.{clear_long, clear_sized}
 use Rattle.report_text.proofs.clears.ClearsEventSection.line.Goals as goal
 
-pub returns : goal.returns
-returns c =
-    c.open_and_stray_row.ensures
-    ∙ ap (λ (item : Option (PendingItem ℕ)). row_start (event_text c.args.event) ++ open_and_stray_fields (codes "unconfirmed") item) c.clear_step.ensures
+pub u64_at-requires : goal.u64_at-requires
+u64_at-requires c = clear_long c.args.event.kind _ (sym c.eq.ensures ∙ c.if-eq.true) c.args.event.sized
+
+pub u64_at-requires-else-eq : goal.u64_at-requires-else-eq
+u64_at-requires-else-eq c = clear_sized c.args.event.kind _ c.requires c.args.event.sized

@@ -1,12 +1,12 @@
 use Rattle.std.proofs.Common.{refl}
-use Rattle.report_text.proofs.Listed.{listed, listed_lines}
+use Rattle.report_text.proofs.Listed.{listed_lines, listed_rows}
 use Rattle.report_text.proofs.events.OfEventsSection.rows.Goals as goal
 
 pub returns-clause-readable : goal.returns-clause-readable
 returns-clause-readable g c =
     let S = g.S.EventSection in
-    listed S.section (λ e. e.place) S.head_of S.rows_of S.keeps c.args.found.now c.places.result.now c.places.ensures (λ place. place) (λ e. e)
-    (λ e. refl) S.events
+    listed_rows S.section (λ e. e.place) S.head_of S.rows_of S.keeps c.args.found.now c.places.result.now c.places.ensures (λ place. place) (λ e. e)
+    (λ e. refl) S.events S.kinds S.of_kinds
 
 pub returns-clause-told : goal.returns-clause-told
 returns-clause-told g c =

@@ -1,4 +1,4 @@
-use Rattle.std.proofs.Common.{List, ◌∷◌, ◌++◌, ◌≡◌, [], Some, None, Option, subst, ap, rules}
+use Rattle.std.proofs.Common.{List, ◌≡◌, Some, Option, subst, sym, rules}
 use Rattle.std.proofs.lemmas.Cmp.{eq_by_cmp_equiv}
 use Rattle.std.proofs.lemmas.Result.{on_ok_weaker}
 use Rattle.std.specs.BTreeMap.{get}
@@ -6,7 +6,7 @@ use Rattle.std.specs.HashMap.Eq.{lookup_congr}
 use Rattle.std.specs.Map.{lookup}
 use Rattle.std.specs.Ordering.{eq_by_cmp}
 use Rattle.summary_law.specs.ByKey.{items_of, IsOwn}
-use Rattle.summary_law.proofs.ByKeyLaws.{fits_at, added_part, rewritten}
+use Rattle.summary_law.proofs.ByKeyLaws.{fits_at, added_part}
 use Rattle.summary_law.proofs.by_key.ByKeySummary.add.Goals as goal
 
 pub add-requires : goal.add-requires
@@ -20,21 +20,6 @@ add-requires g c =
     let part : IsOwn sums (Some c.in-Some.part.now) (items_of eq key items)
     = subst (λ (o : Option _). IsOwn sums o (items_of eq key items)) found (c.requires.1 key) in
     (items_of eq key items, part.1, fits_at eq laws sums g.S.Summary.fits items key key c.args.item.1 (laws.refl key) c.requires.2)
-
-pub add-requires-in-None : goal.add-requires-in-None
-add-requires-in-None g c =
-    let laws = eq_by_cmp_equiv g.met.K.Ord.total in
-    let eq = eq_by_cmp g.K.Ord.cmp in
-    let sums = g.S.Summary.sums in
-    let key = c.args.item.0 in
-    let items = c.requires.0 in
-    let found : get g.K.Ord.cmp c.args.self.now.entries key ≡ None = search rules in
-    let nil : items_of eq key items ≡ [] = subst (λ (o : Option _). IsOwn sums o (items_of eq key items)) found (c.requires.1 key) in (
-      [],
-      c.empty-part.ensures,
-      subst (λ (t : List _). g.S.Summary.fits (t ++ c.args.item.1 ∷ [])) nil
-          (fits_at eq laws sums g.S.Summary.fits items key key c.args.item.1 (laws.refl key) c.requires.2),
-    )
 
 pub returns-in-Some : goal.returns-in-Some
 returns-in-Some g c =
@@ -51,18 +36,11 @@ returns-in-Some g c =
     (λ front part. step front (subst (λ (o : Option _). IsOwn sums o front) found part).1))
     c.add.ensures
 
-pub returns-in_ok-insert-in-None : goal.returns-in_ok-insert-in-None
-returns-in_ok-insert-in-None g c =
-    let laws = eq_by_cmp_equiv g.met.K.Ord.total in
-    let cmp = g.K.Ord.cmp in
-    let eq = eq_by_cmp cmp in
-    let sums = g.S.Summary.sums in
-    let found : get cmp c.args.self.now.entries c.args.item.0 ≡ None = search rules in
+pub returns-in-None : goal.returns-in-None
+returns-in-None g c =
+    let eq = eq_by_cmp g.K.Ord.cmp in
     let same : c.get_mut.follows.lender-at-none.entries ≡ c.args.self.now.entries.entries = search rules in
-    added_part eq laws sums g.S.Summary.fits (get cmp c.args.self.now.entries) (get cmp c.insert.new.self)
-    (λ x y e. lookup_congr eq laws.congr c.args.self.now.entries.entries x y e)
-    c.args.item.0 c.args.item.1 c.add-in-None.new.self
-    (λ q. rewritten (eq c.args.item.0 q) _ (c.in_ok-insert-in-None.ensures.updates.0 q) (ap (λ (es : List _). lookup (eq q) es) same))
-    (λ front part fits.
-    let nil : front ≡ [] = subst (λ (o : Option _). IsOwn sums o front) found part in
-    rw nil (c.in_ok-add-in-None.ensures [] c.empty-part.ensures (rw nil at fits)))
+    on_ok_weaker c.add_first.result
+    (λ adds items sums fits.
+    adds items (λ q. subst (λ (es : List _). IsOwn g.S.Summary.sums (lookup (eq q) es) (items_of eq q items)) (sym same) (sums q)) fits)
+    c.add_first.ensures
