@@ -2,6 +2,7 @@
 #include "messages.h"
 #include <linux/android/binder.h>
 #include <stdlib.h>
+#include <string.h>
 
 static const u32 commands_known[] = {
 	BC_TRANSACTION, BC_REPLY, BC_ACQUIRE_RESULT, BC_FREE_BUFFER, BC_INCREFS, BC_ACQUIRE, BC_RELEASE, BC_DECREFS,
@@ -49,4 +50,27 @@ int records_fill(const u8 *commands, u64 bytes, u32 direction)
 		at += 4 + _IOC_SIZE(word);
 	}
 	return at == bytes;
+}
+
+static int has_data(u32 word, const u8 *payload)
+{
+	struct binder_transaction_data data;
+	switch (word) {
+	case BC_TRANSACTION: case BC_TRANSACTION_SG: case BC_REPLY: case BC_REPLY_SG:
+	case BR_TRANSACTION: case BR_TRANSACTION_SEC_CTX: case BR_REPLY:
+		memcpy(&data, payload, sizeof data);
+		return data.data_size || data.offsets_size;
+	}
+	return 0;
+}
+
+u64 records_with_data(const u8 *commands, u64 bytes)
+{
+	u64 at = 0, count = 0;
+	while (bytes - at >= 4) {
+		u32 word = load_u32(commands + at);
+		count += (u64)has_data(word, commands + at + 4);
+		at += 4 + _IOC_SIZE(word);
+	}
+	return count;
 }

@@ -1,15 +1,18 @@
-/* Copies the bytes of a frame, and the data of its transactions and replies, into the ring. */
+/* Copies the bytes of a frame, and the data of its transactions and replies, into the ring. No run of a program may take
+ * long, as it keeps its processor: each copies a few chunks, or one attachment, and the next one goes on. */
 #ifndef RECORDER_COPY_BPF_H
 #define RECORDER_COPY_BPF_H
 #include "state.bpf.h"
 
 /* Memory that a thread used a moment ago can be away for some time, for example while the kernel merges small pages. A
- * program here can't wait for it; it tries again, up to this many times. */
+ * program here can't wait for it; where there is no later chance, it tries again, up to this often and this long. */
 #define TRIES 1000
+#define LONGEST_TRY 300000u	/* nanoseconds */
+#define RUN_CHUNKS 8u		/* the most chunks of a write that one run copies */
+#define MOST_RECORDS 4096u	/* the most records of a read that are looked at for attachments */
 #define CODE_WORD 4u
 #define DATA_AT 32u		/* where data_size is in a transaction; offsets_size, buffer and offsets follow */
 #define TRANSACTION_BYTES 64u
-#define ENTRY_HEAD 12u
 
 /* Copies memory of the process. On arm64 the topmost byte of an address can be a tag. Some kernels do not accept such
  * an address as one of a process, so it is then read without the tag. */
@@ -23,6 +26,15 @@ static __always_inline long read_memory(void *to, u64 bytes, u64 from)
 	return failed;
 }
 
+/* Takes room in the ring from the share of the call. Returns 0 if there is none. The first bytes of a call may use the
+ * whole ring and the others only half of it: whoever hands over much does not take the room of others. */
+static __always_inline int take_room(struct thread *t, u64 bytes)
+{
+	u64 limit = t->spent < FIRST_BYTES ? ring_limit : ring_limit / 2;
+	t->spent += bytes;
+	return bpf_ringbuf_query(&ring, BPF_RB_AVAIL_DATA) + bytes <= limit;
+}
+
 static long try_chunk(u32 i, void *unused)
 {
 	struct scratch *s = scratch();
@@ -31,7 +43,7 @@ static long try_chunk(u32 i, void *unused)
 	u64 length = s->length;
 	BOUND(length, 0xffff);
 	s->failed = read_memory(s->chunk_bytes, length, s->from);
-	return s->failed == 0;
+	return s->failed == 0 || bpf_ktime_get_ns() > s->until;
 }
 
 static long try_call(u32 i, void *unused)
@@ -40,7 +52,7 @@ static long try_call(u32 i, void *unused)
 	if (!s)
 		return 1;
 	s->failed = read_memory(&s->call, sizeof s->call, s->from);
-	return s->failed == 0;
+	return s->failed == 0 || bpf_ktime_get_ns() > s->until;
 }
 
 /* Copies the binder_write_read at `call` into the scratch. Returns 0 if it could be read. */
@@ -52,172 +64,38 @@ static __noinline int read_call(u64 call)
 	s->from = call;
 	if (!read_memory(&s->call, sizeof s->call, call))
 		return 0;
+	s->until = bpf_ktime_get_ns() + LONGEST_TRY;
 	bpf_loop(TRIES, try_call, 0, 0);
 	return s->failed != 0;
 }
 
-/* Copies one piece of an attachment that is too large to go with its frame. */
-static long copy_piece(u32 i, void *unused)
+/* Copies bytes of the process into the chunk, and tries again if need be. Returns 0 if they could be read. */
+static __noinline int read_chunk(u64 from, u32 bytes)
 {
 	struct scratch *s = scratch();
 	if (!s)
 		return 1;
-	struct large *l = &s->large;
-	u32 at = l->at, bytes;
-	u64 from;
-	if (at >= l->data + l->offsets)
-		return 1;
-	if (at < l->data) {
-		from = l->data_from + at;
-		bytes = l->data - at;
-	} else {
-		from = l->offsets_from + (at - l->data);
-		bytes = l->data + l->offsets - at;
-	}
-	if (bytes > CHUNK)
-		bytes = CHUNK;
-	u64 length = bytes;
-	BOUND(length, 0xffff);
-	struct piece *p = &s->piece;
-	p->head.type = MESSAGE_PIECE;
-	p->head.direction = l->direction;
-	p->head.number = l->number;
-	p->head.time = 0;
-	p->head.opening = l->opening;
-	p->head.thread = l->thread;
-	p->record = l->record;
-	p->data = l->data;
-	p->offsets = l->offsets;
-	p->at = at;
-	p->bytes = bytes;
-	if (read_memory(s->piece_bytes, length, from))
-		l->failed = REASON_UNREADABLE;
-	else if (is_full(bytes) || bpf_ringbuf_output(&ring, p, sizeof *p + length, QUIETLY))
-		l->failed = REASON_RING_FULL;
-	l->at = at + bytes;
-	return l->failed != 0;
+	s->from = from;
+	s->length = bytes;
+	s->until = bpf_ktime_get_ns() + LONGEST_TRY;
+	bpf_loop(TRIES, try_chunk, 0, 0);
+	return s->failed != 0;
 }
 
-/* Copies the large attachment of the scratch, in pieces. Returns 0, or the reason why some of it is missing. */
-static __noinline int copy_large(void)
+/* Copies what can be read of the bytes, page by page. Returns how many bytes that is. */
+static __noinline u32 read_pages(u64 from, u32 length)
 {
 	struct scratch *s = scratch();
-	if (!s)
-		return REASON_TOO_LARGE;
-	struct large *l = &s->large;
-	l->at = l->failed = 0;
-	bpf_loop(2 * MOST_ATTACHED / CHUNK + 2, copy_piece, 0, 0);
-	if (l->failed)
-		return l->failed;
-	return l->at == l->data + l->offsets ? 0 : REASON_TOO_LARGE;
-}
-
-/* The fields of a transaction that say where its data is. */
-struct place {
-	u64 data, offsets, data_from, offsets_from;
-};
-
-/* Remembers an attachment whose memory is not there at entry: the driver will fault it in. */
-static __always_inline int remember_late(struct place *place, u32 record)
-{
-	u32 id = bpf_get_current_pid_tgid();
-	struct thread *t = bpf_map_lookup_elem(&threads, &id);
-	if (!t || t->late_count >= MOST_LATE)
-		return 0;
-	struct late_attachment *l = &t->late[t->late_count & (MOST_LATE - 1)];
-	l->data_from = place->data_from;
-	l->offsets_from = place->offsets_from;
-	l->data = place->data;
-	l->offsets = place->offsets;
-	l->record = record;
-	t->late_count++;
-	return 1;
-}
-
-/* Puts the attachment of the record at `at` after the commands of the chunk. Returns 0, or why there is no entry. */
-static __always_inline int attach(struct scratch *s, struct walk *w, struct place *place, u32 at)
-{
-	u32 data = place->data, offsets = place->offsets, end = w->end;
-	if (place->data > MOST_ATTACHED || place->offsets > MOST_ATTACHED)
-		return REASON_TOO_LARGE;
-	if (!w->reads_own_memory)
-		return REASON_OTHER_MEMORY;
-	if (data >= CHUNK || offsets >= CHUNK || end + ENTRY_HEAD + data + offsets > 2 * CHUNK) {
-		struct large *l = &s->large;
-		l->number = w->number;
-		l->data_from = place->data_from;
-		l->offsets_from = place->offsets_from;
-		l->data = data;
-		l->offsets = offsets;
-		l->record = w->base + at;
-		l->opening = w->opening;
-		l->thread = w->thread;
-		l->direction = w->direction;
-		return copy_large();
-	}
-	u64 p = end, data_length = data, offsets_length = offsets;
-	BOUND(p, 0xffff);
-	BOUND(data_length, 0x7fff);
-	BOUND(offsets_length, 0x7fff);
-	u8 *entry = s->chunk_bytes + p;
-	((u32 *)entry)[0] = w->base + at;
-	((u32 *)entry)[1] = data;
-	((u32 *)entry)[2] = offsets;
-	if (data_length && read_memory(entry + ENTRY_HEAD, data_length, place->data_from))
-		return REASON_UNREADABLE;
-	if (offsets_length && read_memory(entry + ENTRY_HEAD + data_length, offsets_length, place->offsets_from))
-		return REASON_UNREADABLE;
-	w->end = end + ENTRY_HEAD + data + offsets;
-	return 0;
-}
-
-static __always_inline int has_data(u32 direction, u32 number)
-{
-	if (direction == DIRECTION_WRITE)
-		return number == 0 || number == 1 || number == 17 || number == 18;	/* BC_TRANSACTION, BC_REPLY, both with _SG */
-	return number == 2 || number == 3;	/* BR_TRANSACTION, also with a security context, and BR_REPLY */
-}
-
-/* Walks over one record of the chunk. Ends the walk before a record that is not whole in the chunk. */
-static long copy_record(u32 i, void *unused)
-{
-	struct scratch *s = scratch();
-	if (!s)
-		return 1;
-	struct walk *w = &s->walk;
-	u64 at = w->at;
-	if (at >= w->bytes || at + CODE_WORD > w->have || at >= CHUNK)
-		return 1;
-	BOUND(at, 0x7fff);
-	u32 word = *(u32 *)(s->chunk_bytes + at), size = word >> 16 & 0x3fff;
-	if (!w->last && at + CODE_WORD + size > w->bytes)
-		return 1;
-	w->at = at + CODE_WORD + size;
-	if (no_attachments || !has_data(w->direction, word & 0xff) || size < TRANSACTION_BYTES || at + CODE_WORD + TRANSACTION_BYTES > w->have)
-		return 0;
-	struct place place;
-	__builtin_memcpy(&place, s->chunk_bytes + at + CODE_WORD + DATA_AT, sizeof place);
-	if (place.data == 0 && place.offsets == 0)
-		return 0;
-	int reason = attach(s, w, &place, at);
-	if (reason == REASON_UNREADABLE && w->direction == DIRECTION_WRITE && !w->late && remember_late(&place, w->base + at))
-		return 0;
-	if (reason)
-		say(MESSAGE_UNATTACHED, w->thread, w->opening, w->number, reason, w->base + at, 0, 0);
-	return 0;
-}
-
-/* Copies what can be read of the chunk, page by page. Returns how many bytes that is. */
-static __always_inline u32 read_pages(struct scratch *s, u64 from, u32 length)
-{
 	u32 got = 0, i;
+	if (!s)
+		return 0;
 	for (i = 0; i < CHUNK / 4096 + 2 && got < length; i++) {
 		u32 page = 4096 - ((u32)(from + got) & 4095);
 		if (page > length - got)
 			page = length - got;
 		u64 bytes = page, at = got;
 		BOUND(bytes, 0x1fff);
-		BOUND(at, 0xffff);
+		BOUND(at, 0x7fff);
 		if (read_memory(s->chunk_bytes + at, bytes, from + got))
 			break;
 		got += page;
@@ -225,114 +103,334 @@ static __always_inline u32 read_pages(struct scratch *s, u64 from, u32 length)
 	return got;
 }
 
-/* Copies up to CHUNK bytes of the frame; for the last chunk of a write also the bytes beyond its end. */
-static __always_inline void read_chunk(struct scratch *s, struct walk *w)
+/* ---- attachments */
+
+static __always_inline void begin_piece(struct piece *p, const struct attachment *a, u32 bytes)
 {
-	u32 bytes = w->left > CHUNK ? CHUNK : w->left;
-	w->last = w->left <= CHUNK;
-	u64 beyond = w->last && w->direction == DIRECTION_WRITE ? BEYOND_END : 0, length = bytes + beyond;
-	BOUND(length, 0xffff);
-	w->bytes = bytes;
-	w->have = bytes + beyond;
-	if (!read_memory(s->chunk_bytes, length, w->from))
-		return;
-	w->have = bytes;
-	s->from = w->from;
-	s->length = bytes;
-	if (beyond) {			/* the bytes beyond may be on a page that is not there */
-		u64 over = -(u32)(w->from + bytes) & 4095;
-		if (over < beyond) {
-			w->have = bytes + over;
-			s->length = bytes + over;
-		}
-	}
-	bpf_loop(TRIES, try_chunk, 0, 0);
-	if (!s->failed)
-		return;
-	if (w->direction == DIRECTION_READ) {
-		w->failed = REASON_UNREADABLE;
-		return;
-	}
-	w->partial = 1;
-	w->last = 1;
-	w->have = read_pages(s, w->from, w->have);
-	if (w->bytes > w->have)
-		w->bytes = w->have;
+	p->head.type = MESSAGE_PIECE;
+	p->head.direction = a->direction;
+	p->head.number = a->number;
+	p->head.time = 0;
+	p->head.opening = a->opening;
+	p->head.thread = a->thread;
+	p->record = a->record;
+	p->data = a->place.data;
+	p->offsets = a->place.offsets;
+	p->at = a->at;
+	p->bytes = bytes;
 }
 
-/* Copies one chunk of the frame with the attachments of its records, and puts it into the ring. */
-static long copy_chunk(u32 i, void *unused)
+/* Copies a small attachment, in one message. */
+static __noinline int copy_whole(struct thread *t)
 {
 	struct scratch *s = scratch();
-	if (!s)
-		return 1;
-	struct walk *w = &s->walk;
-	read_chunk(s, w);
-	if (w->failed)
-		return 1;
-	w->at = 0;
-	w->end = w->have;
-	bpf_loop(CHUNK / CODE_WORD + 1, copy_record, 0, 0);
-	u32 done = w->last ? 0 : w->at;
-	if (!w->last && (done == 0 || done > CHUNK)) {
-		w->failed = REASON_BROKEN;
-		return 1;
-	}
-	struct chunk *c = &s->chunk;
-	c->commands = w->have;
-	c->entries = w->end - w->have;
-	c->base = w->base;
-	c->next = w->last ? 0 : w->base + done;
-	c->late = w->late;
-	u64 end = w->end;
-	BOUND(end, 0x1ffff);
-	if (is_full(end) || bpf_ringbuf_output(&ring, c, sizeof *c + end, QUIETLY)) {
-		w->failed = REASON_RING_FULL;
-		return 1;
-	}
-	if (w->last)
-		return 1;
-	w->base += done;
-	w->from += done;
-	w->left -= done;
+	if (!s || !t)
+		return REASON_UNREADABLE;
+	struct attachment *a = &s->attachment;
+	u64 data = a->place.data, offsets = a->place.offsets;
+	BOUND(data, 0x7fff);
+	BOUND(offsets, 0x7fff);
+	if (data && read_memory(s->piece_bytes, data, a->place.data_from))
+		return REASON_UNREADABLE;
+	if (offsets && read_memory(s->piece_bytes + data, offsets, a->place.offsets_from))
+		return REASON_UNREADABLE;
+	a->at = 0;
+	u64 length = data + offsets;
+	begin_piece(&s->piece, a, length);
+	if (!take_room(t, length) || bpf_ringbuf_output(&ring, &s->piece, sizeof s->piece + length, QUIETLY))
+		return REASON_RING_FULL;
 	return 0;
 }
 
-/* A flag besides the direction: the driver has already finished the write. */
-#define IS_LATE 0x100u
+/* Copies CHUNK bytes of a large attachment straight into the ring. */
+static __always_inline int copy_full_piece(struct attachment *a, u64 from)
+{
+	struct full_piece *full = bpf_ringbuf_reserve(&ring, sizeof *full, 0);
+	if (!full)
+		return REASON_RING_FULL;
+	begin_piece(&full->piece, a, CHUNK);
+	if (read_memory(full->bytes, CHUNK, from)) {
+		bpf_ringbuf_discard(full, QUIETLY);
+		return REASON_UNREADABLE;
+	}
+	bpf_ringbuf_submit(full, QUIETLY);
+	return 0;
+}
 
-/* Copies the commands at `from` and their attachments into the ring. Returns 0, or why the frame is lost. */
-static __noinline int capture(struct thread *t, u64 from, u64 bytes, u64 number, u32 which)
+/* Copies one piece of a large attachment. */
+static long copy_piece(u32 i, void *context)
 {
 	struct scratch *s = scratch();
-	u32 direction = which & 0xff;
-	if (!s || !t || bytes > MOST_CHUNKS * (CHUNK - 0x4004))
+	u32 id = bpf_get_current_pid_tgid();
+	struct thread *t = bpf_map_lookup_elem(&threads, &id);
+	if (!s || !t)
+		return 1;
+	struct attachment *a = &s->attachment;
+	u32 at = a->at, data = a->place.data, both = data + (u32)a->place.offsets, bytes = (at < data ? data : both) - at;
+	u64 from = at < data ? a->place.data_from + at : a->place.offsets_from + (at - data);
+	if (at >= both)
+		return 1;
+	if (bytes > CHUNK)
+		bytes = CHUNK;
+	u64 length = bytes;
+	BOUND(length, 0xffff);
+	if (!take_room(t, bytes)) {
+		a->failed = REASON_RING_FULL;
+	} else if (bytes == CHUNK) {
+		a->failed = copy_full_piece(a, from);
+	} else {
+		begin_piece(&s->piece, a, bytes);
+		if (read_memory(s->piece_bytes, length, from))
+			a->failed = REASON_UNREADABLE;
+		else if (bpf_ringbuf_output(&ring, &s->piece, sizeof s->piece + length, QUIETLY))
+			a->failed = REASON_RING_FULL;
+	}
+	a->at = at + bytes;
+	return a->failed != 0;
+}
+
+/* Puts the attachment of the scratch into the ring. Returns 0, or why there is no entry. */
+static __noinline int attach(struct thread *t)
+{
+	struct scratch *s = scratch();
+	if (!s || !t)
+		return REASON_UNREADABLE;
+	struct attachment *a = &s->attachment;
+	u64 data = a->place.data, offsets = a->place.offsets;
+	if (t->attachments >= MOST_ATTACHMENTS || data > MOST_ATTACHED || offsets > MOST_ATTACHED ||
+	    t->attached + data + offsets > MOST_ATTACHED)
+		return REASON_TOO_MANY;
+	t->attachments++;
+	t->attached += data + offsets;
+	if (a->direction == DIRECTION_READ && !t->reads_own_memory)
+		return REASON_OTHER_MEMORY;
+	if (data < CHUNK && offsets < CHUNK && data + offsets <= CHUNK)
+		return copy_whole(t);
+	a->at = a->failed = 0;
+	bpf_loop(MOST_ATTACHED / CHUNK + 2, copy_piece, 0, 0);
+	return a->failed;
+}
+
+/* Says that a record has no entry. After REASON_TOO_MANY no later record of the frame has one. */
+static __noinline int say_unattached(struct thread *t, int reason)
+{
+	struct scratch *s = scratch();
+	if (!s || !t)
+		return 0;
+	struct attachment *a = &s->attachment;
+	if (reason == REASON_TOO_MANY)
+		t->is_over = 1;
+	say(MESSAGE_UNATTACHED, t->id, t->opening, a->number, reason, a->record, 0, 0);
+	return 0;
+}
+
+static __always_inline void begin_attachment(struct thread *t, struct attachment *a, u64 number, u32 record, u32 direction)
+{
+	a->number = number;
+	a->record = record;
+	a->direction = direction;
+	a->opening = t->opening;
+	a->thread = t->id;
+}
+
+static __always_inline int has_data(u32 direction, u32 word)
+{
+	u32 number = word & 0xff;
+	if ((word >> 16 & 0x3fff) < TRANSACTION_BYTES)
+		return 0;
+	if (direction == DIRECTION_WRITE)
+		return number == 0 || number == 1 || number == 17 || number == 18;	/* BC_TRANSACTION, BC_REPLY, both with _SG */
+	return number == 2 || number == 3;	/* BR_TRANSACTION, also with a security context, and BR_REPLY */
+}
+
+/* ---- a write: its bytes are copied at entry, and those beyond some chunks when the driver comes to them */
+
+/* Copies one more chunk of the write, or what can be read of it. */
+static long copy_commands(u32 i, void *unused)
+{
+	struct scratch *s = scratch();
+	u32 id = bpf_get_current_pid_tgid();
+	struct thread *t = bpf_map_lookup_elem(&threads, &id);
+	if (!s || !t)
+		return 1;
+	u64 end = t->write_bytes + BEYOND_END, from = t->write_from + t->copied;
+	if (t->copied >= end)
+		return 1;
+	u32 bytes = end - t->copied > CHUNK ? CHUNK : end - t->copied, have = bytes;
+	u64 length = bytes;
+	BOUND(length, 0xffff);
+	if (read_memory(s->chunk_bytes, length, from)) {	/* often the bytes beyond the end are not there */
+		if (s->try_again)
+			read_chunk(from, 1);
+		have = read_pages(from, bytes);
+	}
+	if (!have && t->has_chunk)
+		return 1;
+	struct chunk *c = &s->chunk;
+	c->commands = have;
+	c->base = t->copied;
+	c->next = t->copied + have;
+	c->late = t->copied < s->taken;
+	length = have;
+	BOUND(length, 0xffff);
+	if (!take_room(t, length) || bpf_ringbuf_output(&ring, c, sizeof *c + length, QUIETLY)) {
+		s->failed = REASON_RING_FULL;
+		return 1;
+	}
+	t->has_chunk = 1;
+	t->copied += have;
+	return have < bytes;
+}
+
+/* Copies the next chunks of the write. The driver has taken the bytes before `taken`. Returns 0, or why the frame is lost. */
+static __noinline int copy_write(struct thread *t, u64 taken, u32 try_again)
+{
+	struct scratch *s = scratch();
+	if (!s || !t)
+		return REASON_UNREADABLE;
+	struct message *h = &s->chunk.head;
+	h->type = MESSAGE_CHUNK;
+	h->direction = DIRECTION_WRITE;
+	h->number = t->write_number;
+	h->time = bpf_ktime_get_ns();
+	h->opening = t->opening;
+	h->thread = t->id;
+	s->taken = taken;
+	s->try_again = try_again;
+	s->failed = 0;
+	bpf_loop(RUN_CHUNKS, copy_commands, 0, 0);
+	return s->failed;
+}
+
+/* Reads from the process where the data of the record is. Returns 0 if that could be read. */
+static __noinline int read_place(struct thread *t, u32 record)
+{
+	struct scratch *s = scratch();
+	if (!s || !t)
+		return 1;
+	begin_attachment(t, &s->attachment, t->write_number, record, DIRECTION_WRITE);
+	return read_memory(&s->attachment.place, sizeof s->attachment.place, t->write_from + record + CODE_WORD + DATA_AT) != 0;
+}
+
+/* Copies the attachment of a record of a write. If its memory is not there, it is tried again when the driver has read it. */
+static __noinline int attach_to_write(struct thread *t, u32 record, u32 is_late)
+{
+	struct scratch *s = scratch();
+	if (!s || !t)
+		return 0;
+	int reason = REASON_UNREADABLE;
+	u64 bytes = 0;
+	if (!read_place(t, record)) {
+		bytes = s->attachment.place.data + s->attachment.place.offsets;
+		if (!bytes)
+			return 0;
+		reason = attach(t);
+	}
+	if (is_late && reason == REASON_TOO_MANY)	/* later records have taken the bound: they have their entries */
+		reason = REASON_UNREADABLE;
+	if (reason == REASON_UNREADABLE && !is_late && t->late_count < MOST_LATE) {
+		t->late[t->late_count & (MOST_LATE - 1)] = record;
+		t->late_count++;
+		t->attachments -= bytes != 0;		/* it does not count twice */
+		t->attached -= bytes;
+	} else if (reason) {
+		say_unattached(t, reason);
+	} else if (is_late) {
+		say(MESSAGE_LATE, t->id, t->opening, t->write_number, 0, record, 0, 0);
+	}
+	return 0;
+}
+
+/* ---- a read: all its bytes are copied at return */
+
+/* Looks at one record of the chunk. Ends the walk before a record that is not whole in the chunk. */
+static long copy_record(u32 i, void *unused)
+{
+	struct scratch *s = scratch();
+	u32 id = bpf_get_current_pid_tgid();
+	struct thread *t = bpf_map_lookup_elem(&threads, &id);
+	if (!s || !t)
+		return 1;
+	struct walk *w = &s->walk;
+	struct attachment *a = &s->attachment;
+	u64 at = w->at;
+	if (at >= CHUNK || at + CODE_WORD > w->bytes)
+		return 1;
+	BOUND(at, 0x7fff);
+	u32 word = *(u32 *)(s->chunk_bytes + at), size = word >> 16 & 0x3fff;
+	if (at + CODE_WORD + size > w->bytes)
+		return 1;
+	begin_attachment(t, a, w->number, w->base + at, DIRECTION_READ);
+	w->at = at + CODE_WORD + size;
+	if (++w->records > MOST_RECORDS) {
+		say_unattached(t, REASON_TOO_MANY);
+		return 1;
+	}
+	if (no_attachments || !has_data(DIRECTION_READ, word))
+		return 0;
+	__builtin_memcpy(&a->place, s->chunk_bytes + at + CODE_WORD + DATA_AT, sizeof a->place);
+	if (!a->place.data && !a->place.offsets)
+		return 0;
+	int reason = attach(t);
+	if (reason)
+		say_unattached(t, reason);
+	return t->is_over != 0;
+}
+
+/* Copies one chunk of the read, which ends with a whole record while its records are looked at. */
+static long copy_returns(u32 i, void *unused)
+{
+	struct scratch *s = scratch();
+	u32 id = bpf_get_current_pid_tgid();
+	struct thread *t = bpf_map_lookup_elem(&threads, &id);
+	if (!s || !t)
+		return 1;
+	struct walk *w = &s->walk;
+	struct chunk *c = &s->chunk;
+	u32 is_last = w->left <= CHUNK;
+	w->bytes = is_last ? w->left : CHUNK;
+	if (read_chunk(w->from, w->bytes)) {
+		w->failed = REASON_UNREADABLE;
+		return 1;
+	}
+	w->at = 0;
+	if (!t->is_over)
+		bpf_loop(CHUNK / CODE_WORD, copy_record, 0, 0);
+	u32 done = t->is_over || is_last ? w->bytes : w->at;
+	c->commands = w->bytes;
+	c->base = w->base;
+	c->next = is_last ? 0 : w->base + done;
+	c->late = 0;
+	u64 length = w->bytes;
+	BOUND(length, 0xffff);
+	w->failed = !done ? REASON_BROKEN : !take_room(t, length) ? REASON_RING_FULL :
+		bpf_ringbuf_output(&ring, c, sizeof *c + length, QUIETLY) ? REASON_RING_FULL : 0;
+	w->base += done;
+	w->from += done;
+	w->left -= done;
+	return is_last || w->failed;
+}
+
+/* Copies what the call read. Returns 0, or why the frame is lost. */
+static __noinline int copy_read(struct thread *t, u64 from, u64 bytes, u64 number)
+{
+	struct scratch *s = scratch();
+	if (!s || !t || bytes > MOST_RETURNS)
 		return REASON_TOO_LARGE;
 	struct walk *w = &s->walk;
 	w->number = number;
 	w->from = from;
 	w->left = bytes;
-	w->base = w->failed = w->partial = 0;
-	w->last = 0;
-	w->direction = direction;
-	w->opening = t->opening;
-	w->thread = t->id;
-	w->late = which & IS_LATE ? 1 : 0;
-	w->reads_own_memory = direction == DIRECTION_WRITE || t->reads_own_memory;
+	w->base = w->failed = w->records = 0;
+	t->is_over = 0;
 	struct message *h = &s->chunk.head;
 	h->type = MESSAGE_CHUNK;
-	h->direction = direction;
+	h->direction = DIRECTION_READ;
 	h->number = number;
 	h->time = bpf_ktime_get_ns();
 	h->opening = t->opening;
 	h->thread = t->id;
-	bpf_loop(MOST_CHUNKS, copy_chunk, 0, 0);
-	if (direction == DIRECTION_WRITE) {
-		t->had = (u64)w->base + w->have;
-		t->partial = w->partial;
-	}
-	if (w->failed)
-		return w->failed;
-	return w->last ? 0 : REASON_TOO_LARGE;
+	bpf_loop(MOST_CHUNKS, copy_returns, 0, 0);
+	return w->failed ? w->failed : w->left ? REASON_TOO_LARGE : 0;
 }
 #endif

@@ -1,3 +1,4 @@
+#define _GNU_SOURCE
 #include "devices.h"
 #include "side.h"
 #include <dirent.h>
@@ -87,6 +88,39 @@ static int has_word(const char *path, const char *name)
 	if (file)
 		fclose(file);
 	return is_found;
+}
+
+/* The number of a device that the driver made, by its name in sysfs; 0 if there is none. */
+static u32 number_in_sysfs(const char *name)
+{
+	char path[160];
+	u32 its_major = 0, its_minor = 0;
+	snprintf(path, sizeof path, "/sys/class/misc/%.128s/dev", name);
+	FILE *file = fopen(path, "r");
+	int is_read = file && fscanf(file, "%u:%u", &its_major, &its_minor) == 2;
+	if (file)
+		fclose(file);
+	return is_read ? its_major << MINOR_BITS | its_minor : 0;
+}
+
+static void hear_words(const char *path, void (*hear)(u32 device))
+{
+	char line[4096], *rest = line;
+	FILE *file = fopen(path, "r");
+	if (file && fgets(line, sizeof line, file))
+		for (char *word; (word = strsep(&rest, ",\n")) != NULL;) {
+			u32 device = number_in_sysfs(word);
+			if (device)
+				hear(device);
+		}
+	if (file)
+		fclose(file);
+}
+
+void devices_made_by_driver(void (*hear)(u32 device))
+{
+	hear_words(driver_names[0], hear);
+	hear_words(driver_names[1], hear);
 }
 
 static int is_made_by_driver(u32 device)

@@ -10,7 +10,7 @@ int file_create(struct file *file, const char *path)
 {
 	*file = (struct file){ .descriptor = -1 };
 	snprintf(file->path, sizeof file->path, "%s", path);
-	file->descriptor = open(path, O_WRONLY | O_CREAT | O_EXCL | O_CLOEXEC, 0644);
+	file->descriptor = open(path, O_WRONLY | O_CREAT | O_EXCL | O_CLOEXEC, 0600);
 	return file->descriptor < 0 ? errno : 0;
 }
 

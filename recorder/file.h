@@ -11,7 +11,7 @@ struct file {
 	u64 whole;			/* how many bytes are handed over for certain */
 };
 
-/* Creates a file that must not exist. Returns 0, or an errno. */
+/* Creates a file that must not exist, for its owner only. Returns 0, or an errno. */
 int file_create(struct file *file, const char *path);
 /* Adds bytes. They are handed to the system later. */
 void file_add(struct file *file, const void *bytes, u64 count);

@@ -1,6 +1,8 @@
 #include "frame.h"
 #include "codes.h"
+#include "met.h"
 #include "parts.h"
+#include "redact.h"
 #include "side.h"
 #include <stdlib.h>
 #include <string.h>
@@ -8,11 +10,16 @@
 #define FRAME_HEAD 32u
 #define ENTRY_HEAD 12u
 
-static u64 entries_written;
+static u64 entries_written, entries_left_out;
 
 u64 frame_entries_written(void)
 {
 	return entries_written;
+}
+
+u64 frame_entries_left_out(void)
+{
+	return entries_left_out;
 }
 
 struct frame *frame_make(u64 number)
@@ -39,10 +46,10 @@ void frame_free(struct frame *frame)
 	free(frame);
 }
 
-/* Makes a new, empty entry for the record. It replaces an entry that the record has. */
+/* Makes a new, empty entry for the record. It replaces an entry that the record has. Mostly it is the last one. */
 static struct entry *new_entry(struct frame *frame, u32 record, u32 data, u32 offsets)
 {
-	struct entry **place = &frame->entries, *old;
+	struct entry *last = frame->last_entry, **place = last && last->record < record ? &last->next : &frame->entries, *old;
 	while (*place && (*place)->record < record)
 		place = &(*place)->next;
 	old = *place;
@@ -50,46 +57,29 @@ static struct entry *new_entry(struct frame *frame, u32 record, u32 data, u32 of
 	*entry = (struct entry){ .next = old, .record = record, .data = data, .offsets = offsets };
 	if (old && old->record == record) {
 		entry->next = old->next;
+		frame->memory -= sizeof *old + (u64)old->data + old->offsets;
 		free(old);
 	}
 	*place = entry;
+	if (!entry->next)
+		frame->last_entry = entry;
 	frame->memory += sizeof *entry + (u64)data + offsets;
 	return entry;
 }
 
 static struct entry *find_entry(const struct frame *frame, u32 record)
 {
-	struct entry *entry = frame->entries;
+	struct entry *last = frame->last_entry, *entry = last && last->record <= record ? last : frame->entries;
 	while (entry && entry->record < record)
 		entry = entry->next;
 	return entry && entry->record == record ? entry : NULL;
-}
-
-static void add_entries(struct frame *frame, const u8 *bytes, u64 count)
-{
-	u64 at = 0;
-	while (count - at >= ENTRY_HEAD) {
-		u32 record = load_u32(bytes + at), data = load_u32(bytes + at + 4), offsets = load_u32(bytes + at + 8);
-		if ((u64)data + offsets > count - at - ENTRY_HEAD)
-			break;
-		struct entry *entry = new_entry(frame, record, data, offsets);
-		entry->got = (u64)data + offsets;
-		memcpy(entry->bytes, bytes + at + ENTRY_HEAD, entry->got);
-		at += ENTRY_HEAD + entry->got;
-	}
-	if (at != count)
-		frame->is_broken = 1;
 }
 
 int frame_add_chunk(struct frame *frame, const struct chunk *chunk)
 {
 	const u8 *bytes = (const u8 *)(chunk + 1);
 	u64 count = chunk->next ? chunk->next - chunk->base : chunk->commands;
-	if (chunk->late && chunk->base == 0) {
-		frame->bytes = frame->expected = 0;
-		frame->is_late = 1;
-		frame->is_broken = 0;
-	}
+	frame->is_late |= chunk->late != 0;
 	if (frame->time == 0)
 		frame->time = chunk->head.time;
 	if (chunk->base != frame->expected || count > chunk->commands) {
@@ -101,7 +91,6 @@ int frame_add_chunk(struct frame *frame, const struct chunk *chunk)
 	frame->bytes += count;
 	frame->memory += count;
 	frame->expected = chunk->next;
-	add_entries(frame, bytes + chunk->commands, chunk->entries);
 	return chunk->next == 0;
 }
 
@@ -126,6 +115,7 @@ void frame_add_note(struct frame *frame, u32 record, u32 reason)
 	else
 		frame->notes = note;
 	frame->last_note = note;
+	frame->memory += sizeof *note;
 }
 
 static int is_whole(const struct entry *entry, u64 consumed)
@@ -160,16 +150,27 @@ static void write_head(const struct frame *frame, u64 consumed, u64 attached)
 	parts_add(frame->commands, consumed);
 }
 
-static void write_entries(const struct frame *frame, u64 consumed)
+static void write_entries(struct frame *frame, u64 consumed)
 {
-	for (const struct entry *entry = frame->entries; entry; entry = entry->next) {
+	for (struct entry *entry = frame->entries; entry; entry = entry->next) {
 		if (!is_whole(entry, consumed) || !fits_record(frame, entry))
 			continue;
 		u32 head[3] = { entry->record, entry->data, entry->offsets };
+		redact(frame, entry);
 		parts_add(head, sizeof head);
 		parts_add(entry->bytes, entry->got);
 		entries_written++;
 	}
+}
+
+/* From this record on none has an entry: the call's bound was reached. */
+static void write_left_out(const struct frame *frame, u32 record, u64 consumed)
+{
+	u64 count = records_with_data(frame->commands + record, consumed - record);
+	entries_left_out += count;
+	if (count)
+		side_line(frame->time, "unattached %llu from=%u count=%llu why=%s", (unsigned long long)frame->number, record,
+			  (unsigned long long)count, reason_word(REASON_TOO_MANY));
 }
 
 static void write_lines(const struct frame *frame, u64 consumed, int attachments_left_out)
@@ -181,7 +182,9 @@ static void write_lines(const struct frame *frame, u64 consumed, int attachments
 	for (const struct note *note = frame->notes; note; note = note->next) {
 		if (note->record >= consumed)
 			continue;
-		if (note->reason)
+		if (note->reason == REASON_TOO_MANY)
+			write_left_out(frame, note->record, consumed);
+		else if (note->reason)
 			side_line(frame->time, "unattached %llu at=%u why=%s", number, note->record, reason_word(note->reason));
 		else
 			side_line(frame->time, "late %llu at=%u", number, note->record);
@@ -207,5 +210,6 @@ enum reason frame_write(struct frame *frame, u64 consumed)
 	if (attached)
 		write_entries(frame, consumed);
 	write_lines(frame, consumed, left_out);
+	met_frame(frame, consumed);
 	return REASON_NONE;
 }

@@ -28,7 +28,7 @@ struct frame {
 	u32 expected;			/* where the next chunk begins */
 	int is_broken;			/* a chunk is missing */
 	int is_late;			/* the commands were read late */
-	struct entry *entries;		/* in the order of their records */
+	struct entry *entries, *last_entry;	/* in the order of their records */
 	struct note *notes, *last_note;
 	u64 memory;
 };
@@ -44,4 +44,6 @@ void frame_add_note(struct frame *frame, u32 record, u32 reason);
 enum reason frame_write(struct frame *frame, u64 consumed);
 /* How many entries were written in all frames. */
 u64 frame_entries_written(void);
+/* How many more there would be without the bound on what a call may attach. */
+u64 frame_entries_left_out(void);
 #endif

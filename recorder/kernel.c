@@ -1,4 +1,5 @@
 #include "kernel.h"
+#include "devices.h"
 #include "messages.h"
 #include "names.h"
 #include "needs.h"
@@ -8,6 +9,7 @@
 #include <errno.h>
 #include <stdio.h>
 #include <string.h>
+#include <sys/wait.h>
 #include <unistd.h>
 #include "record.skel.h"
 
@@ -35,11 +37,24 @@ static void fail_to_load(const char *what, int error)
 	fail("the kernel could not %s: %s (%s)", what, strerror(error), last_words);
 }
 
+/* Before 6.1 a kernel warns of tables that take memory in such a program: there they take all of it beforehand. */
+static void set_up_tables(void)
+{
+	struct bpf_map *map;
+	if (!kernel_is_before(6, 1))
+		return;
+	bpf_object__for_each_map(map, program->obj)
+		if (bpf_map__type(map) == BPF_MAP_TYPE_HASH)
+			bpf_map__set_map_flags(map, bpf_map__map_flags(map) & ~(u32)BPF_F_NO_PREALLOC);
+}
+
 static void set_up(const struct options *options)
 {
+	set_up_tables();
 	bpf_program__set_autoattach(program->progs.at_open, false);
 	bpf_program__set_autoattach(program->progs.at_release, false);
 	bpf_program__set_autoattach(program->progs.meet_openings, false);
+	bpf_program__set_autoattach(program->progs.look_at_preemption, false);
 	bpf_map__set_max_entries(program->maps.ring, (u32)options->ring);
 	bpf_map__set_max_entries(program->maps.scratches, (u32)libbpf_num_possible_cpus());
 	program->rodata->ring_limit = options->ring / 16 * 15;
@@ -61,6 +76,25 @@ static void name_wanted(const struct options *options)
 	}
 }
 
+/* The programs share one memory for each processor: two that run by turns there would mix their bytes. */
+static void need_processor_kept(void)
+{
+	if (bpf_program__fd(program->progs.look_at_preemption) < 0) {
+		need_no_preemption(PREEMPTION_UNKNOWN);
+		return;
+	}
+	struct bpf_link *link = bpf_program__attach(program->progs.look_at_preemption);
+	if (!link)
+		fail_to_load("attach the recorder's program", errno);
+	pid_t child = fork();
+	if (child == 0)
+		_exit(0);
+	if (child < 0 || waitpid(child, NULL, 0) != child)
+		fail("no process could be made: %s", strerror(errno));
+	bpf_link__destroy(link);
+	need_no_preemption(program->bss->preemption);
+}
+
 /* Without these two the beginnings and ends of openings are not seen; everything else is. */
 static void attach_probes(void)
 {
@@ -70,19 +104,33 @@ static void attach_probes(void)
 		complain("no kprobes: the beginnings and ends of openings are not recorded");
 }
 
+/* Returns 0, or an error. */
+static int load(const struct options *options, int looks_at_preemption)
+{
+	last_words[0] = 0;
+	program = record__open();
+	if (!program)
+		fail_to_load("open the recorder's program", errno);
+	set_up(options);
+	bpf_program__set_autoload(program->progs.look_at_preemption, looks_at_preemption);
+	int error = record__load(program);
+	if (error)
+		record__destroy(program);
+	return error;
+}
+
 void kernel_load(const struct options *options, struct ring *ring)
 {
 	libbpf_set_print(keep_words);
 	if (libbpf_num_possible_cpus() > (int)MOST_CPUS)
 		fail("the recorder is made for at most %u processors", MOST_CPUS);
-	program = record__open();
-	if (!program)
-		fail_to_load("open the recorder's program", errno);
-	set_up(options);
-	int error = record__load(program);
+	int error = load(options, 1);
+	if (error)		/* perhaps kallsyms has no variables, and so not the count of preemption */
+		error = load(options, 0);
 	if (error)
 		fail_to_load("load the recorder's program", error);
 	name_wanted(options);
+	need_processor_kept();
 	attach_probes();
 	error = record__attach(program);
 	if (error == -ENOENT)
@@ -94,14 +142,23 @@ void kernel_load(const struct options *options, struct ring *ring)
 		fail_to_load("map the ring", error);
 }
 
+static void add_device(u32 device)
+{
+	u32 one = 1;
+	bpf_map__update_elem(program->maps.driver_devices, &device, sizeof device, &one, sizeof one, BPF_ANY);
+}
+
 void kernel_meet_openings(void)
 {
+	devices_made_by_driver(add_device);
 	struct bpf_link *link = bpf_program__attach(program->progs.meet_openings);
 	int descriptor = link ? bpf_iter_create(bpf_link__fd(link)) : -1;
 	struct met_opening met;
 	ssize_t bytes = 0;
-	while (descriptor >= 0 && (bytes = read(descriptor, &met, sizeof met)) == (ssize_t)sizeof met)
+	while (descriptor >= 0 && (bytes = read(descriptor, &met, sizeof met)) == (ssize_t)sizeof met) {
 		names_opening(met.opening, now(), (u32)met.device, (u32)met.process, met.start, met.name, MET_IN_MID_LIFE);
+		names_space(met.opening, met.space, met.id_there);
+	}
 	if (descriptor < 0 || bytes < 0)
 		complain("the openings that exist already could not be looked up: each is met at its first call");
 	if (descriptor >= 0)
@@ -154,6 +211,7 @@ u64 kernel_calls_without_number(void)
 	return program->bss->calls_without_room + program->bss->calls_without_file;
 }
 
+/* Kernels before 6.7 do not count what they miss at tracepoints: calls of which only a part was seen show it too. */
 u64 kernel_runs_missed(void)
 {
 	struct bpf_program *each;
@@ -164,7 +222,7 @@ u64 kernel_runs_missed(void)
 		if (bpf_program__fd(each) >= 0 && !bpf_obj_get_info_by_fd(bpf_program__fd(each), &info, &length))
 			missed += info.recursion_misses;
 	}
-	return missed;
+	return missed > program->bss->half_calls ? missed : program->bss->half_calls;
 }
 
 void kernel_unload(void)

@@ -1,17 +1,21 @@
 /* Records the Binder traffic of a system into a capture and a side list. docs/RECORDER.md says how and why. */
+#include "begin.h"
 #include "common.h"
 #include "frame.h"
 #include "kernel.h"
+#include "met.h"
+#include "missed.h"
+#include "names.h"
 #include "needs.h"
 #include "options.h"
 #include "parts.h"
 #include "program.h"
+#include "redact.h"
 #include "side.h"
 #include "window.h"
 #include <signal.h>
 #include <stdio.h>
 #include <string.h>
-#include <sys/utsname.h>
 #include <time.h>
 #include <unistd.h>
 
@@ -45,34 +49,17 @@ static void pause_for(u64 nanoseconds)
 	nanosleep(&time, NULL);
 }
 
-/* Writes the line of the side list that says that the recording has begun. */
-static void tell_begin(void)
-{
-	struct utsname name;
-	struct timespec wall;
-	uname(&name);
-	clock_gettime(CLOCK_REALTIME, &wall);
-	side_line(now(), "begin realtime=%lld%09ld kernel=%s machine=%s", (long long)wall.tv_sec, wall.tv_nsec, name.release, name.machine);
-}
-
 /* Creates the files, or ends; then no file is left. */
 static void create_files(const struct options *options)
 {
-	int error = side_create(options->out);
+	int error = parts_begin(options->out, options->size, options->files);
 	if (error)
-		fail("%s.side: %s", options->out, strerror(error));
-	side_text("binder side list 1\n");
-	side_line(now(), "file 1");
-	error = side_flush();
-	if (error) {
-		side_remove();
-		fail("%s.side: %s", options->out, strerror(error));
-	}
-	error = parts_begin(options->out, options->size);
-	if (error) {
-		side_remove();
 		parts_remove();
-		fail("%s-1.cap: %s", options->out, strerror(error));
+	if (error)
+		fail("%s: %s", parts_path(), strerror(error));
+	if (options->files) {
+		names_keep_endings();
+		met_keep();
 	}
 }
 
@@ -83,6 +70,8 @@ static long take(struct ring *ring)
 	long count = ring_drain(ring, window_hear);
 	if (count >= 0)
 		window_silent_until(bound);
+	if (count)
+		missed_tell();
 	window_settle();
 	return count;
 }
@@ -102,6 +91,7 @@ static int record(struct ring *ring)
 		long count = take(ring);
 		u64 time = now();
 		if (time - flushed >= FLUSH_EVERY) {
+			missed_tell();
 			error = parts_flush();
 			flushed = time;
 		}
@@ -122,18 +112,19 @@ static int record(struct ring *ring)
 /* Takes what still comes, from calls that are in the driver. */
 static void finish(struct ring *ring)
 {
-	u64 began = now();
 	kernel_stop();
-	for (int round = 0; now() - began < LAST_WAIT && (round < 3 || window_waiting()); round++) {
+	u64 stopped = now();
+	for (int round = 0; now() - stopped < LAST_WAIT && (round < 3 || window_waiting()); round++) {
 		take(ring);
 		pause_for(LOOK_EVERY);
 	}
 	kernel_detach();
 	pause_for(10 * LOOK_EVERY);
-	while (take(ring) > 0 || (kernel_bound() < kernel_last_number() && now() - began < 2 * LAST_WAIT))
+	while (take(ring) > 0 || (kernel_bound() < kernel_last_number() && now() - stopped < 2 * LAST_WAIT))
 		pause_for(LOOK_EVERY);
+	missed_tell();
 	window_end(kernel_last_number());
-	side_line(now(), "end recording after=%llu frames=%llu lost=%llu", (unsigned long long)window_last(),
+	side_line(stopped, "end recording after=%llu frames=%llu lost=%llu", (unsigned long long)window_last(),
 		  (unsigned long long)window_frames(), (unsigned long long)window_lost());
 }
 
@@ -165,11 +156,14 @@ static void tell_end(const char *audit)
 	char text[1000];
 	snprintf(text, sizeof text, "%llu frames, %llu lost", (unsigned long long)parts_frames(), (unsigned long long)window_lost());
 	add_reasons(text, sizeof text);
-	add_count(text, sizeof text, "calls without a number", kernel_calls_without_number());
-	add_count(text, sizeof text, "events missed", kernel_runs_missed());
-	add_count(text, sizeof text, "calls of 32-bit programs, not recorded", kernel_calls_32_bit());
+	add_count(text, sizeof text, "calls without a number", missed_count(MISSED_NUMBERS));
+	add_count(text, sizeof text, "events missed", missed_count(MISSED_EVENTS));
+	add_count(text, sizeof text, "attachments left out", frame_entries_left_out());
+	add_count(text, sizeof text, "calls of 32-bit programs, not recorded", missed_count(MISSED_32_BIT));
 	parts_commands(audit, commands, sizeof commands);
-	fprintf(stderr, "record: %s; %u file%s, %llu bytes; next: %s\n", text, parts_count(), parts_count() == 1 ? "" : "s",
+	if (parts_kept() < parts_count())
+		add_count(text, sizeof text, "files removed", parts_count() - parts_kept());
+	fprintf(stderr, "record: %s; %u file%s, %llu bytes; next: %s\n", text, parts_kept(), parts_kept() == 1 ? "" : "s",
 		(unsigned long long)parts_bytes(), commands);
 }
 
@@ -206,21 +200,25 @@ int main(int count, char **words)
 	need_kernel();
 	need_no_lockdown();
 	need_driver();
+	need_tracepoints();
 	program_keep_signals();
 	catch_signals();
 	kernel_load(&options, &ring);
 	if (signal_got)
 		fail("a signal came before the recording began");
+	redact_begin(options.redact);
 	create_files(&options);
 	kernel_meet_openings();
 	if (options.program)
 		program_prepare(options.program);
+	missed_begin();
 	kernel_start();
-	tell_begin();
+	begin_tell(options.no_attachments ? "none" : options.redact ? "redacted" : "whole");
 	side_flush();
 	program_go();
 	int error = record(&ring);
 	finish(&ring);
+	redact_end();
 	int end_error = parts_end();
 	error = error ? error : end_error;
 	if (error)

@@ -3,8 +3,12 @@
 #define RECORDER_MESSAGES_H
 
 #define CHUNK 32768u		/* the most command bytes of a chunk, and the most bytes of a piece of an attachment */
-#define MOST_CHUNKS 256u	/* the most chunks of a frame: 8 MiB of commands */
-#define MOST_ATTACHED (8u << 20)	/* the most bytes of an attachment's data, and of its offsets */
+#define MOST_COMMANDS (4u << 20)	/* the most bytes of a write's commands */
+#define MOST_RETURNS (1u << 20)	/* the most bytes of a read's */
+#define MOST_CHUNKS 128u	/* the most chunks of a read: each has at least half its bytes */
+#define MOST_ATTACHMENTS 64u	/* the most attachments of a call */
+#define MOST_ATTACHED (4u << 20)	/* the most bytes of a call's attachments */
+#define FIRST_BYTES 65536u	/* so many bytes of a call may use the whole ring */
 #define MOST_CPUS 512u
 #define NAME_BYTES 16u
 
@@ -13,18 +17,18 @@
 #define BEYOND_END 76u
 
 enum message_type {
-	MESSAGE_CHUNK = 1,	/* commands of a frame with their whole entries; a write waits for MESSAGE_WRITTEN */
-	MESSAGE_PIECE,		/* bytes of a large attachment */
-	MESSAGE_WRITTEN,	/* the driver has finished a write, and consumed `a` of its bytes */
-	MESSAGE_LOST,		/* the number goes unused, for reason `a` */
-	MESSAGE_UNATTACHED,	/* the record at `b` of the frame has no entry, for reason `a` */
-	MESSAGE_LATE,		/* the entry of the record at `b` was read after the driver had taken it */
-	MESSAGE_OPENING,	/* an opening: device `a`, process `b`, start of the process `c`, name of the process */
+	MESSAGE_CHUNK = 1,	/* commands of a frame; a write waits for MESSAGE_WRITTEN */
+	MESSAGE_PIECE,		/* bytes of an attachment */
+	MESSAGE_WRITTEN,	/* the driver has finished a write */
+	MESSAGE_LOST,		/* the number goes unused */
+	MESSAGE_UNATTACHED,	/* a record of the frame has no entry */
+	MESSAGE_LATE,		/* the entry of a record was read after the driver had taken it */
+	MESSAGE_OPENING,	/* an opening, and the name of its process */
 	MESSAGE_CLOSED,		/* an opening ended */
-	MESSAGE_THREAD,		/* a thread: thread `a`, process `b`, start of the thread `c`, name of the thread */
-	MESSAGE_NAME,		/* a thread has another name: thread `a`, process `b` */
+	MESSAGE_THREAD,		/* a thread, and its name */
+	MESSAGE_NAME,		/* a thread has another name */
 	MESSAGE_LEFT,		/* a thread left by BINDER_THREAD_EXIT */
-	MESSAGE_ENDED,		/* a thread ended: thread `a`, process `b`; `c` is 1 where its process ended too */
+	MESSAGE_ENDED,		/* a thread ended */
 };
 
 /* Why a number goes unused, or a record has no entry. `reasons` in side.c has their words. */
@@ -32,6 +36,7 @@ enum reason {
 	REASON_NONE,
 	REASON_CALL_UNREADABLE,	/* the binder_write_read could not be read at entry */
 	REASON_TOO_LARGE,
+	REASON_TOO_MANY,	/* of this record and all later ones: the call's bound on attachments was reached */
 	REASON_UNREADABLE,	/* the commands or the data could not be read */
 	REASON_RING_FULL,
 	REASON_EFAULT,		/* it is not known what the driver consumed */
@@ -44,6 +49,9 @@ enum reason {
 	REASON_END,
 };
 
+/* Whether one of the recorder's programs in the kernel keeps its processor until its end. */
+enum preemption { PREEMPTION_NOT_SEEN, PREEMPTION_UNKNOWN, PREEMPTION_IS_ON, PREEMPTION_IS_OFF };
+
 enum direction { DIRECTION_WRITE = 1, DIRECTION_READ = 2 };
 
 struct message {
@@ -55,10 +63,10 @@ struct message {
 
 struct chunk {
 	struct message head;
-	unsigned int commands, entries;	/* how many bytes of both follow, in this order */
-	unsigned int base;		/* where the commands begin in the frame */
-	unsigned int next;		/* where the next chunk begins; 0 if this is the last one */
-	unsigned int late, unused;	/* late: 1 if read after the driver took them; earlier chunks are void then */
+	unsigned int commands;		/* how many bytes follow */
+	unsigned int base;		/* where they begin in the frame */
+	unsigned int next;		/* where the next chunk begins; 0 if this is the last one of a read */
+	unsigned int late;		/* 1 if some were read after the driver took them */
 };
 
 struct piece {
@@ -71,14 +79,24 @@ struct piece {
 
 struct event {
 	struct message head;
-	unsigned long long a, b, c;
+	union {
+		unsigned long long words[3];	/* how the BPF program fills in any of these */
+		struct { unsigned long long consumed; } written;		/* how many bytes of the write */
+		struct { unsigned long long reason; } lost;
+		struct { unsigned long long reason, record; } note;		/* of MESSAGE_UNATTACHED and MESSAGE_LATE */
+		struct { unsigned int device, space, process, id_there; unsigned long long start; } opening;	/* space: the
+			 * namespace of its ids, and its id there; 0 in the first one; start: of the process */
+		struct { unsigned int id, bits, process, unused; unsigned long long start; } thread;	/* bits of its calls, 32
+			 * or 64; also of MESSAGE_NAME, without bits and start */
+		struct { unsigned long long id, process, is_last; } ended;	/* is_last: its process ended too */
+	};
 	char name[NAME_BYTES];
 };
 
 /* What the iterator over open files writes: an opening from before the recording. */
 struct met_opening {
 	unsigned long long process, device, start;
-	unsigned int opening, unused;
+	unsigned int opening, space, id_there, unused;
 	char name[NAME_BYTES];
 };
 #endif

@@ -1,5 +1,6 @@
 #include "names.h"
 #include "devices.h"
+#include "met.h"
 #include "side.h"
 #include "table.h"
 #include <stdio.h>
@@ -11,18 +12,27 @@
 
 struct known_opening {
 	u32 system_device, process_id;
+	u32 space, id_there;		/* the namespace of its ids, if it is not the first one, and its id there */
 	u64 start;
 	enum met met;
-	int known, numbered;
+	int known, numbered, closed;
 	u32 device, process;
+	u64 told;			/* when it was met, or numbered */
+	u64 after;			/* if it is closed: the last number before that */
 	char name[NAME_BYTES];
 };
 
 struct known_thread {
-	u32 id, process_id;
+	u32 id, process_id, bits;
 	u64 start;
 	char name[NAME_BYTES];
 	u32 *openings, opening_count;	/* the openings for which it has a number */
+};
+
+/* The number of a thread that has ended, of which a frame may still come. */
+struct ending {
+	u32 opening, thread, number;
+	u64 after;
 };
 
 static struct known_opening *openings;
@@ -33,6 +43,9 @@ static u32 next_own_number = FIRST_OWN_NUMBER;
 static struct table process_numbers;	/* by device and number: 1 if the number is used */
 static struct table thread_numbers;	/* by device, process and number: 1 if the number is used */
 static struct table threads_of;		/* by opening and thread: the number in the capture, plus 1 */
+static struct ending *endings;		/* only if they are asked for */
+static u32 ending_count, ending_room;
+static int keeps_endings;
 
 static struct known_opening *opening_of(u32 opening)
 {
@@ -56,6 +69,14 @@ static struct known_thread *thread_of(u32 thread)
 	return threads + thread;
 }
 
+static void tell_met(u32 opening, u64 time)
+{
+	const struct known_opening *o = opening_of(opening);
+	char clean[CLEAN_NAME_BYTES];
+	clean_name(clean, o->name, NAME_BYTES);
+	side_line(time, "met opening=%u pid=%u name=%s", opening, o->process_id, clean);
+}
+
 void names_opening(u32 opening, u64 time, u32 device, u32 process, u64 start, const char *name, enum met met)
 {
 	struct known_opening *o = opening_of(opening);
@@ -64,12 +85,17 @@ void names_opening(u32 opening, u64 time, u32 device, u32 process, u64 start, co
 	o->start = start;
 	o->met = met;
 	o->known = 1;
+	o->told = time;
 	memcpy(o->name, name, NAME_BYTES);
-	if (met == MET_IN_MID_LIFE) {
-		char clean[CLEAN_NAME_BYTES];
-		clean_name(clean, name, NAME_BYTES);
-		side_line(time, "met opening=%u pid=%u name=%s", opening, process, clean);
-	}
+	if (met == MET_IN_MID_LIFE)
+		tell_met(opening, time);
+}
+
+void names_space(u32 opening, u32 space, u32 id_there)
+{
+	struct known_opening *o = opening_of(opening);
+	o->space = space;
+	o->id_there = id_there;
 }
 
 void names_thread(u32 thread, u32 id, u32 process, u64 start, const char *name)
@@ -81,20 +107,32 @@ void names_thread(u32 thread, u32 id, u32 process, u64 start, const char *name)
 	memcpy(t->name, name, NAME_BYTES);
 }
 
+static void tell_device(u32 device, u64 time)
+{
+	char name[CLEAN_NAME_BYTES];
+	device_name(devices[device], name);
+	side_line(time, "device %u major=%u minor=%u name=%s", device, device_major(devices[device]), device_minor(devices[device]),
+		  name);
+}
+
+void names_bits(u32 thread, u32 bits)
+{
+	thread_of(thread)->bits = bits;
+}
+
 static u32 device_number(u32 system_device, u64 time)
 {
 	for (u32 i = 0; i < device_count; i++)
 		if (devices[i] == system_device)
 			return i;
-	char name[CLEAN_NAME_BYTES];
-	device_name(system_device, name);
 	devices = resize(devices, (device_count + 1) * sizeof *devices);
 	devices[device_count] = system_device;
-	side_line(time, "device %u major=%u minor=%u name=%s", device_count, device_major(system_device), device_minor(system_device), name);
+	tell_device(device_count, time);
 	return device_count++;
 }
 
-/* The wanted number if it means nothing else yet, or one of the recorder's own. */
+/* The wanted number if it means nothing else yet, or one of the recorder's own. A process with ids of its own namespace
+ * gets such a one: the driver tells others its id there, which means another process here. */
 static u32 free_number(struct table *used, u64 key, u32 wanted, int is_usable)
 {
 	u64 *taken = table_make(used, key, wanted);
@@ -103,18 +141,27 @@ static u32 free_number(struct table *used, u64 key, u32 wanted, int is_usable)
 	return number;
 }
 
+static void tell_process(u32 opening, const char *met)
+{
+	const struct known_opening *o = opening_of(opening);
+	char clean[CLEAN_NAME_BYTES], space[64] = "";
+	clean_name(clean, o->name, NAME_BYTES);
+	if (o->space)
+		snprintf(space, sizeof space, " pidns=%u nspid=%u", o->space, o->id_there);
+	side_line(o->told, "process %u %u pid=%u start=%llu opening=%u met=%s%s name=%s", o->device, o->process, o->process_id,
+		  (unsigned long long)o->start, opening, met, space, clean);
+}
+
 static struct known_opening *numbered(u32 opening, u64 time)
 {
 	struct known_opening *o = opening_of(opening);
 	if (o->numbered)
 		return o;
-	char clean[CLEAN_NAME_BYTES];
 	o->numbered = 1;
+	o->told = time;
 	o->device = device_number(o->system_device, time);
-	o->process = free_number(&process_numbers, o->device, o->process_id, o->known);
-	clean_name(clean, o->name, NAME_BYTES);
-	side_line(time, "process %u %u pid=%u start=%llu opening=%u met=%s name=%s", o->device, o->process, o->process_id,
-		  (unsigned long long)o->start, opening, o->met == MET_FROM_START ? "from-start" : "in-mid-life", clean);
+	o->process = free_number(&process_numbers, o->device, o->process_id, o->known && !o->space);
+	tell_process(opening, o->met == MET_FROM_START ? "from-start" : "in-mid-life");
 	return o;
 }
 
@@ -122,6 +169,16 @@ static void remember_opening(struct known_thread *t, u32 opening)
 {
 	t->openings = resize(t->openings, (t->opening_count + 1) * sizeof *t->openings);
 	t->openings[t->opening_count++] = opening;
+}
+
+static void tell_thread(u32 opening, u32 thread, u32 number, u64 time)
+{
+	const struct known_opening *o = opening_of(opening);
+	const struct known_thread *t = thread_of(thread);
+	char clean[CLEAN_NAME_BYTES];
+	clean_name(clean, t->name, NAME_BYTES);
+	side_line(time, "thread %u %u %u pid=%u tid=%u start=%llu%s name=%s", o->device, o->process, number, t->process_id, t->id,
+		  (unsigned long long)t->start, t->bits == 32 ? " bits=32" : "", clean);
 }
 
 struct who names_of(u32 opening, u32 thread, u64 time)
@@ -134,18 +191,28 @@ struct who names_of(u32 opening, u32 thread, u64 time)
 	u32 number = free_number(&thread_numbers, (u64)o->device << 32 | o->process, t->id, t->id != 0);
 	*known = (u64)number + 1;
 	remember_opening(t, opening);
-	char clean[CLEAN_NAME_BYTES];
-	clean_name(clean, t->name, NAME_BYTES);
-	side_line(time, "thread %u %u %u pid=%u tid=%u start=%llu name=%s", o->device, o->process, number, t->process_id, t->id,
-		  (unsigned long long)t->start, clean);
+	tell_thread(opening, thread, number, time);
 	return (struct who){ o->device, o->process, number };
 }
 
 void names_closed(u32 opening, u64 time, u64 after)
 {
 	struct known_opening *o = opening_of(opening);
+	o->closed = 1;
+	o->after = after;
 	if (o->numbered)
 		later_line(time, after, "end opening %u %u after=%llu", o->device, o->process, (unsigned long long)after);
+}
+
+static void remember_ending(u32 opening, u32 thread, u32 number, u64 after)
+{
+	if (!keeps_endings)
+		return;
+	if (ending_count == ending_room) {
+		ending_room = (ending_room + 64) * 2;
+		endings = resize(endings, ending_room * sizeof *endings);
+	}
+	endings[ending_count++] = (struct ending){ opening, thread, number, after };
 }
 
 /* Ends the thread's number for the opening. The next call of the thread gets another number. */
@@ -157,6 +224,7 @@ static void end_number(u32 opening, u32 thread, u64 time, u64 after, const char 
 		return;
 	later_line(time, after, "end thread %u %u %u after=%llu why=%s", o->device, o->process, (u32)(*known - 1),
 		   (unsigned long long)after, why);
+	remember_ending(opening, thread, (u32)(*known - 1), after);
 	*known = 0;
 }
 
@@ -186,4 +254,62 @@ void names_changed(u32 thread, const char *name, u64 time, u64 after)
 	memcpy(t->name, name, NAME_BYTES);
 	clean_name(clean, name, NAME_BYTES);
 	later_line(time, after, "name pid=%u tid=%u after=%llu name=%s", t->process_id, t->id, (unsigned long long)after, clean);
+}
+
+void names_keep_endings(void)
+{
+	keeps_endings = 1;
+}
+
+/* Of what is closed no frame comes any more from this number on. */
+static void tell_opening_again(u32 opening, u64 number)
+{
+	struct known_opening *o = openings + opening;
+	if (o->closed && o->after < number) {
+		if (o->numbered)
+			met_process_ended(o->device, o->process);
+		o->known = o->numbered = 0;
+	}
+	if (o->numbered)
+		tell_process(opening, "before-file");
+	else if (o->known && o->met == MET_IN_MID_LIFE)
+		tell_met(opening, o->told);
+}
+
+static void tell_threads_again(u32 thread)
+{
+	const struct known_thread *t = threads + thread;
+	for (u32 i = 0; i < t->opening_count; i++) {
+		const u64 *known = table_find(&threads_of, t->openings[i], thread);
+		if (known && *known && opening_of(t->openings[i])->numbered)
+			tell_thread(t->openings[i], thread, (u32)(*known - 1), now());
+	}
+}
+
+/* Tells of threads that have ended while a frame may come from before that, and forgets the others. */
+static void tell_endings_again(u64 number)
+{
+	u32 kept = 0;
+	for (u32 i = 0; i < ending_count; i++) {
+		const struct ending ending = endings[i];
+		const struct known_opening *o = opening_of(ending.opening);
+		if (ending.after < number) {
+			met_thread_ended((struct who){ o->device, o->process, ending.number });
+			continue;
+		}
+		tell_thread(ending.opening, ending.thread, ending.number, now());
+		endings[kept++] = ending;
+	}
+	ending_count = kept;
+}
+
+void names_tell_again(u64 number)
+{
+	for (u32 device = 0; device < device_count; device++)
+		tell_device(device, now());
+	for (u32 opening = 0; opening < opening_room; opening++)
+		tell_opening_again(opening, number);
+	for (u32 thread = 0; thread < thread_room; thread++)
+		tell_threads_again(thread);
+	tell_endings_again(number);
 }

@@ -13,7 +13,11 @@ struct who {
 enum met { MET_FROM_START, MET_IN_MID_LIFE };
 
 void names_opening(u32 opening, u64 time, u32 device, u32 process, u64 start, const char *name, enum met met);
+/* The namespace of the ids of the opening's process, if it is not the first one, and its id there; otherwise 0. */
+void names_space(u32 opening, u32 space, u32 id_there);
 void names_thread(u32 thread, u32 id, u32 process, u64 start, const char *name);
+/* Whether the thread makes calls of 32 or 64 bits. */
+void names_bits(u32 thread, u32 bits);
 /* The numbers of a thread that calls through an opening. New numbers get their lines in the side list. */
 struct who names_of(u32 opening, u32 thread, u64 time);
 /* Something ended, or has another name; `after` is the last number before that. */
@@ -21,6 +25,10 @@ void names_closed(u32 opening, u64 time, u64 after);
 void names_left(u32 opening, u32 thread, u64 time, u64 after);
 void names_ended(u32 thread, u32 process, int is_last, u64 time, u64 after);
 void names_changed(u32 thread, const char *name, u64 time, u64 after);
+/* From now on, remembers what has ended until names_tell_again. */
+void names_keep_endings(void);
+/* Writes again what the numbers mean that may be in frames from this number on. */
+void names_tell_again(u64 number);
 /* A line about something that came after a number. It is written as soon as that number is settled. */
 void later_line(u64 time, u64 after, const char *format, ...) __attribute__((format(printf, 3, 4)));
 #endif

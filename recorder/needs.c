@@ -1,5 +1,6 @@
 #include "needs.h"
 #include "devices.h"
+#include <errno.h>
 #include <linux/capability.h>
 #include <stdio.h>
 #include <string.h>
@@ -25,14 +26,26 @@ void need_capabilities(void)
 	fail("root is needed, or the capabilities CAP_BPF and CAP_PERFMON");
 }
 
-void need_kernel(void)
+static struct utsname read_version(u32 *major, u32 *minor)
 {
 	struct utsname name;
-	unsigned major = 0, minor = 0;
-	if (uname(&name) || sscanf(name.release, "%u.%u", &major, &minor) != 2)
+	if (uname(&name) || sscanf(name.release, "%u.%u", major, minor) != 2)
 		fail("the version of the kernel could not be read");
-	if (major < 5 || (major == 5 && minor < 17))
-		fail("the kernel is %s, and 5.17 or a later one is needed", name.release);
+	return name;
+}
+
+int kernel_is_before(u32 major, u32 minor)
+{
+	u32 its_major, its_minor;
+	read_version(&its_major, &its_minor);
+	return its_major < major || (its_major == major && its_minor < minor);
+}
+
+void need_kernel(void)
+{
+	u32 major, minor;
+	if (kernel_is_before(5, 17))
+		fail("the kernel is %s, and 5.17 or a later one is needed", read_version(&major, &minor).release);
 	if (access("/sys/kernel/btf/vmlinux", R_OK))
 		fail("/sys/kernel/btf/vmlinux is not there: a kernel with CONFIG_DEBUG_INFO_BTF is needed, and sysfs");
 }
@@ -51,8 +64,84 @@ void need_no_lockdown(void)
 
 void need_driver(void)
 {
-	if (access("/sys/module/binder_linux", F_OK) && access("/sys/module/binder", F_OK))
+	int is_in_c = !access("/sys/module/binder_linux", F_OK) || !access("/sys/module/binder", F_OK);
+	int is_in_rust = !access("/sys/module/rust_binder", F_OK);
+	if (!is_in_c && is_in_rust)
+		fail("the kernel's Binder driver is the one in Rust, and only the one in C is recorded");
+	if (!is_in_c)
 		fail("%s", need_driver_words);
+	if (is_in_rust)
+		complain("the kernel has two Binder drivers: calls of the one in C are recorded, and those of the one in Rust are not");
+}
+
+/* What the programs in record.bpf.c read of each tracepoint, as its `format` file says where that is. */
+static const struct tracepoint {
+	const char *name, *fields[2];
+} tracepoints[] = {
+	{ "binder/binder_ioctl", { "unsigned int cmd;\toffset:8;\tsize:4;", "unsigned long arg;\toffset:16;\tsize:8;" } },
+	{ "binder/binder_command", { " cmd;\toffset:8;\tsize:4;", "" } },
+	{ "binder/binder_write_done", { "int ret;\toffset:8;\tsize:4;", "" } },
+	{ "binder/binder_ioctl_done", { "int ret;\toffset:8;\tsize:4;", "" } },
+	{ "sched/sched_process_exec", { "pid_t old_pid;\toffset:16;\tsize:4;", "" } },
+	{ "sched/sched_process_exit", { "", "" } },
+};
+
+/* libbpf attaches through the same of the two folders. */
+static const char *tracing_folder(void)
+{
+	return access("/sys/kernel/debug/tracing", F_OK) ? "/sys/kernel/tracing" : "/sys/kernel/debug/tracing";
+}
+
+static void need_tracepoint(const struct tracepoint *tracepoint)
+{
+	char path[160], text[4096];
+	snprintf(path, sizeof path, "%s/events/%s/format", tracing_folder(), tracepoint->name);
+	FILE *file = fopen(path, "r");
+	if (!file)
+		fail("%s: %s; the driver in C has this tracepoint", path, strerror(errno));
+	text[fread(text, 1, sizeof text - 1, file)] = 0;
+	fclose(file);
+	for (int i = 0; i < 2; i++)
+		if (!strstr(text, tracepoint->fields[i]))
+			fail("%s has other fields than the recorder knows: this kernel is not recorded", path);
+}
+
+void need_tracepoints(void)
+{
+	char path[80];
+	snprintf(path, sizeof path, "%s/events", tracing_folder());
+	if (access(path, R_OK | X_OK))
+		fail("%s cannot be read: it takes root, or a mount for this user; if it is not there: mount -t tracefs tracefs %s",
+		     path, tracing_folder());
+	for (size_t i = 0; i < sizeof tracepoints / sizeof *tracepoints; i++)
+		need_tracepoint(tracepoints + i);
+}
+
+/* Whether the kernel may take the processor from its own code; if that can't be read, it may. */
+static int may_preempt(void)
+{
+	char line[512];
+	int is_found = 0, is_read = 0;
+	FILE *file = fopen("/proc/kallsyms", "r");
+	while (file && !is_found && fgets(line, sizeof line, file)) {
+		is_read = 1;
+		is_found = strstr(line, " preempt_schedule\n") != NULL;
+	}
+	if (file)
+		fclose(file);
+	return is_found || !is_read;
+}
+
+void need_no_preemption(enum preemption preemption)
+{
+	if (preemption == PREEMPTION_IS_OFF || !may_preempt())
+		return;
+	if (preemption == PREEMPTION_UNKNOWN && kernel_is_before(7, 3))	/* up to 7.2 tracepoints turn it off */
+		return;
+	if (preemption == PREEMPTION_NOT_SEEN)
+		fail("the kernel does not run the recorder's programs at its tracepoints: it is not recorded");
+	fail("this kernel %s its processor from the recorder's programs, which would mix the bytes of calls: it is not recorded",
+	     preemption == PREEMPTION_IS_ON ? "may take" : "does not tell whether it takes");
 }
 
 void need_process(u32 process)

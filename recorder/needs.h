@@ -2,13 +2,19 @@
 #ifndef RECORDER_NEEDS_H
 #define RECORDER_NEEDS_H
 #include "common.h"
+#include "messages.h"
 
 extern const char need_driver_words[];
 
 void need_capabilities(void);
 void need_kernel(void);
+int kernel_is_before(u32 major, u32 minor);
 void need_no_lockdown(void);
 void need_driver(void);
+/* The tracepoints can be attached to, and have the fields that record.bpf.c reads. */
+void need_tracepoints(void);
+/* No other program gets the processor while one of the recorder's programs runs. */
+void need_no_preemption(enum preemption preemption);
 void need_process(u32 process);
 /* The number of the Binder device, as the kernel keeps it. */
 u32 need_device(const char *name);

@@ -9,9 +9,12 @@
 #define SMALLEST_FILE 65536u
 #define SMALLEST_RING 65536u
 #define LARGEST_RING (1u << 30)
+#define FEWEST_FILES 2u		/* the newest one may just have begun */
+#define MOST_FILES 65536u
 
 static const char usage[] =
-	"record [-o OUT] [--size BYTES] [--pid PID].. [--device NAME].. [--no-attachments] [-- PROGRAM ARGUMENT...]";
+	"record [-o OUT] [--size BYTES] [--files N] [--pid PID].. [--device NAME].. [--redact]"
+	" [--no-attachments] [-- PROGRAM ARGUMENT...]";
 
 static const char help[] =
 	"Records the Binder traffic of the whole system until PROGRAM ends, or until SIGINT or SIGTERM, into\n"
@@ -19,8 +22,10 @@ static const char help[] =
 	"\n"
 	"-o OUT             the start of the files' names; by default `capture`\n"
 	"--size BYTES       the most bytes of a file, 65536 to 1073741824; by default 268435456\n"
+	"--files N          keeps only the newest N files, 2 to 65536, each with a side list of its own, OUT-1.side and so on\n"
 	"--pid PID          records only the openings of this process; may be given several times\n"
 	"--device NAME      records only this device, for example binder or /dev/binder; may be given several times\n"
+	"--redact           replaces what is secret in the data of transactions and replies by bytes that tell nothing of it\n"
 	"--no-attachments   leaves out the data of transactions and replies\n"
 	"--ring BYTES       the size of the buffer between kernel and recorder, a power of two; by default 67108864\n"
 	"\n"
@@ -55,8 +60,10 @@ static void take(struct options *options, int letter)
 	switch (letter) {
 	case 'o': options->out = optarg; break;
 	case 's': options->size = number("--size", optarg, SMALLEST_FILE, MOST_TOGETHER); break;
+	case 'f': options->files = (u32)number("--files", optarg, FEWEST_FILES, MOST_FILES); break;
 	case 'p': add_process(options, optarg); break;
 	case 'd': add_device(options, optarg); break;
+	case 'x': options->redact = 1; break;
 	case 'a': options->no_attachments = 1; break;
 	case 'r': options->ring = number("--ring", optarg, SMALLEST_RING, LARGEST_RING); break;
 	case 'h': printf("%s\n\n%s", usage, help); exit(0);
@@ -68,8 +75,9 @@ void options_read(struct options *options, int count, char **words)
 {
 	static const struct option names[] = {
 		{ "out", required_argument, NULL, 'o' }, { "size", required_argument, NULL, 's' },
+		{ "files", required_argument, NULL, 'f' },
 		{ "pid", required_argument, NULL, 'p' }, { "device", required_argument, NULL, 'd' },
-		{ "no-attachments", no_argument, NULL, 'a' }, { "ring", required_argument, NULL, 'r' },
+		{ "redact", no_argument, NULL, 'x' }, { "no-attachments", no_argument, NULL, 'a' }, { "ring", required_argument, NULL, 'r' },
 		{ "help", no_argument, NULL, 'h' }, { NULL, 0, NULL, 0 },
 	};
 	*options = (struct options){ .out = "capture", .size = 268435456, .ring = 67108864 };

@@ -8,11 +8,12 @@
 struct options {
 	const char *out;
 	u64 size;			/* the most bytes of a file */
+	u32 files;			/* how many of the newest files are kept; 0: all */
 	u64 ring;			/* bytes */
 	u32 processes[MOST_NAMED], process_count;
 	const char *devices[MOST_NAMED];
 	u32 device_count;
-	int no_attachments;
+	int redact, no_attachments;
 	char **program;			/* NULL if there is none */
 };
 

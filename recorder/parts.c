@@ -1,29 +1,34 @@
 #define _GNU_SOURCE
 #include "parts.h"
+#include "begin.h"
 #include "file.h"
 #include "side.h"
+#include <errno.h>
 #include <glob.h>
 #include <stdio.h>
 #include <stdlib.h>
 #include <string.h>
+#include <sys/stat.h>
+#include <unistd.h>
 
 static struct file part;
 static const char *prefix;
 static u64 most_bytes, bytes_before;
 static u64 *sizes;		/* of the closed files; at the end also of the last one */
-static u32 count;
-static int first_error;
+static u32 count, first = 1;	/* the files from number `first` to number `count` are kept */
+static u32 most_files;		/* 0: all are kept, and have one side list */
+static int first_error, side_failed;	/* side_failed: that was an error of the side list */
 static u64 frames_added, last_added, frames_whole, last_whole;
 
 #define FLUSH_BYTES 65536u
 #define LONGEST_PATH 4096u
 
-/* Whether the path is the prefix, a dash, digits and .cap. */
+/* Whether the path is the prefix, a dash, digits and .cap or .side. */
 static int is_part(const char *path)
 {
 	const char *digits = path + strlen(prefix) + 1;
 	size_t length = strspn(digits, "0123456789");
-	return length && !strcmp(digits + length, ".cap");
+	return length && (!strcmp(digits + length, ".cap") || !strcmp(digits + length, ".side"));
 }
 
 static const char *find_part(const char *out)
@@ -35,7 +40,7 @@ static const char *find_part(const char *out)
 			*to++ = '\\';
 		*to++ = *from;
 	}
-	strcpy(to, "-*.cap");
+	strcpy(to, "-*");
 	glob_t all;
 	prefix = out;
 	found[0] = 0;
@@ -51,15 +56,12 @@ static const char *find_part(const char *out)
 const char *parts_in_the_way(const char *out)
 {
 	static char side[4200];
+	struct stat status;
 	const char *found = find_part(out);
 	if (found)
 		return found;
 	snprintf(side, sizeof side, "%s.side", out);
-	FILE *file = fopen(side, "r");
-	if (!file)
-		return NULL;
-	fclose(file);
-	return side;
+	return lstat(side, &status) ? NULL : side;	/* not opened: that would wait for the other end of a FIFO */
 }
 
 static int create_next(void)
@@ -77,16 +79,23 @@ static int create_next(void)
 	return file_flush(&part);
 }
 
-int parts_begin(const char *out, u64 most)
+int parts_begin(const char *out, u64 most, u32 files)
 {
 	prefix = out;
 	most_bytes = most;
-	return create_next();
+	most_files = files;
+	int error = side_create(out, files ? 1 : 0);
+	side_line(now(), "file 1");
+	if (!error)
+		error = side_flush();
+	side_failed = error != 0;
+	return error ? error : create_next();
 }
 
 void parts_remove(void)
 {
 	file_remove(&part);
+	side_remove();
 }
 
 int parts_have_room(u64 bytes)
@@ -106,6 +115,7 @@ int parts_flush(void)
 	if (first_error)
 		return first_error;
 	first_error = side_flush();
+	side_failed = first_error != 0;
 	if (first_error)
 		file_drop(&part, first_error);
 	else
@@ -125,19 +135,64 @@ static void close_part(void)
 		first_error = error;
 }
 
-static void begin_next(u64 time)
+/* Removes a file of the recording. It may be gone already. Returns 0, or an errno. */
+static int remove_part(u32 number, const char *ending)
+{
+	char path[4200];
+	snprintf(path, sizeof path, "%s-%u.%s", prefix, number, ending);
+	return unlink(path) && errno != ENOENT ? errno : 0;
+}
+
+/* Makes room for one more file, of --files, by removing the oldest one and its side list. */
+static int remove_oldest(void)
+{
+	if (count - first + 1 < most_files)
+		return 0;
+	int error = remove_part(first, "cap");
+	int side_error = remove_part(first, "side");
+	bytes_before -= sizes[first - 1];
+	first++;
+	return error ? error : side_error;
+}
+
+/* Begins the side list of the next file, which begins with the frame of this number. */
+static int begin_side(u64 number)
+{
+	int error = remove_oldest();
+	if (!error)
+		error = side_close();
+	if (!error)
+		error = side_create(prefix, count + 1);
+	if (!error)
+		begin_tell_again(number);
+	return error;
+}
+
+static void begin_next(u64 number, u64 time)
 {
 	close_part();
+	if (first_error)
+		return;
+	if (most_files)
+		first_error = begin_side(number);
+	side_line(time, "file %u", count + 1);
+	if (!first_error)
+		first_error = side_flush();
+	side_failed = first_error != 0;
 	if (!first_error)
 		first_error = create_next();
-	if (!first_error)
-		side_line(time, "file %u", count);
+}
+
+/* Whether the file, or with --files its side list, is as long as it may be. */
+static int is_full(u64 bytes)
+{
+	return part.bytes + bytes > most_bytes || (most_files && side_bytes() > most_bytes);
 }
 
 int parts_next_frame(u64 number, u64 time, u64 bytes)
 {
-	if (part.bytes + bytes > most_bytes && !first_error)
-		begin_next(time);
+	if (is_full(bytes) && !first_error)
+		begin_next(number, time);
 	else if (part.waiting_bytes >= FLUSH_BYTES)
 		parts_flush();
 	if (first_error)
@@ -172,7 +227,7 @@ u64 parts_last(void)
 
 const char *parts_path(void)
 {
-	return part.path;
+	return side_failed ? side_path() : part.path;
 }
 
 u64 parts_bytes(void)
@@ -183,6 +238,11 @@ u64 parts_bytes(void)
 u32 parts_count(void)
 {
 	return count;
+}
+
+u32 parts_kept(void)
+{
+	return count - first + 1;
 }
 
 /* Quotes the word for a shell. */
@@ -203,32 +263,32 @@ static void quote(char *to, u64 room, const char *word)
 	strcpy(to, "'");
 }
 
-static u64 add_command(char *text, u64 room, const char *audit, u32 first, u32 last)
+static u64 add_command(char *text, u64 room, const char *audit, u32 from, u32 to)
 {
 	static char program[4 * LONGEST_PATH], out[4 * LONGEST_PATH];
 	int length;
 	quote(program, sizeof program, audit);
 	quote(out, sizeof out, prefix);
-	if (first == last)
-		length = snprintf(text, room, "%s report %s-%u.cap", program, out, first);
+	if (from == to)
+		length = snprintf(text, room, "%s report %s-%u.cap", program, out, from);
 	else
-		length = snprintf(text, room, "%s report %s-{%u..%u}.cap", program, out, first, last);
+		length = snprintf(text, room, "%s report %s-{%u..%u}.cap", program, out, from, to);
 	return (u64)length < room ? (u64)length : room - 1;
 }
 
 void parts_commands(const char *audit, char *text, u64 room)
 {
 	u64 used = 0;
-	for (u32 first = 0, last; first < count; first = last) {
-		u64 together = sizes[first];
-		for (last = first + 1; last < count && last - first < MOST_FILES_TOGETHER && together + sizes[last] <= MOST_TOGETHER; last++)
-			together += sizes[last];
-		if (first && room - used < room / 4) {
+	for (u32 from = first - 1, to; from < count; from = to) {
+		u64 together = sizes[from];
+		for (to = from + 1; to < count && to - from < MOST_FILES_TOGETHER && together + sizes[to] <= MOST_TOGETHER; to++)
+			together += sizes[to];
+		if (used && room - used < room / 4) {
 			snprintf(text + used, room - used, "; and so on");
 			return;
 		}
-		if (first)
+		if (used)
 			used += (u64)snprintf(text + used, room - used, "; then ");
-		used += add_command(text + used, room - used, audit, first + 1, last);
+		used += add_command(text + used, room - used, audit, from + 1, to);
 	}
 }

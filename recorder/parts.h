@@ -1,4 +1,5 @@
-/* The capture, in files of a limited size: OUT-1.cap, OUT-2.cap and so on. Its form is in docs/ENVELOPE.md. */
+/* The capture, in files of a limited size: OUT-1.cap, OUT-2.cap and so on, with the side list OUT.side. Their forms are
+ * in docs/ENVELOPE.md and docs/RECORDER.md. With --files only the newest ones are kept, and each has a side list. */
 #ifndef RECORDER_PARTS_H
 #define RECORDER_PARTS_H
 #include "common.h"
@@ -9,8 +10,9 @@
 
 /* Returns the path of a file that exists already, or NULL. */
 const char *parts_in_the_way(const char *out);
-/* Creates OUT-1.cap. Returns 0, or an errno. */
-int parts_begin(const char *out, u64 most_bytes);
+/* Creates the side list and OUT-1.cap. `most_files` is 0 if all files are kept. Returns 0, or an errno. */
+int parts_begin(const char *out, u64 most_bytes, u32 most_files);
+/* Removes both, if they were created. */
 void parts_remove(void);
 /* Whether a frame of this many bytes fits into a file of the largest size. */
 int parts_have_room(u64 bytes);
@@ -22,13 +24,15 @@ void parts_add(const void *bytes, u64 count);
  * Returns 0, or the errno of the first failure; after a failure nothing more is written. */
 int parts_flush(void);
 int parts_end(void);
-/* The path of the capture that failed, or of the last one. */
+/* The path of the file that failed, or of the last capture. */
 const char *parts_path(void);
 /* How many frames are in the files for certain, and the number of the last one. */
 u64 parts_frames(void);
 u64 parts_last(void);
+/* How many bytes are in the files that are kept, how many files there were, and how many are kept. */
 u64 parts_bytes(void);
 u32 parts_count(void);
+u32 parts_kept(void);
 /* Writes into `text` the commands that audit the files, each with as many files as the auditor takes together. */
 void parts_commands(const char *audit, char *text, u64 room);
 #endif

@@ -3,11 +3,28 @@
 
 extern const void binder_fops __ksym __weak;
 
+/* The fields of the tracepoints that are read here. needs.c compares them with the `format` files of tracefs. */
+struct ioctl_fields { u64 common; u32 command, unused; u64 argument; };
+struct number_fields { u64 common; u32 number; };
+struct exec_fields { u64 common; u32 path, id, old_id; };
+
 static __always_inline int is_wanted(u32 process, u32 device)
 {
 	if (by_process && !bpf_map_lookup_elem(&wanted_processes, &process))
 		return 0;
 	return !by_device || bpf_map_lookup_elem(&wanted_devices, &device);
+}
+
+/* The namespace of the ids of a process, and its id there; both stay 0 for a process of the first one. */
+static __always_inline void describe_space(struct opening *o, struct task_struct *task)
+{
+	struct pid *pid = BPF_CORE_READ(task, group_leader, thread_pid);
+	u32 level = BPF_CORE_READ(pid, level);
+	if (!level)
+		return;
+	struct upid *last = (void *)pid + bpf_core_field_offset(pid->numbers) + level * bpf_core_type_size(struct upid);
+	o->space = BPF_CORE_READ(last, ns, ns.inum);
+	o->id_there = BPF_CORE_READ(last, nr);
 }
 
 /* Fills in what is known of an opening. `task` belongs to the process that opened it, as far as that is known. */
@@ -20,6 +37,7 @@ static __always_inline void describe(struct opening *o, struct task_struct *task
 	o->start = BPF_CORE_READ(task, group_leader, start_boottime);
 	BPF_CORE_READ_INTO(&o->name, task, group_leader, comm);
 	o->recorded = is_wanted(o->process, o->device);
+	describe_space(o, task);
 }
 
 /* When the driver opens a device. An opening that is met without this is from before the recording. */
@@ -34,12 +52,28 @@ SEC("kprobe/binder_open") int at_open(struct pt_regs *registers)
 	return 0;
 }
 
+#define BINDER_AS_NUMBER 0x7265646e6962ull	/* the bytes of the name of the file system of binderfs */
+
+/* Whether the file is an opening. Where kallsyms hides addresses, its device tells: one of those that the driver made
+ * itself, or any in a binderfs but binder-control, which has no `flush`. */
+static __always_inline int is_opening(struct file *file)
+{
+	char name[8] __attribute__((aligned(8))) = {};
+	if (&binder_fops)
+		return (const void *)file->f_op == &binder_fops;
+	u32 device = BPF_CORE_READ(file, f_inode, i_rdev);
+	if (device && bpf_map_lookup_elem(&driver_devices, &device))
+		return 1;
+	bpf_probe_read_kernel_str(name, sizeof name, BPF_CORE_READ(file, f_inode, i_sb, s_type, name));
+	return device && BPF_CORE_READ(file, f_op, flush) && *(u64 *)name == BINDER_AS_NUMBER;
+}
+
 /* Goes once over the open files of all tasks, before the recording begins. */
 SEC("iter/task_file") int meet_openings(struct bpf_iter__task_file *context)
 {
 	struct file *file = context->file;
 	struct task_struct *task = context->task;
-	if (!file || !task || !&binder_fops || file->f_op != &binder_fops)
+	if (!file || !task || !is_opening(file))
 		return 0;
 	u64 key = (u64)file;
 	if (bpf_map_lookup_elem(&openings, &key))
@@ -54,6 +88,8 @@ SEC("iter/task_file") int meet_openings(struct bpf_iter__task_file *context)
 	met.device = o.device;
 	met.start = o.start;
 	met.opening = o.id;
+	met.space = o.space;
+	met.id_there = o.id_there;
 	__builtin_memcpy(met.name, o.name, NAME_BYTES);
 	bpf_seq_write(context->meta->seq, &met, sizeof met);
 	return 0;
@@ -77,6 +113,7 @@ static __noinline int add_thread(struct task_struct *task, u32 id, u32 process)
 	t->id = __sync_fetch_and_add(&last_thread, 1) + 1;
 	t->process = process;
 	t->start = BPF_CORE_READ(task, start_boottime);
+	t->bits = 0;
 	__builtin_memset(t->name, 0, sizeof t->name);
 	bpf_get_current_comm(t->name, sizeof t->name);
 	bpf_map_update_elem(&processes, &process, &one, BPF_ANY);
@@ -88,9 +125,10 @@ static __noinline int introduce(struct opening *o, struct thread *t, u32 id)
 {
 	if (!o || !t)
 		return 1;
-	if (!o->told && !say(MESSAGE_OPENING, o->born, o->id, last_number, o->device, o->process, o->start, o->name))
+	if (!o->told && !say(MESSAGE_OPENING, o->born, o->id, last_number, o->device | (u64)o->space << 32,
+			      o->process | (u64)o->id_there << 32, o->start, o->name))
 		o->told = 1;
-	if (!t->told && !say(MESSAGE_THREAD, t->id, o->id, last_number, id, t->process, t->start, t->name))
+	if (!t->told && !say(MESSAGE_THREAD, t->id, o->id, last_number, id | (u64)t->bits << 32, t->process, t->start, t->name))
 		t->told = 1;
 	return !o->told || !t->told;
 }
@@ -123,16 +161,18 @@ static __noinline int begin_call(struct thread *t, u64 call, u32 told)
 	t->read_consumed = s->call.read_consumed;
 	t->read_size = s->call.read_size;
 	t->read_buffer = s->call.read_buffer;
-	t->consumed = t->write_number = 0;
-	t->commands = t->late_count = 0;
-	t->write_told = t->partial = 0;
-	t->in_call = 1;
+	t->consumed = t->write_number = t->copied = t->attached = t->spent = 0;
+	t->commands = t->late_count = t->attachments = t->is_over = 0;
+	t->write_told = t->has_chunk = 0;
+	t->call_is = CALL_RECORDED;
 	if (s->call.write_consumed >= s->call.write_size)
 		return 0;
 	t->write_from = s->call.write_buffer + s->call.write_consumed;
 	t->write_bytes = s->call.write_size - s->call.write_consumed;
+	if (t->write_bytes > MOST_COMMANDS)
+		t->write_bytes = MOST_COMMANDS;
 	t->write_number = take_number();
-	int reason = told ? capture(t, t->write_from, t->write_bytes, t->write_number, DIRECTION_WRITE) : REASON_RING_FULL;
+	int reason = told ? copy_write(t, 0, 0) : REASON_RING_FULL;
 	if (reason) {
 		lose(t, t->write_number, reason);
 		t->write_told = 1;
@@ -141,8 +181,16 @@ static __noinline int begin_call(struct thread *t, u64 call, u32 told)
 	return 0;
 }
 
+/* The call is not recorded: its return must not look like one whose entry was missed. */
+static __always_inline void leave_out(u32 id)
+{
+	struct thread *t = bpf_map_lookup_elem(&threads, &id);
+	if (t)
+		t->call_is = CALL_NOT_RECORDED;
+}
+
 /* At the entry of any ioctl on a Binder device. */
-static __always_inline int enter(struct task_struct *task, struct file *file, u32 command, u64 argument)
+static __always_inline int enter(struct task_struct *task, struct file *file, u32 command, u64 argument, u32 bits)
 {
 	u64 both = bpf_get_current_pid_tgid(), key = (u64)file;
 	u32 id = both, process = both >> 32;
@@ -151,8 +199,10 @@ static __always_inline int enter(struct task_struct *task, struct file *file, u3
 		add_opening(task, file);
 		o = bpf_map_lookup_elem(&openings, &key);
 	}
-	if (o && !o->recorded)
+	if (o && !o->recorded) {
+		leave_out(id);
 		return 0;
+	}
 	struct thread *t = bpf_map_lookup_elem(&threads, &id);
 	if (o && !t) {
 		add_thread(task, id, process);
@@ -160,12 +210,19 @@ static __always_inline int enter(struct task_struct *task, struct file *file, u3
 	}
 	if (!o || !t) {
 		__sync_fetch_and_add(&calls_without_room, 1);
+		leave_out(id);
 		return 0;
 	}
 	look_at_name(t, id);
+	if (t->bits != bits) {		/* it is told anew, with the other bits */
+		t->bits = bits;
+		t->told = 0;
+	}
 	int told = !introduce(o, t, id);
 	t->opening = o->id;
-	t->in_call = 0;
+	if (t->call_is)
+		__sync_fetch_and_add(&half_calls, 1);
+	t->call_is = CALL_NOT_RECORDED;
 	t->reads_own_memory = (u64)BPF_CORE_READ(task, mm) == o->memory;
 	if (command == BINDER_THREAD_EXIT)
 		say(MESSAGE_LEFT, t->id, o->id, last_number, id, process, 0, 0);
@@ -174,12 +231,11 @@ static __always_inline int enter(struct task_struct *task, struct file *file, u3
 	return 0;
 }
 
-static __always_inline int is_32_bit(struct pt_regs *registers)
+/* Whether the call came in by the entry for 32-bit programs. */
+static __always_inline int is_32_bit(struct task_struct *task, struct pt_regs *registers)
 {
 #ifdef __TARGET_ARCH_x86
-	u64 segment = 0;
-	bpf_probe_read_kernel(&segment, sizeof segment, &registers->cs);
-	return segment != 0x33;
+	return (BPF_CORE_READ(task, thread_info.status) & TS_COMPAT) != 0;
 #endif
 #ifdef __TARGET_ARCH_arm64
 	u64 state = 0;
@@ -188,75 +244,80 @@ static __always_inline int is_32_bit(struct pt_regs *registers)
 #endif
 }
 
-/* The file of the descriptor that is the first argument of the system call: it identifies the opening. */
-static __noinline u64 file_of_call(struct task_struct *task, struct pt_regs *registers)
+/* The first argument of the system call. */
+static __always_inline u32 descriptor_of_call(struct pt_regs *registers, int bits)
 {
 	u64 descriptor = 0;
+#ifdef __TARGET_ARCH_x86
+	if (bits == 32) {
+		bpf_probe_read_kernel(&descriptor, sizeof descriptor, &registers->rbx);
+		return descriptor;
+	}
+#endif
+	bpf_probe_read_kernel(&descriptor, sizeof descriptor, &PT_REGS_PARM1(registers));
+	return descriptor;
+}
+
+/* The file of a descriptor: it identifies the opening. */
+static __noinline u64 file_of(struct task_struct *task, u32 descriptor)
+{
 	struct file *file = 0, **files;
 	unsigned int most;
-	bpf_probe_read_kernel(&descriptor, sizeof descriptor, &PT_REGS_PARM1(registers));
 	struct fdtable *table = BPF_CORE_READ(task, files, fdt);
 	most = BPF_CORE_READ(table, max_fds);
 	files = BPF_CORE_READ(table, fd);
-	descriptor = (u32)descriptor;
 	if (descriptor >= most || bpf_probe_read_kernel(&file, sizeof file, files + descriptor))
 		return 0;
 	return (u64)file;
 }
 
-SEC("raw_tp/binder_ioctl") int at_entry(struct bpf_raw_tracepoint_args *context)
+SEC("tp/binder/binder_ioctl") int at_entry(struct ioctl_fields *fields)
 {
 	if (stopped)
 		return 0;
 	struct task_struct *task = bpf_get_current_task_btf();
 	struct pt_regs *registers = (void *)bpf_task_pt_regs(task);
-	if (is_32_bit(registers)) {
-		if (context->args[0] == BINDER_WRITE_READ)
-			__sync_fetch_and_add(&calls_32_bit, 1);
+	int bits = is_32_bit(task, registers) ? 32 : 64;
+	if (fields->command == WRITE_READ_OF_PROTOCOL_7) {
+		__sync_fetch_and_add(&calls_32_bit, 1);
+		leave_out(bpf_get_current_pid_tgid());
 		return 0;
 	}
-	struct file *file = (void *)file_of_call(task, registers);
+	struct file *file = (void *)file_of(task, descriptor_of_call(registers, bits));
 	if (!file) {
 		__sync_fetch_and_add(&calls_without_file, 1);
+		leave_out(bpf_get_current_pid_tgid());
 		return 0;
 	}
-	return enter(task, file, context->args[0], context->args[1]);
+	return enter(task, file, fields->command, fields->argument, bits);
 }
 
-/* When the driver begins a command. */
-SEC("raw_tp/binder_command") int at_command(struct bpf_raw_tracepoint_args *context)
+/* The driver begins the command that is at `record` of the write. */
+static __noinline int take_command(struct thread *t, u32 record, u32 word)
 {
-	u32 id = bpf_get_current_pid_tgid();
-	struct thread *t = bpf_map_lookup_elem(&threads, &id);
-	if (t && t->in_call) {
-		t->consumed += CODE_WORD + ((u32)context->args[0] >> 16 & 0x3fff);
-		t->commands++;
+	if (!t)
+		return 0;
+	int reason = t->copied < t->consumed ? copy_write(t, record, 0) : 0;
+	if (reason) {
+		t->write_told = 1;
+		return lose(t, t->write_number, reason);
 	}
+	if (!no_attachments && !t->is_over && has_data(DIRECTION_WRITE, word))
+		attach_to_write(t, record, 0);
 	return 0;
 }
 
-/* Reads an attachment that was not there at entry. Other threads may have changed it since; the side list says so. */
-static __noinline int read_late(struct thread *t, u32 i)
+SEC("tp/binder/binder_command") int at_command(struct number_fields *fields)
 {
-	struct scratch *s = scratch();
-	if (!s || !t)
+	u32 id = bpf_get_current_pid_tgid(), word = fields->number;
+	struct thread *t = bpf_map_lookup_elem(&threads, &id);
+	if (!t || t->call_is != CALL_RECORDED)
 		return 0;
-	struct large *l = &s->large;
-	struct late_attachment *late = &t->late[i & (MOST_LATE - 1)];
-	l->number = t->write_number;
-	l->data_from = late->data_from;
-	l->offsets_from = late->offsets_from;
-	l->data = late->data;
-	l->offsets = late->offsets;
-	l->record = late->record;
-	l->opening = t->opening;
-	l->thread = t->id;
-	l->direction = DIRECTION_WRITE;
-	int reason = copy_large();
-	if (reason)
-		say(MESSAGE_UNATTACHED, t->id, t->opening, t->write_number, reason, late->record, 0, 0);
-	else
-		say(MESSAGE_LATE, t->id, t->opening, t->write_number, 0, late->record, 0, 0);
+	u32 record = t->consumed;
+	t->consumed += CODE_WORD + (word >> 16 & 0x3fff);
+	t->commands++;
+	if (t->write_number && !t->write_told)
+		take_command(t, record, word);
 	return 0;
 }
 
@@ -265,17 +326,16 @@ static __noinline int end_write(struct thread *t, u64 consumed)
 {
 	if (!t)
 		return 0;
-	if (t->partial && consumed > t->had) {
-		t->late_count = 0;
-		int reason = capture(t, t->write_from, t->write_bytes, t->write_number, DIRECTION_WRITE | IS_LATE);
-		if (reason) {
-			t->write_told = 1;
-			return lose(t, t->write_number, reason);
-		}
+	int reason = t->copied < consumed ? copy_write(t, consumed, 1) : 0;
+	if (!reason && t->copied < consumed)
+		reason = consumed > MOST_COMMANDS ? REASON_TOO_LARGE : REASON_UNREADABLE;
+	if (reason) {
+		t->write_told = 1;
+		return lose(t, t->write_number, reason);
 	}
 	for (u32 i = 0; i < MOST_LATE && i < t->late_count; i++)
-		if (t->late[i].record < consumed)
-			read_late(t, i);
+		if (t->late[i] < consumed)
+			attach_to_write(t, t->late[i], 1);
 	if (!say(MESSAGE_WRITTEN, t->id, t->opening, t->write_number, consumed, 0, 0, 0))
 		t->write_told = 1;
 	return 0;
@@ -283,14 +343,13 @@ static __noinline int end_write(struct thread *t, u64 consumed)
 
 /* When the driver has finished the write. After an error the last command that it began is not consumed, or the next
  * code word could not be read; then the return of the call says what it consumed. */
-SEC("raw_tp/binder_write_done") int at_write_done(struct bpf_raw_tracepoint_args *context)
+SEC("tp/binder/binder_write_done") int at_write_done(struct number_fields *fields)
 {
 	u32 id = bpf_get_current_pid_tgid();
 	struct thread *t = bpf_map_lookup_elem(&threads, &id);
-	if (t && t->in_call && t->write_number && !t->write_told && (int)context->args[0] >= 0) {
+	if (t && t->call_is == CALL_RECORDED && t->write_number && !t->write_told && (int)fields->number >= 0) {
 		end_write(t, t->consumed);
 		t->late_count = 0;
-		t->partial = 0;
 		if (!t->write_told)	/* no room to report it: at the return it is tried once more */
 			t->write_told = 2;
 	}
@@ -303,26 +362,33 @@ static __noinline int end_read(struct thread *t, u64 bytes)
 	if (!t)
 		return 0;
 	u64 number = take_number();
-	int reason = bytes ? capture(t, t->read_buffer + t->read_consumed, bytes, number, DIRECTION_READ) : REASON_EFAULT;
+	int reason = bytes ? copy_read(t, t->read_buffer + t->read_consumed, bytes, number) : REASON_EFAULT;
 	if (reason)
 		lose(t, number, reason);
 	number_is_told();
 	return 0;
 }
 
-SEC("raw_tp/binder_ioctl_done") int at_return(struct bpf_raw_tracepoint_args *context)
+SEC("tp/binder/binder_ioctl_done") int at_return(struct number_fields *fields)
 {
 	u32 id = bpf_get_current_pid_tgid();
-	int result = context->args[0];
+	int result = fields->number;
 	struct thread *t = bpf_map_lookup_elem(&threads, &id);
 	struct scratch *s = scratch();
-	if (!s || !t || !t->in_call)
+	if (!s || !t)
 		return 0;
-	t->in_call = 0;
+	u8 call_is = t->call_is;
+	t->call_is = NO_CALL;
+	if (call_is == NO_CALL && !stopped)
+		__sync_fetch_and_add(&half_calls, 1);
+	if (call_is != CALL_RECORDED)
+		return 0;
 	int unreadable = read_call(t->call);
 	u64 written = s->call.write_consumed - t->write_consumed;
 	s64 read = s->call.read_consumed - t->read_consumed;
 	int unknown = unreadable || (result == -EFAULT && written == 0 && read == 0);
+	if (t->write_number && t->write_told && result == 0 && !unreadable && written != t->consumed)
+		__sync_fetch_and_add(&half_calls, 1);
 	if (t->write_number && t->write_told == 2)
 		say(MESSAGE_WRITTEN, t->id, t->opening, t->write_number, t->consumed, 0, 0, 0);
 	if (t->write_number && !t->write_told) {	/* the write failed, and nothing was read */
@@ -351,9 +417,9 @@ SEC("kprobe/binder_release") int at_release(struct pt_regs *registers)
 	return 0;
 }
 
-SEC("raw_tp/sched_process_exit") int at_exit(struct bpf_raw_tracepoint_args *context)
+SEC("tp/sched/sched_process_exit") int at_exit(void *fields)
 {
-	struct task_struct *task = (void *)context->args[0];
+	struct task_struct *task = bpf_get_current_task_btf();
 	u64 both = bpf_get_current_pid_tgid();
 	u32 id = both, process = both >> 32;
 	struct thread *t = bpf_map_lookup_elem(&threads, &id);
@@ -368,15 +434,50 @@ SEC("raw_tp/sched_process_exit") int at_exit(struct bpf_raw_tracepoint_args *con
 }
 
 /* A thread that calls exec, and is not the first one of its process, takes the id of the first one. */
-SEC("raw_tp/sched_process_exec") int at_exec(struct bpf_raw_tracepoint_args *context)
+SEC("tp/sched/sched_process_exec") int at_exec(struct exec_fields *fields)
 {
 	u64 both = bpf_get_current_pid_tgid();
-	u32 old = context->args[1], id = both;
+	u32 old = fields->old_id, id = both;
 	struct thread *t = bpf_map_lookup_elem(&threads, &old);
 	if (old == id || !t)
 		return 0;
 	say(MESSAGE_ENDED, t->id, t->opening, last_number, old, both >> 32, 0, 0);
 	bpf_map_delete_elem(&threads, &old);
+	return 0;
+}
+
+#ifdef __TARGET_ARCH_x86
+extern const int __preempt_count __ksym __weak;
+extern const struct pcpu_hot pcpu_hot __ksym __weak;	/* has the count in Linux 6.2 to 6.14 */
+
+static __always_inline int read_preempt_count(int *count)
+{
+	if (&__preempt_count)
+		*count = *(int *)bpf_this_cpu_ptr(&__preempt_count);
+	else if (&pcpu_hot)
+		*count = ((struct pcpu_hot *)bpf_this_cpu_ptr(&pcpu_hot))->preempt_count;
+	else
+		return 0;
+	return 1;
+}
+#endif
+#ifdef __TARGET_ARCH_arm64
+static __always_inline int read_preempt_count(int *count)
+{
+	*count = BPF_CORE_READ(bpf_get_current_task_btf(), thread_info.preempt_count);
+	return 1;
+}
+#endif
+
+/* Runs once, before the recording: finds out whether a program like the above ones keeps its processor until its end.
+ * The lowest 8 bits of the count say how often preemption was turned off. */
+SEC("tp/sched/sched_process_exit") int look_at_preemption(void *fields)
+{
+	int count = 0;
+	if (!read_preempt_count(&count))
+		preemption = PREEMPTION_UNKNOWN;
+	else
+		preemption = count & 0xff ? PREEMPTION_IS_OFF : PREEMPTION_IS_ON;
 	return 0;
 }
 

@@ -10,6 +10,7 @@ static const char *const reasons[REASON_END] = {
 	[REASON_NONE] = "none",
 	[REASON_CALL_UNREADABLE] = "call-unreadable",
 	[REASON_TOO_LARGE] = "too-large",
+	[REASON_TOO_MANY] = "too-many",
 	[REASON_UNREADABLE] = "unreadable",
 	[REASON_RING_FULL] = "ring-full",
 	[REASON_EFAULT] = "efault",
@@ -26,11 +27,31 @@ const char *reason_word(u32 reason)
 	return reason < REASON_END ? reasons[reason] : "unknown";
 }
 
-int side_create(const char *out)
+int side_create(const char *out, u32 number)
 {
 	char path[4096];
-	snprintf(path, sizeof path, "%s.side", out);
-	return file_create(&side, path);
+	if (number)
+		snprintf(path, sizeof path, "%s-%u.side", out, number);
+	else
+		snprintf(path, sizeof path, "%s.side", out);
+	int error = file_create(&side, path);
+	side_text("binder side list 1\n");
+	return error;
+}
+
+int side_close(void)
+{
+	return file_close(&side);
+}
+
+u64 side_bytes(void)
+{
+	return side.bytes;
+}
+
+const char *side_path(void)
+{
+	return side.path;
 }
 
 void side_remove(void)

@@ -4,8 +4,11 @@
 #include "common.h"
 #include "messages.h"
 
-/* Creates the file OUT.side. Returns 0, or an errno. */
-int side_create(const char *out);
+/* Creates the file OUT.side, or OUT-NUMBER.side if the number is not 0, with its first line. Returns 0, or an errno. */
+int side_create(const char *out, u32 number);
+int side_close(void);
+const char *side_path(void);
+u64 side_bytes(void);
 void side_remove(void);
 /* Adds a line: the time, a space, and the rest. */
 void side_line(u64 time, const char *format, ...) __attribute__((format(printf, 2, 3)));

@@ -12,56 +12,68 @@ struct opening {
 	u8 born;		/* it was opened after the recording began */
 	u8 unused;
 	u32 process, device;
+	u32 space, id_there;	/* the namespace of the process's ids, if it is not the first one, and its id there */
 	u64 memory;		/* the mm of the process that opened it, where the device is mapped */
 	u64 start;
 	char name[NAME_BYTES];
 };
 
-/* An attachment whose memory was not there at entry. */
-struct late_attachment {
-	u64 data_from, offsets_from;
-	u32 data, offsets, record, unused;
-};
+enum call { NO_CALL, CALL_RECORDED, CALL_NOT_RECORDED };
 
 /* A thread that has called a Binder device. */
 struct thread {
 	u32 id, opening;
-	u8 told, in_call, write_told, partial;	/* partial: not all of the write's bytes could be read at entry */
+	u8 told, call_is, write_told;
+	u8 has_chunk;			/* a chunk of the write is in the ring */
 	u32 commands;			/* how many the driver began in this call */
 	u64 write_number;		/* 0 if the call writes nothing */
 	u64 consumed;			/* bytes of those commands */
-	u64 had;			/* how many bytes of the write could be read */
+	u64 copied;			/* how many bytes of the write are in the ring */
 	u64 call;			/* the address of the binder_write_read */
 	u64 write_from, write_bytes;
 	u64 write_consumed, read_consumed, read_size, read_buffer;	/* at entry */
-	u64 reads_own_memory;
-	u32 late_count, process;
-	struct late_attachment late[MOST_LATE];
+	u64 attached, spent;		/* of this call: bytes of attachments; bytes in the ring */
+	u32 attachments, is_over;	/* of this call; is_over: the frame gets no more of them */
+	u32 reads_own_memory, late_count, process;
+	u32 bits, unused;		/* of its last call: 32 or 64 */
+	u32 late[MOST_LATE];		/* records whose data was not there when the driver began them */
 	u64 start;
 	char name[NAME_BYTES];
 };
 
-/* An attachment that goes in several messages. */
-struct large {
-	u64 number, data_from, offsets_from;
-	u32 data, offsets, record, at, failed, opening, thread, direction;
+/* The fields of a transaction that say where its data is. */
+struct place {
+	u64 data, offsets, data_from, offsets_from;
 };
 
-/* A walk through the commands of a frame. */
+/* The data of a transaction or reply that is copied. */
+struct attachment {
+	u64 number;
+	struct place place;
+	u32 record, at, failed, opening, thread, direction;
+};
+
+/* A walk through what a call read. */
 struct walk {
-	u64 number, from, left;		/* from, left: what is not read yet */
-	u32 base, at, bytes, have, end;	/* of the chunk: its start; the record; its bytes; the bytes read; its end */
-	u32 direction, opening, thread, reads_own_memory, last, late, failed, partial;
+	u64 number, from, left;		/* from, left: what is not copied yet */
+	u32 base, at, bytes;		/* of the chunk: its start; the record; its bytes */
+	u32 records, failed, unused;
+};
+
+/* As it is in the ring. */
+struct full_piece {
+	struct piece piece;
+	u8 bytes[CHUNK];
 };
 
 /* Memory for one run of a program, whose stack has only 512 bytes. */
 struct scratch {
-	struct large large;
+	struct attachment attachment;
 	struct walk walk;
-	u64 from, length, failed;
+	u64 from, length, failed, until, taken, try_again;
 	struct binder_write_read call;
 	struct chunk chunk;
-	u8 chunk_bytes[4 * CHUNK + 128];
+	u8 chunk_bytes[2 * CHUNK];
 	struct piece piece;
 	u8 piece_bytes[2 * CHUNK];
 	struct event event;
@@ -92,6 +104,7 @@ TABLE(openings, u64, struct opening);	/* by the address of the file */
 TABLE(processes, u32, u32);		/* those whose end will be reported */
 TABLE(wanted_processes, u32, u32);	/* of --pid */
 TABLE(wanted_devices, u32, u32);	/* of --device */
+TABLE(driver_devices, u32, u32);	/* that the driver made itself */
 
 /* From here on the room of the ring is only for events. */
 const volatile u64 ring_limit = 60 << 20;
@@ -100,6 +113,8 @@ const volatile u32 by_process = 0, by_device = 0, no_attachments = 0;
 u32 stopped = 1;
 u64 last_number = 0;
 u32 last_thread = 0, last_opening = 0;
+u64 half_calls = 0;	/* calls of which the entry, a command or the return was not seen */
+u32 preemption = PREEMPTION_NOT_SEEN;
 u64 calls_32_bit = 0, calls_without_room = 0, calls_without_file = 0;
 
 /* For each CPU: no number below this one waits for the program that runs there; 0 if none runs. */
@@ -133,11 +148,6 @@ static __always_inline void number_is_told(void)
 	*(volatile u64 *)&taking[cpu].number = 0;
 }
 
-static __always_inline int is_full(u64 bytes)
-{
-	return bpf_ringbuf_query(&ring, BPF_RB_AVAIL_DATA) + bytes > ring_limit;
-}
-
 /* Puts an event into the ring. Returns 0 if there was room. */
 static __always_inline long say(u32 type, u32 thread, u32 opening, u64 number, u64 a, u64 b, u64 c, const char *name)
 {
@@ -151,9 +161,9 @@ static __always_inline long say(u32 type, u32 thread, u32 opening, u64 number, u
 	e->head.time = bpf_ktime_get_ns();
 	e->head.opening = opening;
 	e->head.thread = thread;
-	e->a = a;
-	e->b = b;
-	e->c = c;
+	e->words[0] = a;
+	e->words[1] = b;
+	e->words[2] = c;
 	if (name)
 		__builtin_memcpy(e->name, name, NAME_BYTES);
 	return bpf_ringbuf_output(&ring, e, sizeof *e, QUIETLY);

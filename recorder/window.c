@@ -222,11 +222,12 @@ static void hear_chunk(const struct chunk *chunk)
 	slot->has_who = 1;
 	int is_last = frame_add_chunk(frame, chunk);
 	memory += frame->memory;
-	if (!is_last || slot->state != SILENT)
+	if (slot->state != SILENT)
 		return;
-	slot->consumed = frame->bytes;
-	slot->state = WHOLE;
-	if (head->direction == DIRECTION_WRITE) {
+	if (head->direction == DIRECTION_READ) {
+		slot->consumed = frame->bytes;
+		slot->state = is_last ? WHOLE : SILENT;
+	} else {
 		slot->state = WAITING;
 		slot->since = now();
 		waiting++;
@@ -253,7 +254,7 @@ static void hear_written(const struct event *event)
 		return;
 	waiting--;
 	slot->state = WHOLE;
-	slot->consumed = event->a;
+	slot->consumed = event->written.consumed;
 }
 
 static void hear_lost(const struct event *event)
@@ -266,15 +267,18 @@ static void hear_lost(const struct event *event)
 	slot->has_who = 1;
 	if (!slot->since)
 		slot->since = event->head.time;
-	lose_slot(slot, (u32)event->a);
+	lose_slot(slot, (u32)event->lost.reason);
 }
 
-static void hear_note(const struct event *event, u32 reason)
+static void hear_note(const struct event *event)
 {
 	struct slot *slot = slot_of(event->head.number);
 	if (!slot || slot->state == LOST || slot->state == WHOLE)
 		return;
-	frame_add_note(frame_of(slot, event->head.number), (u32)event->b, reason);
+	struct frame *frame = frame_of(slot, event->head.number);
+	memory -= frame->memory;
+	frame_add_note(frame, (u32)event->note.record, (u32)event->note.reason);
+	memory += frame->memory;
 }
 
 static void hear_event(const struct event *event)
@@ -283,19 +287,22 @@ static void hear_event(const struct event *event)
 	switch (head->type) {
 	case MESSAGE_WRITTEN: hear_written(event); break;
 	case MESSAGE_LOST: hear_lost(event); break;
-	case MESSAGE_UNATTACHED: hear_note(event, (u32)event->a); break;
-	case MESSAGE_LATE: hear_note(event, REASON_NONE); break;
+	case MESSAGE_UNATTACHED: case MESSAGE_LATE: hear_note(event); break;
 	case MESSAGE_OPENING:
-		names_opening(head->opening, head->time, (u32)event->a, (u32)event->b, event->c, event->name,
-			      head->thread ? MET_FROM_START : MET_IN_MID_LIFE);
+		names_opening(head->opening, head->time, event->opening.device, event->opening.process, event->opening.start,
+			      event->name, head->thread ? MET_FROM_START : MET_IN_MID_LIFE);
+		names_space(head->opening, event->opening.space, event->opening.id_there);
 		break;
-	case MESSAGE_THREAD: names_thread(head->thread, (u32)event->a, (u32)event->b, event->c, event->name); break;
+	case MESSAGE_THREAD:
+		names_thread(head->thread, event->thread.id, event->thread.process, event->thread.start, event->name);
+		names_bits(head->thread, event->thread.bits);
+		break;
 	case MESSAGE_NAME: names_changed(head->thread, event->name, head->time, head->number); break;
 	case MESSAGE_CLOSED: names_closed(head->opening, head->time, head->number); break;
 	case MESSAGE_LEFT: names_left(head->opening, head->thread, head->time, head->number); break;
 	case MESSAGE_ENDED:
 		end_wait(head->thread, 0);
-		names_ended(head->thread, (u32)event->b, (int)event->c, head->time, head->number);
+		names_ended(head->thread, (u32)event->ended.process, (int)event->ended.is_last, head->time, head->number);
 		break;
 	}
 }

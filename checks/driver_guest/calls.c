@@ -198,7 +198,7 @@ static void flooding_client(void)
 	uint32_t handle = look_up(&exchange);
 	parcel.size = 1024;
 	for (;;) {
-		long answer = send_parcel(&exchange, handle, ECHO, TF_ONE_WAY, &parcel, NULL);
+		int64_t answer = send_parcel(&exchange, handle, ECHO, TF_ONE_WAY, &parcel, NULL);
 		if (answer == BR_FAILED_REPLY) break;
 		if (++sent > 2000) fail("oneway: nothing was refused");
 	}
@@ -221,9 +221,9 @@ static void oneway(void)
 
 /* ---- errors: what the driver does not take */
 
-static long hand_over(struct opening *opening, const void *bytes, size_t size)
+static int64_t hand_over(struct opening *opening, const void *bytes, size_t size)
 {
-	struct binder_write_read call = {.write_size = size, .write_buffer = (binder_uintptr_t)bytes};
+	struct binder_write_read call = {.write_size = size, .write_buffer = (binder_uintptr_t)(uintptr_t)bytes};
 	return ioctl(opening->descriptor, BINDER_WRITE_READ, &call) < 0 ? -errno : (long)call.write_consumed;
 }
 

@@ -10,6 +10,7 @@ the books: if that is not found, the status is 1 too.
 
 import pathlib
 import re
+import struct
 import sys
 import tempfile
 from collections import Counter, defaultdict
@@ -44,7 +45,7 @@ def row_of(scenario, difference):
 
 def purposes(scenario):
     """The numbers that the heads of the report must have: those that `purposes` names, and otherwise no fault."""
-    heads = {("strays", "strays"): 0, ("frees", "stray"): 0, ("flags", "flags"): 0, ("objects", "bad"): 0}
+    heads = {("strays", "strays"): 0, ("frees", "stray"): 0, ("flags", "flags"): 0, ("objects", "bad"): 0, ("side", "left-out"): 0}
     for words, _ in lines_of("purposes"):
         if words[0] == scenario:
             section, name, number = words[1:]
@@ -52,10 +53,11 @@ def purposes(scenario):
     return heads
 
 
-def purpose_differences(scenario, report):
+def purpose_differences(scenario, report, recording):
     for (section, name), number in purposes(scenario).items():
-        if number is not None and report.head(section, name) != number:
-            yield section, "all", name, report.head(section, name), number
+        found = recording.left_out if section == "side" else report.head(section, name)
+        if number is not None and found != number:
+            yield section, "all", name, found, number
 
 
 # ---- the two recordings
@@ -79,7 +81,10 @@ def numbered(devices, processes):
 
 
 def witness_differences(recording, folder):
-    """Compares the frames of each device, process and thread, in order: their bytes and their attachments."""
+    """Compares the frames of each device, process and thread, in order: their bytes and their attachments. If these are
+    redacted, only their lengths are compared."""
+    def bytes_of(frame):
+        return frame.direction, frame.commands, len(frame.attached) if recording.is_redacted else frame.attached
     names = (folder / "names").read_text()
     devices = {int(a): b for a, b in re.findall(r"^device (\d+) name (\S+)", names, re.M)}
     openings = numbered(devices, [tuple(map(int, m)) for m in re.findall(r"^process (\d+) (\d+) pid (\d+)", names, re.M)])
@@ -88,7 +93,7 @@ def witness_differences(recording, folder):
     mine = threads(recording.frames, numbered(recording.devices, [(*key, pid) for key, pid in recording.pids.items()]))
     for key in sorted(set(mine) | set(theirs)):
         one, two = mine.get(key, []), theirs.get(key, [])
-        same = sum((a.direction, a.commands, a.attached) == (b.direction, b.commands, b.attached) for a, b in zip(one, two))
+        same = sum(bytes_of(a) == bytes_of(b) for a, b in zip(one, two))
         if not same == len(one) == len(two):
             (device, pid, _), thread = key
             yield "witness", f"{device}-{pid}", thread, f"{same}-of-{len(one)}", len(two)
@@ -100,14 +105,102 @@ def lost_differences(recording):
     """Each number that no frame has must have its line in the side list."""
     told = {number for number, _ in recording.lost}
     used = [frame.sequence for frame in recording.frames]
-    unused = set(range(1, used[-1] + 1)) - set(used) if used else set()
+    first = used[0] if recording.is_cut else 1
+    unused = set(range(first, used[-1] + 1)) - set(used) if used else set()
     if not unused <= told:
         yield "lost", "all", "untold", len(unused - told), 0
     for why, count in sorted(Counter(why for _, why in recording.lost).items()):
         yield "lost", "all", why, count, 0
 
 
-PARTIAL = {"late", "killed", "stopped", "full", "narrow"}	# the recorder did not record all, from beginning to end
+MISSED = {"crowd": "calls-without-number"}	# what a scenario makes the recorder miss
+COUNTS = {	# by the word of the side list: how the last line of the recorder names the same
+    "events": "events missed", "calls-without-number": "calls without a number",
+    "calls-of-32-bits": "calls of 32-bit programs, not recorded"}
+
+
+def missed_differences(name, recording, output):
+    """What the side list says was missed must be what the recorder counted in all, and what the scenario wanted."""
+    for what, words in COUNTS.items():
+        counted = sum(map(int, re.findall(rf"; {words} (\d+)", output)))
+        told = recording.missed[what]
+        if told != counted:
+            yield "missed", "all", what, told, counted
+        if (told > 0) != (MISSED.get(name) == what):
+            yield "missed", "all", what, told, "some" if MISSED.get(name) == what else 0
+
+
+MOST_FILES = 4		# that a flight recorder keeps
+
+
+def flight_differences(recording, folder):
+    """A flight recorder keeps the newest files, each with a side list that says whose the frames in it are."""
+    most = int((folder / "most-files").read_text())
+    if most != MOST_FILES or len(recording.captures) != MOST_FILES:
+        yield "flight", "all", "files", most, MOST_FILES
+    if not recording.is_cut:
+        yield "flight", "all", "removed", 0, "some"
+    names = [path.stem for path in recording.captures]
+    if names != [path.stem for path in recording.sides]:
+        yield "flight", "all", "side", len(recording.sides), len(names)
+    for path in recording.sides:
+        one = Recording(folder, path.stem)
+        strangers = {(frame.device, frame.process, frame.thread) for frame in one.frames} - set(one.tids)
+        if strangers:
+            yield "flight", path.stem, "strangers", len(strangers), 0
+
+
+SECRETS = {which: bytes((which * 73 + i * 151 + (i * i >> 3) * 29 + 17) & 255 for i in range(64))
+           for which in range(1, 6)}
+TO_CLEAR = 5		# the secret that is sent with TF_CLEAR_BUF
+TOKEN = "org.example.IVault".encode("utf-16-le")
+
+
+def secret_differences(recording):
+    """Which secrets of the scenario can be found, by eight bytes of them, in what the recorder wrote."""
+    written = b"".join(path.read_bytes() for path in (*recording.captures, *recording.sides))
+    for which, secret in SECRETS.items():
+        found = sum(secret[at:at + 8] in written for at in range(len(secret) - 7))
+        due = 0 if which == TO_CLEAR or recording.is_redacted else len(secret) - 7
+        if found != due:
+            yield "secret", "all", which, found, due
+    if TOKEN not in written:
+        yield "secret", "all", "token", 0, 1
+
+
+# ---- namespaces, and openings from before the recording
+
+OWN_NUMBERS = 4194304	# numbers from here on are no ids of Linux
+BR_TRANSACTIONS = {0x80407202, 0x80487202}
+
+
+def sender_differences(recording):
+    """The sender of a call that is delivered is a process by its id in the namespace of the receiver."""
+    for key, (_, pid) in recording.spaces.items():
+        if key[1] < OWN_NUMBERS:
+            yield "senders", recording.names[key], "number", key[1], OWN_NUMBERS
+    for _, _, frame, word, payload in recording.records():
+        if word not in BR_TRANSACTIONS:
+            continue
+        flags, sender = struct.unpack_from("<Ii", payload, 20)
+        here = recording.spaces.get((frame.device, frame.process), (0, 0))[0]
+        ids = {pid for space, pid in recording.spaces.values() if space == here} if here else set(recording.pids.values())
+        if not flags & 1 and sender and sender not in ids:
+            yield "senders", recording.names[frame.device, frame.process], "unknown", sender, 0
+
+
+def bits_differences(how, recording):
+    """The side list says of each thread that made 32-bit calls that it did."""
+    if wrong := recording.bits["" if how == "record32" else " bits=32"]:
+        yield "names", "all", "bits", wrong, 0
+
+
+OPENINGS_BEFORE = 4	# of the load: manager, service and two clients
+SAYS = {"drivers": ["driver is the one in Rust", "rust alone: status 1", "two Binder drivers"]}
+
+
+PARTIAL = {"late", "hidden", "killed", "stopped", "full", "narrow", "flight"}	# the recorder did not record all, from beginning to end
+MOST_AFTER = 200_000_000	# nanoseconds from the last frame to the end, if the scenario goes on after the recording
 MOST_CUT = 8192		# bytes of a last frame of the load that a killed recorder may leave cut
 
 
@@ -137,20 +230,35 @@ class Scenario:
             found = [item for item in lost_differences(self.recording) if item[2] in ("untold", "broken", "not-written")]
             if self.how == "full" and "ring-full" not in {why for _, why in self.recording.lost}:
                 found.append(("lost", "all", "ring-full", 0, "some"))
+            if self.how in ("late", "hidden") and self.recording.met != OPENINGS_BEFORE:
+                found.append(("names", "all", "met", self.recording.met, OPENINGS_BEFORE))
             if self.how == "narrow" and not self.recording.lost:
                 found.append(("lost", "all", "frames", 0, "some"))
             if self.recording.cut > MOST_CUT:
                 found.append(("capture", "all", "cut", self.recording.cut, 0))
             if not self.recording.frames:
                 found.append(("capture", "all", "frames", 0, 1))
-            return found, {"capture", "lost"}
+            if self.how == "late" and self.recording.lasted_after_frames() > MOST_AFTER:
+                found.append(("lost", "all", "end", self.recording.lasted_after_frames(), MOST_AFTER))
+            if self.how == "flight":
+                found += flight_differences(self.recording, self.folder)
+            return found, {"capture", "lost", "names"}
         if self.books is None:
             return [("status", "all", "no books", self.status, 0)], {"status"}
         sides = both(self.recording, self.report, books_of.Books(texts or self.books))
         found = list(sides.differences())
-        found += purpose_differences(self.name, self.report)
+        found += purpose_differences(self.name, self.report, self.recording)
         found += lost_differences(self.recording)
-        seen = sides.seen | {"purpose", "lost", "capture", "status"}
+        found += sender_differences(self.recording)
+        found += bits_differences(self.how, self.recording)
+        found += [("status", "all", "unsaid", words, 0) for words in SAYS.get(self.how, ()) if words not in self.output]
+        seen = sides.seen | {"purpose", "lost", "capture", "status", "senders", "names"}
+        if self.name in ("secret", "secret-redacted"):
+            found += secret_differences(self.recording)
+            seen.add("secret")
+        if self.how != "stored":
+            found += missed_differences(self.name, self.recording, self.output)
+            seen.add("missed")
         if self.how == "both":
             found += witness_differences(self.recording, self.folder)
             seen.add("witness")

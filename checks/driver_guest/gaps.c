@@ -201,7 +201,7 @@ static void bulky_client(void)
 	if (!commands) fail("malloc");
 	memcpy(commands, exchange.write, front);
 	for (uint32_t i = 0, code = BC_ENTER_LOOPER; i < BULK; i++) memcpy(commands + front + i * sizeof code, &code, sizeof code);
-	struct binder_write_read call_with_all = {.write_size = size, .write_buffer = (binder_uintptr_t)commands};
+	struct binder_write_read call_with_all = {.write_size = size, .write_buffer = (binder_uintptr_t)(uintptr_t)commands};
 	if (ioctl(opening.descriptor, BINDER_WRITE_READ, &call_with_all) < 0) fail("bulk: write");
 	free(commands);
 	exchange.to_write = 0;

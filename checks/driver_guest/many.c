@@ -1,11 +1,19 @@
-/* The load: many calls and oneway sends by several threads. */
+/* The load: many calls and oneway sends by several threads. In `load` each makes `scale` of them; in `pour` they go on
+ * for `scale` seconds. */
 #include <pthread.h>
 #include <stdlib.h>
+#include <sys/wait.h>
 #include <unistd.h>
 #include "service.h"
 #include "scenarios.h"
 
 static uint32_t service_handle;
+static bool pours;
+
+static bool goes_on(int done)
+{
+	return pours ? !shared->stage : done < scale;
+}
 
 /* Every fourth transaction is a oneway send, and every eighth is a call with an object. */
 static void *work_in_thread(void *opening)
@@ -13,9 +21,9 @@ static void *work_in_thread(void *opening)
 	struct exchange *exchange = malloc(sizeof *exchange);
 	if (!exchange) fail("malloc");
 	begin(exchange, opening);
-	for (int i = 0; i < scale; i++) {
+	for (int i = 0; goes_on(i); i++) {
 		struct parcel parcel = {0};
-		long answer;
+		int64_t answer;
 		parcel.size = 64 + i % 64 * 4;
 		if (i % 8 == 1) put_flat(&parcel, BINDER_TYPE_HANDLE, service_handle, 0, 0);
 		do {
@@ -74,4 +82,43 @@ static void load_of_one(void)
 	wait_for_rest(1, 1);
 }
 
-const struct scenario many_scenarios[] = {{"load", load}, {"load-of-one", load_of_one}, {0}};
+/* Processes that may go on for longer than others. */
+static void pouring_manager(void) { alarm(0); manager(); }
+static void pouring_service(void) { alarm(0); service(); }
+static void pouring_client(void) { alarm(0); working_client(4); }
+
+static void guest_process(void)
+{
+	struct exchange exchange;
+	struct opening opening = open_device("binder");
+	begin(&exchange, &opening);
+	uint32_t handle = look_up(&exchange);
+	for (int i = 0; i < 4; i++) call(&exchange, handle, ECHO);
+	let_go(&exchange, handle);
+	turn(&exchange, false);
+	_exit(0);
+}
+
+/* The load, and each second a process that comes and ends. */
+static void pour(void)
+{
+	pours = true;
+	start("manager", pouring_manager);
+	wait_until(&shared->ready, 1);
+	start("service", pouring_service);
+	wait_until(&shared->ready, 2);
+	start("client", pouring_client);
+	start("client", pouring_client);
+	for (int second = 0; second < scale; second++) {
+		pid_t guest = fork();
+		if (guest < 0) fail("fork");
+		if (!guest) guest_process();
+		sleep(1);
+		if (waitpid(guest, NULL, 0) != guest) fail("waitpid");
+	}
+	shared->stage++;
+	wait_until(&shared->resting, 2);
+	sleep(1);
+}
+
+const struct scenario many_scenarios[] = {{"load", load}, {"load-of-one", load_of_one}, {"pour", pour}, {0}};

@@ -1,7 +1,8 @@
-/* Scenarios about rare things: objects, fork, descriptors, secctx, reuse, large, unread. */
+/* Scenarios about rare things: objects, fork, descriptors, secctx, reuse, large, unread, spaces. */
 #define _GNU_SOURCE
 #include <fcntl.h>
 #include <pthread.h>
+#include <sched.h>
 #include <stdio.h>
 #include <string.h>
 #include <sys/mman.h>
@@ -25,7 +26,7 @@ static void manager_and_service(void)
 
 static void put_pointer_and_array(struct parcel *parcel, const int *descriptors, size_t count)
 {
-	struct binder_buffer_object pointer = {.hdr.type = BINDER_TYPE_PTR, .buffer = (binder_uintptr_t)descriptors,
+	struct binder_buffer_object pointer = {.hdr.type = BINDER_TYPE_PTR, .buffer = (binder_uintptr_t)(uintptr_t)descriptors,
 					       .length = count * sizeof *descriptors};
 	struct binder_fd_array_object array = {.hdr.type = BINDER_TYPE_FDA, .num_fds = count};
 	parcel->offsets[parcel->count++] = parcel->size;
@@ -229,12 +230,12 @@ static void reuse(void)
 
 /* ---- large: data of 400,000 bytes, memory that was never touched, a write of 65,536 bytes */
 
-static long send_at(struct exchange *exchange, const void *data, size_t size)
+static int64_t send_at(struct exchange *exchange, const void *data, size_t size)
 {
 	transaction made = {.data_size = size, .code = ECHO, .flags = TF_ONE_WAY};
 	uint8_t payload[128];
 	uint32_t code, answer = 0;
-	made.data.ptr.buffer = (binder_uintptr_t)data;
+	made.data.ptr.buffer = (binder_uintptr_t)(uintptr_t)data;
 	command(exchange, BC_TRANSACTION, &made);
 	while (!answer) {
 		turn(exchange, true);
@@ -263,7 +264,7 @@ static void large_client(void)
 		many[i] = BC_INCREFS;
 		many[i + 2] = BC_DECREFS;
 	}
-	struct binder_write_read write = {.write_size = sizeof many, .write_buffer = (binder_uintptr_t)many};
+	struct binder_write_read write = {.write_size = sizeof many, .write_buffer = (binder_uintptr_t)(uintptr_t)many};
 	if (ioctl(opening.descriptor, BINDER_WRITE_READ, &write) < 0) fail("large: write");
 	ready_to_rest(&exchange);
 }
@@ -274,6 +275,17 @@ static void large(void)
 	wait_until(&shared->ready, 1);
 	start("client", large_client);
 	wait_until(&shared->resting, 1);
+}
+
+static void plain_caller(void)
+{
+	struct exchange exchange;
+	struct opening opening = open_device("binder");
+	begin(&exchange, &opening);
+	uint32_t handle = look_up(&exchange);
+	for (int i = 0; i < 5; i++) call(&exchange, handle, ECHO);
+	let_go(&exchange, handle);
+	ready_to_rest(&exchange);
 }
 
 /* ---- unread: a caller that never reads its reply */
@@ -297,6 +309,25 @@ static void unread(void)
 	wait_until(&shared->resting, 1);
 }
 
+/* ---- spaces: service and client are in one namespace of process ids, as in a container, and the manager is not */
+
+static void container(void)
+{
+	if (unshare(CLONE_NEWPID)) fail("spaces: namespace");
+	start("inner-service", service);
+	wait_until(&shared->ready, 2);
+	start("inner-client", plain_caller);
+	rest();
+}
+
+static void spaces(void)
+{
+	start("manager", manager);
+	wait_until(&shared->ready, 1);
+	start("container", container);
+	wait_until(&shared->resting, 1);
+}
+
 const struct scenario odd_scenarios[] = {
 	{"objects", objects}, {"fork", forks}, {"descriptors", descriptors}, {"secctx", secctx},
-	{"reuse", reuse}, {"large", large}, {"unread", unread}, {"once", once}, {0}};
+	{"reuse", reuse}, {"large", large}, {"unread", unread}, {"spaces", spaces}, {"once", once}, {0}};

@@ -67,7 +67,8 @@ static void write_moment(const char *suffix)
 	clock_gettime(CLOCK_MONOTONIC, &now);
 	fprintf(file, "%lld\n", now.tv_sec * 1000000000LL + now.tv_nsec);
 	for (int i = 0; i < shared->mappings && i < 1024; i++)
-		fprintf(file, "%d %s %#lx\n", shared->mapping[i].process, shared->mapping[i].device, shared->mapping[i].address);
+		fprintf(file, "%d %s %#llx\n", shared->mapping[i].process, shared->mapping[i].device,
+			(unsigned long long)shared->mapping[i].address);
 	if (fclose(file)) fail(path);
 }
 

@@ -70,8 +70,8 @@ void put_descriptor(struct parcel *, int descriptor);
 
 /* Sends, and waits for the reply, or for the confirmation of a oneway send. Returns BR_REPLY, BR_TRANSACTION_COMPLETE
  * or the code of the error reply; below 0 an error of the system call. If `reply` is given, its buffer is not freed. */
-long send_parcel(struct exchange *, uint32_t handle, uint32_t code, uint32_t flags, const struct parcel *, transaction *reply);
-long call(struct exchange *, uint32_t handle, uint32_t code);	/* without data; the reply is freed */
+int64_t send_parcel(struct exchange *, uint32_t handle, uint32_t code, uint32_t flags, const struct parcel *, transaction *reply);
+int64_t call(struct exchange *, uint32_t handle, uint32_t code);	/* without data; the reply is freed */
 void queue_send(struct exchange *, uint32_t handle, uint32_t code, uint32_t flags, const struct parcel *);
 void queue_reply(struct exchange *, const void *data, size_t size, const binder_size_t *offsets, size_t count, uint32_t flags);
 uint32_t handle_in(const transaction *);	/* the handle of the first object; 0 if there is none */

@@ -45,13 +45,26 @@ def records_of(commands):
 class Recording:
     """The captures and the side list that a recorder left in a folder."""
 
-    def __init__(self, folder):
+    def __init__(self, folder, name="capture-*"):
         folder = pathlib.Path(folder)
-        self.captures = sorted(folder.glob("capture-*.cap"), key=lambda path: int(path.stem.split("-")[1]))
+        self.captures = sorted(folder.glob(f"{name}.cap"), key=lambda path: int(path.stem.split("-")[1]))
+        self.is_cut = bool(self.captures) and self.captures[0].stem != "capture-1"	# earlier files were removed
         self.frames = [frame for path in self.captures for frame in frames_of(path.read_bytes()[16:])]
-        self.side = (folder / "capture.side").read_text() if (folder / "capture.side").exists() else ""
+        self.sides = sorted(folder.glob(f"{name}.side"), key=lambda path: int(path.stem.split("-")[1]))
+        if (folder / "capture.side").exists():
+            self.sides = [folder / "capture.side"]
+        self.side = "".join(path.read_text() for path in self.sides)
+        self.is_redacted = " payloads=redacted\n" in self.side
         self.devices = {int(a): b for a, b in re.findall(r"^\d+ device (\d+) .*name=(\S+)", self.side, re.M)}
         self.lost = [(int(n), why) for n, why in re.findall(r"^\d+ lost (\d+) .*why=(\S+)", self.side, re.M)]
+        self.left_out = sum(map(int, re.findall(r"^\d+ unattached \d+ from=\d+ count=(\d+) why=too-many$", self.side, re.M)))
+        self.missed = Counter()
+        for count, what in re.findall(r"^\d+ missed (\d+) what=(\S+) from=\d+ after=\d+$", self.side, re.M):
+            self.missed[what] += int(count)
+        self.spaces = {(int(device), int(number)): (int(space), int(pid)) for device, number, space, pid in re.findall(
+            r"^\d+ process (\d+) (\d+) .*pidns=(\d+) nspid=(\d+) ", self.side, re.M)}
+        self.bits = Counter(re.findall(r"^\d+ thread \d+ \d+ \d+ .*?( bits=32)? name=", self.side, re.M))
+        self.met = len(re.findall(r"^\d+ met opening=", self.side, re.M))
         self.names, self.pids, self.tids = {}, {}, {}
         self.cut = 0	# bytes of a cut last frame
         for device, number, pid, name in re.findall(
@@ -70,6 +83,11 @@ class Recording:
         whole.write_bytes(last[:length])
         self.cut = len(last) - length
         return [*self.captures[:-1], whole]
+
+    def lasted_after_frames(self):
+        """The nanoseconds from the last frame to the end of the recording; less than 0 if a frame came after it."""
+        end = re.search(r"^(\d+) end recording", self.side, re.M)
+        return int(end[1]) - max(int(time) for time in re.findall(r"^(\d+) frame", self.side, re.M)) if end else 0
 
     def open_at(self, moment):
         """The openings that were not closed by then, by device and process id, the latest first."""

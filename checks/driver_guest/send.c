@@ -49,8 +49,8 @@ static transaction transaction_of(const void *data, size_t size, const binder_si
 	transaction made = {0};
 	made.data_size = size;
 	made.offsets_size = count * sizeof *offsets;
-	made.data.ptr.buffer = (binder_uintptr_t)data;
-	made.data.ptr.offsets = (binder_uintptr_t)offsets;
+	made.data.ptr.buffer = (binder_uintptr_t)(uintptr_t)data;
+	made.data.ptr.offsets = (binder_uintptr_t)(uintptr_t)offsets;
 	return made;
 }
 
@@ -90,7 +90,7 @@ static bool ends_send(uint32_t code, uint32_t flags)
 	return false;
 }
 
-long send_parcel(struct exchange *exchange, uint32_t handle, uint32_t code, uint32_t flags, const struct parcel *parcel,
+int64_t send_parcel(struct exchange *exchange, uint32_t handle, uint32_t code, uint32_t flags, const struct parcel *parcel,
 		transaction *reply)
 {
 	uint8_t payload[128];
@@ -112,7 +112,7 @@ long send_parcel(struct exchange *exchange, uint32_t handle, uint32_t code, uint
 	return answer;
 }
 
-long call(struct exchange *exchange, uint32_t handle, uint32_t code)
+int64_t call(struct exchange *exchange, uint32_t handle, uint32_t code)
 {
 	return send_parcel(exchange, handle, code, 0, NULL, NULL);
 }

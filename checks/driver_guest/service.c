@@ -92,7 +92,7 @@ void serve(struct exchange *exchange, transaction *delivered)
 	if (delivered->code != KEEP_BUFFER) free_buffer(exchange, delivered);
 }
 
-void manage(const char *device, uint32_t flags)
+void manage_with(const char *device, uint32_t flags, void (*serve_all)(struct exchange *, transaction *))
 {
 	struct exchange exchange;
 	struct opening opening = open_device(device);
@@ -100,12 +100,17 @@ void manage(const char *device, uint32_t flags)
 	int error = flags ? ioctl(opening.descriptor, BINDER_SET_CONTEXT_MGR_EXT, &object)
 			  : ioctl(opening.descriptor, BINDER_SET_CONTEXT_MGR, 0);
 	if (error < 0) fail("context manager");
-	opening.serve = serve;
+	opening.serve = serve_all;
 	begin(&exchange, &opening);
 	command(&exchange, BC_ENTER_LOOPER, NULL);
 	turn(&exchange, false);
 	shared->ready++;
 	serve_forever(&exchange);
+}
+
+void manage(const char *device, uint32_t flags)
+{
+	manage_with(device, flags, serve);
 }
 
 void manager(void)

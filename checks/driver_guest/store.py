@@ -20,7 +20,7 @@ def main(auditor, source, to):
         files = [*captures, folder / "capture.side"]
         if len(captures) != 1 or sum(path.stat().st_size for path in files) > LARGEST:
             continue
-        if (folder / "status").read_text().split()[1] not in ("both", "record", "narrow"):
+        if (folder / "status").read_text().split()[1] not in ("both", "record", "redact", "narrow"):
             continue
         status, text = report_on(auditor, captures)
         if status:

@@ -1,0 +1,183 @@
+#include "met.h"
+#include "side.h"
+#include "table.h"
+#include <linux/android/binder.h>
+#include <stdlib.h>
+#include <string.h>
+
+#define LARGEST_HANDLE 1048575u		/* the driver gives the lowest free number; more are not remembered */
+#define DEEPEST 62			/* calls of a thread; more are not remembered */
+
+/* The open calls of a thread: a 1, and for each call a bit, the innermost one last: 1 if the thread serves it. */
+#define NO_CALLS 1u
+#define SERVES 1u
+
+struct met_process {
+	u32 device, process;
+	u64 *handles;			/* a bit for each */
+	u32 words;
+};
+
+static struct table calls;		/* by device, process and thread */
+static struct table processes;		/* by device and process: the place in `met`, plus 1 */
+static struct met_process *met;
+static u32 met_count;
+static int is_kept;
+
+void met_keep(void)
+{
+	is_kept = 1;
+}
+
+static u64 key_of(u32 device, u32 process)
+{
+	return (u64)device << 32 | process;
+}
+
+static struct met_process *met_of(const struct who *who)
+{
+	u64 *place = table_make(&processes, key_of(who->device, who->process), 0);
+	if (!*place) {
+		met = resize(met, (met_count + 1) * sizeof *met);
+		met[met_count++] = (struct met_process){ .device = who->device, .process = who->process };
+		*place = met_count;
+	}
+	return met + *place - 1;
+}
+
+static void met_handle(const struct who *who, u32 handle)
+{
+	struct met_process *m = met_of(who);
+	if (!handle || handle > LARGEST_HANDLE)	/* 0 is the context manager, for every process */
+		return;
+	if (handle / 64 >= m->words) {
+		u32 words = handle / 64 + 16;
+		m->handles = resize(m->handles, words * sizeof *m->handles);
+		memset(m->handles + m->words, 0, (words - m->words) * sizeof *m->handles);
+		m->words = words;
+	}
+	m->handles[handle / 64] |= 1ull << handle % 64;
+}
+
+static u64 *calls_of(const struct who *who)
+{
+	u64 *open = table_make(&calls, key_of(who->device, who->process), who->thread);
+	if (!*open)
+		*open = NO_CALLS;
+	return open;
+}
+
+static void begin_call(const struct who *who, u64 serves)
+{
+	u64 *open = calls_of(who);
+	if (!(*open >> DEEPEST))
+		*open = *open << 1 | serves;
+}
+
+/* Ends the innermost call, if it is one of this sort. */
+static void end_call(const struct who *who, u64 serves)
+{
+	u64 *open = calls_of(who);
+	if (*open != NO_CALLS && (*open & SERVES) == serves)
+		*open >>= 1;
+}
+
+static void met_transaction(const struct who *who, const u8 *payload, u64 serves)
+{
+	struct binder_transaction_data data;
+	memcpy(&data, payload, sizeof data);
+	if (!serves)
+		met_handle(who, data.target.handle);
+	if (!(data.flags & TF_ONE_WAY))
+		begin_call(who, serves);
+}
+
+static void met_command(const struct who *who, u32 word, const u8 *payload)
+{
+	switch (word) {
+	case BC_TRANSACTION: case BC_TRANSACTION_SG: met_transaction(who, payload, 0); break;
+	case BC_REPLY: case BC_REPLY_SG: end_call(who, SERVES); break;
+	case BC_INCREFS: case BC_ACQUIRE: case BC_RELEASE: case BC_DECREFS: case BC_REQUEST_DEATH_NOTIFICATION:
+	case BC_CLEAR_DEATH_NOTIFICATION: met_handle(who, load_u32(payload)); break;
+	}
+}
+
+static void met_return(const struct who *who, u32 word, const u8 *payload)
+{
+	switch (word) {
+	case BR_TRANSACTION: case BR_TRANSACTION_SEC_CTX: met_transaction(who, payload, SERVES); break;
+	case BR_REPLY: case BR_DEAD_REPLY: case BR_FAILED_REPLY: case BR_FROZEN_REPLY: end_call(who, !SERVES); break;
+	}
+}
+
+/* The handles that a delivery gives. */
+static void met_objects(const struct who *who, const struct entry *entry)
+{
+	for (u32 i = 0; i + 8 <= entry->offsets; i += 8) {
+		struct flat_binder_object object;
+		u64 offset;
+		memcpy(&offset, entry->bytes + entry->data + i, sizeof offset);
+		if (offset > entry->data || entry->data - offset < sizeof object)
+			continue;
+		memcpy(&object, entry->bytes + offset, sizeof object);
+		if (object.hdr.type == BINDER_TYPE_HANDLE || object.hdr.type == BINDER_TYPE_WEAK_HANDLE)
+			met_handle(who, object.handle);
+	}
+}
+
+void met_frame(const struct frame *frame, u64 consumed)
+{
+	if (!is_kept)
+		return;
+	for (u64 at = 0; at < consumed;) {
+		u32 word = load_u32(frame->commands + at);
+		if (frame->direction == DIRECTION_WRITE)
+			met_command(&frame->who, word, frame->commands + at + 4);
+		else
+			met_return(&frame->who, word, frame->commands + at + 4);
+		at += 4 + _IOC_SIZE(word);
+	}
+	for (const struct entry *entry = frame->entries; entry && frame->direction == DIRECTION_READ; entry = entry->next)
+		if (entry->got == (u64)entry->data + entry->offsets)
+			met_objects(&frame->who, entry);
+}
+
+void met_thread_ended(struct who who)
+{
+	u64 *open = table_find(&calls, key_of(who.device, who.process), who.thread);
+	if (open)
+		*open = NO_CALLS;
+}
+
+void met_process_ended(u32 device, u32 process)
+{
+	u64 *place = table_find(&processes, key_of(device, process), 0);
+	if (!place || !*place)
+		return;
+	struct met_process *m = met + *place - 1;
+	free(m->handles);
+	m->handles = NULL;
+	m->words = 0;
+}
+
+static void tell_calls(u64 key, u32 thread, u64 open)
+{
+	u32 made = 0, served = 0;
+	for (; open > NO_CALLS; open >>= 1) {
+		made += (open & SERVES) == 0;
+		served += (open & SERVES) != 0;
+	}
+	if (made || served)
+		side_line(now(), "calls %u %u %u made=%u served=%u", (u32)(key >> 32), (u32)key, thread, made, served);
+}
+
+void met_tell_again(void)
+{
+	for (u64 i = 0; i < calls.size; i++)
+		if (calls.slots[i].used)
+			tell_calls(calls.slots[i].key, calls.slots[i].second, calls.slots[i].value);
+	for (u32 i = 0; i < met_count; i++)
+		for (u32 handle = 1; handle < met[i].words * 64; handle++)
+			if (met[i].handles[handle / 64] >> handle % 64 & 1)
+				side_line(now(), "handle %u %u %u", met[i].device, met[i].process, handle);
+}

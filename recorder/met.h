@@ -1,0 +1,17 @@
+/* What the records of the frames written so far have named: the open calls of threads, and the handles of processes.
+ * With --files a side list begins with it, since the records themselves may be gone. */
+#ifndef RECORDER_MET_H
+#define RECORDER_MET_H
+#include "common.h"
+#include "frame.h"
+
+/* From now on, remembers what is met. Without this the other functions do nothing. */
+void met_keep(void);
+/* Takes the records of a frame, of which `consumed` command bytes are written. */
+void met_frame(const struct frame *frame, u64 consumed);
+/* What ended has nothing open and holds nothing any more. */
+void met_thread_ended(struct who who);
+void met_process_ended(u32 device, u32 process);
+/* Writes a line for each thread with open calls, and one for each handle. */
+void met_tell_again(void);
+#endif
