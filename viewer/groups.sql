@@ -15,27 +15,30 @@ INSERT INTO title VALUES
   (NULL, 'requests', NULL, 'requests for deaths'), (NULL, 'deaths', 'unacknowledged', 'deaths not acknowledged'),
   (NULL, 'deaths', 'stray', 'acknowledgements of no death'), (NULL, 'clears', 'unconfirmed', 'clears not confirmed'),
   (NULL, 'clears', 'stray', 'confirmations of no clear'), (NULL, 'objects', NULL, 'bad objects'),
-  (NULL, 'flags', NULL, 'unknown flags'), (NULL, 'oneway', NULL, 'oneway sends that never came'),
+  (NULL, 'flags', NULL, 'unknown flags'), (NULL, 'answers', NULL, 'calls answered with an error'),
+  (NULL, 'spam', NULL, 'oneway sends that may be spam'), (NULL, 'oneway', NULL, 'oneway sends that never came'),
   ('H1', 'handles', NULL, 'handles that nobody gave'), ('H2', 'handles', NULL, 'references let go too often'),
   ('H2', 'nodes', NULL, 'references given back too often'),
   ('H3', 'handles', NULL, 'references to an object told dead'),
   ('H4', 'handles', NULL, 'references taken more than once'), ('H5', 'handles', NULL, 'references kept'),
   ('U4', 'nodes', NULL, 'references never acknowledged'), ('U6', 'nodes', NULL, 'references not acknowledged yet'),
   ('T1', 'nodes', NULL, 'references not acknowledged yet'), ('F1', 'frees', NULL, 'buffers freed twice'),
-  ('S1', NULL, NULL, 'sends that were refused'), ('S2', NULL, NULL, 'replies without a call');
+  ('C6', NULL, NULL, 'calls that keep a pool busy'), ('S1', NULL, NULL, 'sends that were refused'),
+  ('S2', NULL, NULL, 'replies without a call');
 
 -- The group of each finding, named by its leading finding: an open call leads its served end and its buffer.
 CREATE TABLE finding_head(id INTEGER PRIMARY KEY, grp INTEGER NOT NULL) STRICT;
 CREATE TEMP TABLE named AS
-SELECT f.id, f.path, f.rule,
+SELECT f.id, f.path, likeness(f.path, t.who, p.name, o.who, q.name) AS likeness, f.rule,
   CASE r.verdict WHEN 'real' THEN 1 WHEN 'maybe' THEN 2 WHEN 'explained' THEN 3 ELSE 4 END AS rank,
-  iif(f.section IN ('calls', 'served', 'buffers', 'refused', 'oneway', 'objects'), 0, f.upid) AS upid,
   (SELECT t.title FROM title t WHERE (t.rule IS NULL OR t.rule = f.rule)
     AND (t.section IS NULL OR t.section = f.section) AND (t.what IS NULL OR t.what = f.what)
     ORDER BY t.rule IS NULL, t.what IS NULL LIMIT 1) AS title
-FROM finding f JOIN rule r ON r.id = f.rule WHERE f.lead IS NULL;
--- What is real and what is maybe on one path is one group, with the strongest verdict of its findings.
-INSERT INTO finding_head SELECT id, min(id) OVER (PARTITION BY title, path, max(rank, 2), upid) FROM named;
+FROM finding f JOIN rule r ON r.id = f.rule LEFT JOIN who t ON t.upid = f.target
+  LEFT JOIN process p ON p.upid = f.target LEFT JOIN who o ON o.upid = f.upid LEFT JOIN process q ON q.upid = f.upid
+WHERE f.lead IS NULL;
+-- What is real and what is maybe on like paths is one group, with the strongest verdict of its findings.
+INSERT INTO finding_head SELECT id, min(id) OVER (PARTITION BY title, likeness, max(rank, 2)) FROM named;
 INSERT INTO finding_head
 SELECT f.id, h.grp FROM finding f JOIN finding_head h ON h.id = f.lead;
 CREATE INDEX head_of_group ON finding_head(grp);
@@ -45,19 +48,33 @@ SELECT grp, min(rank) AS rank, group_concat(rule) AS rules
 FROM (SELECT DISTINCT h.grp, n.rank, n.rule FROM named n JOIN finding_head h USING (id) ORDER BY 1, 2, 3) GROUP BY grp;
 CREATE UNIQUE INDEX temp.ranked_group ON ranked(grp);
 
--- A group has n findings of the n_all of its path; those that are led do not count. Its rules begin with those of its
--- strongest verdict.
+-- Of each path in a group how many there are, as far as it is counted.
+CREATE TEMP TABLE paths AS
+SELECT grp, sum(n_all) AS n_all
+FROM (SELECT h.grp, n.path, max(f.n_all) AS n_all FROM named n JOIN finding_head h USING (id) JOIN finding f USING (id)
+  GROUP BY h.grp, n.path, iif(f.section = 'handles', f.upid, 0)) GROUP BY 1;
+CREATE UNIQUE INDEX temp.paths_of ON paths(grp);
+
+-- A group has n findings of the n_all of its paths; those that are led do not count. Its rules begin with those of its
+-- strongest verdict. Its note is that of its first finding.
 CREATE TABLE finding_group(grp INTEGER PRIMARY KEY, verdict TEXT NOT NULL, title TEXT NOT NULL, path TEXT NOT NULL,
   n INTEGER NOT NULL, n_all INTEGER, processes INTEGER NOT NULL, who TEXT NOT NULL, first INTEGER, last INTEGER,
-  rules TEXT NOT NULL) STRICT;
+  waiting INTEGER NOT NULL, rules TEXT NOT NULL, note TEXT) STRICT;
 INSERT INTO finding_group
 SELECT h.grp, CASE k.rank WHEN 1 THEN 'real' WHEN 2 THEN 'maybe' WHEN 3 THEN 'explained' ELSE 'normal' END, n.title,
-  n.path, sum(f.lead IS NULL), max(iif(f.lead IS NULL, f.n_all, NULL)),
+  iif(min(iif(f.lead IS NULL, f.path, NULL)) = max(iif(f.lead IS NULL, f.path, NULL)), n.path,
+    n.likeness || iif(count(DISTINCT iif(f.lead IS NULL, f.upid, NULL)) > 1,
+      ' in ' || count(DISTINCT iif(f.lead IS NULL, f.upid, NULL)) || ' processes', '')),
+  sum(f.lead IS NULL), s.n_all,
   count(DISTINCT iif(f.lead IS NULL, f.upid, NULL)),
   group_concat(DISTINCT iif(f.lead IS NULL, (SELECT who FROM who w WHERE w.upid = f.upid), NULL)),
-  min(iif(f.lead IS NULL, f.place, NULL)), max(iif(f.lead IS NULL, f.place, NULL)), k.rules
+  min(iif(f.lead IS NULL, f.place, NULL)), max(iif(f.lead IS NULL, f.place, NULL)),
+  coalesce(max(f.waiting), 0), k.rules, NULL
 FROM finding_head h JOIN finding f USING (id) JOIN named n ON n.id = h.grp JOIN ranked k ON k.grp = h.grp
+  JOIN paths s ON s.grp = h.grp
 GROUP BY h.grp;
+UPDATE finding_group SET note = (SELECT f.note FROM finding_head h JOIN finding f USING (id)
+  WHERE h.grp = finding_group.grp AND f.lead IS NULL AND f.note <> '' ORDER BY f.place LIMIT 1);
 
 -- Who talks to whom, by handle and code.
 CREATE TABLE traffic(upid INTEGER NOT NULL, handle INTEGER NOT NULL, generation INTEGER NOT NULL, code INTEGER NOT NULL,

@@ -13,6 +13,8 @@ import subprocess
 from typing import Callable, Iterable, Iterator
 
 from viewer import fit
+from viewer.columns import COLUMNS, fields_of, number_of as number_in
+from viewer.units import code_name, counted, duration_of, likeness, status_name
 
 FOLDER = pathlib.Path(__file__).resolve().parent
 
@@ -27,6 +29,11 @@ class Stopped(Exception):
     def __init__(self, status: int, line: str):
         super().__init__(line)
         self.status = status
+
+
+def for_owner(path: str, flags: int) -> int:
+    """Opens a new file that only its owner can read: what is made of a capture is as secret as the capture."""
+    return os.open(path, flags, 0o600)
 
 
 # ---- the loader
@@ -106,7 +113,7 @@ def load_by_python(database: pathlib.Path, rows: pathlib.Path) -> None:
     made = open_database(database)
     made.execute("PRAGMA page_size=8192")
     made.execute("BEGIN")
-    for statement in statements_of("schema.sql"):
+    for statement in statements_of(FOLDER / "schema.sql"):
         made.execute(statement)
     names = made.execute("SELECT name FROM sqlite_schema WHERE type = 'table' AND name GLOB 'raw_*'"
                          " ORDER BY 1").fetchall()
@@ -130,6 +137,16 @@ def load_rows(database: pathlib.Path, rows: pathlib.Path, side: str | None) -> b
 
 
 # ---- the programs
+
+
+def build_programs(root: pathlib.Path) -> None:
+    """Builds ./audit and ./listing in one go if they are missing or older than a source: they share most crates."""
+    try:
+        built = subprocess.run([root / "crates/run", "view", "binder_audit", "binder_listing"], stdin=subprocess.DEVNULL)
+    except OSError as error:
+        raise Stopped(1, f"crates/run: {error.strerror}") from error
+    if built.returncode:
+        raise Stopped(1, "./audit and ./listing could not be built")
 
 
 def answer(root: pathlib.Path, to: pathlib.Path, program: str, *words: object) -> int:
@@ -237,6 +254,21 @@ def line_of(line: str, path: str) -> tuple[int, str, list[str], dict[str, str]]:
     return int(time), word, positional, keyed
 
 
+def joined_sides(paths: list[str], to: pathlib.Path) -> str:
+    """The side lists of the files of a flight recorder as one. Each of them begins with what was met before its file;
+    of all but the first one, that is left out."""
+    if len(paths) == 1:
+        return paths[0]
+    with open(to, "wb", opener=for_owner) as out:
+        for at, path in enumerate(paths):
+            with open(path, "rb") as lines:
+                for line in lines if at else ():
+                    if line.split(b" ", 2)[1:2] == [b"file"]:
+                        break
+                shutil.copyfileobj(lines, out)
+    return str(to)
+
+
 # The time and the number of a frame, of at most 18 digits each.
 FRAME_LINE = re.compile(r"([0-9]{1,18}) frame ([0-9]{1,18})\n")
 
@@ -261,7 +293,7 @@ class SideList:
             with open(path, encoding="utf-8", errors="replace", newline="\n") as lines:
                 if next(lines, "") != "binder side list 1\n":
                     raise Stopped(4, f"{path} is not a side list of version 1")
-                self.take_lines(lines, path)
+                self.read_lines(lines, path)
         except OSError as error:
             raise Stopped(4, f"{path}: {error.strerror}") from error
         self.flush()
@@ -272,7 +304,7 @@ class SideList:
             raise Stopped(1, why)
         self.facts["side_doubt"] = fit.doubt(self.database, self.last())
 
-    def take_lines(self, lines: Iterable[str], path: str) -> None:
+    def read_lines(self, lines: Iterable[str], path: str) -> None:
         for line in lines:
             # Nearly all lines are those of frames, so they are not split like the others.
             if frame := FRAME_LINE.match(line):
@@ -308,7 +340,7 @@ class SideList:
 
     def take_begin(self, time: int, _: list[str], keyed: dict[str, str]) -> None:
         self.facts.update(begin_ts=time, realtime=number(keyed["realtime"]), kernel=keyed["kernel"],
-                          machine=keyed["machine"])
+                          machine=keyed["machine"], payloads=keyed.get("payloads"))
 
     def take_device(self, _: int, positional: list[str], keyed: dict[str, str]) -> None:
         self.database.execute("INSERT OR REPLACE INTO side_device VALUES (?, ?)",
@@ -337,6 +369,18 @@ class SideList:
                               (*numbers(positional, 1), *who, keyed["why"]))
         self.told = max(self.last(), *numbers(positional, 1))
 
+    def take_calls(self, _: int, positional: list[str], keyed: dict[str, str]) -> None:
+        self.database.execute("INSERT OR REPLACE INTO side_calls VALUES (?, ?, ?, ?, ?)",
+                              (*numbers(positional, 3), number(keyed["made"]), number(keyed["served"])))
+
+    def take_handle(self, _: int, positional: list[str], __: dict[str, str]) -> None:
+        self.database.execute("INSERT OR REPLACE INTO side_handle VALUES (?, ?, ?)", numbers(positional, 3))
+
+    def take_missed(self, time: int, positional: list[str], keyed: dict[str, str]) -> None:
+        self.database.execute("INSERT INTO side_missed(count, what, from_seq, after, ts) VALUES (?, ?, ?, ?, ?)",
+                              (*numbers(positional, 1), keyed["what"], number(keyed["from"]), number(keyed["after"]),
+                               time))
+
     def take_end(self, time: int, positional: list[str], keyed: dict[str, str]) -> None:
         after, what = number(keyed["after"]), positional[0]
         if what == "thread":
@@ -352,11 +396,36 @@ class SideList:
             self.facts.update(end_ts=time, lost=number(keyed["lost"]))
 
 
+# ---- the numbers of replies that are a status
+
+
+# Before the body of an attachment entry come three numbers of 4 bytes (docs/ENVELOPE.md).
+ENTRY_HEAD = 12
+
+
+def status_places(database: sqlite3.Connection) -> list[tuple[int, int | None]]:
+    """The places of such replies, each with that of its attachment entry."""
+    return database.execute("SELECT place, attachment FROM raw_record WHERE kind = :BR_REPLY AND data_size = 4"
+                            " AND flags & :TF_STATUS_CODE", named_numbers(database)).fetchall()
+
+
+def load_status(database: sqlite3.Connection, files: list[str]) -> None:
+    """Reads these numbers in the capture. In the joined capture a part begins where the one before it ends, without
+    the header of its file."""
+    asked, found, shift = status_places(database), [], 0
+    for name in files if asked else ():
+        with open(name, "rb") as part:
+            size = os.fstat(part.fileno()).st_size
+            for place, entry in asked:
+                if entry is not None and 16 <= entry - shift < size:
+                    part.seek(entry - shift + ENTRY_HEAD)
+                    found.append((place, *struct.unpack("<i", part.read(4))))
+        shift += size - 16
+    database.executemany("INSERT INTO status VALUES (?, NULL)", [(place,) for place, _ in asked])
+    database.executemany("INSERT OR REPLACE INTO status VALUES (?, ?)", found)
+
+
 # ---- the report
-
-
-# The sections whose rows begin with a device. Rows of `codes` have no device, and all others begin with a place.
-OF_PROCESSES = {"handles", "nodes", "oneway"}
 
 
 def report_rows(lines: Iterable[str]) -> Iterator[tuple[str, int | None, int | None, int | None, str]]:
@@ -370,8 +439,8 @@ def report_rows(lines: Iterable[str]) -> Iterator[tuple[str, int | None, int | N
         elif section == "codes":
             yield section, None, None, None, text
         else:
-            first = 0 if section in OF_PROCESSES else 1
-            yield section, int(words[0]) if first else None, int(words[first]), int(words[first + 1]), text
+            row = dict(zip(COLUMNS[section], words))
+            yield section, int(row["place"]) if "place" in row else None, int(row["device"]), int(row["process"]), text
 
 
 def load_report(database: sqlite3.Connection, path: pathlib.Path) -> None:
@@ -384,21 +453,22 @@ def load_report(database: sqlite3.Connection, path: pathlib.Path) -> None:
 class Row:
     """What a row of the report says, by the names of the table `finding`."""
 
+    # The column that says what a row is in its section; a row of another section has the section's name.
+    WHAT = {"calls": "verdict", "served": "verdict", "strays": "kind", "refused": "kind", "buffers": "kind",
+            "deaths": "which", "clears": "which", "objects": "cause", "flags": "bits"}
+    # The columns of a handle or node that are not 0 if it is held.
+    HELD = {"handles": ("strong", "weak"), "nodes": ("strong", "weak", "strong_due", "weak_due")}
+
     def __init__(self, section: str, text: str):
-        words = text.split()
-        self.what, self.handle, self.code, self.ptr, self.cookie = section, None, None, None, None
-        numbers = {"calls": (6, 4, 5), "served": (6, None, 5), "strays": (4,), "refused": (4,), "buffers": (5,),
-                   "requests": (None, 3), "deaths": (4,), "clears": (4,), "objects": (5,), "flags": (3,),
-                   "handles": (None, 2), "oneway": (None,)}
-        what, handle, code = (*numbers.get(section, ()), None, None, None)[:3]
-        self.what = section if what is None else words[what]
-        self.handle = None if handle is None else int(words[handle])
-        self.code = None if code is None else int(words[code])
-        if section == "handles":
-            self.what = "held" if words[3] != "0" or words[5] != "0" else "balanced"
+        fields = fields_of(section, text)
+        self.what = fields[self.WHAT[section]] if section in self.WHAT else section
+        self.handle = int(fields["handle"]) if "handle" in fields else None
+        self.code = int(fields["code"]) if "code" in fields else None
+        self.ptr = self.cookie = None
+        if section in self.HELD:
+            self.what = "held" if any(fields[name] != "0" for name in self.HELD[section]) else "balanced"
         if section == "nodes":
-            self.what = "held" if any(word != "0" for word in (words[4], words[6], words[8], words[9])) else "balanced"
-            self.ptr, self.cookie = signed(int(words[2], 16)), signed(int(words[3], 16))
+            self.ptr, self.cookie = (signed(int(fields[name], 16)) for name in ("ptr", "cookie"))
 
 
 def findings_of(database: sqlite3.Connection) -> Iterator[tuple]:
@@ -421,19 +491,45 @@ def load_findings(database: sqlite3.Connection) -> None:
 # ---- all of it
 
 
-def statements_of(name: str) -> Iterator[str]:
+def statements_of(path: pathlib.Path) -> Iterator[str]:
     """The SQL statements of a file, one after another."""
     statement = ""
-    for line in (FOLDER / name).read_text().splitlines(keepends=True):
+    for line in path.read_text().splitlines(keepends=True):
         statement += line
         if sqlite3.complete_statement(statement):
             yield statement
             statement = ""
 
 
-def run_statements(database: sqlite3.Connection, name: str) -> None:
-    for statement in statements_of(name):
-        database.execute(statement)
+def named_numbers(database: sqlite3.Connection) -> dict[str, int]:
+    """The numbers that statements use by name: kinds of records, sorts of objects and flags."""
+    return dict(database.execute("SELECT name, number FROM kind WHERE name <> 'OPAQUE'"
+                                 " UNION ALL SELECT name, number FROM sort UNION ALL SELECT name, number FROM flag"))
+
+
+def run_statements(database: sqlite3.Connection, path: pathlib.Path) -> None:
+    """Runs the statements of a file, in which `:BR_REPLY` is the number of that name."""
+    names = named_numbers(database)
+    for statement in statements_of(path):
+        database.execute(statement, names)
+
+
+# The files that judge the rows of the report, in order.
+JUDGING = ("nodes.sql", "facts.sql", "ages.sql", "waits.sql", "rules.sql", "groups.sql")
+
+
+def judge(database: sqlite3.Connection, folder: pathlib.Path = FOLDER) -> None:
+    """Gives each finding its verdict. The statements make texts by `duration(nanoseconds)`,
+    `counted(n, 'row')`, `code_name(code)` and `status_name(number)`, alike ones by `likeness(path, ..)`, and look into
+    a row of the report by `number_in(section, text, column)`."""
+    database.create_function("duration", 1, duration_of, deterministic=True)
+    database.create_function("counted", -1, counted, deterministic=True)
+    database.create_function("likeness", 5, likeness, deterministic=True)
+    database.create_function("number_in", 3, number_in, deterministic=True)
+    for named in (code_name, status_name):
+        database.create_function(named.__name__, 1, named, deterministic=True)
+    for name in JUDGING:
+        run_statements(database, folder / name)
 
 
 def open_database(path: pathlib.Path) -> sqlite3.Connection:
@@ -467,11 +563,27 @@ def refuse_unreadable(files: list[str]) -> None:
             raise Stopped(4, f"{name}: {error.strerror}") from error
 
 
+def fill(database: sqlite3.Connection, files: list[str], side: str | None, has_times: bool, report: pathlib.Path,
+         malformed: str | None) -> None:
+    """Adds the side list, the report and its findings to the raw tables."""
+    database.execute("BEGIN")
+    taken = SideList(database, has_times)
+    if side is not None:
+        taken.load(side)
+        taken.judge()
+    load_report(database, report)
+    load_facts(database, files, malformed, taken.facts if side is not None else {})
+    load_findings(database)
+    load_status(database, files)
+    database.execute("COMMIT")
+
+
 def database_of(root: pathlib.Path, files: list[str], side: str | None, made: pathlib.Path,
                 tell: Callable[[str], None]) -> str | None:
     """Makes the database of a capture, with the report and the verdicts of the rules. Returns the line of the capture's
     first fault, or None."""
     refuse_unreadable(files)
+    build_programs(root)
     rows, report, told = (made.with_suffix(f".{what}") for what in ("rows", "report", "told"))
     rows.mkdir()
     # One after another, since each of them may need more memory than the capture has bytes.
@@ -488,26 +600,18 @@ def database_of(root: pathlib.Path, files: list[str], side: str | None, made: pa
     if malformed:
         answer(root, report, "audit", "report", *before_fault(database, files, made.parent))
     tell("applying the rules")
-    database.execute("BEGIN")
-    taken = SideList(database, has_times)
-    if side is not None:
-        taken.load(side)
-        taken.judge()
-    load_report(database, report)
+    fill(database, files, side, has_times, report, malformed)
     report.unlink()
-    load_facts(database, files, malformed, taken.facts if side is not None else {})
-    load_findings(database)
-    database.execute("COMMIT")
-    for name in ("rules.sql", "groups.sql"):
-        run_statements(database, name)
+    judge(database)
     database.close()
     return malformed
 
 
 def keep(made: pathlib.Path, path: pathlib.Path) -> None:
-    """Keeps a database under a name that must not exist."""
+    """Keeps a database under a name that must not exist, for its owner only."""
+    made.chmod(0o600)
     try:
-        with open(path, "xb"):
+        with open(path, "xb", opener=for_owner):
             pass
     except FileExistsError as error:
         raise Stopped(1, f"{path} exists already") from error

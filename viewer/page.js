@@ -1,5 +1,5 @@
-// Sorts a table by the column whose head is pressed, and hides the rows and groups without the words in the box. The
-// page can be read without this script.
+// Sorts a table by the column whose head is pressed, hides the rows and groups without the words in the box, and opens
+// what is folded where it is needed. The page can be read without this script.
 'use strict';
 
 const numberOr = text => {
@@ -31,6 +31,11 @@ for (const head of document.querySelectorAll('table.sorted th')) {
   button.addEventListener('click', () => sortBy(head));
 }
 
+// The texts of what can be hidden, each read once.
+const all = [...document.querySelectorAll('details.group, table.sorted tbody tr')];
+const texts = new Map();
+const textOf = one => texts.get(one) ?? (texts.set(one, one.textContent.toLowerCase()), texts.get(one));
+
 const box = document.querySelector('.filter');
 const input = document.createElement('input');
 input.type = 'search';
@@ -38,9 +43,23 @@ input.placeholder = 'show only what has these words';
 input.setAttribute('aria-label', input.placeholder);
 input.addEventListener('input', () => {
   const words = input.value.toLowerCase().split(/\s+/).filter(Boolean);
-  for (const one of document.querySelectorAll('details.group, table.sorted tbody tr')) {
-    const text = one.textContent.toLowerCase();
-    one.hidden = !words.every(word => text.includes(word));
-  }
+  const hides = all.map(one => !words.every(word => textOf(one).includes(word)));
+  all.forEach((one, at) => { if (one.hidden !== hides[at]) one.hidden = hides[at]; });
 });
 box.append(input);
+
+// What is folded is open on paper, and where an address names something in it.
+let opened = [];
+const openAll = folded => { for (const one of folded) one.open = true; };
+addEventListener('beforeprint', () => {
+  opened = [...document.querySelectorAll('details:not([open])')];
+  openAll(opened);
+});
+addEventListener('afterprint', () => { for (const one of opened) one.open = false; });
+const show = () => {
+  const named = location.hash && document.getElementById(decodeURIComponent(location.hash.slice(1)));
+  for (let one = named; one; one = one.parentElement) if (one.tagName === 'DETAILS') one.open = true;
+  if (named) named.scrollIntoView();
+};
+addEventListener('hashchange', show);
+show();

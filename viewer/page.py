@@ -10,8 +10,10 @@ import sqlite3
 import unicodedata
 from typing import Iterator, NamedTuple
 
+from viewer import columns
 from viewer.lane import lane_of
-from viewer.loading import Stopped
+from viewer.loading import Stopped, for_owner
+from viewer.units import code_name, counted, duration_of
 
 FOLDER = pathlib.Path(__file__).resolve().parent
 
@@ -19,22 +21,6 @@ FOLDER = pathlib.Path(__file__).resolve().parent
 ROWS, FINDINGS, LANES = 1000, 100, 300
 
 VERDICTS = ("real", "maybe", "explained", "normal")
-
-# The fields of a row of the report, as in docs/REPORT.md.
-COLUMNS = {
-    "calls": "place device process thread handle code verdict closer",
-    "served": "place device process thread sender_pid code verdict closer",
-    "strays": "place device process thread kind",
-    "refused": "place device process thread kind",
-    "handles": "device process handle strong low weak low held_strong held_weak",
-    "nodes": "device process ptr cookie strong low weak low strong_due weak_due",
-    "buffers": "place device process address data_size kind",
-    "frees": "place device process address",
-    "requests": "place device process handle cookie",
-    "deaths": "place device process cookie which",
-    "clears": "place device process cookie which",
-    "objects": "place device process index offset cause",
-    "flags": "place device process bits"}
 
 # ---- text
 
@@ -60,24 +46,8 @@ def name_of(value: object) -> str:
     return f"<bdi>{text_of(value)}</bdi>"
 
 
-def counted(count: int, what: str, many: str | None = None) -> str:
-    """A number of things: 1 row, 2 rows."""
-    return f"{count:,} {what if count == 1 else many or what + 's'}"
-
-
 def number_of(value: int | None) -> str:
     return "" if value is None else f"{value:,}"
-
-
-def duration_of(nanoseconds: int | None) -> str:
-    """A time, with three digits."""
-    if nanoseconds is None:
-        return ""
-    for unit, size in (("s", 10**9), ("ms", 10**6), ("µs", 10**3)):
-        if nanoseconds >= size:
-            count = nanoseconds / size
-            return f"{count:.3g} {unit}" if count < 1000 else f"{count:,.0f} {unit}"
-    return f"{nanoseconds} ns"
 
 
 def lasted(age: int | None, good: int | None, longest: int | None) -> str:
@@ -99,6 +69,10 @@ class Cell(NamedTuple):
 
 def number_cell(value: int | None) -> Cell:
     return Cell(number_of(value), True, value)
+
+
+def code_cell(value: int | None) -> Cell:
+    return Cell(code_name(value) or "", True, value)
 
 
 def duration_cell(seconds: int | None, frames: int | None) -> Cell:
@@ -128,13 +102,16 @@ def table_of(name: str, heads: list[str], rows: list[list[Cell]], all_rows: int 
 # ---- plots
 
 
-def plot(values: list[int], width: int = 112, height: int = 24) -> str:
-    """Sixteen values as steps."""
+EVEN = [at / 16 for at in range(17)]
+
+
+def plot(values: list[int], width: int = 112, height: int = 24, edges: list[float] = EVEN) -> str:
+    """Sixteen values as steps. `edges` says where each begins and the last one ends, from 0 to 1."""
     top = max(values, default=0)
     if top <= 0:
         return ""
-    step, scale = (width - 2) / len(values), (height - 5) / top
-    path = "".join(f"{'M1 ' if at == 0 else 'V'}{height - 2 - value * scale:.1f}H{1 + (at + 1) * step:.1f}"
+    scale = (height - 5) / top
+    path = "".join(f"{'M1 ' if at == 0 else 'V'}{height - 2 - value * scale:.1f}H{1 + (width - 2) * edges[at + 1]:.1f}"
                    for at, value in enumerate(values))
     told = ", ".join(map(str, values))
     return (f'<svg class="plot" viewBox="0 0 {width} {height}" width={width} height={height} role=img'
@@ -156,11 +133,11 @@ def strip(places: list[int], whole: int, width: int = 112, height: int = 14) -> 
 class Page:
     """The sections of the page, each made by queries of its own."""
 
-    def __init__(self, database: sqlite3.Connection, files: list[str], side: str | None):
+    def __init__(self, database: sqlite3.Connection, files: list[str], sides: list[str]):
         self.database = database
         named = " ".join(map(shlex.quote, files))
         self.command, self.report = f"./listing {named}", f"./audit report {named}"
-        self.side = "" if side is None else f" --side {shlex.quote(side)}"
+        self.side = "".join(f" --side {shlex.quote(side)}" for side in sides)
         self.facts = dict(database.execute("SELECT key, value FROM capture"))
         self.who = dict(database.execute("SELECT upid, who FROM who"))
         self.rules = dict(database.execute("SELECT id, text FROM rule"))
@@ -193,18 +170,31 @@ class Page:
         if met:
             yield ("Met in mid-life, so that what came before is not known: " + ", ".join(map(name_of, met))
                    + (", …" if len(met) == 20 else "") + ".")
+        calls, handles = self.ask("SELECT (SELECT sum(made + served) FROM side_calls),"
+                                  " (SELECT count(*) FROM side_handle)")[0]
+        if calls or handles:
+            yield (f"Before the first frame, in files that were removed: {counted(calls or 0, 'call')} that went on, and"
+                   f" {counted(handles, 'handle')} that a process had met.")
         lost = self.ask("SELECT why, count(*) FROM side_lost WHERE seq BETWEEN (SELECT first_seq FROM raw_capture)"
                         " AND (SELECT last_seq FROM raw_capture) GROUP BY 1 ORDER BY 2 DESC")
         if lost:
             yield "Lost frames: " + ", ".join(f"{number_of(count)} {text_of(why)}" for why, count in lost) + "."
+        missed = self.ask("SELECT what, sum(count) FROM side_missed, raw_capture c WHERE after >= c.first_seq - 1"
+                          " AND from_seq <= c.last_seq GROUP BY 1 ORDER BY 1")
+        if missed:
+            yield ("Missed without a number, so that frames of any process may be missing: "
+                   + ", ".join(f"{number_of(count)} {text_of(what)}" for what, count in missed) + ".")
+        if self.facts.get("payloads") == "redacted":
+            yield "Payloads are redacted: only their objects and interface tokens are as they were."
         if "end_ts" not in self.facts:
-            yield "The side list has no end: the recorder was killed, or the disk was full."
+            yield ("The side list has no end: the recorder was killed, the disk was full, or later files of a flight"
+                   " recorder are left out.")
 
     def head(self) -> str:
         facts = self.facts
         span = ""
-        if facts.get("first_ts") is not None and facts.get("last_ts") is not None:
-            span = f" over {duration_of(facts['last_ts'] - facts['first_ts'])}"
+        if facts.get("first_ts") is not None and facts.get("until_ts") is not None:
+            span = f" over {duration_of(facts['until_ts'] - facts['first_ts'])}"
         first = f'<p class="fault">{text_of(facts["malformed"])}: this page shows what comes before it.</p>' \
             if facts["malformed"] else ""
         missing = counted(facts["missing"] % 2**64, "frame") if facts["missing"] else "no frames"
@@ -221,33 +211,37 @@ class Page:
                         f'<span class="of"> · {counted(rows.get(verdict, 0), "row")}</span></div>'
                         for verdict in VERDICTS)
         return (f'<div class="counts">{boxes}</div><p class="dim">Verdicts, paths and counts are <b>inferred</b> by the'
-                ' rules of docs/VIEW.md. What is <span class="proved">green</span> is the proved report, word by'
-                ' word.</p><div class="filter"></div>')
+                ' rules of docs/VIEW.md. What is <span class="proved">green, after a ✓,</span> is the proved report,'
+                ' word by word.</p><div class="filter"></div>')
 
     # -- findings
 
     def finding(self, row: tuple) -> str:
-        section, place, _, upid, rule, note, text, thread, *times = row
+        section, place, _, upid, rule, note, text, thread, finding, *times = row
+        address = f"{section}-{finding if place is None else place}"
         look = f"<code>{text_of(f'{self.command} --at {place}')}</code>" if place is not None else ""
         why = text_of(self.rules[rule]) + (f" ({text_of(note)})" if note else "")
         proved = f"{section}: {text_of(text)}" if text else ""
-        return (f"<tr><td>{look}<td>{self.name(upid)}{f' thread {thread}' if thread is not None else ''}"
+        who = self.name(upid) + ("" if thread is None else f" thread {thread}")
+        return (f'<tr id="{address}"><td>{look}<td>{who}'
                 f'<td class="dim">{why} <span class="rule">{rule}</span>{lasted(*times)}'
                 f'<td class="proved">{proved}\n')
 
     def group(self, row: tuple) -> str:
-        number, verdict, title, path, n, n_all, who, first, last, rules = row
+        number, verdict, title, path, n, n_all, first, last, waiting, rules, note = row
         found = self.asked("findings", number, FINDINGS + 1)
         places = [one[1] for one in found if one[1] is not None]
         count = number_of(n) + (f' <span class="of">of {number_of(n_all)}</span>' if n_all is not None else "")
+        waits = f'<br><span class="of">{counted(waiting, "waits", "wait")} for it</span>' if waiting else ""
         marks = self.growth(number) if n >= 8 else strip(places, self.facts["bytes"]) if places else ""
         span = "" if first is None else number_of(first) + (f" to {number_of(last)}" if last != first else "")
         why = " ".join(f'{text_of(self.rules[rule])} <span class="rule">{rule}</span>' for rule in rules.split(","))
+        why += f" ({text_of(note)})" if note else ""
         line = (f'<span><span class="verdict {verdict}">{verdict}</span></span>'
                 f'<span><b>{title}</b> {name_of(path)}<br><span class="dim">{why}</span></span>'
-                f'<span class="count">{count}</span><span class="who">{self.names(who)}</span>'
+                f'<span class="count">{count}{waits}</span><span class="who">{self.names(number)}</span>'
                 f'<span class="marks">{marks}<br><span class="of">{span}</span></span>')
-        return (f'<details class="group {verdict}"><summary>{line}</summary><div class="inner">'
+        return (f'<details class="group {verdict}" id="group-{number}"><summary>{line}</summary><div class="inner">'
                 f"{self.findings(number, found)}{self.lane(verdict, found)}</div></details>\n")
 
     def findings(self, group: int, found: list[tuple]) -> str:
@@ -257,14 +251,15 @@ class Page:
         for row in found[:FINDINGS]:
             if row[0] != section and row[6]:
                 section = row[0]
-                rows += f'<tr><td colspan=3><td class="of">{section}: {COLUMNS[section]} (docs/REPORT.md#{section})\n'
+                named = f"{section}: {columns.shown(section)} (docs/REPORT.md#{section})"
+                rows += f'<tr><td colspan=3><td class="of">{named}\n'
             rows += self.finding(row)
         return f'<div class="scroll" tabindex=0 role=region aria-label="findings"><table>{rows}</table></div>{more}'
 
-    def names(self, who: str | None) -> str:
-        """At most eight of these names, and how many more there are."""
-        names = (who or "").split(",")
-        return ", ".join(map(name_of, names[:8])) + (f" and {len(names) - 8:,} more" if len(names) > 8 else "")
+    def names(self, group: int) -> str:
+        """At most eight of the processes of a group, and how many more there are."""
+        names = [self.name(upid) for upid, in self.asked("group_who", group)]
+        return ", ".join(names[:8]) + (f" and {len(names) - 8:,} more" if len(names) > 8 else "")
 
     def growth(self, group: int) -> str:
         """How many findings a group has at the end of each of 16 slices of the capture."""
@@ -321,34 +316,51 @@ class Page:
             server, its_node = '<span class="dim">not known</span>', ""
             if node is not None:
                 server, its_node = self.name(node), f"<code>0x{ptr % 2**64:x}</code>"
-            cells.append([Cell(self.name(upid)), number_cell(handle), Cell(server), Cell(its_node), number_cell(code),
+            cells.append([Cell(self.name(upid)), number_cell(handle), Cell(server), Cell(its_node), code_cell(code),
                           Cell("oneway" if oneway else "call"), *map(number_cell, numbers),
                           duration_cell(longest, frames), Cell(certain)])
         return table_of("who talks to whom", heads, cells, self.count("traffic"))
 
+    def edges(self) -> list[float]:
+        """When each of the 16 slices of the capture begins, and when the capture ends, from 0 to 1; as wide as one
+        another without times."""
+        first, last, until = (self.facts.get(key) for key in ("first_seq", "last_seq", "until_ts"))
+        if first is None or until is None or last - first < 16:
+            return EVEN
+        begins = [ts for at in range(16) for ts, in
+                  self.ask("SELECT ts FROM side_time WHERE seq >= ? ORDER BY seq LIMIT 1",
+                           first - (-at * (last - first + 1) // 16))]
+        if len(begins) < 16:
+            return EVEN
+        whole = max(until - begins[0], 1)
+        return [min(max((ts - begins[0]) / whole, 0), 1) for ts in (*begins, until)]
+
     def levels(self) -> str:
         heads = ["process", "buffers", "their bytes", "strong references", "calls open", "calls being served"]
-        cells = []
-        for upid, ended, *columns in self.asked("growth", ROWS):
+        cells, edges = [], self.edges()
+        for upid, ended, space, oneway, *columns in self.asked("growth", ROWS):
             cells.append([Cell(self.name(upid))])
-            for slices, last in zip(columns[::2], columns[1::2]):
+            for head, slices, last in zip(heads[1:], columns[::2], columns[1::2]):
                 values = json.loads(slices)
+                of = f"; {counted(space, 'byte')} of its space, {number_of(oneway)} of these oneway" if space else ""
                 told = f"most {max(values):,}, " + (f"ended with {last:,}" if ended else f"at the end {last:,}")
-                cells[-1].append(Cell(f'{plot(values, 150, 30)}<div class="of">{told}</div>', False, max(values)))
+                told += of if head == "their bytes" else ""
+                shown = f'{plot(values, 150, 30, edges)}<div class="of">{told}</div>'
+                cells[-1].append(Cell(shown, False, max(values)))
         return table_of("growth", heads, cells, len(self.who))
 
     def slow_calls(self) -> str:
-        heads = ["#place", "caller", "served by", "#code", "verdict", "#took", "#delivered at", "#replied at",
-                 "#closed at"]
+        heads = ["#place", "caller", "served by", "#code", "verdict", "#took", "#to its delivery", "#delivered at",
+                 "#replied at", "#closed at"]
         cells = []
         for (place, upid, thread, handle, code, verdict, closer, frames, took, delivery, fits, server,
-             replied) in self.asked("calls", ROWS):
+             replied, got_frames, got_time) in self.asked("calls", ROWS):
             got = "" if delivery is None else str(delivery)
             if fits is not None and fits != 1:
                 got += f' <i class="of">one of {fits}</i>'
             cells.append([Cell(f"<code>{place}</code>", True, place), Cell(f"{self.name(upid)} thread {thread}"),
-                          Cell(self.name(server) or f"handle {handle}"), number_cell(code), Cell(verdict),
-                          duration_cell(took, frames), Cell(got, True, delivery),
+                          Cell(self.name(server) or f"handle {handle}"), code_cell(code), Cell(verdict),
+                          duration_cell(took, frames), duration_cell(got_time, got_frames), Cell(got, True, delivery),
                           Cell("" if replied is None else str(replied), True, replied),
                           Cell("<b>never</b>" if closer is None else str(closer), True, closer)])
         return table_of("calls", heads, cells)
@@ -373,10 +385,11 @@ class Page:
                " error reply ended. Open calls, and buffers that are not freed, also count those of ended processes."
                " Buffers at the peak are those of all callers.</p>" + self.talk())
         yield ('<h2>Growth</h2><p class="dim">Each step is the most that a process held in one of 16 slices of the'
-               " capture, so what it let go of in a slice only makes the next step lower. The numbers below the steps"
-               " are the most of all, and what the process held at the very end, or when it ended. A leak looks like"
-               " this: the steps rise, and the end is about as high. After its end a process holds nothing, and a call"
-               " ends with its thread.</p>" + self.levels())
+               " capture, of as many frames each, and as wide as the slice took. So what it let go of in a slice only"
+               " makes the next step lower. The numbers below the steps are the most of all, and what the process held"
+               " at the very end, or when it ended. A leak looks like this: the steps rise, and the end is as high. The"
+               " driver gives space for data and offsets, each rounded up to 8 bytes. After its end a process holds"
+               " nothing, and a call ends with its thread.</p>" + self.levels())
         yield "<h2>Calls without an answer, and those that took longest</h2>" + self.slow_calls()
         yield ('<details class="fold"><summary>Normal rows: references that are held or were let go, and requests that'
                " wait</summary>" + self.groups("normal") + "</details>")
@@ -400,11 +413,11 @@ def text_title(value: object) -> str:
     return html.escape("".join(one for one in str(value)[:200] if not is_sign(one)))
 
 
-def write(database: sqlite3.Connection, files: list[str], side: str | None, path: pathlib.Path) -> None:
-    """Writes the page into a new file."""
+def write(database: sqlite3.Connection, files: list[str], sides: list[str], path: pathlib.Path) -> None:
+    """Writes the page into a new file, for its owner only."""
     try:
-        with open(path, "x", encoding="utf-8", errors="replace") as out:
-            out.writelines(document(Page(database, files, side)))
+        with open(path, "x", encoding="utf-8", errors="replace", opener=for_owner) as out:
+            out.writelines(document(Page(database, files, sides)))
     except FileExistsError as error:
         raise Stopped(1, f"{path} exists already") from error
 
@@ -419,15 +432,15 @@ def field_of(value: object) -> str:
 
 
 def group_lines(database: sqlite3.Connection) -> Iterator[str]:
-    """The groups as lines of fields, separated by tabs: verdict, kind, n, all, device, process, path, rule."""
+    """The groups as lines of fields, separated by tabs: verdict, kind, n, all, device, process, path, rule, note."""
     for number, *fields in database.execute(
-            "SELECT grp, verdict, title, n, n_all, path, rules FROM finding_group"
-            " ORDER BY CASE verdict WHEN 'real' THEN 1 WHEN 'maybe' THEN 2 WHEN 'explained' THEN 3 ELSE 4 END, n DESC,"
-            " first, grp").fetchall():
-        verdict, title, n, n_all, path, rules = fields
+            "SELECT grp, verdict, title, n, n_all, path, rules, note FROM finding_group"
+            " ORDER BY CASE verdict WHEN 'real' THEN 1 WHEN 'maybe' THEN 2 WHEN 'explained' THEN 3 ELSE 4 END,"
+            " waiting DESC, n DESC, first, grp").fetchall():
+        verdict, title, n, n_all, path, rules, note = fields
         of = database.execute("SELECT DISTINCT p.device, p.process FROM finding_head h JOIN finding f USING (id)"
                               " JOIN raw_process p USING (upid) WHERE h.grp = ? AND f.lead IS NULL ORDER BY 1, 2",
                               (number,)).fetchall()
         devices = ",".join(map(str, dict.fromkeys(device for device, _ in of)))
         processes = ",".join(map(str, dict.fromkeys(process for _, process in of)))
-        yield "\t".join(map(field_of, (verdict, title, n, n_all, devices, processes, path, rules))) + "\n"
+        yield "\t".join(map(field_of, (verdict, title, n, n_all, devices, processes, path, rules, note))) + "\n"

@@ -1,291 +1,16 @@
--- The verdicts on the rows of the report: first what is known of each finding, then the rules. The first rule that fits
--- a finding decides. docs/VIEW.md has the rules in words. Times are used if the side list has them, and frames
--- otherwise.
+-- The verdicts on the rows of the report. The first rule that fits a finding decides. docs/VIEW.md has the rules in
+-- words. After facts.sql, ages.sql and waits.sql.
 BEGIN;
 
--- ---- indexes: a query below, or one of the page, was slow without them
-
-CREATE INDEX call_of_thread ON raw_call(utid, place);
-CREATE INDEX object_of_record ON raw_object(place, idx);
-CREATE INDEX send_refused ON raw_send(refused) WHERE refused IS NOT NULL;
-CREATE INDEX generation_of_handle ON raw_generation(upid, handle, begin);
-
--- ---- who is who
-
-CREATE TABLE who(upid INTEGER PRIMARY KEY, who TEXT NOT NULL) STRICT;
-INSERT INTO who
-SELECT p.upid, coalesce(p.name || ' ', '') || p.process
-  || iif((SELECT count(*) FROM device) > 1, ' on ' || coalesce(d.name, 'device ' || p.device), '')
-FROM process p LEFT JOIN side_device d USING (device);
-
--- The node that a generation of a handle leads to, by the deliveries of what was sent to it.
-CREATE TABLE peer(generation INTEGER NOT NULL, node_upid INTEGER NOT NULL, ptr INTEGER NOT NULL,
-  cookie INTEGER NOT NULL, deliveries INTEGER NOT NULL, certain INTEGER NOT NULL,
-  PRIMARY KEY(generation, node_upid, ptr, cookie)) STRICT, WITHOUT ROWID;
-INSERT INTO peer
-SELECT s.generation, t.upid, r.ptr, r.cookie, count(*), sum(s.certain)
-FROM raw_send s JOIN raw_record r ON r.place = s.delivery JOIN raw_thread t ON t.utid = r.utid
-WHERE s.generation IS NOT NULL GROUP BY 1, 2, 3, 4;
-
--- The node that is taken: the only one with a certain delivery, or else the only one at all.
-CREATE TABLE node_of(generation INTEGER PRIMARY KEY, upid INTEGER NOT NULL, ptr INTEGER NOT NULL,
-  cookie INTEGER NOT NULL, certain INTEGER NOT NULL) STRICT;
-INSERT INTO node_of
-SELECT generation, node_upid, ptr, cookie, 1 FROM peer WHERE certain > 0 GROUP BY generation HAVING count(*) = 1;
-INSERT INTO node_of
-SELECT generation, node_upid, ptr, cookie, 0 FROM peer WHERE generation NOT IN (SELECT generation FROM node_of)
-GROUP BY generation HAVING count(*) = 1;
--- A handle that was never used leads to the object that was handed over: one of the sender's own, or one that the
--- sender has a handle of.
-CREATE TEMP TABLE handed AS
-SELECT g.id AS generation, o.sort, t.upid, o.binder AS ptr, o.cookie, o.handle, s.place, s.certain
-FROM raw_generation g JOIN raw_delivery d ON d.place = g.given_by JOIN raw_send s ON s.place = d.send
-  JOIN raw_object a ON a.place = g.given_by AND a.handle = g.handle AND a.sort IN (0x73682a85, 0x77682a85)
-  JOIN raw_object o ON o.place = s.place AND o.idx = a.idx JOIN raw_thread t ON t.utid = s.utid
-WHERE g.id NOT IN (SELECT generation FROM node_of) GROUP BY g.id;
-INSERT INTO node_of
-SELECT generation, upid, ptr, cookie, certain FROM handed WHERE sort IN (0x73622a85, 0x77622a85);
-INSERT INTO node_of
-SELECT h.generation, n.upid, n.ptr, n.cookie, min(h.certain, n.certain) FROM handed h JOIN raw_generation g
-  ON g.upid = h.upid AND g.handle = h.handle AND g.begin <= h.place AND (g.end IS NULL OR g.end > h.place)
-  JOIN node_of n ON n.generation = g.id
-WHERE h.sort IN (0x73682a85, 0x77682a85) GROUP BY h.generation;
-
-CREATE TEMP TABLE manager AS
-SELECT DISTINCT n.upid FROM node_of n JOIN raw_generation g ON g.id = n.generation WHERE g.handle = 0;
-
--- ---- findings that are not rows of the report: oneway sends that the driver took and that were never seen to come
-
-INSERT INTO finding(section, what, place, upid, handle, code)
-SELECT 'oneway', 'undelivered', s.place, t.upid, r.handle, r.code
-FROM raw_send s JOIN raw_record r USING (place) JOIN raw_thread t ON t.utid = s.utid
-WHERE s.delivery IS NULL AND s.refused IS NULL AND s.generation IN (SELECT generation FROM node_of) AND r.flags & 1;
-
--- ---- what each finding is about
-
-CREATE TEMP TABLE dead_record AS
-SELECT r.place, t.upid, r.utid, r.kind, r.handle, r.cookie FROM raw_record r JOIN raw_thread t USING (utid)
-WHERE r.kind IN (14, 15, 16, 271, 272);
-CREATE INDEX temp.dead_cookie ON dead_record(upid, cookie, kind, place);
-CREATE INDEX temp.dead_handle ON dead_record(upid, handle, kind, place);
-CREATE UNIQUE INDEX temp.dead_place ON dead_record(place);
--- The deaths that were reported to a process, each with the generation that the latest request with its cookie names.
-CREATE TEMP TABLE told AS
-SELECT d.place, d.upid, d.cookie, q.handle, (SELECT g.id FROM raw_generation g WHERE g.upid = q.upid
-  AND g.handle = q.handle AND g.begin <= q.place ORDER BY g.begin DESC LIMIT 1) AS generation
-FROM dead_record d JOIN dead_record q ON q.place = (SELECT max(x.place) FROM dead_record x WHERE x.upid = d.upid
-  AND x.cookie = d.cookie AND x.kind = 14 AND x.place < d.place)
-WHERE d.kind = 271;
-CREATE INDEX temp.told_generation ON told(generation);
-
--- For a handle: the generation that is held, or else the last one; and the place where it was taken or given.
-UPDATE finding SET generation = (SELECT g.id FROM raw_generation g WHERE g.upid = finding.upid
-  AND g.handle = finding.handle ORDER BY g.strong + g.weak + g.held_strong + g.held_weak > 0 DESC, g.n DESC LIMIT 1)
-WHERE section = 'handles';
-UPDATE finding SET place = coalesce(g.held_since, g.given_by, g.begin)
-FROM raw_generation g WHERE g.id = finding.generation AND section = 'handles';
--- For a node: the last record by which the driver asks for a reference to it.
-CREATE TEMP TABLE asked AS
-SELECT t.upid, r.ptr, r.cookie, max(r.place) AS place FROM raw_record r JOIN raw_thread t USING (utid)
-WHERE r.kind IN (263, 264) AND EXISTS (SELECT 1 FROM finding WHERE section = 'nodes') GROUP BY 1, 2, 3;
-CREATE UNIQUE INDEX temp.asked_node ON asked(upid, ptr, cookie);
-UPDATE finding SET place = a.place FROM asked a
-WHERE section = 'nodes' AND (a.upid, a.ptr, a.cookie) = (finding.upid, finding.ptr, finding.cookie);
-
--- What the record of a finding says of it. An error reply is about the send that it refuses.
-UPDATE finding SET seq = r.seq, utid = r.utid FROM raw_record r WHERE r.place = finding.place;
-UPDATE finding SET generation = s.generation, code = r.code, handle = r.handle
-FROM raw_send s JOIN raw_record r ON r.place = s.place
-WHERE s.refused = finding.place AND section IN ('refused', 'strays');
-UPDATE finding SET generation = s.generation, code = r.code, handle = r.handle
-FROM raw_send s JOIN raw_record r ON r.place = s.place WHERE s.place = finding.place AND s.generation IS NOT NULL
-  AND section IN ('calls', 'oneway', 'objects', 'flags');
-UPDATE finding SET code = d.code, handle = d.handle, ptr = iif(d.kind = 'BR_REPLY', NULL, d.ptr),
-  cookie = iif(d.kind = 'BR_REPLY', NULL, d.cookie), generation = s.generation
-FROM delivery d LEFT JOIN raw_send s ON s.place = d.call AND d.kind = 'BR_REPLY'
-WHERE d.place = finding.place AND section = 'buffers';
-UPDATE finding SET ptr = r.ptr, cookie = r.cookie FROM raw_record r
-WHERE r.place = finding.place AND section = 'served';
--- A reply has no code of its own: it is about the served call that it closes.
-UPDATE finding SET code = r.code, ptr = r.ptr, cookie = r.cookie FROM raw_call c JOIN raw_record r ON r.place = c.place
-WHERE c.served AND c.closer = finding.place AND section = 'objects' AND c.utid = finding.utid;
-UPDATE finding SET cookie = d.cookie, handle = coalesce(d.handle, finding.handle) FROM dead_record d
-WHERE d.place = finding.place AND section IN ('requests', 'deaths', 'clears');
-UPDATE finding SET handle = t.handle, generation = t.generation FROM told t
-WHERE t.place = finding.place AND section = 'deaths';
-UPDATE finding SET generation = (SELECT g.id FROM raw_generation g WHERE g.upid = finding.upid
-  AND g.handle = finding.handle AND g.begin <= finding.place ORDER BY g.begin DESC LIMIT 1)
-WHERE section IN ('requests', 'clears');
-UPDATE finding SET target = n.upid, ptr = coalesce(finding.ptr, n.ptr), cookie = iif(section IN ('requests', 'deaths',
-  'clears'), finding.cookie, coalesce(finding.cookie, n.cookie))
-FROM node_of n WHERE n.generation = finding.generation;
-
--- ---- how long it lasted: to the end of its thread, its process or the capture
-
--- A side list that goes on after a capture that was cut says nothing of the end of the capture.
-CREATE TEMP TABLE last AS
-SELECT c.last_seq AS seq, c.missing, iif(EXISTS (SELECT 1 FROM side_time s WHERE s.seq > c.last_seq),
-  (SELECT ts FROM side_time s WHERE s.seq = c.last_seq),
-  coalesce((SELECT value FROM capture WHERE key = 'end_ts'),
-    (SELECT ts FROM side_time s WHERE s.seq = c.last_seq))) AS ts
-FROM raw_capture c;
-CREATE TEMP TABLE process_life AS
-SELECT upid, iif(ended_after <= last.seq, ended_after, NULL) AS ended_after,
-  iif(ended_after <= last.seq, ended, NULL) AS ended,
-  coalesce(met = 'from-start', 0) AS known
-FROM process, last;
-CREATE UNIQUE INDEX temp.life_of_process ON process_life(upid);
-CREATE TEMP TABLE life AS
-SELECT t.utid, min(coalesce(t.ended_after, p.ended_after), coalesce(p.ended_after, t.ended_after)) AS ended_after,
-  min(coalesce(t.ended, p.ended), coalesce(p.ended, t.ended)) AS ended
-FROM (SELECT utid, upid, iif(ended_after <= last.seq, ended_after, NULL) AS ended_after,
-    iif(ended_after <= last.seq, ended, NULL) AS ended FROM thread, last) t JOIN process_life p USING (upid);
-CREATE UNIQUE INDEX temp.life_of_thread ON life(utid);
 -- Processes with missing frames. If the side list does not say whose a missing frame was, it may be of any process.
 CREATE TEMP TABLE lossy AS
 WITH lost AS (SELECT l.* FROM side_lost l, raw_capture c WHERE l.seq BETWEEN c.first_seq AND c.last_seq)
 SELECT upid FROM raw_process p, last
 WHERE last.missing <> 0 AND (last.missing <> (SELECT count(*) FROM lost WHERE process IS NOT NULL)
   OR EXISTS (SELECT 1 FROM lost l WHERE (l.device, l.process) = (p.device, p.process)));
-
--- For a call the end of its thread counts, for a oneway send that of its receiver, for all else that of its process.
-UPDATE finding SET
-  age_seq = max(0, coalesce(iif(section IN ('calls', 'served'), l.ended_after, p.ended_after), last.seq) - finding.seq),
-  age = coalesce(iif(section IN ('calls', 'served'), l.ended, p.ended), last.ts)
-    - (SELECT ts FROM side_time x WHERE x.seq = finding.seq)
-FROM last, life l, process_life p
-WHERE l.utid = finding.utid AND p.upid = iif(section = 'oneway', finding.target, finding.upid);
-
--- later: how many calls its thread began after it, at most 4. All that a thread does after an open call is within that
--- call, so a call counts if it is no deeper than a call that would begin at the finding. For what is not a transaction,
--- write frames count: those among the next 2,000 frames, or one if the thread wrote only after these.
-UPDATE finding SET later = (SELECT count(*) FROM (SELECT 1 FROM (SELECT depth FROM raw_call c
-  WHERE c.utid = finding.utid AND c.place > finding.place ORDER BY c.place LIMIT 64) c WHERE c.depth <= coalesce(
-    (SELECT o.depth FROM raw_delivery d JOIN raw_call o ON o.place = d.call WHERE d.place = finding.place),
-    (SELECT o.depth + (o.closer IS NULL OR o.closer > finding.place) FROM raw_call o WHERE o.utid = finding.utid
-      AND o.place < finding.place ORDER BY o.place DESC LIMIT 1), 1) LIMIT 4))
-WHERE section IN ('calls', 'served', 'buffers');
-UPDATE finding SET later = max(coalesce(later, 0), iif(t.last_write > finding.place, max(1, (SELECT count(*) FROM (
-    SELECT 1 FROM raw_frame f WHERE f.seq > finding.seq AND f.seq <= finding.seq + 2000 AND f.utid = finding.utid
-      AND f.direction = 1 AND f.records > 0 LIMIT 4))), 0))
-FROM raw_thread t
-WHERE t.utid = finding.utid AND section NOT IN ('calls', 'served')
-  AND (later IS NULL OR EXISTS (SELECT 1 FROM raw_record r
-    WHERE r.place = finding.place AND r.kind IN (258, 514) AND r.flags & 1));
-
--- ---- paths: findings are grouped by them; and everything that took the same path
-
-UPDATE finding SET path = CASE
-  WHEN section IN ('calls', 'refused', 'oneway') OR section IN ('strays', 'objects', 'flags') AND generation IS NOT NULL
-  THEN iif(generation IS NULL, 'a reply', 'code ' || code || ' to '
-    || coalesce((SELECT who FROM who WHERE upid = target) || printf(' node 0x%x', ptr), 'handle ' || handle))
-  WHEN section = 'buffers' AND what = 'BR_REPLY' THEN coalesce('reply to code ' || code || ' of '
-    || coalesce((SELECT who FROM who WHERE upid = target) || printf(' node 0x%x', ptr), 'handle ' || handle),
-    'reply to no call')
-  WHEN section IN ('buffers', 'served') THEN iif(section = 'buffers' AND (SELECT flags & 1 FROM raw_record r
-    WHERE r.place = finding.place), 'oneway code ', 'code ') || code || ' at '
-    || (SELECT who FROM who w WHERE w.upid = finding.upid) || printf(' node 0x%x', ptr)
-  WHEN section = 'objects' THEN coalesce('a reply to code ' || code, 'a reply')
-  WHEN section IN ('handles', 'requests', 'deaths', 'clears') AND target IS NOT NULL
-  THEN 'handle ' || coalesce(handle, '?') || ', ' || (SELECT who FROM who WHERE upid = target)
-    || printf(' node 0x%x', ptr)
-  WHEN section = 'handles' THEN 'handle ' || handle
-  WHEN section IN ('requests', 'deaths', 'clears') THEN coalesce('handle ' || handle, printf('cookie 0x%x', cookie))
-  WHEN section = 'nodes' THEN printf('node 0x%x', ptr)
-  WHEN section = 'frees' THEN (SELECT printf('address 0x%x', address) FROM raw_record r WHERE r.place = finding.place)
-  ELSE '' END;
-UPDATE finding SET path = '' WHERE path IS NULL;
-
--- Buffers, by what they came for. For each path that has a finding: how many buffers there are, how many were freed,
--- and how long these were held at most.
-CREATE TEMP TABLE buffer_path AS
-WITH d AS (
-  SELECT d.place, r.kind = 259 AS reply, iif(r.kind = 259, c.code, r.code) AS code, coalesce(n.upid, t.upid) AS upid,
-    iif(r.kind = 259, coalesce(n.ptr, c.handle), r.ptr) AS ptr, iif(r.kind = 259, n.cookie, r.cookie) AS cookie,
-    iif(r.kind = 259, 0, r.flags & 1) AS oneway, d.freed_by, d.dur_seq, d.seq
-  FROM raw_delivery d JOIN raw_record r USING (place) JOIN raw_thread t ON t.utid = d.utid
-    LEFT JOIN raw_record c ON c.place = d.call AND r.kind = 259
-    LEFT JOIN raw_send s ON s.place = d.call AND r.kind = 259 LEFT JOIN node_of n ON n.generation = s.generation
-  WHERE EXISTS (SELECT 1 FROM finding WHERE section = 'buffers'))
-SELECT reply, code, upid, ptr, cookie, oneway, count(*) AS n, count(freed_by) AS good, max(dur_seq) AS longest_seq,
-  max(z.ts - x.ts) AS longest, max(iif(freed_by IS NULL, place, NULL)) AS one
-FROM d LEFT JOIN side_time x ON x.seq = d.seq LEFT JOIN side_time z ON z.seq = d.seq + d.dur_seq
-GROUP BY 1, 2, 3, 4, 5, 6;
-CREATE TEMP TABLE buffer_text AS
-SELECT f.path, b.n, b.good, b.longest_seq, b.longest FROM buffer_path b JOIN finding f ON f.place = b.one
-WHERE f.section = 'buffers';
-UPDATE finding SET n_all = b.n, n_good = b.good, longest_seq = b.longest_seq, longest = b.longest
-FROM (SELECT path, sum(n) AS n, sum(good) AS good, max(longest_seq) AS longest_seq, max(longest) AS longest
-  FROM buffer_text GROUP BY path) b WHERE b.path = finding.path AND section = 'buffers';
--- Calls and oneway sends to a target, by code: how many were answered or delivered, and how long that took.
-CREATE TEMP TABLE send_path AS
-SELECT r.code, coalesce(n.upid, -t.upid) AS upid, coalesce(n.ptr, r.handle) AS ptr, coalesce(n.cookie, 0) AS cookie,
-  r.flags & 1 AS oneway, count(*) AS n, count(e.seq) AS good, max(e.seq - s.seq) AS longest_seq,
-  max(z.ts - x.ts) AS longest
-FROM raw_send s JOIN raw_record r USING (place) JOIN raw_thread t ON t.utid = s.utid LEFT JOIN raw_call c USING (place)
-  LEFT JOIN node_of n ON n.generation = s.generation
-  LEFT JOIN raw_record e ON e.place = iif(r.flags & 1, s.delivery, iif(c.verdict = 1, c.closer, NULL))
-  LEFT JOIN side_time x ON x.seq = s.seq LEFT JOIN side_time z ON z.seq = e.seq
-WHERE s.generation IS NOT NULL
-  AND r.code IN (SELECT code FROM finding
-    WHERE section IN ('calls', 'served', 'refused', 'strays', 'oneway', 'objects'))
-GROUP BY 1, 2, 3, 4, 5;
-UPDATE finding SET n_all = p.n, n_good = p.good, longest_seq = p.longest_seq, longest = p.longest
-FROM send_path p, raw_record r
-WHERE section IN ('calls', 'refused', 'oneway', 'strays', 'objects') AND r.place = finding.place
-  AND p.code = finding.code AND p.upid = coalesce(finding.target, -finding.upid)
-  AND p.ptr = iif(finding.target IS NULL, finding.handle, finding.ptr)
-  AND p.cookie = iif(finding.target IS NULL, 0, finding.cookie)
-  AND p.oneway = coalesce((SELECT x.flags & 1 FROM raw_send s JOIN raw_record x USING (place)
-    WHERE s.refused = finding.place), iif(section = 'calls', 0, r.flags & 1));
--- Served calls of a node, by code.
-UPDATE finding SET n_all = p.n, n_good = p.good, longest_seq = p.longest_seq, longest = p.longest
-FROM (SELECT r.code, t.upid, r.ptr, r.cookie, count(*) AS n, sum(c.verdict = 2) AS good,
-    max(iif(c.verdict = 2, c.dur_seq, NULL)) AS longest_seq, max(iif(c.verdict = 2, z.ts - x.ts, NULL)) AS longest
-  FROM raw_call c JOIN raw_record r USING (place) JOIN raw_thread t ON t.utid = c.utid
-    LEFT JOIN side_time x ON x.seq = c.seq LEFT JOIN side_time z ON z.seq = c.seq + c.dur_seq
-  WHERE c.served AND r.code IN (SELECT code FROM finding WHERE section = 'served') GROUP BY 1, 2, 3, 4) p
-WHERE section = 'served'
-  AND (p.code, p.upid, p.ptr, p.cookie) = (finding.code, finding.upid, finding.ptr, finding.cookie);
--- Handles, by the way they came: with calls of a code, or with replies to a code. If no delivery gave it, it has no
--- way.
-CREATE TEMP TABLE given AS
-SELECT g.id AS generation, g.upid, d.code, d.kind = 'BR_REPLY' AS reply, d.handle AS asked,
-  iif(d.kind = 'BR_REPLY', 'given by replies to code ' || d.code || ' of '
-    || coalesce(w.who || printf(' node 0x%x', n.ptr), 'handle ' || d.handle),
-    'given by calls of code ' || d.code) AS way,
-  g.strong + g.weak > 0 AS kept
-FROM raw_generation g JOIN delivery d ON d.place = g.given_by
-  LEFT JOIN raw_send s ON s.place = d.call AND d.kind = 'BR_REPLY' LEFT JOIN node_of n ON n.generation = s.generation
-  LEFT JOIN who w ON w.upid = n.upid
-WHERE EXISTS (SELECT 1 FROM finding WHERE section = 'handles');
-CREATE UNIQUE INDEX temp.given_generation ON given(generation);
-CREATE TEMP TABLE given_way AS
-SELECT upid, way, count(*) AS n, sum(kept) AS kept FROM given WHERE way NOTNULL GROUP BY 1, 2;
-UPDATE finding SET n_all = w.n FROM given g JOIN given_way w ON w.upid = g.upid AND w.way = g.way
-WHERE section = 'handles' AND g.generation = finding.generation AND g.kept;
-
--- What is old: older than ten times the longest of its path or, if there is none, ten times the median of all buffers
--- or calls, of which some 10,000 are looked at; and older than 0.1 s.
-CREATE TEMP TABLE usual AS
-WITH held AS (SELECT z.ts - x.ts AS dur FROM raw_delivery d JOIN side_time x ON x.seq = d.seq
-    JOIN side_time z ON z.seq = d.seq + d.dur_seq
-    WHERE d.place / 4 % (SELECT 1 + count(*) / 10000 FROM raw_delivery) = 0 ORDER BY dur),
-  called AS (SELECT z.ts - x.ts AS dur FROM raw_call c JOIN side_time x ON x.seq = c.seq
-    JOIN side_time z ON z.seq = c.seq + c.dur_seq
-    WHERE c.verdict IN (1, 2) AND c.place / 4 % (SELECT 1 + count(*) / 10000 FROM raw_call) = 0 ORDER BY dur)
-SELECT 'buffers' AS section, (SELECT dur FROM held LIMIT 1 OFFSET (SELECT count(*) / 2 FROM held)) AS dur
-UNION ALL SELECT 'calls', (SELECT dur FROM called LIMIT 1 OFFSET (SELECT count(*) / 2 FROM called));
-CREATE TEMP TABLE old AS
-SELECT f.id FROM finding f WHERE f.age > max(100000000, 10 * coalesce(f.longest, (SELECT dur FROM usual u
-  WHERE u.section = iif(f.section = 'served', 'calls', f.section)), 0));
-CREATE UNIQUE INDEX temp.old_finding ON old(id);
--- What ended with its thread or process, and was not old then.
-CREATE TEMP TABLE ended AS
-SELECT f.id FROM finding f JOIN life l USING (utid)
-  JOIN process_life p ON p.upid = iif(section = 'oneway', f.target, f.upid)
-WHERE iif(section = 'oneway', p.ended_after, l.ended_after) IS NOT NULL AND f.id NOT IN (SELECT id FROM old);
-CREATE UNIQUE INDEX temp.ended_finding ON ended(id);
+-- What was missed without a number may be of any process that had not ended before, also right before the first frame.
+INSERT INTO lossy SELECT upid FROM process_life p WHERE EXISTS (SELECT 1 FROM side_missed m, raw_capture c
+  WHERE m.after >= c.first_seq - 1 AND m.from_seq <= c.last_seq AND coalesce(p.ended_after >= m.from_seq, 1));
 
 -- ---- the rules
 
@@ -295,34 +20,39 @@ INSERT INTO rule VALUES
   ('M1', 'explained', 'Frames of its process are missing, and the one that it lacks may be among them.'),
   ('M2', 'maybe', 'It has lasted as what is real does, but frames of its process are missing.'),
   ('M3', 'maybe', 'An error reply ended a send, and it need not be this one: frames of its process are missing.'),
-  ('P1', 'explained', 'What came before the capture is not known, and it may belong there.'),
+  ('P1', 'explained', 'Not all that came before is known: before the capture, or in data that it does not have.'),
   ('T1', 'explained', 'Its process or thread ended then, and the driver has let it go.'),
   ('U1', 'explained', 'Under way: others of its path took as long.'),
-  ('U2', 'real', 'More than ten times as long as the longest of its path that came to a good end.'),
+  ('U2', 'real', 'More than ten times as long as the longest of its path that came to a good end, and 0.1 s.'),
   ('U3', 'real', 'Three or more, and nearly all of this path, while their threads went on.'),
   ('U4', 'maybe', 'Its thread went on with other work.'),
   ('U5', 'maybe', 'The last thing that its thread did, and long before the end.'),
-  ('U6', 'explained', 'The last thing that its thread did.'),
-  ('C1', 'maybe', 'It was answered long before the end, and its thread has not read that.'),
+  ('U6', 'explained', 'The last thing that its thread did, or shortly before the end.'),
+  ('C1', 'maybe', 'It was answered over 0.1 s before the end of its thread, which has not read that.'),
   ('C2', 'explained', 'It was answered, and its thread had not read that yet.'),
   ('C3', 'real', 'Each waits for the other: the calls go round in a ring.'),
   ('C4', 'maybe', 'It was delivered, and not replied.'),
   ('C5', 'maybe', 'No answer, and no delivery that fits.'),
-  ('E1', 'real', 'Sent to an object of whose death the process had been told.'),
+  ('C6', 'real', 'It keeps a thread of a pool busy that has no other free, and sends wait there.'),
+  ('C7', 'explained', 'It waits for another call, or for a pool that is busy with others.'),
+  ('E1', 'real', 'Sent to an object of whose death the process had been told: repeatedly, or over 1 s later.'),
   ('E2', 'maybe', 'Sent to an object that had ended, as an earlier BR_DEAD_REPLY told.'),
   ('E3', 'explained', 'The process, or the thread, that serves it ended.'),
   ('E4', 'maybe', 'The process that serves it was frozen.'),
   ('E5', 'real', 'The driver refused it.'),
   ('E6', 'real', 'The driver refused its reply.'),
+  ('E7', 'maybe', 'The driver warns: much of the space of the receiver for oneway sends holds what this process sent.'),
+  ('R1', 'maybe', 'Nearly all calls of its path are answered with this status.'),
+  ('R2', 'normal', 'Answered with a status.'),
   ('S1', 'real', 'The driver refused a send, one of several in one write.'),
   ('S2', 'real', 'A reply without a call, which the driver refused.'),
   ('S3', 'explained', 'One off, after a crossed call of its thread.'),
   ('S4', 'real', 'It fits nothing that its thread did.'),
   ('H1', 'real', 'A handle that no delivery gave it.'),
   ('H2', 'real', 'Let go, or given back, more often than taken.'),
-  ('H3', 'maybe', 'Still held, though its death was told.'),
+  ('H3', 'maybe', 'Still held long after its death was told.'),
   ('H4', 'maybe', 'Taken more than once, and still held.'),
-  ('H5', 'maybe', 'Nearly all handles that came this way are kept.'),
+  ('H5', 'maybe', 'Nearly all handles that came this way from one process are kept.'),
   ('H6', 'normal', 'Still held. Whether it is used is not known.'),
   ('H7', 'normal', 'Taken and let go of.'),
   ('D1', 'explained', 'Nothing of the handle is held any more: the driver has dropped the request.'),
@@ -330,6 +60,7 @@ INSERT INTO rule VALUES
   ('D3', 'explained', 'The driver waits for the acknowledgement of the death.'),
   ('D4', 'maybe', 'It answers nothing.'),
   ('D5', 'normal', 'No death was told: it waits for one.'),
+  ('D6', 'explained', 'Of its cookie there are as many before it as it answers.'),
   ('F1', 'real', 'Freed before.'),
   ('F2', 'real', 'An address that was never delivered to it.'),
   ('O1', 'real', 'Bad data that a process handed over: the driver refuses them.'),
@@ -339,45 +70,17 @@ INSERT INTO rule VALUES
   ('W2', 'explained', 'It waits for the oneway delivery before it to be freed.'),
   ('W3', 'maybe', 'Sent and confirmed, and never seen to come.');
 
--- Open calls, and what they wait for: the innermost call that the thread that got the call has made since; or, for a
--- call that nobody got, the calls of the process that should get it. A call back to a process that waits for this very
--- thread goes to the thread that waits: it is under way.
-CREATE TEMP TABLE waits AS
-SELECT f.id, f.place, f.upid, f.utid, s.delivery, v.utid AS server, v.verdict AS replied,
-  coalesce(st.upid, f.target) AS server_upid
-FROM finding f JOIN raw_send s USING (place) LEFT JOIN raw_call v ON v.place = s.delivery
-  LEFT JOIN raw_thread st ON st.utid = v.utid
-WHERE f.section = 'calls' AND f.what = 'open';
-CREATE INDEX temp.waits_thread ON waits(utid, place);
-CREATE INDEX temp.waits_server ON waits(server, upid);
-CREATE TEMP TABLE few AS SELECT upid FROM waits GROUP BY upid HAVING count(*) <= 16;
-CREATE TEMP TABLE waits_for AS
-SELECT w.id, (SELECT n.id FROM waits n WHERE n.utid = w.server AND n.place > w.delivery ORDER BY n.place DESC LIMIT 1)
-  AS next
-FROM waits w WHERE w.delivery IS NOT NULL
-UNION SELECT w.id, n.id FROM waits w JOIN waits n ON n.upid = w.server_upid
-WHERE w.delivery IS NULL AND w.upid IN (SELECT upid FROM few) AND w.server_upid IN (SELECT upid FROM few)
-  AND NOT EXISTS (SELECT 1 FROM waits x WHERE x.server = w.utid AND x.upid = w.server_upid);
-DELETE FROM waits_for WHERE next IS NULL;
-CREATE INDEX temp.next_wait ON waits_for(id);
-CREATE TEMP TABLE ring AS
-WITH RECURSIVE chain(id, at, length) AS (SELECT id, id, 0 FROM waits
-  UNION SELECT c.id, n.next, c.length + 1 FROM chain c JOIN waits_for n ON n.id = c.at WHERE c.length < 8)
-SELECT DISTINCT w.id FROM chain c JOIN waits w ON w.id = c.id JOIN waits e ON e.id = c.at
-WHERE c.length > 0 AND e.server_upid = w.upid AND coalesce(e.server, 0) <> w.utid AND coalesce(e.replied, 0) = 0;
-INSERT INTO ring SELECT n.next FROM waits_for n JOIN ring r ON r.id = n.id WHERE n.next NOT IN (SELECT id FROM ring);
-
 -- The error reply that closed a failed call or refused a send: its kind, and the send.
 CREATE TEMP TABLE failure AS
-SELECT f.id, e.kind, f.generation, f.place, s.refused = e.place AS refused FROM finding f
+SELECT f.id, e.kind, f.generation, f.place, e.place AS told, s.refused = e.place AS refused FROM finding f
   JOIN raw_call c USING (place) JOIN raw_record e ON e.place = c.closer LEFT JOIN raw_send s USING (place)
 WHERE f.section = 'calls' AND f.what = 'failed'
-UNION ALL SELECT f.id, e.kind, f.generation, s.place, 1 FROM finding f JOIN raw_record e USING (place)
+UNION ALL SELECT f.id, e.kind, f.generation, s.place, e.place, 1 FROM finding f JOIN raw_record e USING (place)
   JOIN raw_send s ON s.refused = f.place WHERE f.section = 'refused'
-UNION ALL SELECT f.id, e.kind, NULL, NULL, 1 FROM finding f JOIN raw_record e USING (place)
+UNION ALL SELECT f.id, e.kind, NULL, NULL, e.place, 1 FROM finding f JOIN raw_record e USING (place)
 WHERE f.section = 'refused' AND NOT EXISTS (SELECT 1 FROM raw_send s WHERE s.refused = f.place);
 CREATE UNIQUE INDEX temp.failure_of ON failure(id);
-CREATE INDEX temp.failure_before ON failure(generation, kind, place);
+CREATE INDEX temp.failure_before ON failure(generation, kind, told);
 
 -- A: one finding with an open call.
 UPDATE finding SET rule = 'A1', lead = w.id FROM waits w
@@ -393,32 +96,88 @@ WHERE finding.rule IS NULL AND finding.section = 'buffers' AND v.section = 'serv
 -- C, T, U: calls and served calls that are open.
 UPDATE finding SET rule = 'T1' WHERE rule IS NULL AND section IN ('calls', 'served') AND what = 'open'
   AND finding.id IN (SELECT id FROM ended);
-UPDATE finding SET rule = iif(finding.id IN (SELECT id FROM old), 'C1', 'C2'),
-  note = 'replied at ' || (SELECT closer FROM raw_call c WHERE c.place = w.delivery)
-FROM waits w WHERE rule IS NULL AND w.id = finding.id AND w.replied = 2;
+-- An answer that came after the end of its thread found nobody; one that came before may have been read late.
+UPDATE finding SET rule = CASE WHEN l.ended_after < c.seq + c.dur_seq THEN 'T1'
+    WHEN coalesce(l.ended, last.ts) - (SELECT ts FROM side_time x WHERE x.seq = c.seq + c.dur_seq) > 100000000 THEN 'C1'
+    ELSE 'C2' END,
+  note = 'replied at ' || c.closer
+FROM waits w JOIN raw_call c ON c.place = w.delivery JOIN life l ON l.utid = w.utid, last
+WHERE rule IS NULL AND w.id = finding.id AND w.replied = 2;
 UPDATE finding SET rule = iif(upid IN (SELECT upid FROM lossy), 'M2', 'C3')
 WHERE rule IS NULL AND id IN (SELECT id FROM ring) AND finding.id IN (SELECT id FROM old);
+-- What waits for another call, and the call that a full pool waits for. If frames are missing, a delivery may be too.
+UPDATE finding SET waiting = w.n FROM waited w WHERE w.id = finding.id;
+UPDATE finding SET rule = 'C7', note = coalesce((SELECT p.doing FROM waits w JOIN full_pool p ON p.upid = w.server_upid
+    WHERE w.id = finding.id AND w.delivery IS NULL), 'the call at ' || (SELECT n.place FROM waits_for f JOIN waits n
+    ON n.id = f.next WHERE f.id = finding.id))
+WHERE rule IS NULL AND upid NOT IN (SELECT upid FROM lossy) AND coalesce(target, 0) NOT IN (SELECT upid FROM lossy)
+  AND id IN (SELECT w.id FROM waits w WHERE w.delivery IS NULL AND w.server_upid IN (SELECT upid FROM full_pool)
+    UNION SELECT f.id FROM waits_for f JOIN waits w USING (id) WHERE w.delivery NOTNULL AND NOT f.by_main);
 UPDATE finding SET rule = 'U1' WHERE rule IS NULL AND section IN ('calls', 'served') AND what = 'open' AND n_good >= 3
   AND coalesce(age <= 2 * longest, age_seq <= 2 * longest_seq);
+UPDATE finding SET rule = iif(upid IN (SELECT upid FROM lossy), 'M2', 'C6')
+WHERE rule IS NULL AND finding.id IN (SELECT id FROM old) AND finding.id IN (SELECT w.id FROM waited w WHERE w.by_pool)
+  AND EXISTS (SELECT 1 FROM finding q JOIN old o ON o.id = q.id WHERE q.rule = 'C7' AND q.age > 1000000000);
 UPDATE finding SET rule = iif(upid IN (SELECT upid FROM lossy), 'M2', 'U2')
 WHERE rule IS NULL AND section IN ('calls', 'served') AND what = 'open' AND n_good >= 3
-  AND coalesce(age > 10 * longest, age_seq > 10 * longest_seq);
+  AND coalesce(age > max(100000000, 10 * longest), age_seq > 10 * longest_seq);
 UPDATE finding SET rule = 'U6' WHERE rule IS NULL AND section IN ('calls', 'served') AND what = 'open' AND later = 0
   AND age IS NOT NULL AND finding.id NOT IN (SELECT id FROM old);
-UPDATE finding SET rule = iif(w.delivery IS NULL, 'C5', 'C4'),
-  note = coalesce((SELECT who FROM who WHERE upid = w.server_upid) || ' got it at ' || w.delivery, 'not got')
-    || coalesce((SELECT ' and waits itself, for the call at ' || n.place FROM waits_for x JOIN waits n ON n.id = x.next
-      WHERE x.id = finding.id), '')
-FROM waits w WHERE rule IS NULL AND w.id = finding.id;
+UPDATE finding SET rule = iif(w.delivery IS NULL, 'C5', 'C4') FROM waits w WHERE rule IS NULL AND w.id = finding.id;
+-- What the threads do that have such a call, or could take it; and how many wait for it.
+UPDATE finding SET note = iif(waiting > 0, counted(waiting, 'waits', 'wait') || ' for it; ', '')
+  || CASE WHEN w.delivery IS NULL THEN coalesce('not got: ' || (SELECT doing FROM pool p WHERE p.upid = w.server_upid),
+      'not got')
+    ELSE (SELECT who FROM who WHERE upid = w.server_upid) || ' got it at ' || w.delivery
+      || coalesce((SELECT iif(x.by_main, ', and its main thread waits for the call at ', ', and waits for the call at ')
+          || n.place FROM waits_for x JOIN waits n ON n.id = x.next WHERE x.id = finding.id),
+        (SELECT iif(t.last_seq <= d.seq, ', and thread ' || t.thread || ' has done nothing since', '')
+          FROM raw_thread t JOIN raw_call d ON d.place = w.delivery WHERE t.utid = w.server), '') END
+FROM waits w WHERE w.id = finding.id AND rule IN ('C3', 'C4', 'C5', 'C6', 'U2', 'M2');
 UPDATE finding SET rule = 'C4' WHERE rule IS NULL AND section = 'served' AND what = 'open';
 
 -- E: calls and sends that failed.
-UPDATE finding SET rule = 'E1', note = 'told at ' || t.place FROM failure e JOIN told t ON t.generation = e.generation
-WHERE rule IS NULL AND e.id = finding.id AND e.kind = 261 AND t.place < e.place;
-UPDATE finding SET rule = 'E2' FROM failure e WHERE rule IS NULL AND e.id = finding.id AND e.kind = 261 AND EXISTS (
-  SELECT 1 FROM failure b WHERE b.generation = e.generation AND b.kind = 261 AND b.place < e.place);
-UPDATE finding SET rule = CASE e.kind WHEN 261 THEN 'E3' WHEN 274 THEN 'E4' ELSE iif(e.refused, 'E5', 'E6') END
+-- One thread reads the news of a death while another sends: a single send soon after the news says nothing.
+CREATE TEMP TABLE too_late AS
+SELECT e.id, t.place, count(*) OVER (PARTITION BY e.generation) > 1 OR coalesce(
+  (SELECT ts FROM side_time x JOIN raw_record r USING (seq) WHERE r.place = e.place)
+    - (SELECT ts FROM side_time x JOIN raw_record r USING (seq) WHERE r.place = t.place) > 1000000000, 0) AS certain
+FROM failure e JOIN told t ON t.generation = e.generation WHERE e.kind = :BR_DEAD_REPLY AND t.place < e.place;
+UPDATE finding SET rule = 'E1', note = 'told at ' || t.place FROM too_late t
+WHERE rule IS NULL AND t.id = finding.id AND t.certain;
+UPDATE finding SET rule = 'E2' FROM failure e WHERE rule IS NULL AND e.id = finding.id AND e.kind = :BR_DEAD_REPLY
+  AND EXISTS (SELECT 1 FROM failure b WHERE b.generation = e.generation AND b.kind = :BR_DEAD_REPLY
+    AND b.told < e.place);
+UPDATE finding SET rule = CASE e.kind WHEN :BR_DEAD_REPLY THEN 'E3' WHEN :BR_FROZEN_REPLY THEN 'E4'
+  ELSE iif(e.refused, 'E5', 'E6') END
 FROM failure e WHERE rule IS NULL AND e.id = finding.id;
+
+-- What waits or is held at the receiver when its first oneway send is refused, and from whom. The driver rounds sizes
+-- up to 8 bytes, and takes half of the buffer space of a process for oneway transactions.
+CREATE TEMP TABLE refused_first AS
+SELECT f.id, e.place, f.target, row_number() OVER (PARTITION BY f.upid, f.target ORDER BY e.place) AS nth
+FROM failure e JOIN finding f USING (id) JOIN raw_record r ON r.place = e.place
+WHERE e.refused AND f.target NOTNULL AND r.flags & :TF_ONE_WAY;
+DELETE FROM refused_first WHERE nth > 1;
+CREATE TEMP TABLE in_the_way AS
+SELECT q.id, q.target, t.upid, count(*) AS n,
+  sum((r.data_size + 7) / 8 * 8 + (r.offsets_size + 7) / 8 * 8 + (coalesce(r.extra, 0) + 7) / 8 * 8) AS bytes
+FROM (SELECT * FROM refused_first ORDER BY place LIMIT 16) q JOIN node_of n ON n.upid = q.target
+  JOIN raw_send s ON s.generation = n.generation AND s.place < q.place JOIN raw_record r ON r.place = s.place
+  JOIN raw_thread t ON t.utid = s.utid LEFT JOIN raw_delivery d ON d.place = s.delivery
+WHERE s.refused IS NULL AND r.flags & :TF_ONE_WAY AND coalesce(d.freed_by > q.place, 1) GROUP BY 1, 2, 3;
+UPDATE finding SET note = (SELECT counted(sum(n), 'oneway send') || ' with ' || counted(sum(bytes), 'byte')
+    || ' waited or were held at ' || (SELECT who FROM who w WHERE w.upid = target) || ': ' || group_concat(
+      counted(n, 'send') || ' from ' || (SELECT who FROM who w WHERE w.upid = i.upid), ', ')
+  FROM (SELECT * FROM in_the_way ORDER BY n DESC) i WHERE i.id = finding.id)
+WHERE rule = 'E5' AND id IN (SELECT id FROM in_the_way);
+UPDATE finding SET rule = 'E7' WHERE rule IS NULL AND section = 'spam';
+-- R: calls that were answered with a status.
+UPDATE finding SET rule = 'R1'
+FROM (SELECT path FROM finding WHERE section = 'answers' GROUP BY path HAVING count(*) >= 3
+  AND count(*) >= 0.8 * max(n_all)) p
+WHERE rule IS NULL AND section = 'answers' AND p.path = finding.path;
+UPDATE finding SET rule = 'R2' WHERE rule IS NULL AND section = 'answers';
 
 -- S: strays, and calls that are crossed.
 CREATE TEMP TABLE first_crossed AS
@@ -442,64 +201,100 @@ UPDATE finding SET rule = 'M3' WHERE rule IN ('E1', 'E5', 'E6', 'S1', 'S2') AND 
   AND place NOT IN (SELECT place FROM finding WHERE section = 'objects');
 
 -- U: buffers.
-UPDATE finding SET rule = 'T1' WHERE rule IS NULL AND section = 'buffers' AND later = 0
-  AND finding.id IN (SELECT id FROM ended);
+UPDATE finding SET rule = 'T1' WHERE rule IS NULL AND section = 'buffers'
+  AND (later = 0 AND finding.id IN (SELECT id FROM ended) OR finding.id IN (SELECT id FROM leaving));
 UPDATE finding SET rule = 'U1' WHERE rule IS NULL AND section = 'buffers' AND n_good >= 3
-  AND coalesce(age <= longest, age_seq <= longest_seq);
+  AND (coalesce(age <= longest, age_seq <= longest_seq) OR age <= 1000000000 AND age_seq <= longest_seq);
 UPDATE finding SET rule = iif(upid IN (SELECT upid FROM lossy), 'M2', 'U3')
 FROM (SELECT path FROM finding WHERE section = 'buffers' AND rule IS NULL AND later > 0 GROUP BY path
    HAVING count(*) >= 3 AND count(*) >= 0.8 * max(n_all)) p
 WHERE rule IS NULL AND section = 'buffers' AND later > 0 AND p.path = finding.path;
 UPDATE finding SET rule = iif(upid IN (SELECT upid FROM lossy), 'M2', 'U2')
 WHERE rule IS NULL AND section = 'buffers' AND n_good >= 3 AND later >= 3
-  AND coalesce(age > 10 * longest, age_seq > 10 * longest_seq);
-UPDATE finding SET rule = CASE WHEN later > 0 THEN 'U4' WHEN finding.id IN (SELECT id FROM old) THEN 'U5'
-  ELSE 'U6' END WHERE rule IS NULL AND section = 'buffers';
+  AND coalesce(age > max(100000000, 10 * longest), age_seq > 10 * longest_seq);
+UPDATE finding SET rule = 'U4' WHERE rule IS NULL AND section = 'buffers' AND later > 0
+  AND coalesce(age > 100000000, 1);
+-- A thread may keep the last buffer that it got. If it kept others of that path too, this is one more of them.
+UPDATE finding SET rule = iif(finding.id IN (SELECT id FROM old) AND path IN (SELECT path FROM finding
+  WHERE section = 'buffers' AND rule IN ('U2', 'U3', 'U4', 'M2')), 'U5', 'U6')
+WHERE rule IS NULL AND section = 'buffers';
 
 -- H: handles and nodes.
+-- The first delivery to a process of which it is not known which objects it had: its data are not in the capture.
+CREATE TEMP TABLE unseen AS
+SELECT t.upid, min(d.place) AS place
+FROM (SELECT 1 FROM finding f JOIN raw_generation g ON g.id = f.generation
+    WHERE f.section = 'handles' AND f.handle <> 0 AND g.given_by IS NULL LIMIT 1)
+  CROSS JOIN raw_delivery d JOIN raw_record r USING (place) JOIN raw_thread t ON t.utid = d.utid
+WHERE r.offsets_size <> 0 AND r.attachment IS NULL GROUP BY 1;
 CREATE TEMP TABLE handle_row AS
-SELECT f.id, f.upid, f.handle, f.generation, f.what, r.text,
+SELECT f.id, f.upid, f.handle, f.generation, f.what,
+  -- Below 0 if more was let go, or acknowledged, than was taken or asked for; and what buffers hold, or what is due.
+  min(number_in(f.section, r.text, 'strong_low'), number_in(f.section, r.text, 'weak_low'),
+    iif(f.section = 'nodes', number_in(f.section, r.text, 'strong_due'), 0),
+    iif(f.section = 'nodes', number_in(f.section, r.text, 'weak_due'), 0)) AS least,
+  number_in(f.section, r.text, iif(f.section = 'nodes', 'strong_due', 'held_strong')) <> 0
+    OR number_in(f.section, r.text, iif(f.section = 'nodes', 'weak_due', 'held_weak')) <> 0 AS more,
   (SELECT known FROM process_life p WHERE p.upid = f.upid) AS known,
   EXISTS (SELECT 1 FROM raw_generation g WHERE g.upid = f.upid AND g.handle = f.handle AND g.given_by IS NOT NULL)
     AS given
 FROM finding f JOIN report r ON r.id = f.report WHERE f.section IN ('handles', 'nodes');
-UPDATE finding SET rule = iif(h.known, iif(finding.upid IN (SELECT upid FROM lossy), 'M1', 'H1'), 'P1')
+UPDATE finding SET rule = CASE WHEN NOT h.known OR EXISTS (SELECT 1 FROM unseen u WHERE u.upid = finding.upid
+    AND u.place < finding.place) THEN 'P1'
+  WHEN finding.upid IN (SELECT upid FROM lossy) THEN 'M1' ELSE 'H1' END
 FROM handle_row h
 WHERE rule IS NULL AND section = 'handles' AND h.id = finding.id AND NOT h.given AND finding.handle <> 0
   AND EXISTS (SELECT 1 FROM raw_generation g WHERE g.upid = h.upid AND g.handle = h.handle
     AND g.acquired + g.released + g.increfs + g.decrefs > 0);
 UPDATE finding SET rule = iif(h.known, iif(finding.upid IN (SELECT upid FROM lossy), 'M1', 'H2'), 'P1')
 FROM handle_row h
-WHERE rule IS NULL AND h.id = finding.id AND h.text GLOB '* -*';
-UPDATE finding SET rule = 'H3', note = 'told at ' || t.place FROM told t
-WHERE rule IS NULL AND section = 'handles' AND what = 'held' AND t.generation = finding.generation;
+WHERE rule IS NULL AND h.id = finding.id AND h.least < 0;
+-- The proxies of the dead go with the next collection of garbage: one is held for long after 1 s, three after 0.1 s.
+CREATE TEMP TABLE mourned AS
+SELECT id, place, age > 1000000000 OR coalesce(age > 100000000, 1) AND count(*) OVER (PARTITION BY upid) >= 3 AS long
+FROM (SELECT f.id, f.upid, min(t.place) AS place, coalesce(p.ended, last.ts) - x.ts AS age
+  FROM finding f JOIN told t USING (generation) JOIN process_life p ON p.upid = f.upid
+    JOIN raw_record r ON r.place = t.place LEFT JOIN side_time x ON x.seq = r.seq, last
+  WHERE f.section = 'handles' AND f.what = 'held' GROUP BY f.id);
+UPDATE finding SET rule = 'H3', note = 'told at ' || m.place FROM mourned m
+WHERE rule IS NULL AND m.id = finding.id AND m.long;
+-- The most that a generation that is held had at once, if one thread took and let go of all. Records of several threads
+-- say nothing of that: one may write late that it let go, when another has taken it again. By these a generation has
+-- more only if it has three now.
 CREATE TEMP TABLE most_held AS
-SELECT upid, handle, max(strong) AS strong, max(weak) AS weak FROM (
-  SELECT t.upid, r.handle, sum((r.kind = 5) - (r.kind = 6)) OVER changes AS strong,
-    sum((r.kind = 4) - (r.kind = 7)) OVER changes AS weak
-  FROM raw_record r JOIN raw_thread t USING (utid)
-  WHERE r.kind BETWEEN 4 AND 7 AND EXISTS (SELECT 1 FROM raw_generation WHERE acquired > 1 OR increfs > 1)
-  WINDOW changes AS (PARTITION BY t.upid, r.handle ORDER BY r.place)) GROUP BY 1, 2;
-CREATE UNIQUE INDEX temp.most_held_of ON most_held(upid, handle);
+SELECT generation, iif(min(utid) = max(utid), max(strong), max(now_strong) - 1) AS strong,
+  iif(min(utid) = max(utid), max(weak), max(now_weak) - 1) AS weak
+FROM (SELECT g.id AS generation, g.strong AS now_strong, g.weak AS now_weak, r.utid,
+    sum((r.kind = :BC_ACQUIRE) - (r.kind = :BC_RELEASE)) OVER changes AS strong,
+    sum((r.kind = :BC_INCREFS) - (r.kind = :BC_DECREFS)) OVER changes AS weak
+  FROM (SELECT 1 FROM raw_generation WHERE strong + weak > 0 AND (acquired > 1 OR increfs > 1) LIMIT 1)
+    CROSS JOIN raw_record r JOIN raw_thread t USING (utid) JOIN raw_generation g ON g.upid = t.upid
+    AND g.handle = r.handle AND g.begin <= r.place AND g.strong + g.weak > 0 AND (g.acquired > 1 OR g.increfs > 1)
+  WHERE r.kind IN (:BC_INCREFS, :BC_ACQUIRE, :BC_RELEASE, :BC_DECREFS)
+  WINDOW changes AS (PARTITION BY g.id ORDER BY r.place)) GROUP BY 1;
+CREATE UNIQUE INDEX temp.most_held_of ON most_held(generation);
 UPDATE finding SET rule = 'H4',
   note = iif(m.strong > 1 AND g.strong > 0, g.acquired || ' times, and let go of ' || g.released || ' times',
     g.increfs || ' times, weakly, and let go of ' || g.decrefs || ' times')
-FROM raw_generation g JOIN most_held m USING (upid, handle)
+FROM raw_generation g JOIN most_held m ON m.generation = g.id
 WHERE rule IS NULL AND section = 'handles' AND what = 'held' AND g.id = finding.generation
   AND (m.strong > 1 AND g.strong > 0 OR m.weak > 1 AND g.weak > 0);
-UPDATE finding SET rule = 'H5', code = g.code, path = g.way
-FROM given g JOIN given_way w ON w.upid = g.upid AND w.way = g.way
+-- One handle from each of many is registration, many from one may be a leak.
+UPDATE finding SET rule = 'H5', code = g.code,
+  path = g.way || iif(g.reply, '', ' from ' || (SELECT who FROM who WHERE who.upid = g.sender))
+FROM given g JOIN given_way w ON w.upid = g.upid AND w.way = g.way AND w.sender IS g.sender
 WHERE rule IS NULL AND section = 'handles' AND what = 'held' AND g.generation = finding.generation
-  AND w.kept >= iif(g.reply, 4, 2) AND w.kept >= 0.8 * w.n AND coalesce(g.asked, 1) <> 0
+  AND w.kept >= 4 AND w.kept >= 0.8 * w.n AND coalesce(g.asked, 1) <> 0 AND (g.reply OR g.sender NOTNULL)
   AND finding.upid NOT IN (SELECT upid FROM manager);
-UPDATE finding SET rule = CASE WHEN later = 0 AND finding.id IN (SELECT id FROM ended) THEN 'T1'
+UPDATE finding SET rule = CASE WHEN later = 0 AND finding.id IN (SELECT id FROM ended)
+    OR finding.id IN (SELECT id FROM leaving) THEN 'T1'
   WHEN finding.upid IN (SELECT upid FROM lossy) THEN 'M1' WHEN later > 1 THEN 'U4' ELSE 'U6' END
-WHERE rule IS NULL AND section = 'nodes' AND EXISTS (SELECT 1 FROM report r WHERE r.id = finding.report
-  AND NOT r.text GLOB '* 0 0');
+FROM handle_row h
+WHERE rule IS NULL AND section = 'nodes' AND h.id = finding.id AND h.more;
 -- What was let go is not in use, unless buffers hold it. Handles in use are one group with those that came the same
 -- way.
 UPDATE finding SET rule = 'H7' FROM handle_row h
-WHERE rule IS NULL AND h.id = finding.id AND h.what = 'balanced' AND h.text GLOB '* 0 0';
+WHERE rule IS NULL AND h.id = finding.id AND h.what = 'balanced' AND NOT h.more;
 UPDATE finding SET rule = 'H6', path = g.way, note = path FROM given g
 WHERE rule IS NULL AND section = 'handles' AND what = 'held' AND g.generation = finding.generation AND g.way NOTNULL;
 UPDATE finding SET rule = 'H6' WHERE rule IS NULL AND section IN ('handles', 'nodes');
@@ -511,11 +306,13 @@ UPDATE finding SET rule = 'D1' FROM raw_generation g WHERE rule IS NULL AND sect
   AND g.id = finding.generation AND g.acquired > 0 AND g.strong + g.weak + g.held_strong + g.held_weak = 0;
 CREATE TEMP TABLE second_request AS
 SELECT q.upid, q.handle, q.cookie, q.place, (SELECT p.place FROM dead_record p WHERE p.upid = q.upid
-  AND p.handle = q.handle AND p.kind = 14 AND p.place < q.place ORDER BY p.place DESC LIMIT 1) AS before
-FROM (SELECT upid, handle, cookie, min(place) AS place FROM dead_record WHERE kind = 14 GROUP BY 1, 2, 3) q
+  AND p.handle = q.handle AND p.kind = :BC_REQUEST_DEATH_NOTIFICATION AND p.place < q.place
+  ORDER BY p.place DESC LIMIT 1) AS before
+FROM (SELECT upid, handle, cookie, min(place) AS place FROM dead_record
+  WHERE kind = :BC_REQUEST_DEATH_NOTIFICATION GROUP BY 1, 2, 3) q
 WHERE EXISTS (SELECT 1 FROM finding WHERE section IN ('requests', 'clears'));
 DELETE FROM second_request WHERE before IS NULL OR EXISTS (SELECT 1 FROM dead_record p JOIN dead_record c
-  ON c.upid = p.upid AND c.handle = p.handle AND c.kind = 15 AND c.cookie = p.cookie
+  ON c.upid = p.upid AND c.handle = p.handle AND c.kind = :BC_CLEAR_DEATH_NOTIFICATION AND c.cookie = p.cookie
   WHERE p.place = second_request.before AND c.place BETWEEN p.place AND second_request.place);
 CREATE UNIQUE INDEX temp.second_request_of ON second_request(upid, handle, cookie);
 UPDATE finding SET rule = 'D2', note = 'the one before is at ' || q.before FROM second_request q
@@ -525,10 +322,26 @@ UPDATE finding SET rule = 'D5' WHERE rule IS NULL AND section = 'requests';
 UPDATE finding SET rule = 'D3', note = 'the one at ' || d.place FROM finding d
 WHERE finding.rule IS NULL AND finding.section = 'clears' AND finding.what = 'unconfirmed' AND d.section = 'deaths'
   AND d.what = 'unacknowledged' AND d.upid = finding.upid AND d.cookie = finding.cookie;
-UPDATE finding SET rule = CASE WHEN later = 0 AND finding.id IN (SELECT id FROM ended) THEN 'T1'
+UPDATE finding SET rule = CASE WHEN later = 0 AND finding.id IN (SELECT id FROM ended)
+    OR finding.id IN (SELECT id FROM leaving) THEN 'T1'
   WHEN finding.upid IN (SELECT upid FROM lossy) THEN 'M1' WHEN later > 1 THEN 'U4'
   WHEN finding.id IN (SELECT id FROM old) THEN 'U5' ELSE 'U6' END
 WHERE rule IS NULL AND section IN ('deaths', 'clears') AND what IN ('unacknowledged', 'unconfirmed');
+-- Answers to deaths and clears. Several of one cookie may be under way at once, so those of a cookie are counted: an
+-- answer is one too many if it makes more answers than questions, and more than any answer before it.
+CREATE TEMP TABLE balance AS
+SELECT place, is_answer, sum(1 - 2 * is_answer) OVER so_far AS open FROM (
+  SELECT place, upid, cookie, kind IN (:BC_DEAD_BINDER_DONE, :BR_CLEAR_DEATH_NOTIFICATION_DONE) AS is_answer,
+    kind IN (:BR_DEAD_BINDER, :BC_DEAD_BINDER_DONE) AS is_death
+  FROM dead_record WHERE kind <> :BC_REQUEST_DEATH_NOTIFICATION
+    AND EXISTS (SELECT 1 FROM finding WHERE section IN ('deaths', 'clears') AND what = 'stray'))
+WINDOW so_far AS (PARTITION BY upid, cookie, is_death ORDER BY place);
+CREATE UNIQUE INDEX temp.balance_at ON balance(place);
+UPDATE finding SET rule = 'D6' FROM balance b, dead_record d
+WHERE rule IS NULL AND section IN ('deaths', 'clears') AND b.place = finding.place AND d.place = finding.place
+  AND b.open >= min(0, coalesce((SELECT min(x.open) FROM balance x JOIN dead_record y USING (place)
+    WHERE y.upid = d.upid AND y.cookie = d.cookie AND x.place < d.place
+      AND (y.kind IN (:BR_DEAD_BINDER, :BC_DEAD_BINDER_DONE)) = (finding.section = 'deaths')), 0));
 UPDATE finding SET rule = CASE WHEN finding.upid IN (SELECT upid FROM lossy) THEN 'M1'
   WHEN (SELECT known FROM process_life p WHERE p.upid = finding.upid) THEN 'D4' ELSE 'P1' END
 WHERE rule IS NULL AND section IN ('deaths', 'clears');
@@ -553,17 +366,34 @@ WHERE rule IS NULL AND section = 'frees';
 -- O: objects and flags. A bad object and the call that the driver refused for it are one finding.
 UPDATE finding SET lead = c.id FROM finding c
 WHERE finding.section = 'objects' AND c.section = 'calls' AND c.place = finding.place AND c.rule = 'E5';
-UPDATE finding SET rule = iif(section = 'flags', 'O3', iif((SELECT kind FROM raw_record r WHERE r.place = finding.place)
-  < 256, 'O1', 'O2')) WHERE rule IS NULL AND section IN ('objects', 'flags');
+UPDATE finding SET rule = iif(section = 'flags', 'O3', iif((SELECT direction FROM raw_frame f WHERE f.seq = finding.seq)
+  = 1, 'O1', 'O2')) WHERE rule IS NULL AND section IN ('objects', 'flags');
 -- W: oneway sends.
 UPDATE finding SET rule = 'W1' WHERE rule IS NULL AND section = 'oneway'
-  AND (SELECT flags & 64 FROM raw_record r WHERE r.place = finding.place);
+  AND (SELECT flags & :TF_UPDATE_TXN FROM raw_record r WHERE r.place = finding.place);
 UPDATE finding SET rule = 'E3' WHERE rule IS NULL AND section = 'oneway' AND finding.id IN (SELECT id FROM ended);
 UPDATE finding SET rule = 'U1' WHERE rule IS NULL AND section = 'oneway' AND n_good >= 3
   AND coalesce(age <= 2 * longest, age_seq <= 2 * longest_seq);
 UPDATE finding SET rule = 'W2', note = 'the one at ' || f.place FROM finding f JOIN raw_record r ON r.place = f.place
-WHERE finding.rule IS NULL AND finding.section = 'oneway' AND f.section = 'buffers' AND r.flags & 1 AND r.kind <> 259
+WHERE finding.rule IS NULL AND finding.section = 'oneway' AND f.section = 'buffers' AND r.flags & :TF_ONE_WAY
+  AND r.kind <> :BR_REPLY
   AND f.upid = finding.target AND f.ptr = finding.ptr AND f.cookie = finding.cookie;
+-- Or it waited for one that was freed only when its process ended.
+CREATE TEMP TABLE last_oneway AS
+SELECT t.upid, r.ptr, r.cookie, max(d.place) AS place, d.freed_by
+FROM (SELECT 1 FROM finding WHERE section = 'oneway' AND rule IS NULL LIMIT 1)
+  CROSS JOIN raw_delivery d JOIN raw_record r USING (place) JOIN raw_thread t ON t.utid = d.utid
+WHERE r.flags & :TF_ONE_WAY AND t.upid IN (SELECT target FROM finding WHERE section = 'oneway' AND rule IS NULL)
+GROUP BY 1, 2, 3;
+UPDATE finding SET rule = 'W2', note = 'the one at ' || o.place
+FROM last_oneway o JOIN process_life p USING (upid) JOIN raw_record f ON f.place = o.freed_by
+  JOIN side_time x ON x.seq = f.seq
+WHERE rule IS NULL AND section = 'oneway' AND (o.upid, o.ptr, o.cookie) = (target, finding.ptr, finding.cookie)
+  AND o.freed_by > finding.place AND p.ended_after NOTNULL AND p.ended - x.ts <= 100000000;
+-- A buffer that others wait for is no matter of its thread alone.
+UPDATE finding SET waiting = w.n, rule = iif(rule = 'U6' AND finding.id IN (SELECT id FROM old), 'U5', rule)
+FROM (SELECT note, count(*) AS n FROM finding WHERE rule = 'W2' GROUP BY 1) w
+WHERE section = 'buffers' AND w.note = 'the one at ' || place;
 UPDATE finding SET rule = 'M1' WHERE rule IS NULL AND section = 'oneway' AND finding.upid IN (SELECT upid FROM lossy);
 UPDATE finding SET rule = CASE WHEN finding.id IN (SELECT id FROM old) THEN 'W3'
   WHEN age IS NULL AND later > 0 THEN 'W3'

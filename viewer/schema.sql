@@ -1,7 +1,7 @@
 -- The database of a capture. docs/DATABASE.md describes it as an interface, and this is the version of that interface.
--- Since version 1, traffic.longest is new, traffic.failed counts each send once, process.name and thread.name are the
--- last names, and finding.n_all is also set for handles that are held.
-PRAGMA user_version = 2;
+-- Since version 2, status, finding.waiting, finding_group.waiting and finding_group.note are new, and side_missed,
+-- side_calls and side_handle; process.met may be before-file.
+PRAGMA user_version = 3;
 
 -- ---- raw tables: the rows that `./listing --tables` writes, column by column
 --
@@ -69,7 +69,7 @@ CREATE TABLE raw_frame(seq INTEGER PRIMARY KEY, place INTEGER NOT NULL, utid INT
 --                and BR_ACQUIRE_RESULT, the priority of BC_ATTEMPT_ACQUIRE and BR_ATTEMPT_ACQUIRE
 -- The target of a reply means nothing, so BC_REPLY, BC_REPLY_SG and BR_REPLY have no handle, ptr or cookie. A sent
 -- transaction goes to a handle and a received one to a ptr and a cookie; the other reading of these bytes is left out.
--- Indexes are those that a query of the page, or of docs/DATABASE.md, was measured to need: rules.sql begins with them.
+-- Indexes are those that a query of the page, or of docs/DATABASE.md, was measured to need: nodes.sql begins with them.
 -- A look at all records of a capture of 82 MB takes a quarter of a second.
 CREATE TABLE raw_record(place INTEGER PRIMARY KEY, seq INTEGER NOT NULL, utid INTEGER NOT NULL, kind INTEGER NOT NULL,
   handle INTEGER, ptr INTEGER, cookie INTEGER, address INTEGER, code INTEGER, flags INTEGER, sender_pid INTEGER,
@@ -213,8 +213,18 @@ CREATE TABLE side_process(device INTEGER, process INTEGER, pid INTEGER, opening 
   opened INTEGER, ended_after INTEGER, ended INTEGER, PRIMARY KEY(device, process)) STRICT;
 CREATE TABLE side_thread(device INTEGER, process INTEGER, thread INTEGER, tid INTEGER, name TEXT, ended_after INTEGER,
   ended INTEGER, why TEXT, from_seq INTEGER, PRIMARY KEY(device, process, thread)) STRICT;
+-- A line `name` or `end pid` names a thread or a process by the system's number.
+CREATE INDEX side_process_of_pid ON side_process(pid);
+CREATE INDEX side_thread_of_tid ON side_thread(tid);
 CREATE TABLE side_time(seq INTEGER PRIMARY KEY, ts INTEGER NOT NULL) STRICT;
 CREATE TABLE side_lost(seq INTEGER PRIMARY KEY, device INTEGER, process INTEGER, thread INTEGER, why TEXT) STRICT;
+-- The number that a BR_REPLY with TF_STATUS_CODE has in place of data; NULL if its data are not in the capture.
+CREATE TABLE status(place INTEGER PRIMARY KEY, value INTEGER) STRICT;
+CREATE TABLE side_missed(id INTEGER PRIMARY KEY, what TEXT NOT NULL, count INTEGER NOT NULL, from_seq INTEGER NOT NULL,
+  after INTEGER NOT NULL, ts INTEGER NOT NULL) STRICT;
+CREATE TABLE side_calls(device INTEGER, process INTEGER, thread INTEGER, made INTEGER NOT NULL,
+  served INTEGER NOT NULL, PRIMARY KEY(device, process, thread)) STRICT;
+CREATE TABLE side_handle(device INTEGER, process INTEGER, handle INTEGER, PRIMARY KEY(device, process, handle)) STRICT;
 CREATE TABLE capture(key TEXT PRIMARY KEY, value) WITHOUT ROWID;
 CREATE TABLE report(id INTEGER PRIMARY KEY, section TEXT NOT NULL, place INTEGER, device INTEGER, process INTEGER,
   text TEXT NOT NULL) STRICT;
@@ -224,9 +234,9 @@ CREATE TABLE report(id INTEGER PRIMARY KEY, section TEXT NOT NULL, place INTEGER
 CREATE TABLE finding(id INTEGER PRIMARY KEY, report INTEGER, section TEXT NOT NULL, what TEXT NOT NULL, place INTEGER,
   seq INTEGER, upid INTEGER NOT NULL, utid INTEGER, handle INTEGER, code INTEGER, ptr INTEGER, cookie INTEGER,
   generation INTEGER, target INTEGER, path TEXT, n_all INTEGER, n_good INTEGER, longest_seq INTEGER, longest INTEGER,
-  age_seq INTEGER, age INTEGER, later INTEGER, lead INTEGER, rule TEXT, note TEXT) STRICT;
+  age_seq INTEGER, age INTEGER, later INTEGER, lead INTEGER, waiting INTEGER, rule TEXT, note TEXT) STRICT;
 
--- ---- the names of numbers
+-- ---- the names of numbers. The files after this one use these names for the numbers: `:BR_REPLY` is 259.
 
 CREATE TABLE kind(number INTEGER PRIMARY KEY, name TEXT NOT NULL) STRICT;
 INSERT INTO kind VALUES (0, 'BC_TRANSACTION'), (1, 'BC_REPLY'), (2, 'BC_ACQUIRE_RESULT'), (3, 'BC_FREE_BUFFER'),
@@ -243,6 +253,9 @@ INSERT INTO kind VALUES (0, 'BC_TRANSACTION'), (1, 'BC_REPLY'), (2, 'BC_ACQUIRE_
 CREATE TABLE sort(number INTEGER PRIMARY KEY, name TEXT NOT NULL) STRICT;
 INSERT INTO sort VALUES (0x73622a85, 'BINDER'), (0x77622a85, 'WEAK_BINDER'), (0x73682a85, 'HANDLE'),
   (0x77682a85, 'WEAK_HANDLE'), (0x66642a85, 'FD'), (0x66646185, 'FDA'), (0x70742a85, 'PTR');
+CREATE TABLE flag(number INTEGER PRIMARY KEY, name TEXT NOT NULL) STRICT;
+INSERT INTO flag VALUES (0x01, 'TF_ONE_WAY'), (0x04, 'TF_ROOT_OBJECT'), (0x08, 'TF_STATUS_CODE'),
+  (0x10, 'TF_ACCEPT_FDS'), (0x20, 'TF_CLEAR_BUF'), (0x40, 'TF_UPDATE_TXN');
 CREATE TABLE cause(number INTEGER PRIMARY KEY, name TEXT NOT NULL) STRICT;
 INSERT INTO cause VALUES (1, 'ListLength'), (2, 'Misaligned'), (3, 'Overlap'), (4, 'Short'), (5, 'UnknownSort');
 CREATE TABLE verdict(number INTEGER PRIMARY KEY, name TEXT NOT NULL) STRICT;
@@ -339,6 +352,9 @@ INSERT INTO about VALUES
   ('process', 'side', 'a device and a process number, as upid; pid, name, opening and ends are from the side list'),
   ('thread', 'side', 'a thread of a process, as utid; tid, name and end are from the side list'),
   ('side_lost', 'side', 'a frame that the recorder lost, and why'),
+  ('side_missed', 'side', 'what the recorder missed without giving it a number, of whatever process'),
+  ('side_calls', 'side', 'the calls of a thread that were open before the first file'),
+  ('side_handle', 'side', 'a handle that a process had met before the first file'),
   ('frame', 'bytes', 'what one call wrote or read; ts, in nanoseconds, is from the side list'),
   ('record', 'bytes', 'a record, with its fields by the names of binder.h; a field that it has not is NULL'),
   ('object', 'bytes', 'an object of an attachment, up to the first bad one'),
@@ -347,6 +363,7 @@ INSERT INTO about VALUES
   ('delivery', 'rule', 'a buffer that a process got, and the free that gave it back; send is inferred'),
   ('reference', 'rule', 'a reference that is taken or let go, with the counts after it'),
   ('level', 'rule', 'what each process holds at most in each of 16 slices'),
+  ('status', 'bytes', 'the number of a BR_REPLY with TF_STATUS_CODE'),
   ('report', 'proved', 'the report, row by row and word by word; section head has its heads'),
   ('handle', 'inferred', 'a generation of a handle: a span in which it means one object, as its references tell'),
   ('send', 'inferred', 'a transaction or reply that was sent, and what became of it'),

@@ -1,14 +1,17 @@
--- Calls that are not answered, and the 50 that took longest, with what became of each. ?1: the most rows.
+-- Calls that are not answered, and the 50 that took longest, by time or else by frames, with what became of each, and
+-- how long it took from the send to the delivery. ?1: the most rows.
 WITH asked AS (
   SELECT place, utid, verdict, closer, dur_seq, seq FROM raw_call WHERE served = 0 AND verdict <> 1
-  UNION ALL SELECT * FROM (SELECT place, utid, verdict, closer, dur_seq, seq FROM raw_call
-    WHERE served = 0 AND verdict = 1 ORDER BY dur_seq DESC LIMIT 50)
+  UNION ALL SELECT * FROM (SELECT c.place, c.utid, c.verdict, c.closer, c.dur_seq, c.seq FROM raw_call c
+      LEFT JOIN side_time x ON x.seq = c.seq LEFT JOIN side_time z ON z.seq = c.seq + c.dur_seq
+    WHERE c.served = 0 AND c.verdict = 1 ORDER BY z.ts - x.ts DESC, c.dur_seq DESC LIMIT 50)
   LIMIT ?1)
 SELECT c.place, t.upid, t.thread, r.handle, r.code, v.name, c.closer, c.dur_seq, z.ts - x.ts, s.delivery, s.fits,
   coalesce((SELECT g.upid FROM raw_delivery d JOIN raw_thread g USING (utid) WHERE d.place = s.delivery),
     (SELECT n.upid FROM node_of n WHERE n.generation = s.generation)),
-  (SELECT k.closer FROM raw_call k WHERE k.place = s.delivery)
+  (SELECT k.closer FROM raw_call k WHERE k.place = s.delivery), d.seq - c.seq, y.ts - x.ts
 FROM asked c JOIN raw_thread t USING (utid) JOIN raw_record r USING (place) JOIN verdict v ON v.number = c.verdict
-  LEFT JOIN raw_send s USING (place) LEFT JOIN side_time x ON x.seq = c.seq
+  LEFT JOIN raw_send s USING (place) LEFT JOIN raw_delivery d ON d.place = s.delivery
+  LEFT JOIN side_time x ON x.seq = c.seq LEFT JOIN side_time y ON y.seq = d.seq
   LEFT JOIN side_time z ON z.seq = c.seq + c.dur_seq
 ORDER BY c.verdict = 1, z.ts - x.ts DESC, c.dur_seq DESC

@@ -1,5 +1,5 @@
 -- The findings of a group; those that another one leads come last. ?1: the group, ?2: the most rows.
-SELECT f.section, f.place, f.utid, f.upid, f.rule, f.note, r.text, t.thread,
+SELECT f.section, f.place, f.utid, f.upid, f.rule, f.note, r.text, t.thread, f.id,
   iif(f.what IN ('open', 'held', 'unacknowledged', 'unconfirmed', 'undelivered') OR f.section = 'buffers', f.age, NULL),
   f.n_good, f.longest
 FROM finding_head h JOIN finding f USING (id) LEFT JOIN report r ON r.id = f.report LEFT JOIN raw_thread t USING (utid)

@@ -1,3 +1,3 @@
--- The groups of a verdict, the largest first. ?1: the verdict, ?2: the most rows.
-SELECT grp, verdict, title, path, n, n_all, who, first, last, rules
-FROM finding_group WHERE verdict = ?1 ORDER BY n DESC, first LIMIT ?2
+-- The groups of a verdict: those that most wait for, then the largest. ?1: the verdict, ?2: the most rows.
+SELECT grp, verdict, title, path, n, n_all, first, last, waiting, rules, note
+FROM finding_group WHERE verdict = ?1 ORDER BY waiting DESC, n DESC, first LIMIT ?2

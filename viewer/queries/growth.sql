@@ -1,10 +1,17 @@
 -- The most that each process holds in each slice, and what it holds at the very end or at its own end; those that held
--- most come first. After its end a process holds nothing, and a call ends with its thread. ?1: the most rows.
+-- most come first. Of its buffers, how much space the driver has given for data and offsets, each rounded up to 8
+-- bytes, and how much of this for oneway transactions. After its end a process holds nothing, and a call ends with its
+-- thread. ?1: the most rows.
 WITH lived AS MATERIALIZED (SELECT p.upid, iif(p.ended_after <= c.last_seq, p.ended_after, NULL) AS ended_after,
     (p.ended_after - c.first_seq) * 16 / (c.last_seq - c.first_seq + 1) AS slice FROM process p, raw_capture c),
   left_over AS MATERIALIZED (
-    SELECT t.upid, count(*) AS buffers, min(total(r.data_size), 9e18) AS bytes FROM raw_delivery d
-      JOIN raw_record r USING (place) JOIN raw_thread t ON t.utid = d.utid WHERE d.freed_by IS NULL GROUP BY 1),
+    SELECT upid, count(*) AS buffers, min(total(data_size), 9e18) AS bytes, min(total(space), 9e18) AS space,
+      min(total(iif(oneway, space, 0)), 9e18) AS oneway
+    FROM (SELECT t.upid, r.data_size, k.name <> 'BR_REPLY' AND r.flags & 1 AS oneway,
+        max(8, (r.data_size + 7) / 8 * 8 + (r.offsets_size + 7) / 8 * 8) AS space
+      FROM raw_delivery d JOIN raw_record r USING (place) JOIN raw_thread t ON t.utid = d.utid
+        JOIN kind k ON k.number = r.kind
+      WHERE d.freed_by IS NULL) GROUP BY 1),
   calling AS MATERIALIZED (
     SELECT t.upid, sum(NOT c.served) AS calls, sum(c.served) AS served FROM raw_call c JOIN thread t USING (utid)
       JOIN lived v USING (upid), raw_capture x
@@ -15,6 +22,7 @@ WITH lived AS MATERIALIZED (SELECT p.upid, iif(p.ended_after <= c.last_seq, p.en
       l.buffers, l.bytes, l.refs, l.calls, l.served
     FROM raw_level l JOIN lived v USING (upid) ORDER BY l.upid, l.slice)
 SELECT l.upid, v.ended_after IS NOT NULL,
+  CAST(coalesce(b.space, 0) AS INTEGER), CAST(coalesce(b.oneway, 0) AS INTEGER),
   json_group_array(iif(l.ended, 0, l.buffers)), coalesce(b.buffers, 0),
   json_group_array(iif(l.ended, 0, l.bytes)), CAST(coalesce(b.bytes, 0) AS INTEGER),
   json_group_array(iif(l.ended, 0, l.refs)), coalesce(g.refs, 0),

@@ -1,0 +1,106 @@
+-- What open calls wait for, and what the threads do that could take them. After ages.sql.
+BEGIN;
+
+-- Open calls, and what they wait for: the innermost call that the thread that got the call has made since; or, for a
+-- call that nobody got, the calls of the process that should get it. A call back to a process that waits for this very
+-- thread goes to the thread that waits: it is under way.
+CREATE TEMP TABLE waits AS
+SELECT f.id, f.place, f.upid, f.utid, s.delivery, v.utid AS server, v.verdict AS replied,
+  coalesce(st.upid, f.target) AS server_upid
+FROM finding f JOIN raw_send s USING (place) LEFT JOIN raw_call v ON v.place = s.delivery
+  LEFT JOIN raw_thread st ON st.utid = v.utid
+WHERE f.section = 'calls' AND f.what = 'open';
+CREATE INDEX temp.waits_thread ON waits(utid, place);
+CREATE INDEX temp.waits_server ON waits(server, upid);
+CREATE INDEX temp.waits_delivery ON waits(delivery);
+CREATE TEMP TABLE few AS SELECT upid FROM waits GROUP BY upid HAVING count(*) <= 16;
+CREATE TEMP TABLE waits_for AS
+SELECT w.id, (SELECT n.id FROM waits n WHERE n.utid = w.server AND n.place > w.delivery ORDER BY n.place DESC LIMIT 1)
+  AS next, 0 AS by_main
+FROM waits w WHERE w.delivery IS NOT NULL
+UNION SELECT w.id, n.id, 0 FROM waits w JOIN waits n ON n.upid = w.server_upid
+WHERE w.delivery IS NULL AND w.upid IN (SELECT upid FROM few) AND w.server_upid IN (SELECT upid FROM few)
+  AND NOT EXISTS (SELECT 1 FROM waits x WHERE x.server = w.utid AND x.upid = w.server_upid);
+DELETE FROM waits_for WHERE next IS NULL;
+-- A thread that got a call and makes none itself may wait for the main thread of its process, which serves for it: so
+-- does libgbinder. If the main thread is in a call, the call may wait for that one.
+CREATE TEMP TABLE main_thread AS
+SELECT t.upid, t.utid FROM thread t JOIN process p USING (upid)
+WHERE t.tid = p.pid AND t.upid IN (SELECT server_upid FROM waits);
+INSERT INTO waits_for
+SELECT w.id, (SELECT n.id FROM waits n WHERE n.utid = m.utid ORDER BY n.place DESC LIMIT 1) AS next, 1
+FROM waits w JOIN main_thread m ON m.upid = w.server_upid
+WHERE w.replied = 0 AND w.server <> m.utid AND w.id NOT IN (SELECT id FROM waits_for) AND next NOTNULL;
+CREATE INDEX temp.next_wait ON waits_for(id);
+CREATE TEMP TABLE ring AS
+WITH RECURSIVE chain(id, at, length) AS (SELECT id, id, 0 FROM waits
+  UNION SELECT c.id, n.next, c.length + 1 FROM chain c JOIN waits_for n ON n.id = c.at WHERE c.length < 8)
+SELECT DISTINCT w.id FROM chain c JOIN waits w ON w.id = c.id JOIN waits e ON e.id = c.at
+WHERE c.length > 0 AND e.server_upid = w.upid AND (e.delivery IS NULL OR e.server <> w.utid
+  AND e.replied = 0 AND w.utid IN (SELECT utid FROM main_thread));
+INSERT INTO ring SELECT n.next FROM waits_for n JOIN ring r ON r.id = n.id WHERE n.next NOT IN (SELECT id FROM ring);
+
+-- ---- the pools of threads of processes that should get what waits
+
+-- What was sent to a process and waits there: calls and oneway sends that nobody got.
+CREATE TEMP TABLE queued AS
+SELECT w.id, w.place, w.server_upid AS upid FROM waits w
+WHERE w.delivery IS NULL AND w.server_upid NOTNULL
+  AND NOT EXISTS (SELECT 1 FROM waits x WHERE x.server = w.utid AND x.upid = w.server_upid)
+UNION ALL SELECT id, place, target FROM finding WHERE section = 'oneway';
+CREATE INDEX temp.queued_at ON queued(upid);
+-- The threads of such a process that may take calls and have not ended: those that said that they are loopers, and
+-- those that were seen to take one. How many there may be at most is not in a capture.
+CREATE TEMP TABLE loop AS
+SELECT r.utid, r.kind, max(r.place)
+FROM (SELECT 1 FROM queued LIMIT 1) CROSS JOIN raw_record r JOIN raw_thread t USING (utid)
+WHERE r.kind IN (:BC_ENTER_LOOPER, :BC_REGISTER_LOOPER, :BC_EXIT_LOOPER) AND t.upid IN (SELECT upid FROM queued)
+GROUP BY 1;
+CREATE TEMP TABLE taker AS
+SELECT t.utid, t.upid, t.last_record FROM raw_thread t JOIN life l USING (utid) LEFT JOIN loop o USING (utid)
+WHERE t.upid IN (SELECT upid FROM queued) AND l.ended_after IS NULL AND CASE WHEN o.kind IS NULL THEN EXISTS (
+  SELECT 1 FROM raw_call c WHERE c.utid = t.utid AND c.served AND c.depth = 1) ELSE o.kind <> :BC_EXIT_LOOPER END;
+-- What each of them is in: the innermost open call, or else a oneway transaction after which it has done nothing.
+CREATE TEMP TABLE taken AS
+SELECT k.utid, k.upid, coalesce(c.place, o.place) AS place, c.served, r.code, x.ts
+FROM taker k LEFT JOIN raw_call c ON c.place = (SELECT place FROM raw_call i WHERE i.utid = k.utid AND i.verdict = 0
+    ORDER BY place DESC LIMIT 1)
+  LEFT JOIN raw_record o ON o.place = k.last_record AND o.kind IN (:BR_TRANSACTION, :BR_TRANSACTION_SEC_CTX)
+    AND o.flags & :TF_ONE_WAY AND c.place IS NULL
+  LEFT JOIN raw_record r ON r.place = coalesce(c.place, o.place) LEFT JOIN side_time x ON x.seq = r.seq;
+-- The finding of what a thread is in: the open call that it makes or serves, or the buffer.
+CREATE TEMP TABLE holder AS
+SELECT t.upid, coalesce((SELECT w.id FROM waits w WHERE w.delivery = t.place OR w.place = t.place),
+  (SELECT f.id FROM finding f WHERE f.place = t.place AND f.section IN ('served', 'buffers') ORDER BY section DESC))
+  AS id
+FROM taken t WHERE t.place NOTNULL;
+DELETE FROM holder WHERE id IS NULL;
+CREATE TEMP TABLE pool AS
+SELECT t.upid, count(*) AS threads, count(t.place) AS busy, (SELECT count(*) FROM queued q WHERE q.upid = t.upid) AS n,
+  iif(count(*) = 1, 'its only looper is', 'its ' || count(*) || ' loopers are') || ' in '
+    || group_concat(DISTINCT iif(t.served, 'code ', iif(t.served IS NULL, 'oneway code ', 'a call of its own, code '))
+      || t.code) || coalesce(' since ' || duration(max(0, last.ts - min(t.ts))), '') AS doing
+FROM taken t, last GROUP BY t.upid;
+CREATE UNIQUE INDEX temp.pool_of ON pool(upid);
+-- A pool of which all threads are in something that is a finding too.
+CREATE TEMP TABLE full_pool AS
+SELECT upid, n, doing || '; ' || iif(n = 1, '1 send waits', n || ' sends wait') AS doing FROM pool
+WHERE threads = busy AND upid IN (SELECT upid FROM holder);
+CREATE UNIQUE INDEX temp.full_pool_of ON full_pool(upid);
+
+-- How many wait for a call, directly or not. The steps go from a full pool to what its threads are in, from a call that
+-- nobody got to the pool, and from a call to the one that it waits for. A pool is a step for all that wait there.
+CREATE TEMP TABLE step AS
+SELECT -h.upid AS id, h.id AS next FROM holder h JOIN full_pool USING (upid)
+UNION SELECT w.id, -w.server_upid FROM waits w JOIN full_pool p ON p.upid = w.server_upid WHERE w.delivery IS NULL
+UNION SELECT n.id, n.next FROM waits_for n JOIN waits w USING (id) WHERE w.delivery NOTNULL;
+CREATE INDEX temp.step_from ON step(id);
+CREATE TEMP TABLE waited AS
+WITH RECURSIVE begin(id, n) AS (SELECT -upid, n FROM full_pool
+    UNION ALL SELECT w.id, 1 FROM waits w WHERE w.delivery NOTNULL),
+  reach(begin, at) AS (SELECT id, id FROM begin UNION SELECT r.begin, s.next FROM reach r JOIN step s ON s.id = r.at)
+SELECT r.at AS id, sum(b.n) AS n, max(r.begin < 0) AS by_pool FROM reach r JOIN begin b ON b.id = r.begin
+WHERE r.at > 0 AND r.at <> r.begin GROUP BY 1;
+CREATE UNIQUE INDEX temp.waited_for ON waited(id);
+
+COMMIT;
