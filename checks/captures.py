@@ -731,6 +731,30 @@ def rows_of_one_device():
     )
 
 
+def eight_frames():
+    """Frames of two processes, with a fault of the objects in two of their four attachments: at 16, 56, 204 (no
+    records), 236, 392, 508, 612 and 924, with the sequences 5, 6, 7, 10, 11, 12, 20 and 21. Transactions and replies
+    are at 92, 272, 440, 540, 644 and 720, opaque records at 424 and 960."""
+    return HEADER + write(5, 100, 101, *each(BC_ACQUIRE, 1)) + frame(
+        1, 6, 100, 101,
+        [record(BC_ENTER_LOOPER), transaction(BC_TRANSACTION, target=7, code=3, flags=0x100, sizes=(24, 8))],
+        [entry(4, of_handle(2, 9), offsets(0))],
+    ) + read(7, 100, 101) + frame(
+        2, 10, 200, 201,
+        [record(BR_NOOP), transaction(BR_TRANSACTION, code=3, flags=0x80000010, sizes=(24, 16), buffer=0x7000)],
+        [entry(4, FD, offsets(0, 20))],
+    ) + write(
+        11, 200, 201, record(0x400C6313), transaction(BC_REPLY, flags=8),
+    ) + read(
+        12, 100, 101, transaction(BR_REPLY, flags=8, buffer=0x7000), record(BR_NOOP),
+    ) + frame(
+        1, 20, 100, 102,
+        [transaction(BC_TRANSACTION_SG, target=7, code=3, flags=0x11, sizes=(40, 8)),
+         transaction(BC_TRANSACTION, target=7, code=3, flags=0x82, sizes=(48, 16))],
+        [entry(0, PTR, offsets(0)), entry(76, BINDER + u32(0x11111111) + bytes(20), offsets(0, 24))],
+    ) + read(21, 200, 202, record(BR_TRANSACTION_COMPLETE), record(0x72F0))
+
+
 # ---- the captures
 
 CAPTURES = {
@@ -783,6 +807,8 @@ CAPTURES = {
     + read(2, 100, 101, *2 * [record(BR_CLEAR_DEATH_NOTIFICATION_DONE, u64(1))]),
     # one frame more than a piece has
     "many-frames.cap": loopers(257),
+    # a frame for each of up to eight pieces, with something of most sections
+    "eight-frames.cap": eight_frames(),
 
     # -- what is counted and paired in each process
     # counts of handles and their lows
@@ -1059,6 +1085,9 @@ CAPTURES = {
     "each-sort.cap": each_sort(),
     # the second object begins within the first; the third is good and is not read
     "overlapping-objects.cap": HEADER + attached(1, 100, (2 * HANDLE, offsets(0, 20, 24))),
+    # a misaligned object on a device, and a call with unknown flags on the greatest one, two sequences later
+    "rows-of-two-devices.cap": HEADER_2 + attached(1, 100, (HANDLE + bytes(4), offsets(2)), device=5)
+    + write(3, 7, 8, transaction(BC_TRANSACTION, target=1, flags=0x82), record(0x400C6313), device=MAX_32),
     # each cause in an attachment of its own, in two processes. In the second attachment the bad object
     # is both misaligned and within the object before it; after it comes a good object, which is not
     # read. The last attachment is good

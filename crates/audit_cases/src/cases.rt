@@ -6,12 +6,15 @@ use std::io;
 use std::io::Write;
 use std::thread::Threads;
 
-/// The workers and pieces, besides 1 and 1, with which a report is made.
-const FURTHER: &[(u64, u64)] = &[(1, 256), (2, 1), (2, 256), (7, 1), (7, 256)];
+/// The workers with which reports are made.
+const WORKERS: &[u64] = &[1, 2, 7];
+
+/// The pieces, with each number of workers.
+const PIECES: &[u64] = &[1, 2, 3, 4, 5, 6, 7, 8, 256];
 
 /// Prints a line and the answer to it. If the line is `all` and one or more files, each after a
-/// tab, six reports are made on the files. The first answer is printed, and then `differs` if they
-/// are not alike.
+/// tab, a report is made with each of `WORKERS` and each of `PIECES`. The first answer is printed,
+/// and then `differs` if they are not alike.
 pub(crate) fn run_case<T: Files + Threads + Sync, W: Write>(
     rt: &T,
     alloc: Global,
@@ -40,7 +43,7 @@ fn run_all<T: Files + Threads + Sync, W: Write>(
     Ok(())
 }
 
-/// Whether the other numbers of workers and pieces give this answer too.
+/// Whether each number of workers and each piece gives this answer.
 fn all_give<T: Files + Threads + Sync>(
     rt: &T,
     alloc: Global,
@@ -48,9 +51,11 @@ fn all_give<T: Files + Threads + Sync>(
     answer: &Answer,
 ) -> Result<bool, AllocError> {
     let mut alike = true;
-    for numbers in FURTHER {
-        if report(rt, alloc, file, *numbers)? != *answer {
-            alike = false;
+    for workers in WORKERS {
+        for piece in PIECES {
+            if report(rt, alloc, file, (*workers, *piece))? != *answer {
+                alike = false;
+            }
         }
     }
     Ok(alike)

@@ -73,8 +73,3 @@ pub(crate) fn eight_frames(rt: &impl Abort) -> &'static [u8]
 {
     within_limit(rt, EIGHT_FRAMES)
 }
-
-/// A write with `BR_NOOP` at 48.
-pub(crate) const RETURN_IN_A_WRITE: &[u8] = b"BNDRCAP1\x08\0\0\0\0\0\0\0\
-    \x01\0\0\0\0\0\0\0\x64\0\0\0\x65\0\0\0\x01\0\0\0\x04\0\0\0\0\0\0\0\0\0\0\0\
-    \x0c\x72\0\0";

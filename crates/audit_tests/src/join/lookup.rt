@@ -4,7 +4,6 @@ ghost use Rattle.std.specs.Prelude.{All};
 ghost use Rattle.audit_findings.specs.Lookup.{HasRecordIn};
 
 use super::captures::eight_frames;
-use super::expect_sections;
 use crate::expected::{Expected, expect};
 use audit_join::{Findings, audit_one};
 use binder_code::Kind;
@@ -93,7 +92,7 @@ fn expect_frames(rt: &impl Abort, found: &Findings<'_>) {
     }
 }
 
-/// The findings are those of the eight frames, and find these frames and records by their places.
+/// The findings find these frames and records of the eight frames by their places.
 #[derive(Clone, Copy)]
 struct Found<'r, R> {
     rt: &'r R,
@@ -101,7 +100,6 @@ struct Found<'r, R> {
 
 impl<'r, R: Abort> Expected for Found<'r, R> {
     fn hold(&self, found: &Findings<'_>) {
-        expect_sections(self.rt, found.sections());
         expect_frames(self.rt, found);
         expect_flagged(self.rt, found);
     }

@@ -1,5 +1,5 @@
-//! Tests on captures in parts: how many reads there are, that 256 parts are one capture, and that
-//! workers share the frames of all parts.
+//! Tests on captures in parts: how many reads there are, and that workers share the frames of all
+//! parts.
 
 use super::devices::{CAPTURE, REPORT};
 use super::gate::OF_TWO;
@@ -9,7 +9,7 @@ use audit_run::{
     Gate, NoGate, PartsWritten, Piece, RunError, Workers, read_parts, run_first_fault_parts,
     run_parts,
 };
-use capture_frame::{Fault, FaultKind, PartFault};
+use capture_frame::PartFault;
 use std::alloc::{AllocError, Global};
 use std::io;
 use std::io::{ErrorKind, Read, Write};
@@ -134,96 +134,20 @@ fn expect_by<T: Threads + Sync + Abort>(
     expect_whole(rt, parts, reads.load(Ordering::SeqCst), &sink, due.1);
 }
 
-/// The same for `run_first_fault_parts`.
-fn expect_first_fault<T: Abort>(
-    rt: &T,
-    alloc: Global,
-    parts: &[&[u8]],
-    found: Option<PartFault>,
-    line: &[u8],
-) {
+/// The same for `run_first_fault_parts`, which finds no fault.
+fn expect_first_fault<T: Abort>(rt: &T, alloc: Global, parts: &[&[u8]], line: &[u8]) {
     let reads = AtomicU64::new(0);
     let mut sink = Sink::new(line);
     let readers = readers_of(alloc, parts, &reads, 0);
     let answer = ran_first_fault(rt, alloc, readers, &mut sink);
-    assert_eq!(rt; answer, Ok(found));
+    assert_eq!(rt; answer, Ok(None));
     expect_whole(rt, parts, reads.load(Ordering::SeqCst), &sink, line);
-}
-
-/// For the first fault, the line of a fault is the same, and in place of a report there is the line
-/// that says that there is none.
-fn expect_line_alone<T: Abort>(rt: &T, alloc: Global, parts: &[&[u8]], due: Due<'_>) {
-    match due.0 {
-        PartsWritten::Report => {
-            expect_first_fault(rt, alloc, parts, None, b"no malformed record\n");
-        }
-        PartsWritten::Malformed(found) => {
-            expect_first_fault(rt, alloc, parts, Some(found), due.1);
-        }
-    }
 }
 
 fn shares(workers: u64, piece: u64) -> Result<(Workers, Piece), &'static str> {
     let workers = Workers::new(workers).ok_or("workers")?;
     let piece = Piece::new(piece).ok_or("piece")?;
     Ok((workers, piece))
-}
-
-/// Compares what is written with what is due: by 1, 2 and 7 workers in pieces of 1 and 256 frames,
-/// and for the first fault alone.
-fn expect_parts<T: Threads + Sync + Abort>(
-    rt: &T,
-    alloc: Global,
-    parts: &[&[u8]],
-    due: Due<'_>,
-) -> Result<(), Fail> {
-    for workers in [1u64, 2, 7] {
-        for piece in [1u64, 256] {
-            expect_by(rt, alloc, parts, shares(workers, piece)?, due);
-        }
-    }
-    expect_line_alone(rt, alloc, parts, due);
-    Ok(())
-}
-
-// ---- as many parts as the program takes
-
-pub(super) const HEADER: &[u8] = b"BNDRCAP1\x08\0\0\0\0\0\0\0";
-
-/// A part with a fault in a record of the first frame.
-const RECORD_FAULT: &[u8] = b"BNDRCAP1\x08\0\0\0\0\0\0\0\
-    \x01\0\0\0\0\0\0\0\x01\0\0\0\x01\0\0\0\
-    \x01\0\0\0\x08\0\0\0\0\0\0\0\0\0\0\0\
-    \x05\x63\x04\xc0\x05\0\0\0";
-
-/// As many parts as the program takes. This is the last one, and the others have no frame.
-fn many_parts<'a>(alloc: Global, last: &'a [u8]) -> Result<Vec<&'a [u8]>, AllocError> {
-    let mut parts = Vec::new(alloc);
-    for _ in 0..255 {
-        parts.push(HEADER)?;
-    }
-    parts.push(last)?;
-    Ok(parts)
-}
-
-#[test]
-fn many_parts_are_one_capture(rt: HostRuntime) -> Result<(), Fail> {
-    let parts = many_parts(rt.alloc(), CAPTURE)?;
-    let due = (PartsWritten::Report, REPORT);
-    expect_parts(&rt, rt.alloc(), parts.as_slice(), due)?;
-    let line = b"malformed RecordDirection at 48 in part 256\n";
-    let fault = Fault {
-        kind: FaultKind::RecordDirection,
-        place: 48,
-    };
-    let found = PartFault { part: 256, fault };
-    let parts = many_parts(rt.alloc(), RECORD_FAULT)?;
-    expect_parts(
-        &rt,
-        rt.alloc(),
-        parts.as_slice(),
-        (PartsWritten::Malformed(found), line),
-    )
 }
 
 // ---- reading
@@ -298,6 +222,8 @@ fn reads_parts_in_order(rt: HostRuntime) -> Result<(), Fail> {
     Ok(())
 }
 
+pub(super) const HEADER: &[u8] = b"BNDRCAP1\x08\0\0\0\0\0\0\0";
+
 const CALL_AND_REPLY: &[&[u8]] = &[HEADER, CAPTURE];
 
 /// How many reads give these whole.
@@ -335,6 +261,14 @@ fn each_read_of_parts_fails(rt: HostRuntime) -> Result<(), Fail> {
         fail_read_of_first_fault(&rt, rt.alloc(), at);
     }
     assert_eq!(rt; reads_of(CALL_AND_REPLY), READS);
+    Ok(())
+}
+
+#[test]
+fn parts_are_read_and_answered_whole(rt: HostRuntime) -> Result<(), Fail> {
+    let due = (PartsWritten::Report, REPORT);
+    expect_by(&rt, rt.alloc(), CALL_AND_REPLY, shares(1, 1)?, due);
+    expect_first_fault(&rt, rt.alloc(), CALL_AND_REPLY, b"no malformed record\n");
     Ok(())
 }
 
