@@ -75,7 +75,7 @@ has_size-true protocol n bytes kind passed =
     sized (row_of kind) protocol n bytes (numbered (row_of kind) protocol n parts.0) parts.1
 
 -- what a search finds passes its test
-find-true : {X : Type 0} (test : X → Bool) (xs : List X) (x : X) → find test xs ≡ Some x → test x ≡ true
+pub find-true : {X : Type 0} (test : X → Bool) (xs : List X) (x : X) → find test xs ≡ Some x → test x ≡ true
 find-true test [] x found = cc
 find-true test (y ∷ ys) x found =
     (elim (test y) as (λ v. test y ≡ v → cond v (Some y) (find test ys) ≡ Some x → test x ≡ true) [

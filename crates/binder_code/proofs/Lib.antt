@@ -1,4 +1,5 @@
 pub mod FlagBits
 pub mod KindOf
 pub mod Names
+pub mod WordKinds
 pub mod WordLaws

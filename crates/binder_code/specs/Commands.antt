@@ -1,6 +1,6 @@
 use Rattle.std.specs.Prelude.{◌≡◌, ℕ, ◌+◌, ◌*◌, ◌^◌, ◌==◌, ◌&&◌, Bool, true, false, if◌then◌else◌, List, [], ◌∷◌, Option, Some, None, Result, Ok, Err, IsSomeAnd, find, codes, ⊤}
 use Rattle.std.specs.List.{list_any}
-use Rattle.std.specs.Option.{option_map_or}
+use Rattle.std.specs.Option.{option_map_or, unwrap_or}
 use Rattle.binder_code.specs.Code.{number, letter, size, direction}
 use Rattle.binder_code.specs.declared.protocol.Protocol.{Protocol}
 use Rattle.binder_code.specs.declared.protocol.Protocol.TheVariants.{Command, Return}
@@ -206,3 +206,12 @@ AreWords protocol (line ∷ lines) = (kind_of protocol line.0 ≡ Ok line.1) × 
 -- word says its kind by itself.
 abbrev pub protocol_of_word : ℕ → Protocol
 protocol_of_word word = if letter word == letter_of Command then Command else Return
+
+-- whether the code word is that of the kind's line; no code word is that of an opaque record
+abbrev pub is_word_of : Kind → ℕ → Bool
+is_word_of kind word = option_map_or (λ row. word == word_of row) (row_of kind) false
+
+-- the kind of a record with this code word: the listed kind whose code word it is, or Opaque, if no listed kind has it.
+-- A good code word names its protocol, so this is what it means in its frame (`laws::code_words`: `alone`).
+abbrev pub kind_of_word : ℕ → Kind
+kind_of_word word = unwrap_or (find (λ kind. is_word_of kind word) listed) Opaque
