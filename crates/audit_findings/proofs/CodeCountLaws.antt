@@ -5,13 +5,14 @@ use Rattle.std.proofs.lemmas.Bool.{cases_eq}
 use Rattle.std.proofs.lemmas.List.{get_or-set_same, get_or-set_other, map-append}
 use Rattle.std.proofs.lemmas.List.Sums.{sum_by-append, count_by-le-length, length-filter}
 use Rattle.std.proofs.lemmas.List.Elements.{filter-append}
+use Rattle.binder_code.specs.Commands.{is_word_of}
 use Rattle.binder_code.specs.declared.record_kind.Kind.{Kind}
 use Rattle.summary_law.specs.Fits.{IsShort}
 use Rattle.summary_law.specs.Tally.{AreWeighted}
 use Rattle.summary_law.proofs.TallyLaws.{weighted_map}
 use Rattle.audit_findings.specs.declared.codes.CodeRow.{CodeRow}
 use Rattle.audit_findings.specs.CodeCounts.{IsKindRow, CountListed, is_opaque_word, no_record, word_item}
-use Rattle.audit_findings.specs.RecordCounts.{is_word_of, times}
+use Rattle.audit_findings.specs.RecordCounts.{times}
 use Rattle.audit_findings.proofs.KindWords.{kind_at, not_true, one_place}
 
 -- ---- how many words a kind has

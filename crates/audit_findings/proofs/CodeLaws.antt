@@ -18,6 +18,7 @@ use Rattle.std.specs.List.{AllByRecursion}
 use Rattle.std.specs.declared.cmp.Ordering.TheVariants.{Less}
 use Rattle.std.proofs.lemmas.Map.Lookups.{exact_unsigned}
 use Rattle.std.proofs.lemmas.Map.Views.{Contains-from_any, tells_apart}
+use Rattle.binder_code.specs.Commands.{is_word_of}
 use Rattle.binder_code.specs.declared.record_kind.Kind.{Kind}
 use Rattle.summary_law.proofs.Members.{In, Rises, contained, in-map, in_list, map-in, rises-map, rises_sorted}
 use Rattle.summary_law.proofs.SortedLaws.{rows_are}
@@ -26,7 +27,7 @@ use Rattle.audit_findings.specs.declared.code_counts.CodeCounts.{CodeCounts}
 use Rattle.audit_findings.specs.declared.codes.CodeRow.{CodeRow}
 use Rattle.audit_findings.specs.CodeCounts.{CountListed, CountWords, IsKindRow, has_records, is_opaque_word, no_record, row_of, word_item}
 use Rattle.audit_findings.specs.Codes.{code_row, code_rows}
-use Rattle.audit_findings.specs.RecordCounts.{is_word_of, times}
+use Rattle.audit_findings.specs.RecordCounts.{times}
 use Rattle.audit_findings.proofs.KindWords.{kind_at, kind_at_place, kind_of_listed_word, not_true, one_place, one_word, place_of, word_is_listed}
 use Rattle.audit_findings.proofs.Kept.{in_back, in_front, in_kept, kept_count, kept_in}
 use Rattle.audit_findings.proofs.Rising.{pairs_append, pairs_map, pairs_unmap}

@@ -2,15 +2,14 @@
 -- definitions.
 use Rattle.std.specs.Prelude.{◌≡◌, ℕ, ◌+◌, ◌<◌, if◌then◌else◌, Bool, List, map, filter, slice_index_or, nat_lt, IsTrue}
 use Rattle.std.specs.Ordering.{nat_cmp}
-use Rattle.std.specs.Result.{result_unwrap_or}
-use Rattle.binder_code.specs.Commands.{kind_of, listed, protocol_of_word}
+use Rattle.binder_code.specs.Commands.{is_word_of, kind_of_word, listed}
 use Rattle.binder_code.specs.declared.record_kind.Kind.{Kind}
 use Rattle.binder_code.specs.declared.record_kind.Kind.TheVariants.{Opaque}
 use Rattle.summary_law.specs.Tally.{TallySums}
 use Rattle.audit_findings.specs.declared.code_counts.CodeCounts.{CodeCounts}
 use Rattle.audit_findings.specs.declared.codes.CodeRow.{CodeRow}
 use Rattle.audit_findings.specs.Codes.{is_opaque_kind}
-use Rattle.audit_findings.specs.RecordCounts.{is_word_of, times}
+use Rattle.audit_findings.specs.RecordCounts.{times}
 
 -- the row of a kind for these code words: how many of them are the kind's, and if there is one, a word of the kind
 pub record IsKindRow (kind : Kind) (words : List ℕ) (row : CodeRow) : Type 0 where
@@ -27,7 +26,7 @@ CountListed rows words = (k : ℕ) → IsKindRow (slice_index_or listed k Opaque
 
 -- whether a code word is that of an opaque record, if it is the word of a record without a fault
 abbrev pub is_opaque_word : ℕ → Bool
-is_opaque_word word = is_opaque_kind (result_unwrap_or (kind_of (protocol_of_word word) word) Opaque)
+is_opaque_word word = is_opaque_kind (kind_of_word word)
 
 -- a code word as an item of the tally: its weight is 0
 abbrev pub word_item : ℕ → ℕ × ℕ

@@ -1,15 +1,10 @@
 -- The first numbers of the heads from `buffers` to `clears`: how many records of the kind there are, by their code
 -- words (docs/REPORT.md).
-use Rattle.std.specs.Prelude.{◌==◌, ◌+◌, ℕ, Bool, false, List, count_by}
-use Rattle.std.specs.Option.{option_map_or}
-use Rattle.binder_code.specs.Commands.{Row, row_of, word_of}
+use Rattle.std.specs.Prelude.{◌+◌, ℕ, List, count_by}
+use Rattle.binder_code.specs.Commands.{is_word_of}
 use Rattle.binder_code.specs.declared.record_kind.Kind.{Kind}
 use Rattle.binder_code.specs.declared.record_kind.Kind.TheVariants.{BcFreeBuffer, BcRequestDeathNotification, BcClearDeathNotification, BrTransaction, BrTransactionSecCtx, BrReply, BrDeadBinder}
 use Rattle.audit_findings.specs.declared.record_counts.RecordCounts.{RecordCounts}
-
--- whether the code word is that of the kind
-abbrev pub is_word_of : Kind → ℕ → Bool
-is_word_of kind word = option_map_or (λ (row : Row). word == word_of row) (row_of kind) false
 
 -- how many of these code words are the kind's
 abbrev pub times : Kind → List ℕ → ℕ

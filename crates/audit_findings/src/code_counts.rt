@@ -1,12 +1,12 @@
 //! The counts of code words, while they are made.
 
 ghost use Rattle.std.specs.Prelude.{◌≡◌, ℕ, ◌+◌, ◌<◌, ◌≤◌, ◌^◌, ◌++◌, List, [], length, map, filter, slice_index_or, IfOk, OnOk, IsTrue};
-ghost use Rattle.binder_code.specs.Commands.{kind_of, listed, protocol_of_word};
+ghost use Rattle.binder_code.specs.Commands.{is_word_of, kind_of, listed, protocol_of_word};
 ghost use Rattle.summary_law.specs.Fits.{IsShort};
 ghost use Rattle.summary_law.specs.Summary.{CanAdd, Adds, CanJoin, Joins};
 ghost use Rattle.audit_findings.specs.CodeCounts.{CountWords, CountListed, has_records, no_record, row_of, row_plus};
 ghost use Rattle.audit_findings.specs.Codes.{code_rows};
-ghost use Rattle.audit_findings.specs.RecordCounts.{is_word_of, times};
+ghost use Rattle.audit_findings.specs.RecordCounts.{times};
 
 use crate::codes::CodeRow;
 use binder_code::{Code, Kind};

@@ -6,8 +6,8 @@ use Rattle.std.specs.Option.{ForSome, option_map, unwrap_or}
 use Rattle.std.proofs.lemmas.List.{append-nil}
 use Rattle.std.proofs.lemmas.List.Elements.{All-append, All-cons, All-head, All-nil, All-tail}
 use Rattle.binder_code.specs.declared.record_kind.Kind.{Kind}
-use Rattle.binder_code.specs.declared.record_kind.Kind.TheVariants.{Opaque}
-use Rattle.binder_code.specs.Commands.{kind_of}
+use Rattle.binder_code.specs.Commands.{kind_of, kind_of_word}
+use Rattle.binder_code.proofs.WordKinds.{kind_of_word-is}
 use Rattle.capture_frame.specs.declared.fault.Fault.{Fault}
 use Rattle.capture_frame.specs.declared.frame.Frame.{Frame}
 use Rattle.capture_frame.specs.Envelope.{frame_text, placed_frame, commands_place, attachments_place}
@@ -333,10 +333,9 @@ event_is frame found entry place attachment is kind attached_is =
       payload = found.payload.now;
       entry = a;
     } in
-    let same_kind : found.kind ≡ result_unwrap_or (kind_of (protocol_of frame.direction) found.code.0) Opaque =
-    sym (ap (λ (r : _). result_unwrap_or r Opaque) kind) in
+    let same_kind : found.kind ≡ kind_of_word found.code.0 = sym (kind_of_word-is (protocol_of frame.direction) found.code.0 found.kind kind) in
     ap (λ (p : ℕ). make p found.kind (option_map entry_attachment entry)) is ∙ ap (λ (k : Kind). make place k (option_map entry_attachment entry)) same_kind
-    ∙ ap (make place (result_unwrap_or (kind_of (protocol_of frame.direction) found.code.0) Opaque)) attached_is
+    ∙ ap (make place (kind_of_word found.code.0)) attached_is
 
 same_record : (frame : Frame) (found : Record) (entry : Option Entry) (event : Event) → event_text event ≡ text_of_event frame found entry → record_text found
     ≡ record_of event

@@ -2,15 +2,13 @@
 use Rattle.std.specs.Prelude.{◌≡◌, ℕ, ◌+◌, ◌==◌, Bool, List, map, find, Option, None}
 use Rattle.std.specs.List.{flat_map}
 use Rattle.std.specs.Option.{option_map}
-use Rattle.std.specs.Result.{result_unwrap_or}
 use Rattle.binder_code.specs.declared.record_kind.Kind.{Kind}
-use Rattle.binder_code.specs.declared.record_kind.Kind.TheVariants.{Opaque}
-use Rattle.binder_code.specs.Commands.{kind_of}
+use Rattle.binder_code.specs.Commands.{kind_of_word}
 use Rattle.capture_frame.specs.declared.process.Process.{Process}
 use Rattle.capture_frame.specs.declared.process.Thread.{Thread}
 use Rattle.capture_frame.specs.Units.{Placed, placed_at, placed}
 use Rattle.capture_frame.specs.Envelope.{FrameText, frame_bytes, file_header_length, commands_place, attachments_place}
-use Rattle.record_view.specs.Records.{RecordText, record_bytes, RecordIsAt, protocol_of}
+use Rattle.record_view.specs.Records.{RecordText, record_bytes, RecordIsAt}
 use Rattle.transaction_view.specs.Attachments.{EntryText, entry_bytes}
 use Rattle.transaction_view.specs.Grammar.{WholeFrame}
 
@@ -40,19 +38,14 @@ process_of e = record { device = e.device; number = e.process }
 abbrev pub thread_of : EventRead → Thread
 thread_of e = record { process = process_of e; number = e.thread }
 
--- the kind that a code word means in this frame. A code word without a meaning counts as Opaque here, but no good
--- record has one.
-abbrev pub kind_in : FrameText → ℕ → Kind
-kind_in frame code = result_unwrap_or (kind_of (protocol_of frame.direction) code) Opaque
-
--- the event of a record of a frame, without its attachment
+-- the event of a record of a frame, without its attachment. The record's code word says its kind.
 abbrev pub bare_event : FrameText → Placed RecordText → EventRead
 bare_event frame there = record {
   place = there.place;
   device = frame.device;
   process = frame.process;
   thread = frame.thread;
-  kind = kind_in frame there.unit.code;
+  kind = kind_of_word there.unit.code;
   code = there.unit.code;
   payload = there.unit.payload;
   entry = None;

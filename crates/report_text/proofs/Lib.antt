@@ -5,7 +5,6 @@ pub mod Listed
 pub mod AnswerLaws
 pub mod OneText
 mod SomeText
-mod CodeNames
 mod Payloads
 pub mod Vectors
 pub mod PartText

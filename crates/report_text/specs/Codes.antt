@@ -1,18 +1,10 @@
 -- The lines of the section `codes` (docs/REPORT.md).
-use Rattle.std.specs.Prelude.{ℕ, List, ◌++◌, codes, find}
+use Rattle.std.specs.Prelude.{ℕ, List, ◌++◌, codes}
 use Rattle.std.specs.Fmt.{decimal}
-use Rattle.std.specs.Option.{unwrap_or}
-use Rattle.binder_code.specs.declared.record_kind.Kind.{Kind}
-use Rattle.binder_code.specs.declared.record_kind.Kind.TheVariants.{Opaque}
-use Rattle.binder_code.specs.Commands.{listed, name_of}
-use Rattle.audit_findings.specs.RecordCounts.{is_word_of}
+use Rattle.binder_code.specs.Commands.{kind_of_word, name_of}
 use Rattle.audit_findings.specs.declared.codes.CodeRow.{CodeRow}
 use Rattle.report_text.specs.Line.{hex_word}
 use Rattle.report_text.specs.Section.{SectionText}
-
--- the kind whose code word this is; that of opaque records, if it is the code word of no listed kind
-abbrev pub kind_of_word : ℕ → Kind
-kind_of_word word = unwrap_or (find (λ kind. is_word_of kind word) listed) Opaque
 
 -- the head: how many different code words there are
 abbrev pub codes_head : ℕ → List ℕ

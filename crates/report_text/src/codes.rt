@@ -1,8 +1,7 @@
 //! The section `codes`.
 
 ghost use Rattle.std.specs.Prelude.{◌≡◌};
-ghost use Rattle.binder_code.specs.Commands.{protocol_of_word};
-ghost use Rattle.report_text.specs.Codes.{kind_of_word};
+ghost use Rattle.binder_code.specs.Commands.{kind_of_word, protocol_of_word};
 
 use crate::line::{Row, push_counted, push_hex_word};
 use crate::whole_rows::WholeSection;

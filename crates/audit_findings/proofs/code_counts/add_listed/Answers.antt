@@ -1,9 +1,9 @@
 use Rattle.std.proofs.Common.{◌≡◌, ◌+◌, ◌<◌, true, [], ◌∷◌, ◌++◌, length, get_or, set, sym, ap, subst, ◌∙◌, arith}
 use Rattle.std.proofs.lemmas.List.{get_or_read}
+use Rattle.binder_code.specs.Commands.{is_word_of}
 use Rattle.binder_code.specs.declared.record_kind.Kind.{Kind}
 use Rattle.audit_findings.specs.declared.codes.CodeRow.{CodeRow}
 use Rattle.audit_findings.specs.CodeCounts.{IsKindRow, no_record}
-use Rattle.audit_findings.specs.RecordCounts.{is_word_of}
 use Rattle.audit_findings.proofs.CodeCountLaws.{grown_rows, listed_more, small_row}
 use Rattle.audit_findings.proofs.KindWords.{kind_at, place_inside}
 use Rattle.audit_findings.proofs.code_counts.add_listed.Goals as goal

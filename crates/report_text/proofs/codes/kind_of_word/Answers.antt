@@ -5,7 +5,7 @@ use Rattle.binder_code.specs.declared.code.CodeFault.{CodeFault}
 use Rattle.binder_code.specs.declared.protocol.Protocol.{Protocol}
 use Rattle.binder_code.specs.declared.record_kind.Kind.{Kind}
 use Rattle.binder_code.specs.declared.record_kind.Kind.TheVariants.{Opaque}
-use Rattle.report_text.proofs.CodeNames.{kind_by_word}
+use Rattle.binder_code.proofs.WordKinds.{kind_by_word}
 use Rattle.report_text.proofs.codes.kind_of_word.Goals as goal
 
 pub returns : goal.returns

@@ -2,11 +2,12 @@ use Rattle.std.proofs.Common.{◌≡◌, true, [], ◌∷◌, ◌++◌, sym, ap,
 use Rattle.std.proofs.lemmas.Result.{on_ok_weaker}
 use Rattle.std.specs.Ordering.{nat_cmp}
 use Rattle.summary_law.specs.Tally.{AreWeighted, TallySums}
+use Rattle.binder_code.specs.Commands.{is_word_of}
+use Rattle.binder_code.proofs.WordKinds.{word_of_meant}
 use Rattle.audit_findings.specs.CodeCounts.{is_opaque_word}
 use Rattle.audit_findings.specs.Codes.{is_opaque_kind}
-use Rattle.audit_findings.specs.RecordCounts.{is_word_of}
 use Rattle.audit_findings.proofs.CodeCountLaws.{no_item, one_item, opaque_items, opaque_more, weighted_items}
-use Rattle.audit_findings.proofs.KindWords.{kind_at, not_true, opaque_word_is, word_is_listed, word_of_meant}
+use Rattle.audit_findings.proofs.KindWords.{kind_at, not_true, opaque_word_is, word_is_listed}
 use Rattle.audit_findings.proofs.code_counts.CodeCounts.add.Goals as goal
 
 pub add-requires : goal.add-requires
