@@ -27,6 +27,7 @@ mod ThreadLists
 mod CallsTold
 mod KeyReadings
 mod MatchedLaws
+mod NoTransaction
 mod RecordCountLaws
 mod OnewayCountLaws
 pub mod SomeObjects

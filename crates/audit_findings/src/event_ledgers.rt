@@ -46,9 +46,13 @@ impl EventLedgers {
     {
         self.records += 1;
         self.opaque += opaque_count(event.kind);
-        self.oneway = self.oneway.plus(OnewayCounts::of(event));
         self.codes.add(event.kind, event.code)?;
         self.objects.add(event)?;
+        // Only a transaction can be oneway, and only it or a reply has flags.
+        if event.transaction.is_none() {
+            return Ok(());
+        }
+        self.oneway = self.oneway.plus(OnewayCounts::of(event));
         self.flags.add(event)
     }
 
