@@ -266,8 +266,9 @@ fn each_read_of_parts_fails(rt: HostRuntime) -> Result<(), Fail> {
 
 #[test]
 fn parts_are_read_and_answered_whole(rt: HostRuntime) -> Result<(), Fail> {
+    let shares = shares(1, 1)?;
     let due = (PartsWritten::Report, REPORT);
-    expect_by(&rt, rt.alloc(), CALL_AND_REPLY, shares(1, 1)?, due);
+    expect_by(&rt, rt.alloc(), CALL_AND_REPLY, shares, due);
     expect_first_fault(&rt, rt.alloc(), CALL_AND_REPLY, b"no malformed record\n");
     Ok(())
 }
