@@ -7,6 +7,7 @@ ghost use Rattle.audit_join.specs.declared.limits.TheConstants.{CAPTURE_LIMIT};
 
 use crate::given::Given;
 use crate::no_answer::{NoAnswer, Printed};
+use crate::runs::Shown;
 use crate::told;
 use audit_join::{CAPTURE_LIMIT, PartsError, Piece, audit_parts};
 use audit_run::{Question, answer, run_first_fault_parts, run_parts};
@@ -104,16 +105,16 @@ impl<T: Threads + Sync> Given<'_, T> {
     /// Prints the findings of the parts, or their first fault.
     pub(crate) fn audited_parts<W: Write>(&self, workers: Workers, out: &mut W) -> Printed {
         let parts = parts_of(self.alloc, self.bytes)?;
-        self.tell_findings(parts.as_slice(), workers, out)
+        self.tell_parts(parts.as_slice(), workers, out)
     }
 
-    fn tell_findings<W: Write>(&self, parts: &[&[u8]], workers: Workers, out: &mut W) -> Printed
+    fn tell_parts<W: Write>(&self, parts: &[&[u8]], workers: Workers, out: &mut W) -> Printed
         requires few { length parts.now ≤ 256 }
         requires limit { sum_by length (map (λ part. part.now) parts.now) ≤ CAPTURE_LIMIT }
     {
         let piece = Piece::new(1).unwrap();
         match audit_parts(self.rt, self.alloc, parts, workers, piece, &NoGate) {
-            Ok(found) => told::findings(&found, out),
+            Ok(found) => self.tell_findings(found, Shown::Sections, out),
             Err(PartsError::Memory) => Err(NoAnswer::Memory),
             Err(PartsError::Malformed(found)) => told::value(&found, out),
         }

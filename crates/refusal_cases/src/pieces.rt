@@ -1,17 +1,19 @@
 //! The frames of a capture in pieces, and their summaries.
 
-ghost use Rattle.std.specs.Prelude.{◌∷◌, [], IfOk, OnOk};
+ghost use Rattle.std.specs.Prelude.{◌≡◌, ◌∷◌, [], List, length, IfOk, OnOk};
+ghost use Rattle.capture_frame.specs.Envelope.{PlacedFrame};
 ghost use Rattle.capture_frame.specs.Cut.{ArePartFrames};
 ghost use Rattle.audit_findings.specs.Frames.{AreGoodFrames};
-ghost use Rattle.audit_findings.specs.Summary.{SumsPiece};
+ghost use Rattle.audit_findings.specs.Summary.{SumsPiece, process_count};
 ghost use Rattle.audit_join.specs.Jobs.{AreSound};
 
 use crate::no_answer::{NoAnswer, Printed};
 use crate::sums::{self, Way};
 use crate::told;
-use audit_findings::PieceSummary;
+use audit_findings::{PieceSummary, ProcessRow, Sections};
 use audit_join::{CAPTURE_LIMIT, Piece, Plan};
 use capture_frame::{FrameList, FrameSlice, PartCut, cut_parts};
+use handle_ledger::HeldRow;
 use std::alloc::{AllocError, Global};
 use std::io::Write;
 use transaction_view::check_frame;
@@ -72,13 +74,61 @@ fn tell<'c, W: Write>(
     requires good { AreGoodFrames frames.now }
     requires sums { SumsPiece summary frames.now }
 {
+    match lists_of(alloc, frames, &summary) {
+        Ok((unfreed, handles)) => {
+            tell_sections(summary, unfreed.as_slice(), handles.as_slice(), out)
+        }
+        Err(AllocError) => Err(NoAnswer::Memory),
+    }
+}
+
+/// The places of the leaked deliveries of each process, and its rows of handles.
+fn lists_of<'c>(
+    alloc: Global,
+    frames: &FrameSlice<'_, 'c>,
+    summary: &PieceSummary<'c>,
+) -> Result<(Vec<Vec<u64>>, Vec<Vec<ProcessRow<HeldRow>>>), AllocError>
+    requires good { AreGoodFrames frames.now }
+{
     let unfreed = summary.unfreed()?;
+    let handles = handles_of(alloc, frames, summary, unfreed.as_slice())?;
+    Ok((unfreed, handles))
+}
+
+/// The rows of handles of each process.
+fn handles_of<'c>(
+    alloc: Global,
+    frames: &FrameSlice<'_, 'c>,
+    summary: &PieceSummary<'c>,
+    unfreed: &[Vec<u64>],
+) -> Result<Vec<Vec<ProcessRow<HeldRow>>>, AllocError>
+    requires good { AreGoodFrames frames.now }
+    requires each { length unfreed.now ≡ process_count summary.now }
+{
     let mut handles = Vec::new(alloc);
     for number in 0..summary.process_count() {
         let rows = summary.handles(frames, number, unfreed[number].as_slice())?;
-        handles.push(rows).map_err(AllocError::from)?;
+        handles.push(rows)?;
     }
-    let sections = summary.sections(unfreed.as_slice(), handles.as_slice())?;
+    Ok(handles)
+}
+
+fn tell_sections<W: Write>(
+    summary: PieceSummary<'_>,
+    unfreed: &[Vec<u64>],
+    handles: &[Vec<ProcessRow<HeldRow>>],
+    out: &mut W,
+) -> Printed
+    requires { (frames : List PlacedFrame) × SumsPiece summary frames × AreGoodFrames frames }
+{
+    match summary.sections(unfreed, handles) {
+        Ok(sections) => tell_whole(sections, out),
+        Err(AllocError) => Err(NoAnswer::Memory),
+    }
+}
+
+/// Prints sections. They are large, so they are dropped here, where nothing else happens.
+fn tell_whole<W: Write>(sections: Sections<u64>, out: &mut W) -> Printed {
     told::sections(&sections, out)
 }
 

@@ -31,47 +31,40 @@ pub(crate) fn ran_first_fault<W: Write>(alloc: Global, bytes: &[u8], out: &mut W
     told::value(&found, out)
 }
 
-/// Prints findings, or a fault.
-fn tell<W: Write>(audited: Result<Findings<'_>, AuditError>, out: &mut W) -> Printed {
-    match audited {
-        Ok(found) => told::findings(&found, out),
-        Err(AuditError::Memory) => Err(NoAnswer::Memory),
-        Err(AuditError::Malformed(fault)) => told::value(&fault, out),
+/// Prints a fault.
+fn tell_error<W: Write>(error: AuditError, out: &mut W) -> Printed {
+    match error {
+        AuditError::Memory => Err(NoAnswer::Memory),
+        AuditError::Malformed(fault) => told::value(&fault, out),
     }
 }
 
+/// What is printed of findings.
+#[derive(Clone, Copy)]
+pub(crate) enum Shown {
+    Sections,
+    Rows,
+    Text,
+}
+
 impl<T: Threads + Sync> Given<'_, T> {
-    pub(crate) fn audited<W: Write>(&self, workers: Workers, out: &mut W) -> Printed {
-        if self.bytes.len() > CAPTURE_LIMIT {
-            return Err(NoAnswer::Unfit);
-        }
-        let piece = Piece::new(1).unwrap();
-        let audited = audit(self.rt, self.alloc, self.bytes, workers, piece, &NoGate);
-        tell(audited, out)
+    /// Prints findings. They are large, and each function that drops them is costly to prove, so
+    /// only this one does.
+    pub(crate) fn tell_findings<W: Write>(
+        &self,
+        found: Findings<'_>,
+        shown: Shown,
+        out: &mut W,
+    ) -> Printed {
+        self.tell_of(&found, shown, out)
     }
 
-    pub(crate) fn audited_by_one<W: Write>(&self, out: &mut W) -> Printed {
-        if self.bytes.len() > CAPTURE_LIMIT {
-            return Err(NoAnswer::Unfit);
+    fn tell_of<W: Write>(&self, found: &Findings<'_>, shown: Shown, out: &mut W) -> Printed {
+        match shown {
+            Shown::Sections => told::findings(found, out),
+            Shown::Rows => self.tell_rows(found, out),
+            Shown::Text => self.tell_text(found, out),
         }
-        tell(audit_one(self.rt, self.alloc, self.bytes), out)
-    }
-
-    /// The findings of a capture without a fault.
-    fn findings(&self) -> Result<Findings<'_>, NoAnswer> {
-        if self.bytes.len() > CAPTURE_LIMIT {
-            return Err(NoAnswer::Unfit);
-        }
-        match audit_one(self.rt, self.alloc, self.bytes) {
-            Ok(found) => Ok(found),
-            Err(AuditError::Memory) => Err(NoAnswer::Memory),
-            Err(AuditError::Malformed(_)) => Err(NoAnswer::Unfit),
-        }
-    }
-
-    pub(crate) fn rows_told<W: Write>(&self, out: &mut W) -> Printed {
-        let found = self.findings()?;
-        self.tell_rows(&found, out)
     }
 
     fn tell_rows<W: Write>(&self, found: &Findings<'_>, out: &mut W) -> Printed {
@@ -83,15 +76,32 @@ impl<T: Threads + Sync> Given<'_, T> {
         Ok(())
     }
 
-    pub(crate) fn text_told<W: Write>(&self, out: &mut W) -> Printed {
-        let found = self.findings()?;
-        self.tell_text(&found, out)
-    }
-
     fn tell_text<W: Write>(&self, found: &Findings<'_>, out: &mut W) -> Printed {
         let text = text(self.rt, self.alloc, found)?;
         writeln!(out, "{text}")?;
         Ok(())
+    }
+
+    pub(crate) fn audited<W: Write>(&self, workers: Workers, out: &mut W) -> Printed {
+        if self.bytes.len() > CAPTURE_LIMIT {
+            return Err(NoAnswer::Unfit);
+        }
+        let piece = Piece::new(1).unwrap();
+        match audit(self.rt, self.alloc, self.bytes, workers, piece, &NoGate) {
+            Ok(found) => self.tell_findings(found, Shown::Sections, out),
+            Err(error) => tell_error(error, out),
+        }
+    }
+
+    /// Prints this of the findings that one worker makes.
+    pub(crate) fn audited_by_one<W: Write>(&self, shown: Shown, out: &mut W) -> Printed {
+        if self.bytes.len() > CAPTURE_LIMIT {
+            return Err(NoAnswer::Unfit);
+        }
+        match audit_one(self.rt, self.alloc, self.bytes) {
+            Ok(found) => self.tell_findings(found, shown, out),
+            Err(error) => tell_error(error, out),
+        }
     }
 
     pub(crate) fn ran<W: Write>(&self, workers: Workers, out: &mut W) -> Printed {

@@ -3,6 +3,7 @@
 use crate::given::Given;
 use crate::no_answer::{NoAnswer, Printed};
 use crate::parts::report_by;
+use crate::runs::Shown;
 use crate::sums::Way;
 use crate::{events, jobs, ledgers, parts, pieces, runs};
 use audit_join::CAPTURE_LIMIT;
@@ -106,7 +107,7 @@ impl<T: Threads + Sync> Given<'_, T> {
             "audit by 4" => self.audited(four, out),
             "audit_parts by 1" => self.audited_parts(one, out),
             "audit_parts by 4" => self.audited_parts(four, out),
-            "audit_one" => self.audited_by_one(out),
+            "audit_one" => self.audited_by_one(Shown::Sections, out),
         }
     }
 }
@@ -116,8 +117,8 @@ impl<T: Files + Threads + Sync> Given<'_, T> {
     fn of_captures<W: Write, E: Write>(&self, name: &str, out: &mut W, err: &mut E) -> Printed {
         let (one, four) = (Workers::new(1).unwrap(), Workers::new(4).unwrap());
         by_name! { name, out;
-            "rows" => self.rows_told(out),
-            "text" => self.text_told(out),
+            "rows" => self.audited_by_one(Shown::Rows, out),
+            "text" => self.audited_by_one(Shown::Text, out),
             "run by 1" => self.ran(one, out),
             "run by 4" => self.ran(four, out),
             "run_gated by 1" => self.ran_gated(one, out),
