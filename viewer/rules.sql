@@ -188,6 +188,8 @@ UPDATE finding SET rule = 'S1', note = 'the send at ' || s.place FROM raw_send s
 WHERE rule IS NULL AND section = 'strays' AND s.refused = finding.place;
 UPDATE finding SET rule = 'S1', note = 'the send at ' || s.place FROM raw_call c JOIN raw_send s ON s.refused = c.closer
 WHERE rule IS NULL AND what = 'crossed' AND c.place = finding.place;
+-- If a call was open, the driver tells the caller of a refused reply, and not the thread that replied. So what came
+-- before the capture does not matter.
 UPDATE finding SET rule = 'S2', note = 'refused at ' || s.refused FROM raw_send s
 WHERE rule IS NULL AND section = 'strays' AND s.place = finding.place AND s.refused IS NOT NULL;
 UPDATE finding SET rule = CASE
@@ -300,10 +302,15 @@ WHERE rule IS NULL AND section = 'handles' AND what = 'held' AND g.generation = 
 UPDATE finding SET rule = 'H6' WHERE rule IS NULL AND section IN ('handles', 'nodes');
 
 -- D: requests, deaths, clears.
-UPDATE finding SET rule = 'D1' FROM raw_generation g WHERE rule IS NULL AND section = 'requests'
-  AND g.id = finding.generation AND g.end IS NOT NULL;
-UPDATE finding SET rule = 'D1' FROM raw_generation g WHERE rule IS NULL AND section = 'requests'
-  AND g.id = finding.generation AND g.acquired > 0 AND g.strong + g.weak + g.held_strong + g.held_weak = 0;
+-- A process that was met in mid-life may hold the handle from before. Of one that a flight recorder met in a file that
+-- was removed, the side list has the handles.
+CREATE TEMP TABLE knows_handle AS
+SELECT f.id FROM finding f JOIN process p USING (upid)
+WHERE f.section = 'requests' AND (p.met = 'from-start' OR p.met = 'before-file' AND NOT EXISTS (SELECT 1
+  FROM side_handle h WHERE (h.device, h.process, h.handle) = (p.device, p.process, f.handle)));
+UPDATE finding SET rule = iif(finding.id IN (SELECT id FROM knows_handle), 'D1', 'P1')
+FROM raw_generation g WHERE rule IS NULL AND section = 'requests' AND g.id = finding.generation
+  AND (g.end IS NOT NULL OR g.acquired > 0 AND g.strong + g.weak + g.held_strong + g.held_weak = 0);
 CREATE TEMP TABLE second_request AS
 SELECT q.upid, q.handle, q.cookie, q.place, (SELECT p.place FROM dead_record p WHERE p.upid = q.upid
   AND p.handle = q.handle AND p.kind = :BC_REQUEST_DEATH_NOTIFICATION AND p.place < q.place
@@ -314,6 +321,9 @@ WHERE EXISTS (SELECT 1 FROM finding WHERE section IN ('requests', 'clears'));
 DELETE FROM second_request WHERE before IS NULL OR EXISTS (SELECT 1 FROM dead_record p JOIN dead_record c
   ON c.upid = p.upid AND c.handle = p.handle AND c.kind = :BC_CLEAR_DEATH_NOTIFICATION AND c.cookie = p.cookie
   WHERE p.place = second_request.before AND c.place BETWEEN p.place AND second_request.place);
+-- The driver drops a request with the last reference of its handle, whose number then means another object.
+DELETE FROM second_request WHERE EXISTS (SELECT 1 FROM raw_generation g WHERE g.upid = second_request.upid
+  AND g.handle = second_request.handle AND g.end BETWEEN second_request.before AND second_request.place);
 CREATE UNIQUE INDEX temp.second_request_of ON second_request(upid, handle, cookie);
 UPDATE finding SET rule = 'D2', note = 'the one before is at ' || q.before FROM second_request q
 WHERE rule IS NULL AND section IN ('requests', 'clears')

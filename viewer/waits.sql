@@ -42,6 +42,16 @@ INSERT INTO ring SELECT n.next FROM waits_for n JOIN ring r ON r.id = n.id WHERE
 
 -- ---- the pools of threads of processes that should get what waits
 
+-- The threads that serve a call from before the capture, as the side list of a flight recorder says: they have not
+-- replied to as many calls as they served then, and have not ended. A thread without a frame has no utid.
+CREATE TEMP TABLE serves_on AS
+SELECT p.upid, t.utid FROM side_calls c JOIN raw_process p USING (device, process) JOIN process_life l USING (upid)
+  LEFT JOIN raw_thread t ON t.upid = p.upid AND t.thread = c.thread
+  LEFT JOIN side_thread s ON (s.device, s.process, s.thread) = (c.device, c.process, c.thread), last
+WHERE l.ended_after IS NULL AND (s.ended_after IS NULL OR s.ended_after > last.seq)
+  AND c.served > (SELECT count(*) FROM finding f JOIN raw_record r USING (place)
+    WHERE f.section = 'strays' AND f.utid = t.utid AND r.kind IN (:BC_REPLY, :BC_REPLY_SG));
+
 -- What was sent to a process and waits there: calls and oneway sends that nobody got.
 CREATE TEMP TABLE queued AS
 SELECT w.id, w.place, w.server_upid AS upid FROM waits w
@@ -49,20 +59,26 @@ WHERE w.delivery IS NULL AND w.server_upid NOTNULL
   AND NOT EXISTS (SELECT 1 FROM waits x WHERE x.server = w.utid AND x.upid = w.server_upid)
 UNION ALL SELECT id, place, target FROM finding WHERE section = 'oneway';
 CREATE INDEX temp.queued_at ON queued(upid);
--- The threads of such a process that may take calls and have not ended: those that said that they are loopers, and
--- those that were seen to take one. How many there may be at most is not in a capture.
+-- The threads of such a process that may take calls and have not ended: those that said that they are loopers, those
+-- that were seen to take one, and those that serve one from before the capture. How many there may be at most is not in
+-- a capture.
 CREATE TEMP TABLE loop AS
 SELECT r.utid, r.kind, max(r.place)
 FROM (SELECT 1 FROM queued LIMIT 1) CROSS JOIN raw_record r JOIN raw_thread t USING (utid)
 WHERE r.kind IN (:BC_ENTER_LOOPER, :BC_REGISTER_LOOPER, :BC_EXIT_LOOPER) AND t.upid IN (SELECT upid FROM queued)
 GROUP BY 1;
 CREATE TEMP TABLE taker AS
-SELECT t.utid, t.upid, t.last_record FROM raw_thread t JOIN life l USING (utid) LEFT JOIN loop o USING (utid)
+SELECT t.utid, t.upid, t.last_record, 0 AS earlier
+FROM raw_thread t JOIN life l USING (utid) LEFT JOIN loop o USING (utid)
 WHERE t.upid IN (SELECT upid FROM queued) AND l.ended_after IS NULL AND CASE WHEN o.kind IS NULL THEN EXISTS (
   SELECT 1 FROM raw_call c WHERE c.utid = t.utid AND c.served AND c.depth = 1) ELSE o.kind <> :BC_EXIT_LOOPER END;
--- What each of them is in: the innermost open call, or else a oneway transaction after which it has done nothing.
+UPDATE taker SET earlier = 1 WHERE utid IN (SELECT utid FROM serves_on);
+INSERT INTO taker SELECT s.utid, s.upid, NULL, 1 FROM serves_on s
+WHERE s.upid IN (SELECT upid FROM queued) AND NOT EXISTS (SELECT 1 FROM taker t WHERE t.utid = s.utid);
+-- What each of them is in: the innermost open call, or else a oneway transaction after which it has done nothing, or a
+-- call from before the capture.
 CREATE TEMP TABLE taken AS
-SELECT k.utid, k.upid, coalesce(c.place, o.place) AS place, c.served, r.code, x.ts
+SELECT k.utid, k.upid, k.earlier, coalesce(c.place, o.place) AS place, c.served, r.code, x.ts
 FROM taker k LEFT JOIN raw_call c ON c.place = (SELECT place FROM raw_call i WHERE i.utid = k.utid AND i.verdict = 0
     ORDER BY place DESC LIMIT 1)
   LEFT JOIN raw_record o ON o.place = k.last_record AND o.kind IN (:BR_TRANSACTION, :BR_TRANSACTION_SEC_CTX)
@@ -75,12 +91,17 @@ SELECT t.upid, coalesce((SELECT w.id FROM waits w WHERE w.delivery = t.place OR 
   AS id
 FROM taken t WHERE t.place NOTNULL;
 DELETE FROM holder WHERE id IS NULL;
+-- Of a process that was met in mid-life, other threads may take calls too.
 CREATE TEMP TABLE pool AS
-SELECT t.upid, count(*) AS threads, count(t.place) AS busy, (SELECT count(*) FROM queued q WHERE q.upid = t.upid) AS n,
-  iif(count(*) = 1, 'its only looper is', 'its ' || count(*) || ' loopers are') || ' in '
-    || group_concat(DISTINCT iif(t.served, 'code ', iif(t.served IS NULL, 'oneway code ', 'a call of its own, code '))
-      || t.code) || coalesce(' since ' || duration(max(0, last.ts - min(t.ts))), '') AS doing
-FROM taken t, last GROUP BY t.upid;
+SELECT t.upid, count(*) AS threads, sum(t.place NOTNULL OR t.earlier) AS busy,
+  (SELECT count(*) FROM queued q WHERE q.upid = t.upid) AS n,
+  iif(p.known, iif(count(*) = 1, 'its only looper is', 'its ' || count(*) || ' loopers are'),
+      iif(count(*) = 1, 'a looper is', count(*) || ' loopers are')) || ' in '
+    || group_concat(DISTINCT iif(t.place IS NULL, iif(t.earlier, 'a call from before the capture', NULL),
+      iif(t.served, 'code ', iif(t.served IS NULL, 'oneway code ', 'a call of its own, code ')) || t.code))
+    || iif(max(t.earlier AND t.place IS NULL), '', coalesce(' since ' || duration(max(0, last.ts - min(t.ts))), ''))
+  AS doing
+FROM taken t JOIN process_life p USING (upid), last GROUP BY t.upid;
 CREATE UNIQUE INDEX temp.pool_of ON pool(upid);
 -- A pool of which all threads are in something that is a finding too.
 CREATE TEMP TABLE full_pool AS

@@ -104,6 +104,47 @@ def pool_in_oneway(s, wait):
     s.wait(wait)
 
 
+@case("C6:1 C7:2 A1:2", "2 loopers are in ", "a call from before the capture", serves=1)
+@case("C6:1 C7:2 A1:2", "2 loopers are in ", "a call from before the capture", serves=1, nested=True)
+@case("C6:1 C7:2 A1:2", "a looper is in code 10 since", serves=0)
+@case("C6:1 C7:2 A1:2 P1:1", "a looper is in code 10 since", serves=1, replies=1)
+@case("C6:1 C7:2 A1:2 P1:1", "2 loopers are in ", "a call from before the capture", serves=2, replies=1)
+@case("C6:1 C7:2 A1:2", "a looper is in code 10 since", serves=1, ends=True)
+@case("C6:1 C7:2 A1:2", "a looper is in code 10 since", serves=1, process=200)
+def pool_of_a_flight_recorder(s, serves, replies=0, ends=False, process=100, nested=False):
+    """Before its first file, a flight recorder saw a looper get calls. It still serves them, with another one within
+    or not; or it replies now, or ends; or a thread of another process got them. The other looper of the service never
+    answers, and two calls wait."""
+    s.tell(f"calls 0 {process} 101 made={1 - serves if serves < 2 else 0} served={serves}")
+    service, client = s.two("before-file", enters=False)
+    other = service.thread(1)
+    client.main.asks(other if nested else service.main, 2)
+    for _ in range(replies):
+        other.writes(Sent(None, 0, 0, b"", b"").record(BC_REPLY))
+        other.reads(DONE)
+    if ends:
+        other.ends()
+    service.main.gets(client.main.sends(0, 10))
+    for number in 300, 301:
+        s.process(number, "other").main.sends(0, 1)
+    s.wait(1100)
+
+
+@case("C5:2", "not got: a looper is in a call from before the capture", serves=1)
+@case("C5:2", "(not got)", serves=0)
+def only_looper_serves_on(s, serves):
+    """The only looper of a service got a call before the first file of a flight recorder, and never answers. Two calls
+    wait. Another thread of the service only makes calls."""
+    s.tell(f"calls 0 300 301 made=0 served={serves}")
+    manager, client = s.two("before-file")
+    server = s.process(300, "server", "before-file")
+    server.main.gives(manager.main, 3, node=0x9000)
+    client.main.is_given(manager.main, 1, server_handle=3)
+    client.main.sends(1, 1)
+    client.thread(1).sends(1, 1)
+    s.wait(1100)
+
+
 @case("T1:1", "replied at", ends=1)
 @case("C1:1", "replied at", wait=200)
 @case("C2:1", "replied at", wait=50)

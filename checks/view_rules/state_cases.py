@@ -170,10 +170,10 @@ def not_acknowledged(s, then, ends, wait=200, lost=False):
 # ---- deaths and clears
 
 
-def watching(s):
-    service, client = s.two()
-    client.main.is_given(service.main, 1)
-    client.main.writes(watch(BC_REQUEST_DEATH_NOTIFICATION, 1, 0xD))
+def watching(s, met="from-start", weakly=False):
+    service, client = s.two(met)
+    client.main.is_given(service.main, 1, take=not weakly)
+    client.main.writes(*(each(BC_INCREFS, 1) if weakly else []), watch(BC_REQUEST_DEATH_NOTIFICATION, 1, 0xD))
     return service, client
 
 
@@ -253,14 +253,42 @@ def death_acknowledged_again(s, deaths, done):
 
 
 @case("D1:1", release=True)
+@case("P1:1", release=True, met="in-mid-life")
+@case("P1:1", release=True, met="before-file", held=1)
+@case("D1:1", release=True, met="before-file", held=2)
+@case("D1:1", release=True, weakly=True)
 @case("D5:1", release=False)
+@case("D5:1", release=False, met="in-mid-life")
 @case("D2:1 D5:1", "the one before is at", release=False, again=True)
-def request_left(s, release, again=False):
-    _, client = watching(s)
+def request_left(s, release, again=False, met="from-start", held=None, weakly=False):
+    """A request stays. Its handle is let go of, or not; a flight recorder had met this handle before, or another."""
+    if held:
+        s.tell(f"handle 0 200 {held}")
+    _, client = watching(s, met, weakly)
     if again:
         client.main.writes(watch(BC_REQUEST_DEATH_NOTIFICATION, 1, 0xE))
     if release:
-        client.main.writes(*each(BC_RELEASE, 1))
+        client.main.writes(*each(BC_DECREFS if weakly else BC_RELEASE, 1))
+
+
+@case("D1:1", release=True)
+@case("D5:1", release=False)
+def request_of_the_manager(s, release):
+    """A request for the context manager, whose handle is let go of, or not."""
+    service, client = s.two()
+    client.main.asks(service.main)
+    client.main.writes(*each(BC_ACQUIRE, 0), watch(BC_REQUEST_DEATH_NOTIFICATION, 0, 0xD))
+    if release:
+        client.main.writes(*each(BC_RELEASE, 0))
+
+
+@case("D1:1 D5:1")
+def request_of_a_number_again(s):
+    """A request for an object whose handle is let go of, and one for the next object of the same number."""
+    service, client = watching(s)
+    client.main.writes(*each(BC_RELEASE, 1))
+    client.main.is_given(service.main, 1, node=0x800)
+    client.main.writes(watch(BC_REQUEST_DEATH_NOTIFICATION, 1, 0xE))
 
 
 # ---- frees, objects, flags
