@@ -175,6 +175,11 @@ class Page:
         if calls or handles:
             yield (f"Before the first frame, in files that were removed: {counted(calls or 0, 'call')} that went on, and"
                    f" {counted(handles, 'handle')} that a process had met.")
+        going_on = self.asked("calls_before", 21)
+        if going_on:
+            yield ("In these calls were: " + ", ".join(f"{name_of(who)} thread {thread} ({made} made, {served} served)"
+                                                       for who, thread, made, served in going_on[:20])
+                   + (", …" if len(going_on) > 20 else "") + ".")
         lost = self.ask("SELECT why, count(*) FROM side_lost WHERE seq BETWEEN (SELECT first_seq FROM raw_capture)"
                         " AND (SELECT last_seq FROM raw_capture) GROUP BY 1 ORDER BY 2 DESC")
         if lost:

@@ -276,8 +276,9 @@ FROM (SELECT g.id AS generation, g.strong AS now_strong, g.weak AS now_weak, r.u
   WINDOW changes AS (PARTITION BY g.id ORDER BY r.place)) GROUP BY 1;
 CREATE UNIQUE INDEX temp.most_held_of ON most_held(generation);
 UPDATE finding SET rule = 'H4',
-  note = iif(m.strong > 1 AND g.strong > 0, g.acquired || ' times, and let go of ' || g.released || ' times',
-    g.increfs || ' times, weakly, and let go of ' || g.decrefs || ' times')
+  note = iif(m.strong > 1 AND g.strong > 0,
+    counted(g.acquired, 'time') || ', and let go of ' || counted(g.released, 'time'),
+    counted(g.increfs, 'time') || ', weakly, and let go of ' || counted(g.decrefs, 'time'))
 FROM raw_generation g JOIN most_held m ON m.generation = g.id
 WHERE rule IS NULL AND section = 'handles' AND what = 'held' AND g.id = finding.generation
   AND (m.strong > 1 AND g.strong > 0 OR m.weak > 1 AND g.weak > 0);
