@@ -491,14 +491,16 @@ def load_findings(database: sqlite3.Connection) -> None:
 # ---- all of it
 
 
-def statements_of(path: pathlib.Path) -> Iterator[str]:
+@functools.cache
+def statements_of(path: pathlib.Path) -> tuple[str, ...]:
     """The SQL statements of a file, one after another."""
-    statement = ""
+    found, statement = [], ""
     for line in path.read_text().splitlines(keepends=True):
         statement += line
         if sqlite3.complete_statement(statement):
-            yield statement
+            found.append(statement)
             statement = ""
+    return tuple(found)
 
 
 def named_numbers(database: sqlite3.Connection) -> dict[str, int]:
@@ -507,29 +509,24 @@ def named_numbers(database: sqlite3.Connection) -> dict[str, int]:
                                  " UNION ALL SELECT name, number FROM sort UNION ALL SELECT name, number FROM flag"))
 
 
-def run_statements(database: sqlite3.Connection, path: pathlib.Path) -> None:
-    """Runs the statements of a file, in which `:BR_REPLY` is the number of that name."""
-    names = named_numbers(database)
-    for statement in statements_of(path):
-        database.execute(statement, names)
-
-
 # The files that judge the rows of the report, in order.
 JUDGING = ("nodes.sql", "facts.sql", "ages.sql", "waits.sql", "rules.sql", "groups.sql")
 
 
 def judge(database: sqlite3.Connection, folder: pathlib.Path = FOLDER) -> None:
-    """Gives each finding its verdict. The statements make texts by `duration(nanoseconds)`,
-    `counted(n, 'row')`, `code_name(code)` and `status_name(number)`, alike ones by `likeness(path, ..)`, and look into
-    a row of the report by `number_in(section, text, column)`."""
+    """Gives each finding its verdict. In the statements `:BR_REPLY` is the number of that name. They make texts by
+    `duration(nanoseconds)`, `counted(n, 'row')`, `code_name(code)` and `status_name(number)`, alike ones by
+    `likeness(path, ..)`, and look into a row of the report by `number_in(section, text, column)`."""
     database.create_function("duration", 1, duration_of, deterministic=True)
     database.create_function("counted", -1, counted, deterministic=True)
     database.create_function("likeness", 5, likeness, deterministic=True)
     database.create_function("number_in", 3, number_in, deterministic=True)
     for named in (code_name, status_name):
         database.create_function(named.__name__, 1, named, deterministic=True)
+    names = named_numbers(database)
     for name in JUDGING:
-        run_statements(database, folder / name)
+        for statement in statements_of(folder / name):
+            database.execute(statement, names)
 
 
 def open_database(path: pathlib.Path) -> sqlite3.Connection:
