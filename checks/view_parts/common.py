@@ -1,0 +1,98 @@
+"""What the checks of `view` share: how to compare, the programs, and what a capture and a page have."""
+
+import pathlib
+import re
+import shutil
+import sqlite3
+import struct
+import subprocess
+from typing import Callable, NamedTuple
+
+from viewer import loading, page
+
+HERE = pathlib.Path(__file__).resolve().parents[1]
+ROOT = HERE.parent
+DRIVER = ROOT / "samples/driver"
+BUILT = ROOT / "crates/binder_audit/out/binder_audit"
+Fail = Callable[[str], None]
+
+
+def compare(what: str, came: object, due: object, fail: Fail) -> None:
+    if came != due:
+        fail(f"{what}: expected {str(due)[:400]}, came {str(came)[:400]}")
+
+
+def programs(room: pathlib.Path, auditor: pathlib.Path) -> pathlib.Path:
+    """A folder with `view` and what it calls. The auditor in it is the one that is checked."""
+    return folder_of(room / "programs", auditor, ROOT / "listing", crates=ROOT / "crates")
+
+
+def built_programs(room: pathlib.Path, auditor: pathlib.Path) -> pathlib.Path:
+    """The same without the scripts that look each time whether a program must be built: they look once here, and take
+    most of the time of a small capture."""
+    loading.build_programs(ROOT)
+    crates = room / "built-crates"
+    crates.mkdir()
+    (crates / "run").write_text("#!/bin/sh\n")
+    (crates / "run").chmod(0o755)
+    return folder_of(room / "built", auditor, ROOT / "crates/binder_listing/out/binder_listing", crates)
+
+
+def folder_of(folder: pathlib.Path, auditor: pathlib.Path, listing: pathlib.Path, crates: pathlib.Path) -> pathlib.Path:
+    folder.mkdir()
+    shutil.copy(ROOT / "view", folder)
+    for name, target in (("viewer", ROOT / "viewer"), ("crates", crates), ("listing", listing), ("audit", auditor)):
+        (folder / name).symlink_to(target)
+    return folder
+
+
+def view(folder: pathlib.Path, room: pathlib.Path, *words: object) -> tuple[int, str, str]:
+    ended = subprocess.run([folder / "view", *map(str, words)], cwd=room, capture_output=True, text=True, timeout=120)
+    return ended.returncode, ended.stdout, ended.stderr
+
+
+def told_by(stderr: str) -> str:
+    """What `./view` writes to standard error, without the line that says that it has no loader."""
+    return "".join(line for line in stderr.splitlines(keepends=True) if " is missing to build the loader" not in line)
+
+
+def texts_of(path: pathlib.Path) -> str:
+    """The text of a page without its markup."""
+    return " ".join(re.sub(r"<[^>]*>", " ", path.read_text()).split())
+
+
+class Frame(NamedTuple):
+    place: int
+    sequence: int
+    device: int
+    process: int
+    thread: int
+    direction: int
+
+
+def frames_of(capture: bytes) -> list[Frame]:
+    found, at = [], 16
+    while at < len(capture):
+        sequence, process, thread, direction, commands, attached, device = struct.unpack_from("<QIIIIII", capture, at)
+        found.append(Frame(at, sequence, device, process, thread, direction))
+        at += 32 + commands + attached
+    return found
+
+
+def without_numbers(path: str) -> str:
+    return re.sub(r"( from .*) \d+( on \w+)?$", r"\1\2", re.sub(r" \d+( on \w+)? node ", r"\1 node ", path))
+
+
+def groups_of(database: sqlite3.Connection) -> list[tuple[str, ...]]:
+    found = []
+    for line in page.group_lines(database):
+        verdict, title, n, n_all, _, _, path, rule, _ = line.rstrip("\n").split("\t")
+        if verdict in ("real", "maybe"):
+            found.append((verdict, title, n, n_all, without_numbers(path), rule))
+    return sorted(found)
+
+
+def groups_due(scenario: str) -> list[tuple[str, ...]]:
+    lines = (HERE / "driver_guest/verdicts").read_text().splitlines()
+    rows = [line.split("\t") for line in lines if not line.startswith("#")]
+    return sorted(tuple(row[2:]) for row in rows if row[0] == scenario)
