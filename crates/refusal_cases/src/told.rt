@@ -2,7 +2,7 @@
 
 use crate::no_answer::Printed;
 use audit_findings::{Findings, Sections};
-use call_stacks::{CallFindings, Opener};
+use call_stacks::{CallFindings, Opener, Verdict};
 use capture_frame::{Frame, FrameSlice};
 use event_core::Event;
 use std::fmt::Debug;
@@ -33,8 +33,8 @@ pub(crate) fn kept_frames<W: Write>(frames: &FrameSlice<'_, '_>, out: &mut W) ->
 
 /// Prints what became of the calls of a thread, each event by its place.
 pub(crate) fn calls<W: Write>(found: &CallFindings<Event<'_>>, out: &mut W) -> Printed {
-    for opener in &found.openers {
-        value(&(opener.event.place, opener.verdict, opener.closer), out)?;
+    for one in &found.openers {
+        opener(one.event.place, one.verdict, one.closer, out)?;
     }
     for stray in &found.strays {
         value(&stray.place, out)?;
@@ -47,10 +47,15 @@ pub(crate) fn calls<W: Write>(found: &CallFindings<Event<'_>>, out: &mut W) -> P
 
 /// Prints calls that a report lists.
 fn openers<W: Write>(rows: &[Opener<u64>], out: &mut W) -> Printed {
-    for opener in rows {
-        value(&(opener.event, opener.verdict, opener.closer), out)?;
+    for one in rows {
+        opener(one.event, one.verdict, one.closer, out)?;
     }
     Ok(())
+}
+
+/// Prints a call, its event by the place. In the loops above, this would be costly to prove.
+fn opener<W: Write>(place: u64, verdict: Verdict, closer: Option<u64>, out: &mut W) -> Printed {
+    value(&(place, verdict, closer), out)
 }
 
 /// Prints the frames and the sections of findings.
