@@ -1,0 +1,3 @@
+package check.forms;
+
+@JavaOnlyStableParcelable parcelable Opaque cpp_header "a/{opaque};.h" ndk_header "b.h";
