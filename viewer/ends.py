@@ -55,8 +55,9 @@ def missed_of(database: sqlite3.Connection) -> Iterator[Row]:
 
 def gaps_of(database: sqlite3.Connection) -> Iterator[Row]:
     """Numbers that no frame has and of which the side list says nothing."""
-    missing, = database.execute("SELECT missing FROM raw_capture").fetchone()
-    if not missing:
+    missing, lost = database.execute("SELECT missing, (SELECT count(*) FROM side_lost WHERE seq BETWEEN first_seq AND"
+                                     " last_seq) FROM raw_capture").fetchone()
+    if missing % 2**64 == lost:
         return
     for place, before, seq, told in database.execute(
             "SELECT place, before, seq, (SELECT count(*) FROM side_lost l WHERE l.seq > before AND l.seq < g.seq) FROM"

@@ -28,6 +28,9 @@ BUFFERS, BYTES, ASYNC, REFERENCES, CALLS, BUSY = range(len(COUNTERS))
 
 MADE, SERVED, ONEWAY = range(3)
 
+# The end of what says on which track an event is.
+TS = '"ts":'
+
 # A flow ends at the slice around it.
 ENCLOSING = ',"bp":"e"'
 VERDICTS = ("open", "answered", "replied", "failed", "crossed")
@@ -121,6 +124,9 @@ class Timeline:
         self.at_end = "after --to" if self.axis.is_cut else "open at the end"
         self.told: dict[str, int] = {name: 0 for name in (
             "slices", "queue_slices", "flows", "counter_events", "instants", "pairs_without_flow")}
+        self.counter_heads = {upid: [
+            f'{{"ph":"C",{head.removesuffix(TS)}"name":"{name}","args":{{"{of}":' for name, of in COUNTERS]
+            for upid, head in self.tracks.first_heads.items()}
         self.stacks: dict[int, list[Open]] = {}
         self.serving: dict[int, int] = {}
         self.oneways: set[int] = set()
@@ -167,7 +173,7 @@ class Timeline:
     def push(self, utid: int, entry: Open) -> None:
         if self.live and utid in self.tracks.heads:
             self.begin(utid, self.axis.text, entry)
-            entry = entry._replace(text="")
+            entry = Open(entry.place, entry.closer, entry.kind, "")
         self.stacks.setdefault(utid, []).append(entry)
         counts = self.counts(self.tracks.upid_of[utid])
         if entry.kind == ONEWAY:
@@ -221,20 +227,16 @@ class Timeline:
 
     def count(self, ns: int | None = None) -> None:
         """Writes the counters that were changed."""
-        if not self.live or not self.changed:
+        if not self.live:
             return
+        before = len(self.events)
         for upid in self.changed:
-            head = self.tracks.first_heads.get(upid)
-            if head is None:
-                continue
-            at = self.axis.text_for(-upid, self.axis.ns if ns is None else ns)
-            now, shown = self.now[upid], self.shown[upid]
-            for which, value in enumerate(now):
-                if value != shown[which]:
-                    shown[which] = value
-                    name, of = COUNTERS[which]
-                    self.events.append(f'{{"ph":"C",{head}{at},"name":"{name}","args":{{"{of}":{value}}}}}')
-                    self.told["counter_events"] += 1
+            heads, now, shown = self.counter_heads.get(upid), self.now[upid], self.shown[upid]
+            if heads is not None and now != shown:
+                tail = f'}},"ts":{self.axis.text_for(-upid, self.axis.ns if ns is None else ns)}}}'
+                self.events += [f"{head}{value}{tail}" for head, value, old in zip(heads, now, shown) if value != old]
+                shown[:] = now
+        self.told["counter_events"] += len(self.events) - before
         self.changed.clear()
 
     # -- rows

@@ -48,6 +48,7 @@ class Axis:
         self.untimed = self.raised = 0
         # The last time on each track: of a thread by its utid, of the counters of a process by its upid, below 0.
         self.latest: dict[int, int] = {}
+        self.shown, self.shown_text = -1, ""
         self.ns = earliest[0] if earliest is not None else 0
         self.text = self.text_of(self.ns)
         self.is_cut = window.last is not None and window.last < end
@@ -84,8 +85,13 @@ class Axis:
 
     def text_for(self, track: int, ns: int) -> str:
         """A time on a track, no earlier than the last one there."""
-        self.latest[track] = ns = max(ns, self.latest.get(track, 0))
-        return self.text_of(ns)
+        latest = self.latest.get(track, 0)
+        if ns < latest:
+            return self.text_of(latest)
+        self.latest[track] = ns
+        if ns != self.shown:
+            self.shown, self.shown_text = ns, self.text_of(ns)
+        return self.shown_text
 
     def facts(self) -> dict[str, object]:
         if self.timed:
