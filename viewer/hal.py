@@ -234,7 +234,7 @@ def coded(own: Own, known: dict[str, list[Own]]) -> list[Method]:
 
 def above_of(parent: Parent, known: dict[str, list[Own]]) -> Own:
     """The interface that is extended."""
-    found = [own for name in dict.fromkeys(parent.names) for own in known.get(name, ())]
+    found = [own for name in parent.names for own in known.get(name, ())]
     if not found:
         raise Wrong(parent.file, parent.line, f"no source has {parent.names[-1]}, which is extended here")
     for other in found[1:]:
