@@ -8,7 +8,7 @@
 #include <string.h>
 
 #define MOST_SLOTS (1u << 22)			/* the most numbers that are not settled */
-#define MOST_MEMORY (256u << 20)		/* the most bytes of their frames */
+#define MOST_MEMORY (256u << 20)		/* the most bytes of their frames and lines */
 #define LONGEST_WAIT 10000000000u		/* how long a write may hold back later frames, in nanoseconds */
 
 enum state { SILENT, WAITING, WHOLE, LOST };
@@ -22,6 +22,7 @@ struct slot {
 	u64 consumed;
 	u64 since;				/* when it began to wait */
 	char *lines;				/* lines of the side list that come after this number */
+	u64 line_bytes, line_room;
 };
 
 static struct slot *slots;
@@ -117,6 +118,7 @@ static void settle_slot(struct slot *slot)
 	if (slot->lines)
 		side_text(slot->lines);
 	free(slot->lines);
+	memory -= slot->line_room;
 	if (slot->frame)
 		memory -= slot->frame->memory;
 	frame_free(slot->frame);
@@ -170,9 +172,14 @@ void later_line(u64 time, u64 after, const char *format, ...)
 		side_line(time, "%s", line);
 		return;
 	}
-	u64 before = slot->lines ? strlen(slot->lines) : 0, more = strlen(line) + 32;
-	slot->lines = resize(slot->lines, before + more);
-	snprintf(slot->lines + before, more, "%llu %s\n", (unsigned long long)time, line);
+	u64 more = strlen(line) + 32;
+	if (slot->line_bytes + more > slot->line_room) {
+		memory -= slot->line_room;
+		slot->line_room = 2 * (slot->line_bytes + more);
+		slot->lines = resize(slot->lines, slot->line_room);
+		memory += slot->line_room;
+	}
+	slot->line_bytes += (u64)snprintf(slot->lines + slot->line_bytes, more, "%llu %s\n", (unsigned long long)time, line);
 }
 
 static struct frame *frame_of(struct slot *slot, u64 number)

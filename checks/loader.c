@@ -1,0 +1,143 @@
+/* loader OUT: gives the recorder's loader messages of callers that hand over as much as they can. See loader. */
+#include "frame.h"
+#include "names.h"
+#include "parts.h"
+#include "redact.h"
+#include "window.h"
+#include <linux/android/binder.h>
+#include <stdio.h>
+#include <stdlib.h>
+#include <string.h>
+#include <sys/resource.h>
+#include <time.h>
+
+enum {
+	ENTRIES = 30000,	/* of one frame */
+	LINES = 200000,		/* of the side list, while a frame waits */
+	FRAMES = 500,		/* of 1 MiB each, while another one waits */
+	DATA = 1 << 20,
+	RECORD = 4 + sizeof(struct binder_transaction_data),
+};
+
+static u64 last;		/* the number that was taken last */
+static int failed;
+
+static void should(int is_so, const char *what, double value)
+{
+	if (is_so)
+		return;
+	printf("checks/loader: %s: %g\n", what, value);
+	failed = 1;
+}
+
+static double processor_seconds(void)
+{
+	struct timespec time;
+	clock_gettime(CLOCK_PROCESS_CPUTIME_ID, &time);
+	return (double)time.tv_sec + (double)time.tv_nsec / 1e9;
+}
+
+static double mebibytes(void)
+{
+	struct rusage used;
+	getrusage(RUSAGE_SELF, &used);
+	return (double)used.ru_maxrss / 1024;
+}
+
+static struct message head_of(u32 type, u64 number, u32 thread)
+{
+	return (struct message){ .type = type, .direction = DIRECTION_WRITE, .number = number, .time = now(), .opening = 1,
+				 .thread = thread };
+}
+
+/* The commands of a write: oneway sends with so many bytes of data each. */
+static void hear_commands(u64 number, u32 thread, u32 records, u64 each)
+{
+	u32 bytes = records * RECORD, word = BC_TRANSACTION;
+	struct binder_transaction_data made = { .flags = TF_ONE_WAY, .data_size = each };
+	struct chunk *chunk = allocate(sizeof *chunk + bytes);
+	*chunk = (struct chunk){ .head = head_of(MESSAGE_CHUNK, number, thread), .commands = bytes, .next = bytes };
+	for (u32 i = 0; i < records; i++) {
+		memcpy((u8 *)(chunk + 1) + i * RECORD, &word, sizeof word);
+		memcpy((u8 *)(chunk + 1) + i * RECORD + sizeof word, &made, sizeof made);
+	}
+	window_hear(chunk, sizeof *chunk + bytes);
+	free(chunk);
+}
+
+static void hear_data(u64 number, u32 thread, u32 record, u32 bytes)
+{
+	struct piece *piece = allocate(sizeof *piece + bytes);
+	*piece = (struct piece){ .head = head_of(MESSAGE_PIECE, number, thread), .record = record, .data = bytes, .bytes = bytes };
+	window_hear(piece, sizeof *piece + bytes);
+	free(piece);
+}
+
+static void hear_written(u64 number, u32 thread, u64 consumed)
+{
+	struct event event = { .head = head_of(MESSAGE_WRITTEN, number, thread), .written = { consumed } };
+	window_hear(&event, sizeof event);
+}
+
+/* One frame of very many entries is put together in a moment. */
+static void many_entries(void)
+{
+	double began = processor_seconds();
+	hear_commands(++last, 1, ENTRIES, 8);
+	for (u32 i = 0; i < ENTRIES; i++)
+		hear_data(last, 1, i * RECORD, 8);
+	hear_written(last, 1, (u64)ENTRIES * RECORD);
+	window_settle();
+	double took = processor_seconds() - began;
+	should(frame_entries_written() == ENTRIES, "entries of one frame", (double)frame_entries_written());
+	should(took < 0.2, "seconds for the entries of one frame", took);
+}
+
+/* Processes that end while a write waits: each has a line that waits with it. */
+static void many_lines(void)
+{
+	double began = processor_seconds();
+	hear_commands(++last, 1, 1, 0);
+	for (u32 i = 0; i < LINES; i++) {
+		struct event event = { .head = head_of(MESSAGE_ENDED, last, 0), .ended = { .process = i + 1, .is_last = 1 } };
+		window_hear(&event, sizeof event);
+	}
+	hear_written(last, 1, RECORD);
+	window_settle();
+	double took = processor_seconds() - began;
+	should(took < 1, "seconds for the lines of one frame", took);
+	should(window_lost() == 0, "frames lost", (double)window_lost());
+}
+
+/* While one write waits, the others hand over 500 MiB: it is given up, and no other frame is lost. */
+static void much_memory(void)
+{
+	hear_commands(++last, 1, 1, 0);
+	for (u32 i = 0; i < FRAMES; i++) {
+		hear_commands(++last, 2, 1, DATA);
+		hear_data(last, 2, 0, DATA);
+		hear_written(last, 2, RECORD);
+		window_settle();
+	}
+	should(mebibytes() < 320, "MiB of memory at most", mebibytes());
+	should(mebibytes() > 200, "MiB of memory at least", mebibytes());
+	should(window_waiting() == 0 && window_last() == last, "frames that wait", (double)window_waiting());
+	should(window_lost() == 1 && window_lost_because(REASON_HELD_TOO_LONG) == 1, "frames lost", (double)window_lost());
+	should(window_frames() == FRAMES + 2, "frames", (double)window_frames());
+}
+
+int main(int count, char **words)
+{
+	if (count != 2 || parts_begin(words[1], MOST_TOGETHER, 1))
+		fail("usage: loader OUT");
+	redact_begin(0);
+	names_opening(1, now(), 0, 1000, 1, "caller", MET_FROM_START);
+	names_thread(1, 1001, 1000, 1, "first");
+	names_thread(2, 1002, 1000, 1, "second");
+	many_entries();
+	many_lines();
+	much_memory();
+	if (parts_end())
+		fail("the files can't be written");
+	return failed;
+}
