@@ -7,7 +7,7 @@
 /* Memory that a thread used a moment ago can be away for some time, for example while the kernel merges small pages. A
  * program here can't wait for it; where there is no later chance, it tries again, up to this often and this long. */
 #define TRIES 1000
-#define LONGEST_TRY 300000u	/* nanoseconds */
+#define LONGEST_TRY 300000u	/* nanoseconds, in one run */
 #define RUN_CHUNKS 8u		/* the most chunks of a write that one run copies */
 #define MOST_RECORDS 4096u	/* the most records of a read that are looked at for attachments */
 #define CODE_WORD 4u
@@ -33,6 +33,13 @@ static __always_inline int take_room(struct thread *t, u64 bytes)
 	u64 limit = t->spent < FIRST_BYTES ? ring_limit : ring_limit / 2;
 	t->spent += bytes;
 	return bpf_ringbuf_query(&ring, BPF_RB_AVAIL_DATA) + bytes <= limit;
+}
+
+/* Begins to count what this run of a program copies, and how long it tries. */
+static __always_inline void begin_run(struct scratch *s)
+{
+	s->until = bpf_ktime_get_ns() + LONGEST_TRY;
+	s->attached = 0;
 }
 
 static long try_chunk(u32 i, void *unused)
@@ -62,9 +69,9 @@ static __noinline int read_call(u64 call)
 	if (!s)
 		return 1;
 	s->from = call;
+	begin_run(s);
 	if (!read_memory(&s->call, sizeof s->call, call))
 		return 0;
-	s->until = bpf_ktime_get_ns() + LONGEST_TRY;
 	bpf_loop(TRIES, try_call, 0, 0);
 	return s->failed != 0;
 }
@@ -77,7 +84,6 @@ static __noinline int read_chunk(u64 from, u32 bytes)
 		return 1;
 	s->from = from;
 	s->length = bytes;
-	s->until = bpf_ktime_get_ns() + LONGEST_TRY;
 	bpf_loop(TRIES, try_chunk, 0, 0);
 	return s->failed != 0;
 }
@@ -197,17 +203,25 @@ static __noinline int attach(struct thread *t)
 		return REASON_UNREADABLE;
 	struct attachment *a = &s->attachment;
 	u64 data = a->place.data, offsets = a->place.offsets;
-	if (t->attachments >= MOST_ATTACHMENTS || data > MOST_ATTACHED || offsets > MOST_ATTACHED ||
-	    t->attached + data + offsets > MOST_ATTACHED)
+	if (t->attachments >= MOST_ATTACHMENTS)
 		return REASON_TOO_MANY;
+	if (data > MOST_AT_ONCE || offsets > MOST_AT_ONCE || data + offsets > MOST_AT_ONCE) {
+		t->attachments++;
+		return REASON_TOO_LARGE;
+	}
+	if (t->attached + data + offsets > MOST_ATTACHED)
+		return REASON_TOO_MANY;
+	if (s->attached + data + offsets > MOST_AT_ONCE)
+		return a->direction == DIRECTION_READ ? REASON_TOO_MANY : REASON_LATER;
 	t->attachments++;
 	t->attached += data + offsets;
+	s->attached += data + offsets;
 	if (a->direction == DIRECTION_READ && !t->reads_own_memory)
 		return REASON_OTHER_MEMORY;
 	if (data < CHUNK && offsets < CHUNK && data + offsets <= CHUNK)
 		return copy_whole(t);
 	a->at = a->failed = 0;
-	bpf_loop(MOST_ATTACHED / CHUNK + 2, copy_piece, 0, 0);
+	bpf_loop(MOST_AT_ONCE / CHUNK + 2, copy_piece, 0, 0);
 	return a->failed;
 }
 
@@ -312,7 +326,8 @@ static __noinline int read_place(struct thread *t, u32 record)
 	return read_memory(&s->attachment.place, sizeof s->attachment.place, t->write_from + record + CODE_WORD + DATA_AT) != 0;
 }
 
-/* Copies the attachment of a record of a write. If its memory is not there, it is tried again when the driver has read it. */
+/* Copies the attachment of a record of a write. If its memory is not there, or if this run has copied enough, the next
+ * run does it, when the driver has taken the record. */
 static __noinline int attach_to_write(struct thread *t, u32 record, u32 is_late)
 {
 	struct scratch *s = scratch();
@@ -326,19 +341,30 @@ static __noinline int attach_to_write(struct thread *t, u32 record, u32 is_late)
 			return 0;
 		reason = attach(t);
 	}
-	if (is_late && reason == REASON_TOO_MANY)	/* later records have taken the bound: they have their entries */
-		reason = REASON_UNREADABLE;
-	if (reason == REASON_UNREADABLE && !is_late && t->late_count < MOST_LATE) {
-		t->late[t->late_count & (MOST_LATE - 1)] = record;
-		t->late_count++;
+	if (reason == REASON_UNREADABLE && !is_late) {
 		t->attachments -= bytes != 0;		/* it does not count twice */
 		t->attached -= bytes;
+		reason = REASON_LATER;
+	}
+	if (reason == REASON_LATER) {
+		t->late = record;
+		t->has_late = 1;
 	} else if (reason) {
 		say_unattached(t, reason);
 	} else if (is_late) {
 		say(MESSAGE_LATE, t->id, t->opening, t->write_number, 0, record, 0, 0);
 	}
 	return 0;
+}
+
+/* Copies the attachment that an earlier run did not, if its record is before `end`. */
+static __always_inline void attach_late(struct thread *t, u64 end)
+{
+	if (!t->has_late)
+		return;
+	t->has_late = 0;
+	if (t->late < end && !t->is_over)
+		attach_to_write(t, t->late, 1);
 }
 
 /* ---- a read: all its bytes are copied at return */

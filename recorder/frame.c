@@ -182,6 +182,7 @@ static void write_lines(const struct frame *frame, u64 consumed, int attachments
 	for (const struct note *note = frame->notes; note; note = note->next) {
 		if (note->record >= consumed)
 			continue;
+		entries_left_out += note->reason == REASON_TOO_LARGE;
 		if (note->reason == REASON_TOO_MANY)
 			write_left_out(frame, note->record, consumed);
 		else if (note->reason)

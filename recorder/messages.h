@@ -4,10 +4,11 @@
 
 #define CHUNK 32768u		/* the most command bytes of a chunk, and the most bytes of a piece of an attachment */
 #define MOST_COMMANDS (4u << 20)	/* the most bytes of a write's commands */
-#define MOST_RETURNS (1u << 20)	/* the most bytes of a read's */
-#define MOST_CHUNKS 128u	/* the most chunks of a read: each has at least half its bytes */
+#define MOST_RETURNS (1u << 18)	/* the most bytes of a read's */
+#define MOST_CHUNKS 32u		/* the most chunks of a read: each has at least half its bytes */
 #define MOST_ATTACHMENTS 64u	/* the most attachments of a call */
 #define MOST_ATTACHED (4u << 20)	/* the most bytes of a call's attachments */
+#define MOST_AT_ONCE (1u << 20)	/* the most bytes of attachments that are copied with preemption off: of a record, or a read */
 #define FIRST_BYTES 65536u	/* so many bytes of a call may use the whole ring */
 #define MOST_CPUS 512u
 #define NAME_BYTES 16u
@@ -47,6 +48,7 @@ enum reason {
 	REASON_FILE_TOO_SMALL,	/* the frame is larger than a file may be */
 	REASON_NOT_WRITTEN,	/* the disk had no room */
 	REASON_END,
+	REASON_LATER,		/* in the kernel only: the next run of a program copies it */
 };
 
 /* Whether one of the recorder's programs in the kernel keeps its processor until its end. */

@@ -162,7 +162,7 @@ static __noinline int begin_call(struct thread *t, u64 call, u32 told)
 	t->read_size = s->call.read_size;
 	t->read_buffer = s->call.read_buffer;
 	t->consumed = t->write_number = t->copied = t->attached = t->spent = 0;
-	t->commands = t->late_count = t->attachments = t->is_over = 0;
+	t->commands = t->has_late = t->attachments = t->is_over = 0;
 	t->write_told = t->has_chunk = 0;
 	t->call_is = CALL_RECORDED;
 	if (s->call.write_consumed >= s->call.write_size)
@@ -295,13 +295,16 @@ SEC("tp/binder/binder_ioctl") int at_entry(struct ioctl_fields *fields)
 /* The driver begins the command that is at `record` of the write. */
 static __noinline int take_command(struct thread *t, u32 record, u32 word)
 {
-	if (!t)
+	struct scratch *s = scratch();
+	if (!s || !t)
 		return 0;
+	begin_run(s);
 	int reason = t->copied < t->consumed ? copy_write(t, record, 0) : 0;
 	if (reason) {
 		t->write_told = 1;
 		return lose(t, t->write_number, reason);
 	}
+	attach_late(t, record);
 	if (!no_attachments && !t->is_over && has_data(DIRECTION_WRITE, word))
 		attach_to_write(t, record, 0);
 	return 0;
@@ -333,9 +336,7 @@ static __noinline int end_write(struct thread *t, u64 consumed)
 		t->write_told = 1;
 		return lose(t, t->write_number, reason);
 	}
-	for (u32 i = 0; i < MOST_LATE && i < t->late_count; i++)
-		if (t->late[i] < consumed)
-			attach_to_write(t, t->late[i], 1);
+	attach_late(t, consumed);
 	if (!say(MESSAGE_WRITTEN, t->id, t->opening, t->write_number, consumed, 0, 0, 0))
 		t->write_told = 1;
 	return 0;
@@ -347,9 +348,10 @@ SEC("tp/binder/binder_write_done") int at_write_done(struct number_fields *field
 {
 	u32 id = bpf_get_current_pid_tgid();
 	struct thread *t = bpf_map_lookup_elem(&threads, &id);
-	if (t && t->call_is == CALL_RECORDED && t->write_number && !t->write_told && (int)fields->number >= 0) {
+	struct scratch *s = scratch();
+	if (s && t && t->call_is == CALL_RECORDED && t->write_number && !t->write_told && (int)fields->number >= 0) {
+		begin_run(s);
 		end_write(t, t->consumed);
-		t->late_count = 0;
 		if (!t->write_told)	/* no room to report it: at the return it is tried once more */
 			t->write_told = 2;
 	}

@@ -4,8 +4,6 @@
 #include "kernel.bpf.h"
 #include "messages.h"
 
-#define MOST_LATE 16u
-
 struct opening {
 	u32 id;
 	u8 recorded, told;
@@ -34,9 +32,9 @@ struct thread {
 	u64 write_consumed, read_consumed, read_size, read_buffer;	/* at entry */
 	u64 attached, spent;		/* of this call: bytes of attachments; bytes in the ring */
 	u32 attachments, is_over;	/* of this call; is_over: the frame gets no more of them */
-	u32 reads_own_memory, late_count, process;
+	u32 reads_own_memory, process;
+	u32 has_late, late;		/* a record whose data the next run copies */
 	u32 bits, unused;		/* of its last call: 32 or 64 */
-	u32 late[MOST_LATE];		/* records whose data was not there when the driver began them */
 	u64 start;
 	char name[NAME_BYTES];
 };
@@ -70,7 +68,8 @@ struct full_piece {
 struct scratch {
 	struct attachment attachment;
 	struct walk walk;
-	u64 from, length, failed, until, taken, try_again;
+	u64 from, length, failed, taken, try_again;
+	u64 until, attached;		/* of this run: when it tries no more; bytes of attachments */
 	struct binder_write_read call;
 	struct chunk chunk;
 	u8 chunk_bytes[2 * CHUNK];

@@ -1,0 +1,61 @@
+/* The recorder's programs in the kernel, with two more that run what these do in one run at the most. See copying. */
+#include "record.bpf.c"
+
+struct number_fields;
+
+/* Where the caller has what is copied, and how long the last run took. */
+u64 commands_from = 0, returns_from = 0, returns_bytes = 0, took = 0;
+u32 first_word = 0, reason_of_loss = 0;
+
+static __always_inline struct thread *caller(void)
+{
+	u32 id = bpf_get_current_pid_tgid();
+	struct scratch *s = scratch();
+	if (s && !bpf_map_lookup_elem(&threads, &id)) {
+		s->new_thread.id = 1;
+		bpf_map_update_elem(&threads, &id, &s->new_thread, BPF_NOEXIST);
+	}
+	return bpf_map_lookup_elem(&threads, &id);
+}
+
+static __always_inline void begin_measured_call(struct thread *t)
+{
+	t->reads_own_memory = 1;
+	t->attachments = t->is_over = t->has_late = t->commands = 0;
+	t->attached = t->spent = 0;
+}
+
+/* The driver begins a command, the data of the one before was not there, and of the write the next bytes are copied. */
+SEC("raw_tp/measured") int measure_command(void *unused)
+{
+	struct thread *t = caller();
+	if (!t)
+		return 1;
+	begin_measured_call(t);
+	t->write_number = 1;
+	t->write_from = commands_from;
+	t->write_bytes = MOST_COMMANDS;
+	t->consumed = CODE_WORD + TRANSACTION_BYTES;
+	t->copied = 0;
+	t->write_told = 0;
+	u64 begun = bpf_ktime_get_ns();
+	take_command(t, 0, first_word);
+	took = bpf_ktime_get_ns() - begun;
+	reason_of_loss = t->write_told;
+	return t->attachments;
+}
+
+/* A read comes back, with as many bytes and attachments as are taken. */
+SEC("raw_tp/measured") int measure_return(void *unused)
+{
+	struct thread *t = caller();
+	struct scratch *s = scratch();
+	if (!s || !t)
+		return 1;
+	begin_measured_call(t);
+	begin_run(s);
+	u64 begun = bpf_ktime_get_ns();
+	reason_of_loss = copy_read(t, returns_from, returns_bytes, 1);
+	took = bpf_ktime_get_ns() - begun;
+	return t->attachments;
+}

@@ -1,0 +1,109 @@
+/* copying ROUNDS: prints how long the recorder's programs in the kernel copy without a pause, at the most. See copying. */
+#include "common.h"
+#include "messages.h"
+#include <bpf/bpf.h>
+#include <bpf/libbpf.h>
+#include <linux/android/binder.h>
+#include <stdio.h>
+#include <stdlib.h>
+#include <string.h>
+#include <sys/mman.h>
+#include "ring.h"
+#include "copying.skel.h"
+
+#ifndef MOST_AT_ONCE
+#define MOST_AT_ONCE MOST_ATTACHED
+#endif
+
+enum { RECORD = 4 + sizeof(struct binder_transaction_data) };
+
+static struct copying *program;
+static struct ring ring;
+static u64 seen, room;
+
+static void count(const void *message, u64 bytes)
+{
+	(void)message;
+	seen += bytes;
+}
+
+static void *memory(u64 bytes)
+{
+	u8 *made = mmap(NULL, bytes, PROT_READ | PROT_WRITE, MAP_PRIVATE | MAP_ANONYMOUS | MAP_POPULATE, -1, 0);
+	if (made == MAP_FAILED)
+		fail("no memory");
+	memset(made, 7, bytes);
+	return made;
+}
+
+static void put_record(u8 *to, u32 word, const void *data, u64 bytes)
+{
+	struct binder_transaction_data made = { .data_size = bytes };
+	made.data.ptr.buffer = (binder_uintptr_t)data;
+	memcpy(to, &word, 4);
+	memcpy(to + 4, &made, sizeof made);
+}
+
+/* As many records as are looked at: `attachments` with data, then the smallest ones. */
+static void fill_returns(u8 *returns, const u8 *data, u64 each, u32 attachments)
+{
+	u32 small = BR_NOOP;
+	u64 at = 0;
+	for (u32 i = 0; i < attachments; i++, at += RECORD)
+		put_record(returns + at, BR_REPLY, data + i * each, each);
+	for (; at + 4 <= MOST_RETURNS; at += 4)
+		memcpy(returns + at, &small, 4);
+	program->bss->returns_from = (u64)returns;
+	program->bss->returns_bytes = at;
+}
+
+static int compare(const void *one, const void *two)
+{
+	u64 a = *(const u64 *)one, b = *(const u64 *)two;
+	return a < b ? -1 : a > b;
+}
+
+static void measure(const char *what, const struct bpf_program *measured, u32 rounds, u64 bytes, u32 attachments)
+{
+	u64 *took = allocate(rounds * sizeof *took);
+	for (u32 i = 0; i < rounds; i++) {
+		LIBBPF_OPTS(bpf_test_run_opts, run);
+		seen = 0;
+		int error = bpf_prog_test_run_opts(bpf_program__fd(measured), &run);
+		while (ring_drain(&ring, count) > 0)
+			continue;
+		if (error || program->bss->reason_of_loss || run.retval != attachments || seen < bytes)
+			fail("%s: error %d, loss %u, %u attachments, %llu bytes", what, error, program->bss->reason_of_loss, run.retval,
+			     (unsigned long long)seen);
+		took[i] = program->bss->took;
+	}
+	qsort(took, rounds, sizeof *took, compare);
+	printf("%-66s %8.0f %8.0f %8.0f\n", what, (double)took[0] / 1e3, (double)took[rounds / 2] / 1e3, (double)took[rounds * 9 / 10] / 1e3);
+	free(took);
+}
+
+int main(int words, char **word)
+{
+	u32 rounds = words > 1 ? (u32)atoi(word[1]) : 400;
+	room = 64 << 20;
+	program = copying__open();
+	if (!program)
+		fail("the program can't be opened");
+	bpf_program__set_autoload(program->progs.look_at_preemption, false);
+	bpf_map__set_max_entries(program->maps.scratches, (u32)libbpf_num_possible_cpus());
+	if (copying__load(program) || ring_open(&ring, bpf_map__fd(program->maps.ring), room))
+		fail("the program can't be loaded: root is needed");
+
+	u8 *data = memory(MOST_ATTACHED), *commands = memory(MOST_COMMANDS + 4096), *returns = memory(MOST_RETURNS);
+	program->bss->commands_from = (u64)commands;
+	program->bss->first_word = BC_TRANSACTION;
+	put_record(commands, BC_TRANSACTION, data, MOST_AT_ONCE);
+	printf("%-66s %8s %8s %8s\n", "microseconds", "least", "median", "of 10, 9");
+	measure("a write's next bytes, and the largest attachment", program->progs.measure_command, rounds, MOST_AT_ONCE + CHUNK * 8, 1);
+	fill_returns(returns, data, MOST_AT_ONCE, 1);
+	measure("the longest read, with the largest attachment", program->progs.measure_return, rounds, MOST_AT_ONCE + MOST_RETURNS, 1);
+	fill_returns(returns, data, MOST_AT_ONCE / MOST_ATTACHMENTS, MOST_ATTACHMENTS);
+	measure("the longest read, with as many attachments as are taken", program->progs.measure_return, rounds,
+		MOST_AT_ONCE + MOST_RETURNS, MOST_ATTACHMENTS);
+	return 0;
+}
