@@ -128,12 +128,13 @@ static void much_memory(void)
 
 int main(int count, char **words)
 {
+	static const char name[NAME_BYTES] = "caller";
 	if (count != 2 || parts_begin(words[1], MOST_TOGETHER, 1))
 		fail("usage: loader OUT");
 	redact_begin(0);
-	names_opening(1, now(), 0, 1000, 1, "caller", MET_FROM_START);
-	names_thread(1, 1001, 1000, 1, "first");
-	names_thread(2, 1002, 1000, 1, "second");
+	names_opening(1, now(), 0, 1000, 1, name, MET_FROM_START);
+	names_thread(1, 1001, 1000, 1, name);
+	names_thread(2, 1002, 1000, 1, name);
 	many_entries();
 	many_lines();
 	much_memory();
