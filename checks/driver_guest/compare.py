@@ -45,7 +45,8 @@ def row_of(scenario, difference):
 
 def purposes(scenario):
     """The numbers that the heads of the report must have: those that `purposes` names, and otherwise no fault."""
-    heads = {("strays", "strays"): 0, ("frees", "stray"): 0, ("flags", "flags"): 0, ("objects", "bad"): 0, ("side", "left-out"): 0}
+    heads = {("strays", "strays"): 0, ("frees", "stray"): 0, ("flags", "flags"): 0, ("objects", "bad"): 0,
+             ("side", "left-out"): 0, ("side", "unattached"): 0}
     for words, _ in lines_of("purposes"):
         if words[0] == scenario:
             section, name, number = words[1:]
@@ -54,8 +55,9 @@ def purposes(scenario):
 
 
 def purpose_differences(scenario, report, recording):
+    side = {"left-out": recording.left_out, "unattached": recording.unattached}
     for (section, name), number in purposes(scenario).items():
-        found = recording.left_out if section == "side" else report.head(section, name)
+        found = side[name] if section == "side" else report.head(section, name)
         if number is not None and found != number:
             yield section, "all", name, found, number
 
@@ -150,6 +152,18 @@ def flight_differences(recording, folder):
             yield "flight", path.stem, "strangers", len(strangers), 0
 
 
+MOST_MEMORY = 352 << 10		# KiB of the recorder's own memory: 256 MiB of frames that wait, and at most what is in its ring
+
+
+def hoard_differences(output, folder):
+    """While a write is held up, what is kept of later frames is bounded: that write is lost, and nothing else."""
+    memory = int((folder / "memory").read_text())
+    if not 0 < memory < MOST_MEMORY:
+        yield "hoard", "all", "memory", memory, MOST_MEMORY
+    if not re.search(r" frames, 1 lost \(held-too-long 1\); files removed \d+; 4 files, ", output):
+        yield "hoard", "all", "lost", output.strip(), "held-too-long 1"
+
+
 SECRETS = {which: bytes((which * 73 + i * 151 + (i * i >> 3) * 29 + 17) & 255 for i in range(64))
            for which in range(1, 6)}
 TO_CLEAR = 5		# the secret that is sent with TF_CLEAR_BUF
@@ -199,7 +213,7 @@ OPENINGS_BEFORE = 4	# of the load: manager, service and two clients
 SAYS = {"drivers": ["driver is the one in Rust", "rust alone: status 1", "two Binder drivers"]}
 
 
-PARTIAL = {"late", "hidden", "killed", "stopped", "full", "narrow", "flight"}	# the recorder did not record all, from beginning to end
+PARTIAL = {"late", "hidden", "killed", "stopped", "full", "narrow", "flight", "hoard"}	# the recorder did not record all, from beginning to end
 MOST_AFTER = 200_000_000	# nanoseconds from the last frame to the end, if the scenario goes on after the recording
 MOST_CUT = 8192		# bytes of a last frame of the load that a killed recorder may leave cut
 
@@ -242,6 +256,10 @@ class Scenario:
                 found.append(("lost", "all", "end", self.recording.lasted_after_frames(), MOST_AFTER))
             if self.how == "flight":
                 found += flight_differences(self.recording, self.folder)
+            if self.how == "hoard":
+                found += hoard_differences(self.output, self.folder)
+            if self.how in ("flight", "hoard") and self.status != "0":
+                found.append(("status", "all", "program", self.status, 0))
             return found, {"capture", "lost", "names"}
         if self.books is None:
             return [("status", "all", "no books", self.status, 0)], {"status"}

@@ -228,7 +228,7 @@ static void reuse(void)
 	wait_until(&shared->resting, 1);
 }
 
-/* ---- large: data of 400,000 bytes, memory that was never touched, a write of 65,536 bytes */
+/* ---- large: data of 400,000 bytes, memory that was never touched, also beside other memory, a write of 65,536 bytes */
 
 static int64_t send_at(struct exchange *exchange, const void *data, size_t size)
 {
@@ -245,6 +245,35 @@ static int64_t send_at(struct exchange *exchange, const void *data, size_t size)
 	return answer;
 }
 
+static uint8_t *never_touched(size_t size)
+{
+	uint8_t *fresh = mmap(NULL, size, PROT_READ | PROT_WRITE, MAP_PRIVATE | MAP_ANONYMOUS, -1, 0);
+	if (fresh == MAP_FAILED) fail("large: memory");
+	return fresh;
+}
+
+/* Several sends in one write, of which some have memory that was never touched. */
+static void send_several(struct exchange *exchange, const uint8_t *data)
+{
+	static const struct { size_t size; bool fresh; } sends[] = {
+		{5000, true}, {300000, true}, {300000, false}, {70000, true}, {5000, true}, {100, false}, {40000, true}};
+	enum { ALL = sizeof sends / sizeof *sends };
+	uint8_t payload[128];
+	uint32_t code;
+	for (int i = 0; i < ALL; i++) {
+		transaction made = {.data_size = sends[i].size, .code = ECHO, .flags = TF_ONE_WAY};
+		made.data.ptr.buffer = (binder_uintptr_t)(uintptr_t)(sends[i].fresh ? never_touched(sends[i].size) : data);
+		command(exchange, BC_TRANSACTION, &made);
+	}
+	for (int confirmed = 0; confirmed < ALL;) {
+		turn(exchange, true);
+		while ((code = next_return(exchange, payload)) != 0) {
+			if (code == BR_FAILED_REPLY) fail("large: several sends");
+			confirmed += code == BR_TRANSACTION_COMPLETE;
+		}
+	}
+}
+
 static void large_client(void)
 {
 	static uint8_t data[400000];
@@ -258,8 +287,8 @@ static void large_client(void)
 		if (send_at(&exchange, data, sizes[i]) != BR_TRANSACTION_COMPLETE) fail("large: send");
 		usleep(100000);		/* the manager gives the room back */
 	}
-	uint8_t *fresh = mmap(NULL, 8192, PROT_READ | PROT_WRITE, MAP_PRIVATE | MAP_ANONYMOUS, -1, 0);
-	if (send_at(&exchange, fresh, 5000) != BR_TRANSACTION_COMPLETE) fail("large: fresh memory");
+	if (send_at(&exchange, never_touched(8192), 5000) != BR_TRANSACTION_COMPLETE) fail("large: fresh memory");
+	send_several(&exchange, data);
 	for (size_t i = 0; i < 16384; i += 4) {
 		many[i] = BC_INCREFS;
 		many[i + 2] = BC_DECREFS;
@@ -271,6 +300,7 @@ static void large_client(void)
 
 static void large(void)
 {
+	mapping_size = 4 << 20;
 	start("manager", manager);
 	wait_until(&shared->ready, 1);
 	start("client", large_client);

@@ -14,6 +14,9 @@
 
 static const char *directory;
 
+/* Seconds; so long that they are no limit for a guest that has little of a processor. */
+enum { LONGEST_WAIT = 120, LONGEST_LIFE = 3600 };
+
 pid_t start(const char *name, void (*process)(void))
 {
 	fflush(NULL);
@@ -22,7 +25,7 @@ pid_t start(const char *name, void (*process)(void))
 	if (!started) {
 		prctl(PR_SET_NAME, name);
 		prctl(PR_SET_PDEATHSIG, SIGKILL);
-		alarm(300);
+		alarm(LONGEST_LIFE);
 		process();
 		_exit(0);
 	}
@@ -34,7 +37,7 @@ void wait_until(_Atomic int *counter, int least)
 {
 	time_t began = time(NULL);
 	while (*counter < least) {
-		if (time(NULL) > began + 20) fail("a process of the scenario did not come so far");
+		if (time(NULL) > began + LONGEST_WAIT) fail("a process of the scenario did not come so far");
 		usleep(1000);
 	}
 }

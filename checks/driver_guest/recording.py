@@ -59,6 +59,7 @@ class Recording:
         self.lost = [(int(n), why) for n, why in re.findall(r"^\d+ lost (\d+) .*why=(\S+)", self.side, re.M)]
         self.left_out = sum(map(int, re.findall(r"^\d+ unattached \d+ from=\d+ count=(\d+) why=too-many$", self.side, re.M)))
         self.left_out += len(re.findall(r"^\d+ unattached \d+ at=\d+ why=too-large$", self.side, re.M))
+        self.unattached = len(re.findall(r"^\d+ unattached .* why=(?!too-(?:many|large)$)", self.side, re.M))
         self.missed = Counter()
         for count, what in re.findall(r"^\d+ missed (\d+) what=(\S+) from=\d+ after=\d+$", self.side, re.M):
             self.missed[what] += int(count)
