@@ -1,4 +1,4 @@
-/* The recorder's programs in the kernel, with two more that run what these do in one run at the most. See copying. */
+/* The recorder's programs in the kernel, with others that run parts of them without a driver. See copying. */
 #include "record.bpf.c"
 
 struct number_fields;
@@ -25,7 +25,7 @@ static __always_inline void begin_measured_call(struct thread *t)
 	t->attached = t->spent = 0;
 }
 
-/* The driver begins a command, the data of the one before was not there, and of the write the next bytes are copied. */
+/* The driver begins a command, and the next bytes of the write are copied. */
 SEC("raw_tp/measured") int measure_command(void *unused)
 {
 	struct thread *t = caller();
@@ -44,6 +44,43 @@ SEC("raw_tp/measured") int measure_command(void *unused)
 	reason_of_loss = t->write_told;
 	return t->attachments;
 }
+
+/* ---- a write of which the driver begins one command after the other, and then ends it */
+
+SEC("raw_tp/played") int play_entry(void *unused)
+{
+	struct thread *t = caller();
+	if (!t)
+		return 1;
+	begin_measured_call(t);
+	t->write_number = 1;
+	t->write_from = commands_from;
+	t->write_bytes = t->copied = MOST_COMMANDS;	/* the commands themselves are not copied */
+	t->consumed = t->write_told = 0;
+	return 0;
+}
+
+SEC("raw_tp/played") int play_command(void *unused)
+{
+	struct thread *t = caller();
+	if (!t)
+		return 1;
+	u32 record = t->consumed;
+	t->consumed += CODE_WORD + TRANSACTION_BYTES;
+	return take_command(t, record, first_word);
+}
+
+SEC("raw_tp/played") int play_write_done(void *unused)
+{
+	struct thread *t = caller();
+	struct scratch *s = scratch();
+	if (!s || !t)
+		return 1;
+	begin_run(s);
+	return end_write(t, t->consumed);
+}
+
+/* ---- the longest runs */
 
 /* A read comes back, with as many bytes and attachments as are taken. */
 SEC("raw_tp/measured") int measure_return(void *unused)

@@ -1,4 +1,5 @@
-/* copying ROUNDS: prints how long the recorder's programs in the kernel copy without a pause, at the most. See copying. */
+/* copying ROUNDS: plays a write, and prints how long the recorder's programs in the kernel copy without a pause, at the
+ * most. See copying. */
 #include "common.h"
 #include "messages.h"
 #include <bpf/bpf.h>
@@ -10,10 +11,6 @@
 #include <sys/mman.h>
 #include "ring.h"
 #include "copying.skel.h"
-
-#ifndef MOST_AT_ONCE
-#define MOST_AT_ONCE MOST_ATTACHED
-#endif
 
 enum { RECORD = 4 + sizeof(struct binder_transaction_data) };
 
@@ -82,6 +79,82 @@ static void measure(const char *what, const struct bpf_program *measured, u32 ro
 	free(took);
 }
 
+/* ---- a write with data that is not there when the driver begins the command, or that is too much for one run */
+
+static const struct { u64 bytes; int is_there, is_late; } sends[] = {
+	{ 5000, 0, 1 },
+	{ 600000, 0, 1 },
+	{ 600000, 1, 1 },		/* the run has copied the one before */
+	{ 600000, 1, 1 },
+	{ 70000, 0, 1 },
+	{ 100, 1, 0 },
+	{ MOST_AT_ONCE, 1, 0 },
+	{ 40000, 1, 0 },
+	{ 3, 1, 0 },
+	{ MOST_AT_ONCE, 0, 1 },
+};
+enum { SENDS = sizeof sends / sizeof *sends };
+
+static u8 *data_of[SENDS];
+static u64 got[SENDS];
+static u32 late[SENDS], written, others;
+
+static void hear(const void *message, u64 bytes)
+{
+	const struct message *head = message;
+	const struct piece *piece = message;
+	const struct event *event = message;
+	(void)bytes;
+	if (head->type == MESSAGE_PIECE) {
+		u32 which = piece->record / RECORD;
+		got[which] = piece->at ? got[which] : 0;	/* an attachment that failed begins anew */
+		if (piece->at == got[which] && !memcmp(piece + 1, data_of[which] + piece->at, piece->bytes))
+			got[which] += piece->bytes;
+	} else if (head->type == MESSAGE_LATE) {
+		late[event->note.record / RECORD]++;
+	} else if (head->type == MESSAGE_WRITTEN) {
+		written++;
+	} else {
+		others++;
+	}
+}
+
+static void run(const struct bpf_program *played)
+{
+	LIBBPF_OPTS(bpf_test_run_opts, options);
+	if (bpf_prog_test_run_opts(bpf_program__fd(played), &options) || options.retval)
+		fail("a program does not run");
+	while (ring_drain(&ring, hear) > 0)
+		continue;
+}
+
+/* Each attachment comes, whole, once and in the right run. */
+static void play(u8 *commands)
+{
+	for (int i = 0; i < SENDS; i++) {
+		data_of[i] = mmap(NULL, sends[i].bytes, PROT_READ | PROT_WRITE, MAP_PRIVATE | MAP_ANONYMOUS, -1, 0);
+		if (data_of[i] == MAP_FAILED)
+			fail("no memory");
+		if (sends[i].is_there)
+			memset(data_of[i], i + 1, sends[i].bytes);
+		put_record(commands + i * RECORD, BC_TRANSACTION, data_of[i], sends[i].bytes);
+	}
+	run(program->progs.play_entry);
+	for (int i = 0; i < SENDS; i++) {
+		run(program->progs.play_command);
+		if (sends[i].is_there != (got[i] == sends[i].bytes) && !sends[i].is_late)
+			fail("send %d is not copied when its command begins", i);
+		if (!sends[i].is_there)
+			memset(data_of[i], 0, sends[i].bytes);	/* the driver reads it */
+	}
+	run(program->progs.play_write_done);
+	for (int i = 0; i < SENDS; i++)
+		if (got[i] != sends[i].bytes || (int)late[i] != sends[i].is_late)
+			fail("send %d: %llu bytes, %u times late", i, (unsigned long long)got[i], late[i]);
+	if (written != 1 || others)
+		fail("%u times written, %u other messages", written, others);
+}
+
 int main(int words, char **word)
 {
 	u32 rounds = words > 1 ? (u32)atoi(word[1]) : 400;
@@ -97,6 +170,7 @@ int main(int words, char **word)
 	u8 *data = memory(MOST_ATTACHED), *commands = memory(MOST_COMMANDS + 4096), *returns = memory(MOST_RETURNS);
 	program->bss->commands_from = (u64)commands;
 	program->bss->first_word = BC_TRANSACTION;
+	play(commands);
 	put_record(commands, BC_TRANSACTION, data, MOST_AT_ONCE);
 	printf("%-66s %8s %8s %8s\n", "microseconds", "least", "median", "of 10, 9");
 	measure("a write's next bytes, and the largest attachment", program->progs.measure_command, rounds, MOST_AT_ONCE + CHUNK * 8, 1);
