@@ -15,6 +15,7 @@ enum {
 	ENTRIES = 30000,	/* of one frame */
 	LINES = 200000,		/* of the side list, while a frame waits */
 	FRAMES = 500,		/* of 1 MiB each, while another one waits */
+	KEPT = 100,		/* of these before a write ends that they wait for */
 	DATA = 1 << 20,
 	RECORD = 4 + sizeof(struct binder_transaction_data),
 };
@@ -119,11 +120,39 @@ static void much_memory(void)
 		hear_written(last, 2, RECORD);
 		window_settle();
 	}
+	while (window_settle())
+		continue;
 	should(mebibytes() < 320, "MiB of memory at most", mebibytes());
 	should(mebibytes() > 200, "MiB of memory at least", mebibytes());
 	should(window_waiting() == 0 && window_last() == last, "frames that wait", (double)window_waiting());
 	should(window_lost() == 1 && window_lost_because(REASON_HELD_TOO_LONG) == 1, "frames lost", (double)window_lost());
 	should(window_frames() == FRAMES + 2, "frames", (double)window_frames());
+}
+
+/* When a write ends after which many frames wait, the ring is looked at again before all of them are written. */
+static void long_settling(void)
+{
+	double longest = 0;
+	u64 frames = window_frames();
+	int more = 1;
+	hear_commands(++last, 1, 1, 0);
+	u64 held = last;
+	for (u32 i = 0; i < KEPT; i++) {
+		hear_commands(++last, 2, 1, DATA);
+		hear_data(last, 2, 0, DATA);
+		hear_written(last, 2, RECORD);
+		window_settle();
+	}
+	should(window_frames() == frames, "frames written before their time", (double)(window_frames() - frames));
+	hear_written(held, 1, RECORD);
+	while (more) {
+		double began = processor_seconds();
+		more = window_settle();
+		double took = processor_seconds() - began;
+		longest = took > longest ? took : longest;
+	}
+	should(longest < 0.2, "seconds at a time for frames that waited", longest);
+	should(window_frames() == frames + KEPT + 1, "frames that waited", (double)(window_frames() - frames));
 }
 
 int main(int count, char **words)
@@ -138,6 +167,8 @@ int main(int count, char **words)
 	many_entries();
 	many_lines();
 	much_memory();
+	redact_begin(1);
+	long_settling();
 	if (parts_end())
 		fail("the files can't be written");
 	return failed;

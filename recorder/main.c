@@ -63,7 +63,8 @@ static void create_files(const struct options *options)
 	}
 }
 
-/* Takes what is in the ring. Returns how many messages that was. */
+/* Takes what is in the ring. Returns how many messages that was, and at least FEW_MESSAGES if frames are still to be
+ * written. */
 static long take(struct ring *ring)
 {
 	u64 bound = kernel_bound();
@@ -72,8 +73,7 @@ static long take(struct ring *ring)
 		window_silent_until(bound);
 	if (count)
 		missed_tell();
-	window_settle();
-	return count;
+	return window_settle() && count < FEW_MESSAGES ? FEW_MESSAGES : count;
 }
 
 static void tell_progress(void)

@@ -10,6 +10,7 @@
 #define MOST_SLOTS (1u << 22)			/* the most numbers that are not settled */
 #define MOST_MEMORY (256u << 20)		/* the most bytes of their frames and lines */
 #define LONGEST_WAIT 10000000000u		/* how long a write may hold back later frames, in nanoseconds */
+#define LONGEST_SETTLE 20000000u		/* how long frames are written before the ring is looked at again */
 
 enum state { SILENT, WAITING, WHOLE, LOST };
 
@@ -125,18 +126,20 @@ static void settle_slot(struct slot *slot)
 	*slot = (struct slot){ 0 };
 }
 
-void window_settle(void)
+int window_settle(void)
 {
-	u64 present = now();
-	while (next < end) {
+	u64 began = now();
+	for (u64 first = next; next < end; next++) {
 		struct slot *slot = at(next);
-		if (slot->state == WAITING && (slot->since + LONGEST_WAIT < present || memory > MOST_MEMORY))
+		if (slot->state == WAITING && (slot->since + LONGEST_WAIT < began || memory > MOST_MEMORY))
 			lose_slot(slot, REASON_HELD_TOO_LONG);
 		if (slot->state != WHOLE && slot->state != LOST)
-			break;
+			return 0;
+		if (next > first && memory <= MOST_MEMORY && now() - began > LONGEST_SETTLE)
+			return 1;
 		settle_slot(slot);
-		next++;
 	}
+	return 0;
 }
 
 void window_silent_until(u64 bound)
@@ -157,7 +160,8 @@ void window_end(u64 last_number)
 	for (u64 number = next; number < end; number++)
 		if (at(number)->state == WAITING)
 			lose_slot(at(number), REASON_IN_FLIGHT);
-	window_settle();
+	while (window_settle())
+		continue;
 }
 
 void later_line(u64 time, u64 after, const char *format, ...)
