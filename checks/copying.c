@@ -97,7 +97,7 @@ enum { SENDS = sizeof sends / sizeof *sends };
 
 static u8 *data_of[SENDS];
 static u64 got[SENDS];
-static u32 late[SENDS], written, others;
+static u32 late[SENDS], written, chunks, others;
 
 static void hear(const void *message, u64 bytes)
 {
@@ -117,6 +117,14 @@ static void hear(const void *message, u64 bytes)
 	} else {
 		others++;
 	}
+}
+
+static void count_chunks(const void *message, u64 bytes)
+{
+	const struct message *head = message;
+	(void)bytes;
+	chunks += head->type == MESSAGE_CHUNK;
+	others += head->type == MESSAGE_UNATTACHED;
 }
 
 static void run(const struct bpf_program *played)
@@ -155,6 +163,25 @@ static void play(u8 *commands)
 		fail("%u times written, %u other messages", written, others);
 }
 
+/* ---- reads with large attachments, while nothing is taken from the ring */
+
+static void play_full_ring(const u8 *data, u8 *returns)
+{
+	enum { READS = 60 };
+	fill_returns(returns, data, MOST_AT_ONCE, 1);
+	program->bss->returns_bytes = RECORD;
+	chunks = others = 0;
+	for (int i = 0; i < READS; i++) {
+		LIBBPF_OPTS(bpf_test_run_opts, options);
+		if (bpf_prog_test_run_opts(bpf_program__fd(program->progs.measure_return), &options) || program->bss->reason_of_loss)
+			fail("read %d: its frame is lost", i);
+	}
+	while (ring_drain(&ring, count_chunks) > 0)
+		continue;
+	if (chunks != READS || !others)
+		fail("of %d reads %u came, and %u attachments were left out", READS, chunks, others);
+}
+
 int main(int words, char **word)
 {
 	u32 rounds = words > 1 ? (u32)atoi(word[1]) : 400;
@@ -171,6 +198,7 @@ int main(int words, char **word)
 	program->bss->commands_from = (u64)commands;
 	program->bss->first_word = BC_TRANSACTION;
 	play(commands);
+	play_full_ring(data, returns);
 	put_record(commands, BC_TRANSACTION, data, MOST_AT_ONCE);
 	printf("%-66s %8s %8s %8s\n", "microseconds", "least", "median", "of 10, 9");
 	measure("a write's next bytes, and the largest attachment", program->progs.measure_command, rounds, MOST_AT_ONCE + CHUNK * 8, 1);

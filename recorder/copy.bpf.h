@@ -420,6 +420,7 @@ static long copy_returns(u32 i, void *unused)
 		return 1;
 	}
 	w->at = 0;
+	int has_room = take_room(t, w->bytes);		/* before attachments have used up what the call may take at first */
 	if (!t->is_over)
 		bpf_loop(CHUNK / CODE_WORD, copy_record, 0, 0);
 	u32 done = t->is_over || is_last ? w->bytes : w->at;
@@ -429,7 +430,7 @@ static long copy_returns(u32 i, void *unused)
 	c->late = 0;
 	u64 length = w->bytes;
 	BOUND(length, 0xffff);
-	w->failed = !done ? REASON_BROKEN : !take_room(t, length) ? REASON_RING_FULL :
+	w->failed = !done ? REASON_BROKEN : !has_room ? REASON_RING_FULL :
 		bpf_ringbuf_output(&ring, c, sizeof *c + length, QUIETLY) ? REASON_RING_FULL : 0;
 	w->base += done;
 	w->from += done;
