@@ -90,6 +90,7 @@ SEC("raw_tp/measured") int measure_return(void *unused)
 	if (!s || !t)
 		return 1;
 	begin_measured_call(t);
+	t->spent = 2 * FIRST_BYTES;		/* by the write of the call */
 	begin_run(s);
 	u64 begun = bpf_ktime_get_ns();
 	reason_of_loss = copy_read(t, returns_from, returns_bytes, 1);

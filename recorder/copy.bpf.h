@@ -26,7 +26,7 @@ static __always_inline long read_memory(void *to, u64 bytes, u64 from)
 	return failed;
 }
 
-/* Takes room in the ring from the share of the call. Returns 0 if there is none. The first bytes of a call may use the
+/* Takes room in the ring from the share of the frame. Returns 0 if there is none. The first bytes of a frame may use the
  * whole ring and the others only half of it: whoever hands over much does not take the room of others. */
 static __always_inline int take_room(struct thread *t, u64 bytes)
 {
@@ -449,7 +449,7 @@ static __noinline int copy_read(struct thread *t, u64 from, u64 bytes, u64 numbe
 	w->from = from;
 	w->left = bytes;
 	w->base = w->failed = w->records = 0;
-	t->is_over = 0;
+	t->is_over = t->spent = 0;
 	struct message *h = &s->chunk.head;
 	h->type = MESSAGE_CHUNK;
 	h->direction = DIRECTION_READ;

@@ -9,7 +9,7 @@
 #define MOST_ATTACHMENTS 64u	/* the most attachments of a call */
 #define MOST_ATTACHED (4u << 20)	/* the most bytes of a call's attachments */
 #define MOST_AT_ONCE (1u << 20)	/* the most bytes of attachments that are copied with preemption off: of a record, or a read */
-#define FIRST_BYTES 65536u	/* so many bytes of a call may use the whole ring */
+#define FIRST_BYTES 65536u	/* so many bytes of a frame may use the whole ring */
 #define MOST_CPUS 512u
 #define NAME_BYTES 16u
 

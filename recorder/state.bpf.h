@@ -30,7 +30,7 @@ struct thread {
 	u64 call;			/* the address of the binder_write_read */
 	u64 write_from, write_bytes;
 	u64 write_consumed, read_consumed, read_size, read_buffer;	/* at entry */
-	u64 attached, spent;		/* of this call: bytes of attachments; bytes in the ring */
+	u64 attached, spent;		/* bytes of the call's attachments; of the frame in the ring */
 	u32 attachments, is_over;	/* of this call; is_over: the frame gets no more of them */
 	u32 reads_own_memory, process;
 	u32 has_late, late;		/* a record whose data the next run copies */
