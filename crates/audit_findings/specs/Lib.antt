@@ -26,6 +26,7 @@ pub mod Findings
 pub mod Kept
 pub mod ThreadLedger
 pub mod ThreadRows
+pub mod Guesses
 pub mod Ledgers
 pub mod Summary
 pub mod Lookup

@@ -9,10 +9,11 @@ use crate::call_sections::CallSections;
 use crate::event_sections::EventSections;
 use crate::event_sums::EventSums;
 use crate::findings::Sections;
+use crate::guesses::Guesses;
 use crate::in_turn::ProcessRow;
 use crate::process_sections::ProcessSections;
 use crate::sequences::Sequences;
-use capture_frame::{Frame, Process};
+use capture_frame::{Frame, Process, Thread};
 use event_core::Events;
 use handle_ledger::HeldRow;
 use process_ledgers::{ProcessLedgers, Processes};
@@ -26,6 +27,7 @@ pub(crate) struct FrameLedgers<'c> {
     /// Each process once, in the order of first frames.
     pub order: InOrder<Process, Nothing>,
     pub of_events: EventSums<'c>,
+    guesses: Guesses,
 }
 
 impl<'c> FrameLedgers<'c> {
@@ -36,11 +38,26 @@ impl<'c> FrameLedgers<'c> {
             sequences: Sequences::NONE,
             order: InOrder::empty(alloc),
             of_events: EventSums::empty(alloc),
+            guesses: Guesses::empty(alloc),
         }
     }
 
     /// Adds a frame without a fault. After an error the ledgers may only be dropped.
     pub fn add(&mut self, frame: Frame<'c>) -> Result<(), AllocError>
+        requires { CanTake self.old (placed_frame frame ∷ []) }
+        ensures { OnOk result (TakesFrames self.old (placed_frame frame.entry ∷ []) self.new) }
+    {
+        let thread = Thread {
+            process: frame.of_process(),
+            number: frame.thread,
+        };
+        self.of_events.set_guess(self.guesses.of(thread));
+        self.take(frame)?;
+        self.guesses.keep(thread, self.of_events.guess())
+    }
+
+    // Adds a frame, after the sums of events were told where to look first.
+    fn take(&mut self, frame: Frame<'c>) -> Result<(), AllocError>
         requires { CanTake self.old (placed_frame frame ∷ []) }
         ensures { OnOk result (TakesFrames self.old (placed_frame frame.entry ∷ []) self.new) }
     {
@@ -75,6 +92,7 @@ impl<'c> FrameLedgers<'c> {
             sequences: self.sequences.then(later.sequences),
             order: self.order.join(later.order)?,
             of_events: self.of_events.join(later.of_events)?,
+            guesses: self.guesses,
         })
     }
 

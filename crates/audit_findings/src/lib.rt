@@ -14,6 +14,7 @@ mod event_sections;
 mod event_sums;
 mod findings;
 mod flags;
+mod guesses;
 mod handles;
 mod held;
 mod in_turn;

@@ -19,8 +19,9 @@ use std::mem;
 pub struct InOrder<K: Eq + Hash + Copy, S: Summary> {
     /// The summaries by key, one for each key that has an item.
     pub entries: IndexMap<K, S>,
-    // A guess at the entry of the next item: the index of the entry that took the latest `add`.
-    latest: usize,
+    /// A guess at the index of the next item's entry: that of the latest item, until a caller who
+    /// knows better sets it. A wrong guess costs a look-up, and changes no answer.
+    pub guess: usize,
     alloc: Global,
 }
 
@@ -50,7 +51,7 @@ impl<K: Eq + Hash + Copy, S: Summary> InOrder<K, S> {
         let mut part = S::empty(self.alloc);
         part.add(inner)?;
         let (index, _) = self.entries.insert_full(key, part)?;
-        self.latest = index;
+        self.guess = index;
         Ok(())
     }
 
@@ -59,9 +60,9 @@ impl<K: Eq + Hash + Copy, S: Summary> InOrder<K, S> {
         ensures has { result ≡ is_some (lookup (K.eq key) self.old.entries.entries) }
         ensures same { self.new.entries ≡ self.old.entries }
     {
-        match self.index_of(key, self.latest) {
+        match self.index_of(key, self.guess) {
             Some(index) => {
-                self.latest = index;
+                self.guess = index;
                 true
             }
             None => false,
@@ -84,9 +85,9 @@ impl<K: Eq + Hash + Copy, S: Summary> InOrder<K, S> {
     }
 }
 
-/// An `add` takes no look-up if the `add` before it had the same key, or if `has` was just asked of
-/// that key; otherwise it takes at most two. A `join` takes at most two for each key of the later
-/// value.
+/// An `add` takes no look-up if `guess` is the index of the key's entry, so also if the `add` before
+/// it had the same key, or if `has` was just asked of that key; otherwise it takes at most two. A
+/// `join` takes at most two for each key of the later value.
 impl<K: Eq + Hash + Copy, S: Summary> Summary for InOrder<K, S> {
     type Item = (K, S::Item);
 
@@ -97,16 +98,16 @@ impl<K: Eq + Hash + Copy, S: Summary> Summary for InOrder<K, S> {
     fn empty(alloc: Global) -> InOrder<K, S> {
         InOrder {
             entries: IndexMap::new(alloc),
-            latest: 0,
+            guess: 0,
             alloc,
         }
     }
 
     fn add(&mut self, item: (K, S::Item)) -> Result<(), AllocError> {
         let (key, inner) = item;
-        match self.index_of(key, self.latest) {
+        match self.index_of(key, self.guess) {
             Some(index) => {
-                self.latest = index;
+                self.guess = index;
                 self.entries[index].add(inner)
             }
             None => self.add_first(key, inner),

@@ -6,7 +6,7 @@ use Rattle.event_core.proofs.EventsGiven.{Given}
 use Rattle.event_core.proofs.EventPlaces.{left_of}
 use Rattle.audit_findings.specs.Ledgers.{SumsGiven}
 use Rattle.audit_findings.proofs.FrameLaws.{AreFewWith}
-use Rattle.audit_findings.proofs.ledgers.FrameLedgers.add.Given as goal
+use Rattle.audit_findings.proofs.ledgers.FrameLedgers.take.Given as goal
 
 -- the reader has given these events, and the sums have them too; the sequences and the processes stay
 abbrev pub invariant-loop-event : goal.invariant-loop-event
