@@ -23,7 +23,6 @@ use Rattle.audit_findings.specs.EventCounts.{HasValue, times_in}
 use Rattle.audit_findings.specs.HandleRows.{IsHandleRow, changes_handle, gives_back, handle_value, names_handle, takes}
 use Rattle.audit_findings.specs.Handles.{handle_references, handles_in}
 use Rattle.audit_findings.specs.Held.{held_of_process, unweighed}
-use Rattle.audit_findings.specs.Objects.{AreOutcomes, Outcome, attachments_of}
 use Rattle.audit_findings.specs.Places.{RiseInPlace}
 use Rattle.audit_findings.specs.RowsInTurn.{AreRowsInTurn}
 use Rattle.audit_findings.proofs.EventCountLaws.{count_made, items_value, value_once}
@@ -31,13 +30,12 @@ use Rattle.audit_findings.proofs.HandleValues.{change, handle_lower, handle_name
 use Rattle.audit_findings.proofs.HeldObjects.{both_strengths, held_is, strong_held, weak_held}
 use Rattle.audit_findings.proofs.KeyRows.{count_items, counted_in, in_counted, rows_exact, rows_rising}
 
-module _ (events : List EventRead) (rise : RiseInPlace events) (outcomes : List Outcome) (are : AreOutcomes (attachments_of events) outcomes)
-    (process : Process) where
+module _ (events : List EventRead) (rise : RiseInPlace events) (process : Process) where
   abbrev items : List HandleItem
   items = items_of_process handle_item_of process events
 
   abbrev held : List (Held × ℕ)
-  held = unweighed (held_of_process events outcomes process)
+  held = unweighed (held_of_process events process)
 
   counts : (handle : ℕ) (strength : Strength) → HasValue (handle_value process handle strength) events (handle_count items handle strength)
   counts handle strength =
@@ -49,7 +47,7 @@ module _ (events : List EventRead) (rise : RiseInPlace events) (outcomes : List 
       ≡ times_in process (names_handle changes_handle handle) events + held_count held handle false + held_count held handle true
   named handle =
       let test : ℕ → Bool = λ k. eqb k handle in
-      let own = held_of_process events outcomes process in
+      let own = held_of_process events process in
       let listed_and_held : count_by test (handles_of items held) ≡ count_by test (map handle_of items) + count_by test (map (λ (r : Held × ℕ). r.0.0) held)
       = sum_by-append (λ (k : ℕ). cond (test k) 1 0) (map handle_of items) (map (λ (r : Held × ℕ). r.0.0) held) in
       let listed : count_by test (map handle_of items) ≡ times_in process (names_handle changes_handle handle) events
@@ -63,23 +61,23 @@ module _ (events : List EventRead) (rise : RiseInPlace events) (outcomes : List 
       three : (a b c : ℕ) → a + (b + c) ≡ a + b + c
       three a b c = omega arith
 
-  sound : (handle : ℕ) → In handle (handles_of items held) → IsHandleRow events outcomes process (held_row items held handle)
+  sound : (handle : ℕ) → In handle (handles_of items held) → IsHandleRow events process (held_row items held handle)
   sound handle there = record {
     listed = subst (λ (n : ℕ). 0 < n) (named handle) (counted_in (λ k. eqb k handle) handle (eq-eqb handle handle refl) (handles_of items held) there);
     strong = counts handle Strong;
     weak = counts handle Weak;
-    held_strong = strong_held events rise outcomes are process handle;
-    held_weak = weak_held events rise outcomes are process handle;
+    held_strong = strong_held events rise process handle;
+    held_weak = weak_held events rise process handle;
   }
 
-  whole : (row : HeldRow) → IsHandleRow events outcomes process row
+  whole : (row : HeldRow) → IsHandleRow events process row
       → In row.taken.handle (handles_of items held) × (held_row items held row.taken.handle ≡ row)
   whole row is =
       let handle = row.taken.handle in
       let strong = value_once (handle_value process handle Strong) events (handle_count items handle Strong) row.taken.strong (counts handle Strong) is.strong in
       let weak = value_once (handle_value process handle Weak) events (handle_count items handle Weak) row.taken.weak (counts handle Weak) is.weak in
-      let held_strong : held_count held handle false ≡ row.held_strong = strong_held events rise outcomes are process handle ∙ sym is.held_strong in
-      let held_weak : held_count held handle true ≡ row.held_weak = weak_held events rise outcomes are process handle ∙ sym is.held_weak in
+      let held_strong : held_count held handle false ≡ row.held_strong = strong_held events rise process handle ∙ sym is.held_strong in
+      let held_weak : held_count held handle true ≡ row.held_weak = weak_held events rise process handle ∙ sym is.held_weak in
       let listed : 0 < count_by (λ k. eqb k handle) (handles_of items held)
       = subst (λ (n : ℕ). 0 < n)
       (sym (named handle ∙ ap₂ (λ (a b : ℕ). times_in process (names_handle changes_handle handle) events + a + b) held_strong held_weak)) is.listed in (
@@ -87,20 +85,19 @@ module _ (events : List EventRead) (rise : RiseInPlace events) (outcomes : List 
         λ i. record { taken = record { handle = handle; strong = strong i; weak = weak i }; held_strong = held_strong i; held_weak = held_weak i },
       )
 
-pub handle_rows_are : (wholes : List (Placed WholeFrame)) (outcomes : List Outcome) → RiseInPlace (events_of_wholes wholes)
-    → AreOutcomes (attachments_of (events_of_wholes wholes)) outcomes
-    → AreRowsInTurn nat_cmp (λ (row : HeldRow). row.taken.handle) (IsHandleRow (events_of_wholes wholes) outcomes) (processes_of wholes)
-    (handle_references wholes outcomes).rows
-handle_rows_are wholes outcomes rise are =
+pub handle_rows_are : (wholes : List (Placed WholeFrame)) → RiseInPlace (events_of_wholes wholes)
+    → AreRowsInTurn nat_cmp (λ (row : HeldRow). row.taken.handle) (IsHandleRow (events_of_wholes wholes)) (processes_of wholes)
+    (handle_references wholes).rows
+handle_rows_are wholes rise =
     let events = events_of_wholes wholes in
-    let row_of : Process → ℕ → HeldRow = λ process. held_row (items events rise outcomes are process) (held events rise outcomes are process) in
-    let handles : Process → List ℕ = λ process. handles_of (items events rise outcomes are process) (held events rise outcomes are process) in
+    let row_of : Process → ℕ → HeldRow = λ process. held_row (items events rise process) (held events rise process) in
+    let handles : Process → List ℕ = λ process. handles_of (items events rise process) (held events rise process) in
     record {
-      own = handles_in events outcomes;
+      own = handles_in events;
       rows_are = refl;
       rising = λ process.
           rows_rising nat_cmp nat_cmp_total exact_unsigned (λ (row : HeldRow). row.taken.handle) (row_of process) (λ handle. refl) (handles process);
       exact = λ process.
           rows_exact nat_cmp nat_cmp_total exact_unsigned (λ (row : HeldRow). row.taken.handle) (row_of process) (λ handle. refl) (handles process)
-          (IsHandleRow events outcomes process) (sound events rise outcomes are process) (whole events rise outcomes are process);
+          (IsHandleRow events process) (sound events rise process) (whole events rise process);
     }

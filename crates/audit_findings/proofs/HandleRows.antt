@@ -1,9 +1,9 @@
 -- The rows of handles of a process: its leaked deliveries, chosen from all events; and lists, one after another.
-use Rattle.std.proofs.Common.{◌≡◌, ◌||◌, ◌<◌, ◌+◌, ℕ, zero, suc, true, false, eqb, List, [], ◌∷◌, ◌++◌, length, map, take, Some, None, Vec, Global, inl, inr, refl, sym, ap, subst, ◌∙◌, arith, get_or}
+use Rattle.std.proofs.Common.{◌≡◌, ◌||◌, ◌<◌, ◌+◌, ℕ, zero, suc, Bool, true, false, eqb, List, [], ◌∷◌, ◌++◌, length, map, take, Some, None, Vec, Global, inl, inr, refl, sym, ap, subst, ◌∙◌, arith, get_or}
 use Rattle.std.proofs.Math.Seq.{take-suc}
-use Rattle.std.specs.Prelude.{filter, slice_get, slice_index_or}
+use Rattle.std.specs.Prelude.{◌==◌, filter, slice_get, slice_index_or}
 use Rattle.std.specs.Option.{unwrap_or}
-use Rattle.std.specs.List.{flat_map}
+use Rattle.std.specs.List.{flat_map, list_any}
 use Rattle.std.proofs.lemmas.Bool.{eq-eqb, eqb-true}
 use Rattle.std.proofs.lemmas.Grind.{flat_map-append}
 use Rattle.std.proofs.lemmas.List.{append-nil, map-append}
@@ -23,13 +23,16 @@ use Rattle.summary_law.proofs.ReadingLaws.{chosen-is, read-at, read-rises}
 use Rattle.transaction_view.specs.Grammar.{WholeFrame}
 use Rattle.audit_findings.specs.declared.in_turn.ProcessRow.{ProcessRow}
 use Rattle.audit_findings.specs.Entries.{AreChosen}
-use Rattle.audit_findings.specs.Held.{is_among}
 use Rattle.audit_findings.specs.Places.{EventTest, RiseInPlace, listed_in, places_in}
 use Rattle.audit_findings.proofs.EventLists.{place_of_event}
 use Rattle.audit_findings.proofs.Kept.{in_kept, kept_in, one_there}
 use Rattle.audit_findings.proofs.Rising.{rising_kept}
 
 -- ---- some of the events, chosen from all by their places
+
+-- whether an event is one of these, by its place
+abbrev pub is_among : List EventRead → EventRead → Bool
+is_among events e = list_any (λ other. other.place == e.place) events
 
 -- an event that is among some by its place has the place of one of them
 pub among_at : (some : List EventRead) (e : EventRead) → is_among some e ≡ true → (other : EventRead) × In other some × (other.place ≡ e.place)
@@ -72,11 +75,15 @@ module _ (test : EventTest) (process : Process) (events : List EventRead) (rise 
       read-rises (chosen test) place_of_event place_of_event (λ b e l y is. ap place_of_event (chosen-is test b e l y is)) (events_in process events)
       (rising_kept place_of_event (λ (x : EventRead). same_process process (process_of x)) events rise)
 
+  -- choosing the listed events of a process from all events gives them again
+  pub listed_again : filter (is_among (listed_in test process events)) events ≡ listed_in test process events
+  listed_again = chosen_again events rise (listed_in test process events) own_rises listed_there
+
   -- the listed events of a process, chosen from all events
   pub listed_chosen : AreChosen (is_among (listed_in test process events)) events [] (places_in test events process)
   listed_chosen =
       let some = listed_in test process events in
-      ap (map place_of_event) (sym (chosen_again events rise some own_rises listed_there))
+      ap (map place_of_event) (sym listed_again)
       ∙ sym (append-nil (map place_of_event (filter (is_among some) events)))
 
 -- ---- the entry of a process by its number

@@ -1,27 +1,27 @@
 -- What is held for a process: by references that are tallied, and by the objects in its outstanding deliveries.
-use Rattle.std.proofs.Common.{◌≡◌, ℕ, ◌+◌, Bool, true, false, cond, eqb, ◌&&◌, not, List, [], ◌∷◌, filter, filter_map, length, map, Option, Some, None, inl, inr, refl, sym, ap, ap₂, subst, ◌∙◌, arith}
+use Rattle.std.proofs.Common.{◌≡◌, ℕ, ◌+◌, Bool, true, false, cond, eqb, ◌&&◌, not, List, [], ◌∷◌, filter, filter_map, length, map, Some, None, inl, inr, refl, sym, ap, ap₂, ◌∙◌, arith}
 use Rattle.std.specs.List.{cons_option}
-use Rattle.std.specs.Option.{option_map, option_map_or}
+use Rattle.std.specs.Option.{option_map_or}
 use Rattle.std.specs.Ordering.{bool_cmp, eq_by_cmp, is_eq, nat_cmp}
 use Rattle.std.specs.Prelude.{count_by}
 use Rattle.std.proofs.lemmas.List.Sums.{sum_by-cons}
 use Rattle.capture_frame.specs.Envelope.{number_at}
 use Rattle.capture_frame.specs.declared.process.Process.{Process}
-use Rattle.event_core.specs.Events.{AttachmentText, EventRead}
+use Rattle.event_core.specs.Events.{EventRead}
 use Rattle.handle_ledger.specs.Held.{Held, held_cmp, held_count}
 use Rattle.object_view.specs.Held.{held_of}
 use Rattle.object_view.specs.Objects.{ObjectText}
 use Rattle.object_view.specs.declared.sort.Sort.{Sort}
 use Rattle.object_view.specs.declared.sort.Sort.TheVariants.{Handle, WeakHandle}
-use Rattle.summary_law.proofs.Members.{In, map-in}
+use Rattle.summary_law.proofs.Members.{In}
 use Rattle.summary_law.specs.ByKey.{items_of}
 use Rattle.audit_findings.specs.Buffers.{is_leaked}
 use Rattle.audit_findings.specs.HandleRows.{held_objects, is_outstanding}
-use Rattle.audit_findings.specs.Held.{held_of_process, is_among, reference_of, unweighed}
-use Rattle.audit_findings.specs.Objects.{AreOutcomes, Attached, Outcome, attached_to, attachments_of, good_objects, same_sort}
+use Rattle.audit_findings.specs.Held.{held_of_process, reference_of, unweighed}
+use Rattle.audit_findings.specs.Objects.{good_objects, same_sort}
 use Rattle.audit_findings.specs.Places.{RiseInPlace, listed_in}
 use Rattle.audit_findings.proofs.CodeLaws.{same_key}
-use Rattle.audit_findings.proofs.Kept.{read_from}
+use Rattle.audit_findings.proofs.HandleRows.{is_among, listed_again}
 use Rattle.audit_findings.proofs.KeyRows.{count_read}
 use Rattle.audit_findings.proofs.NodeValues.{both_equal}
 use Rattle.audit_findings.proofs.Outstanding.{among_leaked, with_false, with_true}
@@ -89,52 +89,36 @@ weak_object handle Handle bytes = with_false (eqb (number_at 4 8 bytes) handle)
 weak_object handle WeakHandle bytes = with_true (eqb (number_at 4 8 bytes) handle)
 weak_object handle _ bytes = refl
 
--- ---- the outcomes of outstanding deliveries
+-- ---- the objects of outstanding deliveries
 
 filter_same : {X : Type 0} (test other : X → Bool) (xs : List X) → ((x : X) → In x xs → test x ≡ other x) → filter test xs ≡ filter other xs
 filter_same test other [] same = refl
 filter_same {X} test other (x ∷ xs) same =
     ap₂ (λ (b : Bool) (t : List X). cond b (x ∷ t) t) (same x (inl refl)) (filter_same test other xs (λ y there. same y (inr there)))
 
-attached_is : (e : EventRead) (entry : Option AttachmentText) (a : Attached)
-    → option_map (λ (x : AttachmentText). let made : Attached = record { owner = e; attachment = x } in made) entry ≡ Some a → a.owner ≡ e
-attached_is e None a is = let no : ⊥ = cc in absurd no
-attached_is e (Some x) a is =
-    let made : Attached = record { owner = e; attachment = x } in
-    let same : made ≡ a = cc in
-    ap (λ (o : Attached). o.owner) (sym same)
-
-module _ (events : List EventRead) (rise : RiseInPlace events) (outcomes : List Outcome) (are : AreOutcomes (attachments_of events) outcomes)
-    (process : Process) where
-  -- the owner of an outcome is one of the events
-  owner_there : (o : Outcome) → In o outcomes → In o.of.owner events
-  owner_there o there =
-      let among : In o.of (attachments_of events) = subst (In o.of) are.each (map-in (λ (o : Outcome). o.of) outcomes o there) in
-      let from = read_from attached_to events o.of among in
-      subst (λ (e : EventRead). In e events) (sym (attached_is from.0 from.0.entry o.of from.2)) from.1
-
+module _ (events : List EventRead) (rise : RiseInPlace events) (process : Process) where
   abbrev outstanding_objects : List ObjectText
-  outstanding_objects = good_objects (filter (λ (o : Outcome). is_outstanding events process o.of.owner) outcomes)
+  outstanding_objects = good_objects (filter (is_outstanding events process) events)
 
-  held_among : held_of_process events outcomes process ≡ filter_map reference_of outstanding_objects
+  held_among : held_of_process events process ≡ filter_map reference_of outstanding_objects
   held_among =
-      ap (λ (os : List Outcome). filter_map reference_of (good_objects os))
-      (filter_same (λ (o : Outcome). is_among (listed_in is_leaked process events) o.of.owner) (λ (o : Outcome). is_outstanding events process o.of.owner) outcomes
-      (λ o there. among_leaked events rise process o.of.owner (owner_there o there)))
+      ap (λ (es : List EventRead). filter_map reference_of (good_objects es))
+      (sym (listed_again is_leaked process events rise)
+      ∙ filter_same (is_among (listed_in is_leaked process events)) (is_outstanding events process) events (among_leaked events rise process))
 
   held_objects_of : (weak : Bool) (sort : Sort) (handle : ℕ)
       → ((o : ObjectText) → option_map_or (is_to handle weak) (reference_of o) false ≡ (same_sort o.sort sort && eqb (number_at 4 8 o.bytes) handle))
-      → count_by (is_to handle weak) (held_of_process events outcomes process) ≡ held_objects events outcomes process sort handle
+      → count_by (is_to handle weak) (held_of_process events process) ≡ held_objects events process sort handle
   held_objects_of weak sort handle same =
       ap (count_by (is_to handle weak)) held_among ∙ count_read (is_to handle weak) reference_of outstanding_objects
       ∙ ap (λ (t : ObjectText → Bool). count_by t outstanding_objects) (λ i o. same o i)
 
-  pub strong_held : (handle : ℕ) → held_count (unweighed (held_of_process events outcomes process)) handle false ≡ held_objects events outcomes process Handle handle
+  pub strong_held : (handle : ℕ) → held_count (unweighed (held_of_process events process)) handle false ≡ held_objects events process Handle handle
   strong_held handle =
-      held_is handle false (held_of_process events outcomes process)
+      held_is handle false (held_of_process events process)
       ∙ held_objects_of false Handle handle (λ o. strong_object handle o.sort o.bytes)
 
-  pub weak_held : (handle : ℕ) → held_count (unweighed (held_of_process events outcomes process)) handle true ≡ held_objects events outcomes process WeakHandle handle
+  pub weak_held : (handle : ℕ) → held_count (unweighed (held_of_process events process)) handle true ≡ held_objects events process WeakHandle handle
   weak_held handle =
-      held_is handle true (held_of_process events outcomes process)
+      held_is handle true (held_of_process events process)
       ∙ held_objects_of true WeakHandle handle (λ o. weak_object handle o.sort o.bytes)

@@ -1,13 +1,12 @@
 mod Kept
 pub mod ObjectWalk
 pub mod FewLaws
-pub mod OutcomeLaws
+pub mod AttachedObjects
 pub mod SequenceLaws
 pub mod KindWords
 mod CodeCountLaws
 pub mod CodeLaws
 pub mod FrameLaws
-pub mod OneObjects
 pub mod HeldLaws
 pub mod ListSizes
 pub mod EntryWalk
@@ -30,7 +29,6 @@ mod MatchedLaws
 mod NoTransaction
 mod RecordCountLaws
 mod OnewayCountLaws
-pub mod SomeObjects
 pub mod TurnLaws
 pub mod EventLists
 pub mod HandleRows

@@ -22,11 +22,10 @@ use Rattle.summary_law.specs.Readings.{chosen, read_all}
 use Rattle.transaction_view.specs.Transaction.{buffer}
 use Rattle.audit_findings.specs.Buffers.{is_leaked}
 use Rattle.audit_findings.specs.HandleRows.{delivers, frees, frees_after, is_outstanding}
-use Rattle.audit_findings.specs.Held.{is_among}
 use Rattle.audit_findings.specs.Places.{RiseInPlace, listed_in}
 use Rattle.audit_findings.proofs.CodeLaws.{same_key}
 use Rattle.audit_findings.proofs.EventLists.{place_of_event}
-use Rattle.audit_findings.proofs.HandleRows.{among_at, listed_there}
+use Rattle.audit_findings.proofs.HandleRows.{among_at, is_among, listed_there}
 use Rattle.audit_findings.proofs.Kept.{in_kept, kept_in, one_there}
 use Rattle.audit_findings.proofs.Rising.{rising_kept}
 

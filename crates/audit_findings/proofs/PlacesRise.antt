@@ -22,7 +22,7 @@ use Rattle.audit_findings.specs.Frames.{AreViews, IsWhole}
 use Rattle.event_core.specs.Events.{placed_text}
 use Rattle.event_core.specs.Events.{wholes_of, events_of_wholes}
 use Rattle.capture_frame.specs.Lookup.{AreApart, span_of}
-use Rattle.audit_findings.specs.Objects.{AreOutcomes, Attached, attached_to, attachments_of, Outcome, bad_of, bad_objects}
+use Rattle.audit_findings.specs.Objects.{Attached, attached_to, attachments_of, objects_in, bad_of, bad_objects}
 use Rattle.audit_findings.specs.declared.objects.BadRow.{BadRow}
 use Rattle.audit_findings.proofs.Rising.{pairs_nil, pairs_map, pairs_unmap, pairs_flat, rising_made, rising_kept, increasing_places}
 
@@ -159,24 +159,21 @@ attached_there : (e : EventRead) (entry : Option AttachmentText) (a : Attached)
 attached_there e None a is = let wrong : None ≡ Some a = is in cc
 attached_there e (Some x) a is = ap (λ (o : Attached). o.owner.place) (sym (some_is (record { owner = e; attachment = x }) a is))
 
-bad_there : (o : Outcome) (bad : Option BadObject) (b : BadRow EventRead)
-    → option_map (λ (x : BadObject). let made : BadRow EventRead = record { owner = o.of.owner; bad = x } in made) bad ≡ Some b → b.owner.place ≡ o.of.owner.place
-bad_there o None b is = let wrong : None ≡ Some b = is in cc
-bad_there o (Some x) b is = ap (λ (y : BadRow EventRead). y.owner.place) (sym (some_is (record { owner = o.of.owner; bad = x }) b is))
+bad_there : (a : Attached) (bad : Option BadObject) (b : BadRow EventRead)
+    → option_map (λ (x : BadObject). let made : BadRow EventRead = record { owner = a.owner; bad = x } in made) bad ≡ Some b → b.owner.place ≡ a.owner.place
+bad_there a None b is = let wrong : None ≡ Some b = is in cc
+bad_there a (Some x) b is = ap (λ (y : BadRow EventRead). y.owner.place) (sym (some_is (record { owner = a.owner; bad = x }) b is))
 
-pub objects_rise : (capture : List ℕ) (wholes : List WholeFrame) (outcomes : List Outcome) → IsInGrammar capture wholes
-    → AreOutcomes (attachments_of (events_of_wholes (wholes_of wholes))) outcomes
-    → IsStrictlyIncreasing (map (λ (b : BadRow EventRead). b.owner.place) (bad_objects outcomes))
-objects_rise capture wholes outcomes is are =
+pub objects_rise : (capture : List ℕ) (wholes : List WholeFrame) → IsInGrammar capture wholes
+    → IsStrictlyIncreasing (map (λ (b : BadRow EventRead). b.owner.place) (bad_objects (events_of_wholes (wholes_of wholes))))
+objects_rise capture wholes is =
     let events = events_of_wholes (wholes_of wholes) in
     let owner : Attached → ℕ = λ a. a.owner.place in
     let place : BadRow EventRead → ℕ = λ b. b.owner.place in
     let attachments = rising_made (λ (e : EventRead). e.place) owner attached_to (λ e a made. attached_there e e.entry a made) events
     (events_rise capture wholes is) in
-    let owners = pairs_unmap (λ (a b : Attached). owner a < owner b) (λ (o : Outcome). o.of) outcomes
-    (subst (PlacesRise owner) (sym are.each) attachments) in
-    increasing_places place (bad_objects outcomes)
-    (rising_made (λ (o : Outcome). o.of.owner.place) place bad_of (λ o b made. bad_there o o.bad b made) outcomes owners)
+    increasing_places place (bad_objects events)
+    (rising_made owner place bad_of (λ a b made. bad_there a (objects_in a).bad b made) (attachments_of events) attachments)
 
 -- the frames of a capture are apart
 pub frames_apart : (frames : List PlacedFrame) (done : List WholeFrame) → AreViews frames (wholes_of done) → AllPairs AreApart frames

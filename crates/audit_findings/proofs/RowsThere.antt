@@ -12,12 +12,12 @@ use Rattle.call_stacks.specs.declared.findings.RefusedSend.{RefusedSend}
 use Rattle.call_stacks.specs.declared.opener.Opener.{Opener}
 use Rattle.object_view.specs.declared.bad_object.BadObject.{BadObject}
 use Rattle.summary_law.proofs.GatherLaws.{all_in}
-use Rattle.summary_law.proofs.Members.{In, contained, in_middle, map-in}
+use Rattle.summary_law.proofs.Members.{In, contained, in_middle}
 use Rattle.summary_law.proofs.ReadingLaws.{chosen-is, read-at}
 use Rattle.summary_law.specs.Readings.{by_key, chosen, read_all, with_key}
 use Rattle.audit_findings.specs.Calls.{openers, refused_sends, stray_closers}
 use Rattle.audit_findings.specs.Flags.{flagged, has_unknown_flags}
-use Rattle.audit_findings.specs.Objects.{AreOutcomes, Attached, Outcome, attached_to, attachments_of, bad_objects, bad_of}
+use Rattle.audit_findings.specs.Objects.{Attached, attached_to, attachments_of, objects_in, bad_objects, bad_of}
 use Rattle.audit_findings.specs.declared.objects.BadRow.{BadRow}
 use Rattle.audit_findings.specs.Places.{EventTest, either, is_stray_close, is_unclosed, listed, open_and_stray}
 use Rattle.event_core.specs.declared.pending.PendingItem.{PendingItem}
@@ -84,10 +84,10 @@ lacking_there test events =
 pub flagged_there : (events : List EventRead) → All (Contains events) (flagged events)
 flagged_there events = All-filter has_unknown_flags (Contains events) events (All-contains_itself events)
 
-bad_owner : (o : Outcome) (bad : Option BadObject) (b : BadRow EventRead)
-    → option_map (λ (x : BadObject). let made : BadRow EventRead = record { owner = o.of.owner; bad = x } in made) bad ≡ Some b → b.owner ≡ o.of.owner
-bad_owner o None b is = let wrong : None ≡ Some b = is in cc
-bad_owner o (Some x) b is = let made : BadRow EventRead = record { owner = o.of.owner; bad = x } in let same : b ≡ made = cc in ap (λ (y : BadRow EventRead). y.owner) same
+bad_owner : (a : Attached) (bad : Option BadObject) (b : BadRow EventRead)
+    → option_map (λ (x : BadObject). let made : BadRow EventRead = record { owner = a.owner; bad = x } in made) bad ≡ Some b → b.owner ≡ a.owner
+bad_owner a None b is = let wrong : None ≡ Some b = is in cc
+bad_owner a (Some x) b is = let made : BadRow EventRead = record { owner = a.owner; bad = x } in let same : b ≡ made = cc in ap (λ (y : BadRow EventRead). y.owner) same
 
 attached_owner : (e : EventRead) (entry : Option AttachmentText) (a : Attached)
     → option_map (λ (x : AttachmentText). let made : Attached = record { owner = e; attachment = x } in made) entry ≡ Some a → a.owner ≡ e
@@ -95,13 +95,11 @@ attached_owner e None a is = let wrong : None ≡ Some a = is in cc
 attached_owner e (Some x) a is = let made : Attached = record { owner = e; attachment = x } in let same : a ≡ made = cc in ap (λ (y : Attached). y.owner) same
 
 -- the owners of bad objects
-pub owners_there : (events : List EventRead) (outcomes : List Outcome) → AreOutcomes (attachments_of events) outcomes
-    → All (λ b. Contains events b.owner) (bad_objects outcomes)
-owners_there events outcomes are =
-    all_in (λ b. Contains events b.owner) (bad_objects outcomes)
+pub owners_there : (events : List EventRead) → All (λ b. Contains events b.owner) (bad_objects events)
+owners_there events =
+    all_in (λ b. Contains events b.owner) (bad_objects events)
     (λ b here.
-    let o = read_from bad_of outcomes b here in
-    let owner = bad_owner o.0 o.0.bad b o.2 in
-    let attached = subst (In o.0.of) are.each (map-in (λ (o : Outcome). o.of) outcomes o.0 o.1) in
-    let e = read_from attached_to events o.0.of attached in
-    contained events b.owner (subst (λ (x : EventRead). In x events) (sym (owner ∙ attached_owner e.0 e.0.entry o.0.of e.2)) e.1))
+    let a = read_from bad_of (attachments_of events) b here in
+    let owner = bad_owner a.0 (objects_in a.0).bad b a.2 in
+    let e = read_from attached_to events a.0 a.1 in
+    contained events b.owner (subst (λ (x : EventRead). In x events) (sym (owner ∙ attached_owner e.0 e.0.entry a.0 e.2)) e.1))

@@ -13,7 +13,7 @@ use Rattle.audit_findings.specs.Flags.{flagged}
 use Rattle.audit_findings.specs.Handles.{handle_references}
 use Rattle.audit_findings.specs.InTurn.{in_turn}
 use Rattle.audit_findings.specs.Nodes.{node_references}
-use Rattle.audit_findings.specs.Objects.{Outcome, bad_objects, good_objects, sort_counts}
+use Rattle.audit_findings.specs.Objects.{bad_objects, good_objects, sort_counts}
 use Rattle.audit_findings.specs.Oneway.{oneway_counts, oneway_of}
 use Rattle.audit_findings.specs.RecordCounts.{record_counts}
 use Rattle.audit_findings.specs.Requests.{standing_requests}
@@ -32,24 +32,24 @@ missing_count [] = 0
 missing_count (first ∷ others) = (last_sequence first others - first.unit.frame.sequence) - length others
 
 -- what the report counts and lists over all events, whatever their process and thread
-abbrev pub event_sections : List EventRead → List Outcome → EventSections EventRead
-event_sections events outcomes = record {
+abbrev pub event_sections : List EventRead → EventSections EventRead
+event_sections events = record {
   records = length events;
   opaque = count_by is_opaque events;
   codes = code_rows (code_words events);
   counts = record_counts (code_words events);
   oneway = oneway_counts events;
-  objects = sort_counts (good_objects outcomes);
-  bad_objects = bad_objects outcomes;
+  objects = sort_counts (good_objects events);
+  bad_objects = bad_objects events;
   flags = flagged events;
 }
 
 -- what the report says of each process: the sections from `handles` to `clears`, and the rows of `oneway`
-abbrev pub process_sections : List (Placed WholeFrame) → List Outcome → ProcessSections EventRead
-process_sections wholes outcomes =
+abbrev pub process_sections : List (Placed WholeFrame) → ProcessSections EventRead
+process_sections wholes =
     let events = events_of_wholes wholes in
     record {
-      handles = handle_references wholes outcomes;
+      handles = handle_references wholes;
       nodes = node_references wholes;
       leaked = leaked events;
       stray_frees = stray_frees events;
@@ -59,13 +59,12 @@ process_sections wholes outcomes =
       oneway = in_turn (oneway_of events) (processes_of wholes);
     }
 
--- The findings: what the report says of these frames, whose attachments have these outcomes. A listed event is the
--- event itself.
-abbrev pub findings_of : List (Placed WholeFrame) → List Outcome → Sections EventRead
-findings_of wholes outcomes = record {
+-- The findings: what the report says of these frames. A listed event is the event itself.
+abbrev pub findings_of : List (Placed WholeFrame) → Sections EventRead
+findings_of wholes = record {
   frames = length wholes;
   missing = missing_count wholes;
-  events = event_sections (events_of_wholes wholes) outcomes;
+  events = event_sections (events_of_wholes wholes);
   calls = call_sections (events_of_wholes wholes);
-  processes = process_sections wholes outcomes;
+  processes = process_sections wholes;
 }

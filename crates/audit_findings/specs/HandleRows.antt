@@ -15,7 +15,7 @@ use Rattle.object_view.specs.declared.sort.Sort.{Sort}
 use Rattle.object_view.specs.declared.sort.Sort.TheVariants.{Handle, WeakHandle}
 use Rattle.transaction_view.specs.Transaction.{buffer}
 use Rattle.audit_findings.specs.EventCounts.{HasValue, difference_in, times_in}
-use Rattle.audit_findings.specs.Objects.{Outcome, good_objects, same_sort}
+use Rattle.audit_findings.specs.Objects.{good_objects, same_sort}
 
 -- whether a record takes a reference of this strength by handle: BC_ACQUIRE a strong one, BC_INCREFS a weak one
 abbrev pub takes : Strength → Kind → Bool
@@ -66,18 +66,17 @@ is_outstanding events process e =
     && (delivers e.kind && not (list_any (frees_after process (buffer e.payload) e.place) events))
 
 -- how many good objects of this sort, with this handle, the attachments of the outstanding deliveries of the process have
-abbrev pub held_objects : List EventRead → List Outcome → Process → Sort → ℕ → ℕ
-held_objects events outcomes process sort handle =
+abbrev pub held_objects : List EventRead → Process → Sort → ℕ → ℕ
+held_objects events process sort handle =
     count_by (λ o. same_sort o.sort sort && number_at 4 8 o.bytes == handle)
-    (good_objects (filter (λ outcome. is_outstanding events process outcome.of.owner) outcomes))
+    (good_objects (filter (is_outstanding events process) events))
 
 -- The row is one of the process: one of its events names the handle, or one of its outstanding deliveries holds it. The
 -- counts and lows are those of all events, and what is held is that of all attachments.
-pub record IsHandleRow (events : List EventRead) (outcomes : List Outcome) (process : Process) (row : HeldRow) :
-    Type 0 where
+pub record IsHandleRow (events : List EventRead) (process : Process) (row : HeldRow) : Type 0 where
   pub listed : 0
       < times_in process (names_handle changes_handle row.taken.handle) events + row.held_strong + row.held_weak
   pub strong : HasValue (handle_value process row.taken.handle Strong) events row.taken.strong
   pub weak : HasValue (handle_value process row.taken.handle Weak) events row.taken.weak
-  pub held_strong : row.held_strong ≡ held_objects events outcomes process Handle row.taken.handle
-  pub held_weak : row.held_weak ≡ held_objects events outcomes process WeakHandle row.taken.handle
+  pub held_strong : row.held_strong ≡ held_objects events process Handle row.taken.handle
+  pub held_weak : row.held_weak ≡ held_objects events process WeakHandle row.taken.handle

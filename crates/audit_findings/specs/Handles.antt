@@ -11,21 +11,20 @@ use Rattle.process_ledgers.specs.Processes.{items_of_process, processes_of}
 use Rattle.transaction_view.specs.Grammar.{WholeFrame}
 use Rattle.audit_findings.specs.Held.{held_of_process, unweighed}
 use Rattle.audit_findings.specs.InTurn.{in_turn}
-use Rattle.audit_findings.specs.Objects.{Outcome}
 use Rattle.audit_findings.specs.References.{is_not_zero, references}
 use Rattle.audit_findings.specs.declared.references.References.{References}
 
 -- the rows of a process: one for each handle that one of its BC_ACQUIRE, BC_RELEASE, BC_INCREFS and BC_DECREFS names or
 -- that one of its leaked deliveries holds, handles rising
-abbrev pub handles_in : List EventRead → List Outcome → Process → List HeldRow
-handles_in events outcomes process =
-    held_rows (items_of_process handle_item_of process events) (unweighed (held_of_process events outcomes process))
+abbrev pub handles_in : List EventRead → Process → List HeldRow
+handles_in events process =
+    held_rows (items_of_process handle_item_of process events) (unweighed (held_of_process events process))
 
 -- whether a handle is unbalanced: its strong or its weak count is not 0; what is held does not matter
 abbrev pub is_unbalanced_handle : HeldRow → Bool
 is_unbalanced_handle row = is_not_zero row.taken.strong.sum || is_not_zero row.taken.weak.sum
 
 -- the section: the rows of each process in turn, and how many are unbalanced
-abbrev pub handle_references : List (Placed WholeFrame) → List Outcome → References HeldRow
-handle_references wholes outcomes =
-    references is_unbalanced_handle (in_turn (handles_in (events_of_wholes wholes) outcomes) (processes_of wholes))
+abbrev pub handle_references : List (Placed WholeFrame) → References HeldRow
+handle_references wholes =
+    references is_unbalanced_handle (in_turn (handles_in (events_of_wholes wholes)) (processes_of wholes))

@@ -1,14 +1,14 @@
 -- The references that the buffers of a process hold: one for each HANDLE or WEAK_HANDLE among the good objects of a
 -- delivery, until the process frees it (docs/REPORT.md).
-use Rattle.std.specs.Prelude.{ℕ, ◌==◌, Bool, List, filter, map, Option}
-use Rattle.std.specs.List.{filter_map, list_any}
+use Rattle.std.specs.Prelude.{ℕ, List, map, Option}
+use Rattle.std.specs.List.{filter_map}
 use Rattle.capture_frame.specs.declared.process.Process.{Process}
 use Rattle.event_core.specs.Events.{EventRead}
 use Rattle.handle_ledger.specs.Held.{Held}
 use Rattle.object_view.specs.Held.{held_of}
 use Rattle.object_view.specs.Objects.{ObjectText}
 use Rattle.audit_findings.specs.Buffers.{is_leaked}
-use Rattle.audit_findings.specs.Objects.{Outcome, good_objects}
+use Rattle.audit_findings.specs.Objects.{good_objects}
 use Rattle.audit_findings.specs.Places.{listed_in}
 
 -- the reference that an object is: a HANDLE is a strong one, a WEAK_HANDLE a weak one, and no other object is a
@@ -16,17 +16,9 @@ use Rattle.audit_findings.specs.Places.{listed_in}
 abbrev pub reference_of : ObjectText → Option Held
 reference_of o = held_of o.sort o.bytes
 
--- whether an event is one of these, by its place
-abbrev pub is_among : List EventRead → EventRead → Bool
-is_among events e = list_any (λ other. other.place == e.place) events
-
--- the references among the good objects of these events' attachments, in order
-abbrev pub held_by : List Outcome → List EventRead → List Held
-held_by outcomes events = filter_map reference_of (good_objects (filter (λ o. is_among events o.of.owner) outcomes))
-
--- what is held for a process: the references that its leaked deliveries hold
-abbrev pub held_of_process : List EventRead → List Outcome → Process → List Held
-held_of_process events outcomes process = held_by outcomes (listed_in is_leaked process events)
+-- what is held for a process: the references among the good objects of its leaked deliveries, in order
+abbrev pub held_of_process : List EventRead → Process → List Held
+held_of_process events process = filter_map reference_of (good_objects (listed_in is_leaked process events))
 
 -- references as items of a tally that only counts them: each has weight 0
 abbrev pub unweighed : List Held → List (Held × ℕ)

@@ -1,9 +1,8 @@
 -- The tally of held references while it is made. No public clause names these definitions.
-use Rattle.std.specs.Prelude.{ℕ, ◌+◌, ◌≤◌, ◌^◌, List, ◌++◌, length, Option}
-use Rattle.std.specs.List.{AllZip, filter_map, flat_map}
+use Rattle.std.specs.Prelude.{ℕ, ◌+◌, ◌≤◌, ◌^◌, List, ◌++◌, length}
+use Rattle.std.specs.List.{filter_map, flat_map}
 use Rattle.handle_ledger.specs.Held.{Held, held_cmp}
-use Rattle.object_view.specs.Objects.{ObjectText, AreObjects}
-use Rattle.object_view.specs.declared.bad_object.BadObject.{BadObject}
+use Rattle.object_view.specs.Objects.{ObjectText, objects_of}
 use Rattle.summary_law.specs.Tally.{TallySums}
 use Rattle.summary_law.specs.declared.tally.Tally.{Tally}
 use Rattle.transaction_view.specs.declared.entry.Entry.{Entry}
@@ -25,16 +24,12 @@ CountsMore old n more new =
 -- the new tally counts what the old one counts, and the references among the good objects of this attachment, which are
 -- those before the first bad one
 abbrev pub CountsObjects : Tally Held → (body list : List ℕ) → Tally Held → Type 0
-CountsObjects old body list new =
-    (objects : List ObjectText) × (bad : Option BadObject) × AreObjects body list objects bad
-    × CountsMore old (length list) (filter_map reference_of objects) new
+CountsObjects old body list new = CountsMore old (length list) (filter_map reference_of (objects_of body list).good) new
 
--- these are the good objects of an entry's attachment: those before the first bad one
-abbrev pub AreGoodObjects : Entry → List ObjectText → Type 0
-AreGoodObjects entry objects = (bad : Option BadObject) × AreObjects entry.body.now entry.offsets.now objects bad
+-- the good objects of an entry's attachment: those before the first bad one
+abbrev pub good_in : Entry → List ObjectText
+good_in entry = (objects_of entry.body.now entry.offsets.now).good
 
 -- the tally counts the references among the good objects of these entries' attachments
 abbrev pub CountsEntries : List Entry → Tally Held → Type 0
-CountsEntries entries tally =
-    (objects : List (List ObjectText)) × AllZip AreGoodObjects entries objects
-    × CountsHeld tally (filter_map reference_of (flat_map (λ own. own) objects))
+CountsEntries entries tally = CountsHeld tally (filter_map reference_of (flat_map good_in entries))

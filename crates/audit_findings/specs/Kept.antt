@@ -1,12 +1,11 @@
 -- The findings as the code keeps them: of each listed event it keeps the place.
 use Rattle.std.specs.Prelude.{◌≡◌, ℕ, List, map}
 use Rattle.capture_frame.specs.Envelope.{PlacedFrame}
-use Rattle.event_core.specs.Events.{EventRead, events_of_wholes, wholes_of}
+use Rattle.event_core.specs.Events.{EventRead, wholes_of}
 use Rattle.transaction_view.specs.Grammar.{WholeFrame}
 use Rattle.call_stacks.specs.declared.opener.Opener.{Opener}
 use Rattle.audit_findings.specs.Findings.{findings_of}
 use Rattle.audit_findings.specs.Frames.{AreViews}
-use Rattle.audit_findings.specs.Objects.{AreOutcomes, Outcome, attachments_of}
 use Rattle.audit_findings.specs.declared.call_sections.CallSections.{CallSections}
 use Rattle.audit_findings.specs.declared.calls.Calls.{Calls}
 use Rattle.audit_findings.specs.declared.refused.Refused.{Refused}
@@ -102,13 +101,10 @@ at_places s = record {
   processes = processes_at_places s.processes;
 }
 
--- the frames show these whole frames of a capture, their attachments have these outcomes, and the sections keep the
--- findings of both
-pub record AreSectionsOf (wholes : List WholeFrame) (outcomes : List Outcome) (frames : List PlacedFrame) (sections : Sections ℕ) :
-    Type 0 where
+-- the frames show these whole frames of a capture, and the sections keep their findings
+pub record AreSectionsOf (wholes : List WholeFrame) (frames : List PlacedFrame) (sections : Sections ℕ) : Type 0 where
   pub show : AreViews frames (wholes_of wholes)
-  pub objects : AreOutcomes (attachments_of (events_of_wholes (wholes_of wholes))) outcomes
-  pub are : sections ≡ at_places (findings_of (wholes_of wholes) outcomes)
+  pub are : sections ≡ at_places (findings_of (wholes_of wholes))
 
 -- findings as the code keeps them: the frames, and the sections
 pub record KeptFindings : Type 0 where
@@ -119,8 +115,6 @@ pub record KeptFindings : Type 0 where
 abbrev pub kept_findings : List PlacedFrame → Sections ℕ → KeptFindings
 kept_findings frames sections = record { frames = frames; sections = sections }
 
--- the frames show some whole frames of a capture, and the sections keep the findings of these and of some outcomes of
--- their attachments
+-- the frames show some whole frames of a capture, and the sections keep their findings
 abbrev pub AreOfFrames : List PlacedFrame → Sections ℕ → Type 0
-AreOfFrames frames sections =
-    (wholes : List WholeFrame) × (outcomes : List Outcome) × AreSectionsOf wholes outcomes frames sections
+AreOfFrames frames sections = (wholes : List WholeFrame) × AreSectionsOf wholes frames sections

@@ -1,29 +1,22 @@
 -- Laws of the definitions.
 use Rattle.std.specs.Prelude.{◌≡◌, ℕ, ◌+◌, List, length, map}
 use Rattle.std.specs.List.Sorted.{IsStrictlyIncreasing}
-use Rattle.capture_frame.specs.Units.{IsBytes, Placed}
-use Rattle.event_core.specs.Events.{EventRead, events_of_wholes, wholes_of}
+use Rattle.capture_frame.specs.Units.{Placed}
+use Rattle.event_core.specs.Events.{EventRead, wholes_of}
 use Rattle.transaction_view.specs.Grammar.{WholeFrame, IsInGrammar}
 use Rattle.audit_findings.specs.Findings.{findings_of}
-use Rattle.audit_findings.specs.Objects.{AreOutcomes, Outcome, attachments_of}
 use Rattle.audit_findings.specs.declared.calls.Calls.{Calls}
 use Rattle.audit_findings.specs.declared.served.Served.{Served}
 
 -- in a capture in the grammar, the records of the bad objects rise strictly in place
 abbrev pub BadObjectsRise : Type 0
-BadObjectsRise = (capture : List ℕ) (wholes : List WholeFrame) (outcomes : List Outcome) → IsInGrammar capture wholes
-    → AreOutcomes (attachments_of (events_of_wholes (wholes_of wholes))) outcomes
-    → IsStrictlyIncreasing (map (λ row. row.owner.place) (findings_of (wholes_of wholes) outcomes).events.bad_objects)
+BadObjectsRise = (capture : List ℕ) (wholes : List WholeFrame) → IsInGrammar capture wholes
+    → IsStrictlyIncreasing (map (λ row. row.owner.place) (findings_of (wholes_of wholes)).events.bad_objects)
 
 -- in a capture in the grammar, the records with unknown flags rise strictly in place
 abbrev pub FlagsRise : Type 0
-FlagsRise = (capture : List ℕ) (wholes : List WholeFrame) (outcomes : List Outcome) → IsInGrammar capture wholes
-    → IsStrictlyIncreasing (map (λ e. e.place) (findings_of (wholes_of wholes) outcomes).events.flags)
-
--- the attachments of every capture of bytes in the grammar have outcomes
-abbrev pub HaveObjects : Type 0
-HaveObjects = (capture : List ℕ) (wholes : List WholeFrame) → IsBytes capture → IsInGrammar capture wholes
-    → (outcomes : List Outcome) × AreOutcomes (attachments_of (events_of_wholes (wholes_of wholes))) outcomes
+FlagsRise = (capture : List ℕ) (wholes : List WholeFrame) → IsInGrammar capture wholes
+    → IsStrictlyIncreasing (map (λ e. e.place) (findings_of (wholes_of wholes)).events.flags)
 
 -- each call that threads make is counted once, as answered, failed or unanswered, and is listed unless it is answered
 pub record AllMadeTold (calls : Calls EventRead) : Type 0 where
@@ -37,5 +30,5 @@ pub record AllServedTold (served : Served EventRead) : Type 0 where
 
 -- the findings of any frames leave out no call
 abbrev pub LeaveOutNoCall : Type 0
-LeaveOutNoCall = (wholes : List (Placed WholeFrame)) (outcomes : List Outcome)
-    → AllMadeTold (findings_of wholes outcomes).calls.calls × AllServedTold (findings_of wholes outcomes).calls.served
+LeaveOutNoCall = (wholes : List (Placed WholeFrame))
+    → AllMadeTold (findings_of wholes).calls.calls × AllServedTold (findings_of wholes).calls.served

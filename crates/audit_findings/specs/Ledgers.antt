@@ -26,7 +26,7 @@ use Rattle.audit_findings.specs.declared.in_turn.ProcessRow.{ProcessRow}
 use Rattle.handle_ledger.specs.declared.held_row.HeldRow.{HeldRow}
 use Rattle.event_core.specs.Events.{events_of_wholes}
 use Rattle.audit_findings.specs.Kept.{at_places, bad_at_place}
-use Rattle.audit_findings.specs.Objects.{AreOutcomes, Outcome, attachments_of, bad_objects, count_of, good_objects, times_of}
+use Rattle.audit_findings.specs.Objects.{bad_objects, count_of, good_objects, times_of}
 use Rattle.audit_findings.specs.Oneway.{oneway_counts}
 use Rattle.audit_findings.specs.Places.{places_in}
 use Rattle.object_view.specs.declared.sort.Sort.{Sort}
@@ -60,10 +60,8 @@ ListsFlagged ledger events = ledger.places.items ≡ map (λ e. e.place) (flagge
 
 -- the ledger counts the good objects of the events' attachments by sort, and keeps the bad ones
 pub record SumsObjects (ledger : ObjectLedger) (events : List EventRead) : Type 0 where
-  pub outcomes : List Outcome
-  pub are : AreOutcomes (attachments_of events) outcomes
-  pub counted : (sort : Sort) → count_of ledger.counts sort ≡ times_of sort (good_objects outcomes)
-  pub kept : ledger.bad.items ≡ map bad_at_place (bad_objects outcomes)
+  pub counted : (sort : Sort) → count_of ledger.counts sort ≡ times_of sort (good_objects events)
+  pub kept : ledger.bad.items ≡ map bad_at_place (bad_objects events)
 
 -- the ledgers are the sums of these events
 pub record SumsEvents (ledgers : EventLedgers) (events : List EventRead) : Type 0 where
@@ -138,10 +136,6 @@ TakesFrames old frames new =
 abbrev pub AreOfFew : FrameLedgers → Type 0
 AreOfFew ledgers = (wholes : List (Placed WholeFrame)) × SumsLedgers ledgers wholes × AreFewFrames wholes
 
--- the attachments of these frames have these outcomes
-abbrev pub AreOutcomesOf : List (Placed WholeFrame) → List Outcome → Type 0
-AreOutcomesOf wholes outcomes = AreOutcomes (attachments_of (events_of_wholes wholes)) outcomes
-
 -- a list for each process of these frames, in order: the places of its leaked deliveries
 abbrev pub AreUnfreed : List (Placed WholeFrame) → List (List ℕ) → Type 0
 AreUnfreed wholes lists = lists ≡ map (places_in is_leaked (events_of_wholes wholes)) (processes_of wholes)
@@ -149,25 +143,23 @@ AreUnfreed wholes lists = lists ≡ map (places_in is_leaked (events_of_wholes w
 -- a list for each process of these frames, in order: its rows of `handles`
 abbrev pub AreListedHandles : List (Placed WholeFrame) → List (List (ProcessRow HeldRow)) → Type 0
 AreListedHandles wholes lists =
-    (outcomes : List Outcome) → AreOutcomesOf wholes outcomes
-    → lists ≡ map (rows_in (handles_in (events_of_wholes wholes) outcomes)) (processes_of wholes)
+    lists ≡ map (rows_in (handles_in (events_of_wholes wholes))) (processes_of wholes)
 
 -- whatever process of these frames the ledgers are those of: if the places are those of its leaked deliveries, the
 -- rows are its rows of `handles`
 abbrev pub GivesHandles : ProcessLedgers → List PlacedFrame → List ℕ → List HeldRow → Type 0
 GivesHandles ledgers frames unfreed rows =
-    (wholes : List (Placed WholeFrame)) (outcomes : List Outcome) (process : Process) → AreViews frames wholes
-    → AreOutcomesOf wholes outcomes → AreLedgersOf ledgers (events_of_wholes wholes) process
+    (wholes : List (Placed WholeFrame)) (process : Process) → AreViews frames wholes
+    → AreLedgersOf ledgers (events_of_wholes wholes) process
     → unfreed ≡ places_in is_leaked (events_of_wholes wholes) process
-    → rows ≡ handles_in (events_of_wholes wholes) outcomes process
+    → rows ≡ handles_in (events_of_wholes wholes) process
 
 -- whatever few frames the ledgers are the sums of: if their processes have these leaked deliveries and these rows of
 -- `handles`, the sections keep the findings of the frames
 abbrev pub GiveSections : FrameLedgers → List (List ℕ) → List (List (ProcessRow HeldRow)) → Sections ℕ → Type 0
 GiveSections ledgers unfreed handles sections =
     (wholes : List (Placed WholeFrame)) → SumsLedgers ledgers wholes → AreFewFrames wholes
-    → AreUnfreed wholes unfreed → AreListedHandles wholes handles
-    → (outcomes : List Outcome) × AreOutcomesOf wholes outcomes × (sections ≡ at_places (findings_of wholes outcomes))
+    → AreUnfreed wholes unfreed → AreListedHandles wholes handles → sections ≡ at_places (findings_of wholes)
 
 -- whatever frames the ledgers are the sums of, these are their processes, each with its ledgers; a process without an
 -- item has the ledgers `none`, which are sums of nothing

@@ -11,7 +11,6 @@ use Rattle.summary_law.specs.Ranked.{ListsInOrder}
 use Rattle.transaction_view.specs.Grammar.{IsInGrammar, WholeFrame}
 use Rattle.audit_findings.specs.Calls.{calls_of, is_made, is_served, refused_of, served_of}
 use Rattle.audit_findings.specs.Findings.{findings_of}
-use Rattle.audit_findings.specs.Objects.{Outcome}
 use Rattle.audit_findings.specs.Places.{RiseInPlace}
 use Rattle.audit_findings.specs.TextReads.{text_reads}
 use Rattle.audit_findings.specs.Threads.{events_in_thread}
@@ -58,5 +57,5 @@ EventsRise = (capture : List ℕ) (wholes : List WholeFrame) → IsInGrammar cap
 
 -- in a capture in the grammar, what the findings say of the calls of all threads is what matching says
 abbrev pub HaveMatchedCalls : Type 0
-HaveMatchedCalls = (capture : List ℕ) (wholes : List WholeFrame) (outcomes : List Outcome) → IsInGrammar capture wholes
-    → AreMatchedCalls (events_of_wholes (wholes_of wholes)) (findings_of (wholes_of wholes) outcomes).calls
+HaveMatchedCalls = (capture : List ℕ) (wholes : List WholeFrame) → IsInGrammar capture wholes
+    → AreMatchedCalls (events_of_wholes (wholes_of wholes)) (findings_of (wholes_of wholes)).calls

@@ -1,12 +1,12 @@
 -- The section `objects`: the good objects of each sort, and the bad ones (docs/REPORT.md).
-use Rattle.std.specs.Prelude.{◌≡◌, ◌==◌, ℕ, Bool, List, [], ◌∷◌, map, All, count_by, Option, Some, None}
+use Rattle.std.specs.Prelude.{◌==◌, ℕ, Bool, List, [], ◌∷◌, count_by, Option, Some, None}
 use Rattle.std.specs.List.{flat_map, filter_map}
 use Rattle.std.specs.Option.{option_map}
 use Rattle.object_view.specs.declared.bad_object.BadObject.{BadObject}
 use Rattle.object_view.specs.declared.sort.Sort.{Sort}
 use Rattle.object_view.specs.declared.sort.Sort.TheVariants.{Binder, WeakBinder, Handle, WeakHandle, Fd, Fda, Ptr}
 use Rattle.object_view.specs.Fields.{sort_number}
-use Rattle.object_view.specs.Objects.{ObjectText, AreObjects}
+use Rattle.object_view.specs.Objects.{ObjectText, Objects, objects_of}
 use Rattle.event_core.specs.Events.{AttachmentText, EventRead}
 use Rattle.audit_findings.specs.declared.objects.BadRow.{BadRow}
 use Rattle.audit_findings.specs.declared.sort_counts.SortCounts.{SortCounts}
@@ -24,20 +24,9 @@ attached_to e = option_map (λ a. record { owner = e; attachment = a }) e.entry
 abbrev pub attachments_of : List EventRead → List Attached
 attachments_of events = filter_map attached_to events
 
--- the outcome of an attachment: its good objects, which are those before the first bad one, and the bad one, if any
-pub record Outcome : Type 0 where
-  pub of : Attached
-  pub objects : List ObjectText
-  pub bad : Option BadObject
-
--- these are the good objects and the bad one of the attachment, by its data and its list of offsets
-abbrev pub IsOutcome : Outcome → Type 0
-IsOutcome o = AreObjects o.of.attachment.body o.of.attachment.offset_bytes o.objects o.bad
-
--- these are the outcomes of the attachments, one for each, in order
-pub record AreOutcomes (attachments : List Attached) (outcomes : List Outcome) : Type 0 where
-  pub each : map (λ o. o.of) outcomes ≡ attachments
-  pub are_objects : All IsOutcome outcomes
+-- what the objects of an attachment come to, by its data and its list of offsets
+abbrev pub objects_in : Attached → Objects
+objects_in a = objects_of a.attachment.body a.attachment.offset_bytes
 
 -- whether two sorts are the same
 abbrev pub same_sort : Sort → Sort → Bool
@@ -57,17 +46,17 @@ count_of counts Ptr = counts.ptr
 abbrev pub times_of : Sort → List ObjectText → ℕ
 times_of sort objects = count_by (λ o. same_sort o.sort sort) objects
 
--- the good objects of these outcomes, in order
-abbrev pub good_objects : List Outcome → List ObjectText
-good_objects outcomes = flat_map (λ o. o.objects) outcomes
+-- the good objects of these events' attachments, in order
+abbrev pub good_objects : List EventRead → List ObjectText
+good_objects events = flat_map (λ a. (objects_in a).good) (attachments_of events)
 
--- the bad object of an outcome, with the event of the record that owns it
-abbrev pub bad_of : Outcome → Option (BadRow EventRead)
-bad_of o = option_map (λ bad. record { owner = o.of.owner; bad = bad }) o.bad
+-- the bad object of an attachment, if it has one, with the event of the record that owns it
+abbrev pub bad_of : Attached → Option (BadRow EventRead)
+bad_of a = option_map (λ bad. record { owner = a.owner; bad = bad }) (objects_in a).bad
 
--- the bad objects of these outcomes, in order
-abbrev pub bad_objects : List Outcome → List (BadRow EventRead)
-bad_objects outcomes = filter_map bad_of outcomes
+-- the bad objects of these events' attachments, in order
+abbrev pub bad_objects : List EventRead → List (BadRow EventRead)
+bad_objects events = filter_map bad_of (attachments_of events)
 
 -- the counts of the head: how many of these objects are of each sort
 abbrev pub sort_counts : List ObjectText → SortCounts

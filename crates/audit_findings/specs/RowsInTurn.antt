@@ -12,7 +12,6 @@ use Rattle.audit_findings.specs.Findings.{findings_of}
 use Rattle.audit_findings.specs.HandleRows.{IsHandleRow}
 use Rattle.audit_findings.specs.InTurn.{in_turn}
 use Rattle.audit_findings.specs.NodeRows.{IsNodeRow}
-use Rattle.audit_findings.specs.Objects.{AreOutcomes, Outcome, attachments_of}
 use Rattle.audit_findings.specs.declared.in_turn.ProcessRow.{ProcessRow}
 
 -- the rows of each of these processes in turn: of each process all that are rows of it and nothing else, their keys
@@ -26,13 +25,12 @@ pub record AreRowsInTurn {K R : Type 0} (cmp : K → K → Ordering) (key : R �
 
 -- in a capture in the grammar, the rows of `handles` are those of each process in turn, handles rising
 abbrev pub HaveHandleRows : Type 0
-HaveHandleRows = (capture : List ℕ) (wholes : List WholeFrame) (outcomes : List Outcome) → IsInGrammar capture wholes
-    → AreOutcomes (attachments_of (events_of_wholes (wholes_of wholes))) outcomes
-    → AreRowsInTurn nat_cmp (λ row. row.taken.handle) (IsHandleRow (events_of_wholes (wholes_of wholes)) outcomes)
-    (processes_of (wholes_of wholes)) (findings_of (wholes_of wholes) outcomes).processes.handles.rows
+HaveHandleRows = (capture : List ℕ) (wholes : List WholeFrame) → IsInGrammar capture wholes
+    → AreRowsInTurn nat_cmp (λ row. row.taken.handle) (IsHandleRow (events_of_wholes (wholes_of wholes)))
+    (processes_of (wholes_of wholes)) (findings_of (wholes_of wholes)).processes.handles.rows
 
 -- the rows of `nodes` are those of each process in turn, by rising ptr and then by rising cookie
 abbrev pub HaveNodeRows : Type 0
-HaveNodeRows = (wholes : List WholeFrame) (outcomes : List Outcome)
+HaveNodeRows = (wholes : List WholeFrame)
     → AreRowsInTurn node_cmp (λ row. row.key) (IsNodeRow (events_of_wholes (wholes_of wholes)))
-    (processes_of (wholes_of wholes)) (findings_of (wholes_of wholes) outcomes).processes.nodes.rows
+    (processes_of (wholes_of wholes)) (findings_of (wholes_of wholes)).processes.nodes.rows

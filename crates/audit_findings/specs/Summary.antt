@@ -13,8 +13,7 @@ use Rattle.audit_findings.specs.Frames.{AreViews, AreGoodFrames}
 use Rattle.audit_findings.specs.Handles.{handles_in}
 use Rattle.audit_findings.specs.InTurn.{rows_in}
 use Rattle.audit_findings.specs.Kept.{at_places}
-use Rattle.audit_findings.specs.Ledgers.{AreListedHandles, AreOutcomesOf, AreUnfreed, SumsLedgers}
-use Rattle.audit_findings.specs.Objects.{Outcome}
+use Rattle.audit_findings.specs.Ledgers.{AreListedHandles, AreUnfreed, SumsLedgers}
 use Rattle.audit_findings.specs.Places.{places_in}
 use Rattle.audit_findings.specs.declared.findings.Sections.{Sections}
 use Rattle.audit_findings.specs.declared.in_turn.ProcessRow.{ProcessRow}
@@ -38,15 +37,14 @@ GivesUnfreed summary lists =
 -- the rows are the rows of `handles` of that process
 abbrev pub GivesHandlesAt : PieceSummary → List PlacedFrame → ℕ → List ℕ → List (ProcessRow HeldRow) → Type 0
 GivesHandlesAt summary frames index unfreed rows =
-    SumsPiece summary frames → (wholes : List (Placed WholeFrame)) (outcomes : List Outcome) (d : Process)
-    → AreViews frames wholes → AreOutcomesOf wholes outcomes
+    SumsPiece summary frames → (wholes : List (Placed WholeFrame)) (d : Process) → AreViews frames wholes
     → unfreed ≡ places_in is_leaked (events_of_wholes wholes) (slice_index_or (processes_of wholes) index d)
-    → rows ≡ rows_in (handles_in (events_of_wholes wholes) outcomes) (slice_index_or (processes_of wholes) index d)
+    → rows ≡ rows_in (handles_in (events_of_wholes wholes)) (slice_index_or (processes_of wholes) index d)
 
 -- whatever good frames the summary sums: if their processes have these leaked deliveries and these rows of `handles`,
--- the sections keep the findings of the frames, with some outcomes of their attachments
+-- the sections keep the findings of the frames
 abbrev pub GiveSectionsOf : PieceSummary → List (List ℕ) → List (List (ProcessRow HeldRow)) → Sections ℕ → Type 0
 GiveSectionsOf summary unfreed handles sections =
     (frames : List PlacedFrame) (wholes : List (Placed WholeFrame)) → SumsPiece summary frames → AreGoodFrames frames
     → AreViews frames wholes → AreUnfreed wholes unfreed → AreListedHandles wholes handles
-    → (outcomes : List Outcome) × AreOutcomesOf wholes outcomes × (sections ≡ at_places (findings_of wholes outcomes))
+    → sections ≡ at_places (findings_of wholes)

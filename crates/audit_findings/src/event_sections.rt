@@ -4,7 +4,6 @@ ghost use Rattle.std.specs.Prelude.{◌≡◌, List, IfOk};
 ghost use Rattle.event_core.specs.Events.{EventRead};
 ghost use Rattle.audit_findings.specs.Findings.{event_sections};
 ghost use Rattle.audit_findings.specs.Kept.{events_at_places};
-ghost use Rattle.audit_findings.specs.Objects.{AreOutcomes, Outcome, attachments_of};
 ghost use Rattle.audit_findings.specs.Ledgers.{SumsEvents, AreFewEvents};
 
 use crate::codes::{CodeRow, code_rows};
@@ -42,8 +41,7 @@ impl EventSections<u64> {
     pub(crate) fn of(alloc: Global, ledgers: EventLedgers) -> Result<Self, AllocError>
         requires { (events : List EventRead) × SumsEvents ledgers events × AreFewEvents events }
         ensures { IfOk result (λ kept. (events : List EventRead) → SumsEvents ledgers events →
-            (outcomes : List Outcome) × AreOutcomes (attachments_of events) outcomes
-            × (kept ≡ events_at_places (event_sections events outcomes))) }
+            kept ≡ events_at_places (event_sections events)) }
     {
         let codes = code_rows(alloc, &ledgers.codes)?;
         Ok(EventSections {

@@ -5,8 +5,7 @@ ghost use Rattle.capture_frame.specs.Units.{Placed};
 ghost use Rattle.transaction_view.specs.Grammar.{WholeFrame};
 ghost use Rattle.audit_findings.specs.Frames.{AreGoodFrames};
 ghost use Rattle.audit_findings.specs.Handles.{handle_references};
-ghost use Rattle.audit_findings.specs.Ledgers.{AreListedHandles, AreOutcomesOf, GivesHandles};
-ghost use Rattle.audit_findings.specs.Objects.{Outcome};
+ghost use Rattle.audit_findings.specs.Ledgers.{AreListedHandles, GivesHandles};
 
 use crate::entries::entries_at;
 use crate::held::held_by;
@@ -41,8 +40,7 @@ pub(crate) fn handles_of(
 ) -> Result<References<HeldRow>, AllocError>
     ensures { IfOk result (λ found. (wholes : List (Placed WholeFrame)) →
         AreListedHandles wholes (map (λ list. list.items) lists.now) →
-        (outcomes : List Outcome) → AreOutcomesOf wholes outcomes →
-        found ≡ handle_references wholes outcomes) }
+        found ≡ handle_references wholes) }
 {
     let mut rows = Vec::new(alloc);
     for list in lists {

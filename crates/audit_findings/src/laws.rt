@@ -1,6 +1,6 @@
 //! Laws of the definitions, as contracts of functions that do nothing.
 
-ghost use Rattle.audit_findings.specs.Laws.{BadObjectsRise, FlagsRise, HaveObjects, LeaveOutNoCall};
+ghost use Rattle.audit_findings.specs.Laws.{BadObjectsRise, FlagsRise, LeaveOutNoCall};
 ghost use Rattle.audit_findings.specs.MatchedCalls.{EventsRise, HaveMatchedCalls};
 ghost use Rattle.audit_findings.specs.RowsInTurn.{HaveHandleRows, HaveNodeRows};
 
@@ -28,12 +28,6 @@ pub fn matched_calls()
 pub fn rows_of_references()
     ensures handles { HaveHandleRows }
     ensures nodes { HaveNodeRows }
-{}
-
-/// The attachments of every list of bytes that is a capture in the grammar have outcomes. So it has
-/// findings, which are a function of its frames and these outcomes.
-pub fn some_objects()
-    ensures { HaveObjects }
 {}
 
 /// `calls` and `served` leave out no call: each is counted once in the numbers after the first of

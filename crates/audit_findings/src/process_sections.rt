@@ -7,8 +7,7 @@ ghost use Rattle.event_core.specs.Events.{events_of_wholes};
 ghost use Rattle.process_ledgers.specs.EachProcess.{SumsEach};
 ghost use Rattle.audit_findings.specs.Findings.{process_sections};
 ghost use Rattle.audit_findings.specs.Kept.{processes_at_places};
-ghost use Rattle.audit_findings.specs.Ledgers.{AreListedHandles, AreOutcomesOf, AreUnfreed};
-ghost use Rattle.audit_findings.specs.Objects.{Outcome};
+ghost use Rattle.audit_findings.specs.Ledgers.{AreListedHandles, AreUnfreed};
 ghost use Rattle.audit_findings.specs.Places.{RiseInPlace};
 
 use crate::buffers::BufferPairs;
@@ -65,8 +64,7 @@ impl ProcessSections<u64> {
             AreUnfreed wholes (map (λ list. list.items) unfreed.now) →
             AreListedHandles wholes (map (λ list. list.items) handles.now) →
             RiseInPlace (events_of_wholes wholes) →
-            (outcomes : List Outcome) → AreOutcomesOf wholes outcomes →
-            kept ≡ processes_at_places (process_sections wholes outcomes)) }
+            kept ≡ processes_at_places (process_sections wholes)) }
     {
         Ok(ProcessSections {
             handles: handles_of(alloc, handles)?,

@@ -14,13 +14,12 @@ use Rattle.audit_join.specs.Parts.{AreAudited, AreMalformed, error_of_capture}
 
 -- the findings of the joined capture are those of the capture
 pub capture_found : (capture : List ℕ) (found : KeptFindings) → AreAudited (capture ∷ []) found → IsAudited capture found
-capture_found capture found (readable, (wholes, outcomes, is, are)) =
+capture_found capture found (readable, (wholes, is, are)) =
     let same = capture_one_reading whole_format whole_decided (joined (capture ∷ [])) wholes readable.0 is
     (parts_joined whole_format whole_wide (capture ∷ []) readable.0 readable.1) in (
       readable.0,
-      outcomes,
       of_one_part whole_format capture readable.0 readable.1,
-      subst (λ (them : List WholeFrame). AreSectionsOf them outcomes found.frames found.sections) same are,
+      subst (λ (them : List WholeFrame). AreSectionsOf them found.frames found.sections) same are,
     )
 
 -- the first fault of the single part is the first fault of the capture

@@ -160,10 +160,10 @@ pub all_listed : (summary : PieceSummary) (frames : List PlacedFrame) (unfreed :
     → AreInOrder (λ i (list : ListOfRows). (own : Vec ℕ Global) → slice_get unfreed i ≡ Some own → GivesHandlesAt summary frames i own.items list.items)
     (length (process_jobs (process_count summary))) lists
     → (wholes : List (Placed WholeFrame)) → AreViews frames wholes → AreUnfreed wholes (lists_of unfreed) → AreListedHandles wholes (lists_of lists)
-all_listed summary frames unfreed lists sums are wholes show same outcomes objects =
+all_listed summary frames unfreed lists sums are wholes show same =
     let events = events_of_wholes wholes in
     let number = process_number summary frames wholes sums show in
     let count = are.count in
     let long = jobs_long (process_count summary) in
-    listed (places_in is_leaked events) (rows_in (handles_in events outcomes)) (processes_of wholes) unfreed lists
-    (omega (arith, number, count, long)) same (λ i list is own there d mine. are.each i list is own there sums wholes outcomes d show objects mine)
+    listed (places_in is_leaked events) (rows_in (handles_in events)) (processes_of wholes) unfreed lists
+    (omega (arith, number, count, long)) same (λ i list is own there d mine. are.each i list is own there sums wholes d show mine)

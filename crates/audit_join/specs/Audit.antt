@@ -4,15 +4,12 @@ use Rattle.capture_frame.specs.declared.fault.Fault.{Fault}
 use Rattle.transaction_view.specs.Grammar.{WholeFrame, IsInGrammar, HasFirstFault}
 use Rattle.audit_join.specs.declared.audit_error.AuditError.{AuditError}
 use Rattle.audit_join.specs.declared.audit_error.AuditError.TheVariants.{Memory, Malformed}
-use Rattle.audit_findings.specs.Objects.{Outcome}
 use Rattle.audit_findings.specs.Kept.{KeptFindings, AreSectionsOf}
 
--- the capture is in the grammar by some frames, their attachments have some outcomes, and what was found are the
--- findings of both
+-- the capture is in the grammar by some frames, and what was found are their findings
 abbrev pub IsAudited : List ℕ → KeptFindings → Type 0
 IsAudited capture found =
-    (wholes : List WholeFrame) × (outcomes : List Outcome) × IsInGrammar capture wholes
-    × AreSectionsOf wholes outcomes found.frames found.sections
+    (wholes : List WholeFrame) × IsInGrammar capture wholes × AreSectionsOf wholes found.frames found.sections
 
 -- if the error names a fault, this fault is the first; if memory was refused, nothing is said
 abbrev pub NamesFirstFault : {F : Type 0} → (F → Type 0) → AuditError F → Type 0

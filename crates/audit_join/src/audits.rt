@@ -9,7 +9,6 @@ ghost use Rattle.audit_findings.specs.Frames.{AreViews};
 ghost use Rattle.event_core.specs.Events.{wholes_of};
 ghost use Rattle.audit_findings.specs.Kept.{AreSectionsOf};
 ghost use Rattle.audit_findings.specs.Ledgers.{AreListedHandles, AreUnfreed};
-ghost use Rattle.audit_findings.specs.Objects.{Outcome};
 ghost use Rattle.audit_findings.specs.Summary.{SumsPiece, process_count};
 ghost use Rattle.audit_join.specs.Audit.{IsAudited, IsMalformed};
 ghost use Rattle.audit_join.specs.Jobs.{AreCut, AreSound, IsFirstIn};
@@ -129,8 +128,7 @@ fn findings_of<'c, T: Threads + Sync>(
     requires shown { (wholes : List WholeFrame) × AreViews frames (wholes_of wholes) }
     ensures { IfOk result (λ found. (wholes : List WholeFrame) →
         AreViews frames.entry (wholes_of wholes) →
-        (outcomes : List Outcome)
-        × AreSectionsOf wholes outcomes found.frames found.sections) }
+        AreSectionsOf wholes found.frames found.sections) }
 {
     let whole: PieceSummary<'c> = sum_shares(rt, alloc, &frames.as_slice(), workers.get())?;
     let unfreed = whole.unfreed()?;

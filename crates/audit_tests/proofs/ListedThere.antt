@@ -12,7 +12,7 @@ use Rattle.audit_findings.proofs.RecordsThere.{has_record_in}
 
 -- a record begins at each place that the section `flags` lists
 pub flags_there : (found : KeptFindings) → AreOfFrames found.frames found.sections → All (HasRecordIn found.frames) found.sections.events.flags
-flags_there found (wholes, outcomes, tell) =
+flags_there found (wholes, tell) =
     let events = events_of_wholes (wholes_of wholes) in
     let listed = All-filter has_unknown_flags (Contains events) events (All-contains_itself events) in
     subst (All (HasRecordIn found.frames)) (sym (ap (λ (s : Sections ℕ). s.events.flags) tell.are))

@@ -1,10 +1,10 @@
 -- The definitions at bytes that were written out by hand from the format.
-use Rattle.std.proofs.Common.{◌≡◌, ℕ, List, [], ◌∷◌, ◌++◌, Some, None, replicate, refl, arith}
+use Rattle.std.proofs.Common.{◌≡◌, ℕ, List, [], ◌∷◌, ◌++◌, Some, None, replicate, refl}
 use Rattle.transaction_view.specs.Envelope.{number_at}
 use Rattle.object_view.specs.declared.bad_object.Cause.TheVariants.{ListLength, Misaligned, Overlap}
 use Rattle.object_view.specs.declared.sort.Sort.TheVariants.{Handle, Fda}
 use Rattle.object_view.specs.Fields.{field, binder_position, handle_position, num_fds_position, parent_position}
-use Rattle.object_view.specs.Objects.{ObjectText, MayComeObject, bad_at, AreObjects, all_good, until_bad, no_list}
+use Rattle.object_view.specs.Objects.{ObjectText, bad_at, objects_of, stopped}
 
 -- a HANDLE for handle 7, and the object that it is at offset 0
 handle_bytes : List ℕ
@@ -17,29 +17,24 @@ handle = record { offset = 0; sort = Handle; bytes = handle_bytes }
 two_handles : List ℕ
 two_handles = handle_bytes ++ handle_bytes
 
-handle_there : MayComeObject two_handles 0 handle
-unfolding handle two_handles handle_bytes number_at
-handle_there = record { fits = omega arith; aligned = refl; after = omega arith; named = refl; within = omega arith; bytes = refl }
-
 -- offsets 0 and 20: the second is inside the first object, and no later offset is looked at
-overlapping : AreObjects two_handles (replicate 8 0 ++ 20 ∷ replicate 7 0 ++ 24 ∷ replicate 7 0) (handle ∷ []) (Some (bad_at 1 20 Overlap))
-unfolding handle number_at
-overlapping = until_bad refl (20 ∷ replicate 7 0 ++ 24 ∷ replicate 7 0) Overlap (record { joined = refl; in_order = (handle_there, tt) }) (omega arith)
-    (refl, omega arith) refl
+overlapping : objects_of two_handles (replicate 8 0 ++ 20 ∷ replicate 7 0 ++ 24 ∷ replicate 7 0) ≡ record { good = handle ∷ []; bad = Some (bad_at 1 20 Overlap) }
+unfolding handle two_handles handle_bytes number_at
+overlapping = refl
 
 -- offset 0 alone
-alone : AreObjects two_handles (replicate 8 0) (handle ∷ []) None
-unfolding handle
-alone = all_good refl (record { joined = refl; in_order = (handle_there, tt) }) refl
+alone : objects_of two_handles (replicate 8 0) ≡ record { good = handle ∷ []; bad = None }
+unfolding handle two_handles handle_bytes number_at
+alone = refl
 
 -- offset 2
-misaligned : AreObjects two_handles (2 ∷ replicate 7 0) [] (Some (bad_at 0 2 Misaligned))
+misaligned : objects_of two_handles (2 ∷ replicate 7 0) ≡ stopped (bad_at 0 2 Misaligned)
 unfolding number_at
-misaligned = until_bad refl (2 ∷ replicate 7 0) Misaligned (record { joined = refl; in_order = tt }) (omega arith) (omega arith) refl
+misaligned = refl
 
 -- nine bytes are no list of offsets
-nine_bytes : AreObjects two_handles (replicate 9 0) [] (Some (bad_at 0 0 ListLength))
-nine_bytes = no_list (omega arith) refl refl
+nine_bytes : objects_of two_handles (replicate 9 0) ≡ stopped (bad_at 0 0 ListLength)
+nine_bytes = refl
 
 -- the handle is read, and it is no BINDER's address
 handle_read : field 4 (handle_position Handle) handle_bytes ≡ Some 7

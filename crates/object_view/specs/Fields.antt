@@ -1,6 +1,6 @@
 -- The objects of a transaction's data (`linux/android/binder.h`): their sorts, and the fields of each by their
 -- positions.
-use Rattle.std.specs.Prelude.{ℕ, List, Option, Some, None}
+use Rattle.std.specs.Prelude.{◌==◌, ℕ, List, [], ◌∷◌, find, Option, Some, None}
 use Rattle.std.specs.Option.{option_map}
 use Rattle.transaction_view.specs.Envelope.{number_at}
 use Rattle.object_view.specs.declared.sort.Sort.{Sort}
@@ -15,6 +15,14 @@ sort_number WeakHandle = 0x77682a85
 sort_number Fd = 0x66642a85
 sort_number Fda = 0x66646185
 sort_number Ptr = 0x70742a85
+
+-- the sorts
+abbrev pub all_sorts : List Sort
+all_sorts = Binder ∷ WeakBinder ∷ Handle ∷ WeakHandle ∷ Fd ∷ Fda ∷ Ptr ∷ []
+
+-- the sort with this number, if any
+abbrev pub sort_of : ℕ → Option Sort
+sort_of number = find (λ sort. sort_number sort == number) all_sorts
 
 -- how many bytes an object of the sort has
 abbrev pub sort_length : Sort → ℕ

@@ -3,3 +3,4 @@ pub mod Held
 pub mod Objects
 pub mod Reading
 pub mod State
+pub mod Laws

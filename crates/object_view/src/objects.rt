@@ -1,8 +1,7 @@
 //! The reader of an attachment's objects.
 
-ghost use Rattle.std.specs.Prelude.{◌≡◌, ◌≤◌, ◌++◌, length, drop, IfOk, IfErr};
-ghost use Rattle.byteorder.specs.Endian.{little_bytes};
-ghost use Rattle.object_view.specs.Objects.{MayComeObject, FailsAt, first_offset};
+ghost use Rattle.std.specs.Prelude.{◌≡◌, ◌≤◌, length, IfOk, IfErr};
+ghost use Rattle.object_view.specs.Objects.{object_at, first_offset};
 ghost use Rattle.object_view.specs.Reading.{object_text};
 
 use crate::bad_object::{BadObject, Cause};
@@ -35,23 +34,24 @@ pub struct Objects<'c> {
 }
 
 impl<'c> Model for Objects<'c> {
-    ghost use Rattle.object_view.specs.Reading.{Reading};
+    ghost use Rattle.object_view.specs.Objects as objects;
 
-    ghost Value = { Reading };
+    ghost Value = { objects.Objects };
 
-    ghost use Rattle.object_view.specs.State.{reading_of, IsWithin};
+    ghost use Rattle.object_view.specs.State.{ahead, IsWithin};
 
-    ghost view = { λ r. reading_of r.body.now r.offsets.now r.state };
+    ghost view = { λ r. ahead r.body.now r.offsets.now r.state };
 
     ghost invariant = { λ r. IsWithin r.body.now r.offsets.now r.state };
 }
 
 impl<'c> Objects<'c> {
-    ghost use Rattle.object_view.specs.Reading.{objects_start, Steps};
+    ghost use Rattle.object_view.specs.Objects.{objects_of};
+    ghost use Rattle.object_view.specs.Reading.{Steps};
 
     /// A reader before the first offset of the attachment's list.
     pub fn of(entry: Entry<'c>) -> Objects<'c>
-        ensures { result ≡ objects_start entry.entry.body.now entry.entry.offsets.now }
+        ensures { result ≡ objects_of entry.entry.body.now entry.entry.offsets.now }
     {
         Objects {
             body: entry.body,
@@ -104,8 +104,7 @@ impl<'c> Objects<'c> {
 /// The first offset of a list.
 fn first_offset(list: &[u8]) -> u64
     requires { 8 ≤ length list.now }
-    ensures read { result ≡ first_offset list.now }
-    ensures spelled { list.now ≡ little_bytes 8 result ++ drop 8 list.now }
+    ensures { result ≡ first_offset list.now }
 {
     u64_at(list, 0)
 }
@@ -113,8 +112,8 @@ fn first_offset(list: &[u8]) -> u64
 /// The object that begins at an offset of the data, after one that ends at `end`; or the first
 /// cause that applies.
 fn object_at(body: &[u8], offset: u64, end: usize) -> Result<Object<'_>, Cause>
-    ensures found { IfOk result (λ found. MayComeObject body.now end (object_text offset found)) }
-    ensures fails { IfErr result (FailsAt body.now end offset) }
+    ensures found { IfOk result (λ found. object_at body.now end offset ≡ Ok (object_text offset found)) }
+    ensures fails { IfErr result (λ cause. object_at body.now end offset ≡ Err cause) }
 {
     if offset % 4 != 0 {
         return Err(Cause::Misaligned);

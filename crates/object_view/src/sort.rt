@@ -1,6 +1,5 @@
-ghost use Rattle.std.specs.Prelude.{◌≡◌, IfSome, IfNone};
-ghost use Rattle.object_view.specs.Fields.{sort_number, sort_length};
-ghost use Rattle.object_view.specs.Objects.{IsUnknown};
+ghost use Rattle.std.specs.Prelude.{◌≡◌};
+ghost use Rattle.object_view.specs.Fields.{sort_of, sort_length};
 
 /// The sorts of objects, `BINDER_TYPE_..` of `linux/android/binder.h`.
 #[derive(Clone, Copy, Debug, PartialEq, Eq)]
@@ -24,8 +23,7 @@ pub enum Sort {
 impl Sort {
     /// The sort that an object's first four bytes name.
     pub(crate) fn of(number: u32) -> Option<Sort>
-        ensures known { IfSome result (λ sort. number ≡ sort_number sort) }
-        ensures unknown { IfNone result (IsUnknown number) }
+        ensures { result ≡ sort_of number }
     {
         match number {
             0x7362_2a85 => Some(Sort::Binder),

@@ -1,26 +1,18 @@
 -- Parts have exactly one text. The text of a single part is that of the capture.
-use Rattle.std.proofs.Common.{◌≡◌, ◌≢◌, inl, inr, ℕ, zero, suc, ◌<◌, List, [], ◌∷◌, ◌++◌, length, None, refl, sym, ap, subst, ◌∙◌, arith}
-use Rattle.std.specs.Prelude.{All, codes, drop}
+use Rattle.std.proofs.Common.{◌≡◌, ◌≢◌, inl, inr, ℕ, zero, suc, List, [], ◌∷◌, ◌++◌, length, None, refl, sym, ap, ◌∙◌}
+use Rattle.std.specs.Prelude.{All, codes}
 use Rattle.std.specs.Fmt.{decimal}
-use Rattle.std.specs.List.{flat_map}
-use Rattle.std.proofs.lemmas.List.Concat.{flat_map-cons}
-use Rattle.std.proofs.lemmas.List.Elements.{All-head, All-tail}
 use Rattle.capture_frame.specs.declared.fault.Fault.{Fault}
 use Rattle.capture_frame.specs.declared.fault.PartFault.{PartFault}
-use Rattle.capture_frame.specs.declared.version.Version.TheVariants.{Two}
-use Rattle.capture_frame.specs.Envelope.{file_header}
 use Rattle.capture_frame.specs.FirstFault.{IsCapture}
 use Rattle.capture_frame.specs.Parts.{joined}
 use Rattle.capture_frame.specs.Units.{IsBytes}
 use Rattle.capture_frame.proofs.CaptureLaws.{capture_one_reading}
-use Rattle.capture_frame.proofs.NumberLaws.{IsBytes-drop}
 use Rattle.capture_frame.proofs.PartLaws.{parts_outcome, parts_one_fault, parts_never_both, parts_joined, one_part, of_one_part, one_part_fails, fault_of_one_part}
 use Rattle.transaction_view.specs.Grammar.{WholeFrame, AreReadable, HasFirstPartFault, IsReadable, HasFirstFault, whole_format}
 use Rattle.transaction_view.proofs.GrammarLaws.{whole_decided, whole_wide}
-use Rattle.event_core.specs.Events.{events_of_wholes, wholes_of}
+use Rattle.event_core.specs.Events.{wholes_of}
 use Rattle.audit_findings.specs.Findings.{findings_of}
-use Rattle.audit_findings.specs.Objects.{AreOutcomes, attachments_of}
-use Rattle.audit_findings.proofs.SomeObjects.{some_objects_of}
 use Rattle.report_text.specs.Answers.{Answers, IsLineOn, IsLineOnParts, IsReportOnParts, IsTextOf, IsTextOfParts, SaysNoFault, line_of_fault_in, named, right}
 use Rattle.report_text.specs.Fault.{fault_line, fault_words, part_fault_line, no_fault_line}
 use Rattle.report_text.specs.Text.{IsReportOn, report_text}
@@ -49,44 +41,11 @@ one_line parts =
 
 -- ---- some text
 
-bytes_cons : (b : ℕ) (bytes : List ℕ) → b < 256 → IsBytes bytes → IsBytes (b ∷ bytes)
-bytes_cons b bytes small h zero = small
-bytes_cons b bytes small h (suc i) = h i
-
-bytes_none : IsBytes []
-bytes_none i = omega arith
-
-bytes_append : (front back : List ℕ) → IsBytes front → IsBytes back → IsBytes (front ++ back)
-bytes_append [] back a b = b
-bytes_append (x ∷ front) back a b = bytes_cons x (front ++ back) (a zero) (bytes_append front back (λ i. a (suc i)) b)
-
-abbrev AreSmall : List ℕ → Type 0
-AreSmall [] = Unit {0}
-AreSmall (b ∷ bytes) = (b < 256) × AreSmall bytes
-
-small_bytes : (bytes : List ℕ) → AreSmall bytes → IsBytes bytes
-small_bytes [] small = bytes_none
-small_bytes (b ∷ bytes) small = bytes_cons b bytes small.0 (small_bytes bytes small.1)
-
-header_bytes : IsBytes (file_header Two)
-header_bytes = small_bytes (file_header Two) (omega arith, (omega arith, (omega arith, (omega arith, (omega arith, (omega arith, (omega arith, (omega arith, (omega arith, (omega arith, (omega arith, (omega arith, (omega arith, (omega arith, (omega arith, (omega arith, tt))))))))))))))))
-
-after_bytes : (parts : List (List ℕ)) → All IsBytes parts → IsBytes (flat_map (λ part. drop 16 part) parts)
-after_bytes [] bytes = bytes_none
-after_bytes (part ∷ parts) bytes =
-    rw flat_map-cons
-    (bytes_append (drop 16 part) (flat_map (λ part. drop 16 part) parts) (IsBytes-drop 16 part (All-head IsBytes part parts bytes))
-    (after_bytes parts (All-tail IsBytes part parts bytes)))
-
-joined_bytes : (parts : List (List ℕ)) → All IsBytes parts → IsBytes (joined parts)
-joined_bytes parts bytes = bytes_append (file_header Two) (flat_map (λ part. drop 16 part) parts) header_bytes (after_bytes parts bytes)
-
 some_text : (parts : List (List ℕ)) → All IsBytes parts → (text : List ℕ) × IsTextOfParts parts text
 some_text parts bytes = elim (parts_outcome whole_format whole_wide whole_decided None parts bytes) [
   | inl readable ↦
       let whole = parts_joined whole_format whole_wide parts readable.0 readable.1 in
-      let found = some_objects_of (joined parts) readable.0 (joined_bytes parts bytes) whole in
-      (report_text (findings_of (wholes_of readable.0) found.0), right (readable, (readable.0, found.0, whole, found.1, refl)))
+      (report_text (findings_of (wholes_of readable.0)), right (readable, (readable.0, whole, refl)))
   | inr faulty ↦ (part_fault_line (length parts) faulty.0, named faulty.0 faulty.1 refl)
 ]
 
@@ -131,14 +90,11 @@ joined_frames capture readable = parts_joined whole_format whole_wide (capture �
 
 report_of_capture : (capture text : List ℕ) → IsReadable capture → IsReportOn (joined (capture ∷ [])) text → IsReportOn capture text
 report_of_capture capture text readable a =
-    let same = capture_one_reading whole_format whole_decided (joined (capture ∷ [])) a.0 readable.0 a.2 (joined_frames capture readable) in
-    let both = subst
-    (λ (wholes : List WholeFrame). AreOutcomes (attachments_of (events_of_wholes (wholes_of wholes))) a.1 × (text ≡ report_text (findings_of (wholes_of wholes) a.1)))
-    same (a.3, a.4) in
-    (readable.0, a.1, readable.1, both.0, both.1)
+    let same = capture_one_reading whole_format whole_decided (joined (capture ∷ [])) a.0 readable.0 a.1 (joined_frames capture readable) in
+    (readable.0, readable.1, a.2 ∙ ap (λ (wholes : List WholeFrame). report_text (findings_of (wholes_of wholes))) same)
 
 report_of_part : (capture text : List ℕ) → IsReportOn capture text → IsReportOn (joined (capture ∷ [])) text
-report_of_part capture text a = (a.0, a.1, joined_frames capture (a.0, a.2), a.3, a.4)
+report_of_part capture text a = (a.0, joined_frames capture (a.0, a.1), a.2)
 
 pub fault_of_capture : (capture : List ℕ) (found : PartFault) → HasFirstPartFault (capture ∷ []) found → HasFirstFault capture found.fault
 fault_of_capture capture found faulty = (fault_of_one_part whole_format capture found faulty).1
@@ -167,7 +123,7 @@ text_of_capture capture =
 
 pub text_of_part : (capture text : List ℕ) → IsTextOf capture text → IsTextOfParts (capture ∷ []) text
 text_of_part capture =
-    of_part IsReportOn IsReportOnParts capture (λ text a. (readable_part capture (a.0, a.2), report_of_part capture text a))
+    of_part IsReportOn IsReportOnParts capture (λ text a. (readable_part capture (a.0, a.1), report_of_part capture text a))
 
 pub line_of_capture : (capture line : List ℕ) → IsLineOnParts (capture ∷ []) line → IsLineOn capture line
 line_of_capture capture = of_capture (SaysNoFault IsReadable) (SaysNoFault AreReadable) capture (λ line a. (readable_capture capture a.0, a.1))

@@ -7,7 +7,6 @@ use Rattle.transaction_view.specs.Grammar.{IsReadable, HasFirstFault, whole_form
 use Rattle.transaction_view.proofs.GrammarLaws.{whole_decided}
 use Rattle.event_core.specs.Events.{wholes_of}
 use Rattle.audit_findings.specs.Findings.{findings_of}
-use Rattle.audit_findings.proofs.SomeObjects.{some_objects_of}
 use Rattle.report_text.specs.Answers.{IsTextOf, IsLineOn, named, right}
 use Rattle.report_text.specs.Fault.{fault_line, no_fault_line}
 use Rattle.report_text.specs.Text.{report_text}
@@ -17,9 +16,7 @@ readable_or_faulty capture h = capture_outcome whole_format whole_decided captur
 
 pub some_text : (capture : List ℕ) → IsBytes capture → (text : List ℕ) × IsTextOf capture text
 some_text capture h = elim (readable_or_faulty capture h) [
-  | inl readable ↦
-      let found = some_objects_of capture readable.0 h readable.1 in
-      (report_text (findings_of (wholes_of readable.0) found.0), right (readable.0, found.0, readable.1, found.1, refl))
+  | inl readable ↦ (report_text (findings_of (wholes_of readable.0)), right (readable.0, readable.1, refl))
   | inr faulty ↦ (fault_line faulty.0, named faulty.0 faulty.1 refl)
 ]
 

@@ -9,9 +9,7 @@ use Rattle.event_core.specs.Events.{EventRead, events_of_wholes}
 use Rattle.audit_findings.specs.Findings.{findings_of}
 use Rattle.audit_findings.specs.Frames.{AreViews}
 use Rattle.audit_findings.specs.Kept.{KeptFindings, at_places}
-use Rattle.audit_findings.specs.Ledgers.{AreOutcomesOf}
 use Rattle.audit_findings.specs.Lookup.{HasRecordIn}
-use Rattle.audit_findings.specs.Objects.{Outcome}
 use Rattle.audit_findings.specs.declared.findings.Sections.{Sections}
 use Rattle.report_text.specs.Section.{AreLinesOf, SectionText}
 
@@ -55,11 +53,10 @@ IsRowAt kinds frames place = HasRecordIn frames place × HasRowAt kinds frames p
 -- the record of each row of the section is of one of these kinds
 abbrev pub AreOfKinds : {R : Type 0} → SectionText R → (R → EventRead) → (Kind → Bool) → Type 0
 AreOfKinds section owner kinds =
-    (wholes : List (Placed WholeFrame)) (outcomes : List Outcome)
-    → All (λ row. IsTrue (kinds (owner row).kind)) (section.rows (findings_of wholes outcomes))
+    (wholes : List (Placed WholeFrame))
+    → All (λ row. IsTrue (kinds (owner row).kind)) (section.rows (findings_of wholes))
 
 -- the owner of each row of the section is an event of the frames
 abbrev pub HaveEvents : {R : Type 0} → SectionText R → (R → EventRead) → Type 0
 HaveEvents section owner =
-    (wholes : List (Placed WholeFrame)) (outcomes : List Outcome) → AreOutcomesOf wholes outcomes
-    → All (λ row. Contains (events_of_wholes wholes) (owner row)) (section.rows (findings_of wholes outcomes))
+    (wholes : List (Placed WholeFrame)) → All (λ row. Contains (events_of_wholes wholes) (owner row)) (section.rows (findings_of wholes))

@@ -4,7 +4,6 @@ use Rattle.transaction_view.specs.Grammar.{WholeFrame}
 use Rattle.event_core.specs.Events.{EventRead, wholes_of}
 use Rattle.audit_findings.specs.Findings.{findings_of}
 use Rattle.audit_findings.specs.Kept.{AreSectionsOf, KeptFindings}
-use Rattle.audit_findings.specs.Objects.{Outcome}
 use Rattle.audit_findings.specs.declared.findings.Sections.{Sections}
 
 -- a section: its head, given how many rows it has; its rows; and the line of a row
@@ -17,8 +16,8 @@ pub record SectionText (Row : Type 0) : Type 0 where
 abbrev pub lines_of : {Row : Type 0} → SectionText Row → Sections EventRead → List (List ℕ)
 lines_of section found = section.head found (length (section.rows found)) ∷ map section.line (section.rows found)
 
--- whatever frames and outcomes the kept findings are of, these are their lines
+-- whatever frames the kept findings are of, these are their lines
 abbrev pub AreLinesOf : (Sections EventRead → List (List ℕ)) → KeptFindings → List (List ℕ) → Type 0
 AreLinesOf lines_of kept lines =
-    (wholes : List WholeFrame) (outcomes : List Outcome) → AreSectionsOf wholes outcomes kept.frames kept.sections
-    → lines ≡ lines_of (findings_of (wholes_of wholes) outcomes)
+    (wholes : List WholeFrame) → AreSectionsOf wholes kept.frames kept.sections
+    → lines ≡ lines_of (findings_of (wholes_of wholes))

@@ -3,10 +3,9 @@ use Rattle.std.specs.Prelude.{◌≡◌, ℕ, List, [], ◌∷◌, ◌++◌, cod
 use Rattle.std.specs.List.{flat_map}
 use Rattle.std.specs.Fmt.{decimal}
 use Rattle.transaction_view.specs.Grammar.{WholeFrame, IsInGrammar}
-use Rattle.event_core.specs.Events.{EventRead, events_of_wholes, wholes_of}
+use Rattle.event_core.specs.Events.{EventRead, wholes_of}
 use Rattle.audit_findings.specs.Findings.{findings_of}
 use Rattle.audit_findings.specs.Kept.{AreSectionsOf, KeptFindings}
-use Rattle.audit_findings.specs.Objects.{AreOutcomes, Outcome, attachments_of}
 use Rattle.audit_findings.specs.declared.findings.Sections.{Sections}
 use Rattle.report_text.specs.Line.{ended}
 use Rattle.report_text.specs.Section.{lines_of}
@@ -60,16 +59,15 @@ report_lines found = flat_map (λ lines. lines found) lines_in_order
 unfoldable pub report_text : Sections EventRead → List ℕ
 report_text found = flat_map ended (report_lines found)
 
--- whatever frames and outcomes the kept findings are of, the text is the report on those findings
+-- whatever frames the kept findings are of, the text is the report on those findings
 abbrev pub IsReportOf : KeptFindings → List ℕ → Type 0
 IsReportOf kept text =
-    (wholes : List WholeFrame) (outcomes : List Outcome) → AreSectionsOf wholes outcomes kept.frames kept.sections
-    → text ≡ report_text (findings_of (wholes_of wholes) outcomes)
+    (wholes : List WholeFrame) → AreSectionsOf wholes kept.frames kept.sections
+    → text ≡ report_text (findings_of (wholes_of wholes))
 
--- the text is the report on a capture: the capture is in the grammar by some frames, their attachments have some
--- outcomes, and the text is the report on the findings of both
+-- the text is the report on a capture: the capture is in the grammar by some frames, and the text is the report on their
+-- findings
 abbrev pub IsReportOn : List ℕ → List ℕ → Type 0
 IsReportOn capture text =
-    (wholes : List WholeFrame) × (outcomes : List Outcome) × IsInGrammar capture wholes
-    × AreOutcomes (attachments_of (events_of_wholes (wholes_of wholes))) outcomes
-    × (text ≡ report_text (findings_of (wholes_of wholes) outcomes))
+    (wholes : List WholeFrame) × IsInGrammar capture wholes
+    × (text ≡ report_text (findings_of (wholes_of wholes)))

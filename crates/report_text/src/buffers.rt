@@ -26,11 +26,11 @@ impl EventSection for Buffers {
 
     ghost keeps = { record { head = λ found rows. refl; rows = λ found. refl } };
 
-    ghost events = { λ wholes outcomes are. listed_there is_leaked (events_of_wholes wholes) };
+    ghost events = { λ wholes. listed_there is_leaked (events_of_wholes wholes) };
 
     ghost kinds = { has_transaction_data };
 
-    ghost of_kinds = { λ wholes outcomes. leaked_kinds (events_of_wholes wholes) };
+    ghost of_kinds = { λ wholes. leaked_kinds (events_of_wholes wholes) };
 
     ghost bare = { λ e. refl };
 

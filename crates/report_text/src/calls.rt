@@ -28,9 +28,9 @@ impl CallSection for Calls {
 
     ghost keeps = { record { head = λ found rows. refl; rows = λ found. refl } };
 
-    ghost events = { λ wholes outcomes are. lacking_there is_made (events_of_wholes wholes) };
+    ghost events = { λ wholes. lacking_there is_made (events_of_wholes wholes) };
 
-    ghost of_kinds = { λ wholes outcomes. lacking_kinds is_made (events_of_wholes wholes) };
+    ghost of_kinds = { λ wholes. lacking_kinds is_made (events_of_wholes wholes) };
 
     ghost field = { target_field };
 

@@ -30,11 +30,11 @@ impl EventSection for Clears {
 
     ghost keeps = { record { head = λ found rows. refl; rows = λ found. refl } };
 
-    ghost events = { λ wholes outcomes are. both_there clear_item_of (events_of_wholes wholes) };
+    ghost events = { λ wholes. both_there clear_item_of (events_of_wholes wholes) };
 
     ghost kinds = { is_of_clear };
 
-    ghost of_kinds = { λ wholes outcomes. clear_kinds (events_of_wholes wholes) };
+    ghost of_kinds = { λ wholes. clear_kinds (events_of_wholes wholes) };
 
     ghost bare = { λ e. refl };
 

@@ -28,11 +28,11 @@ impl EventSection for Flags {
 
     ghost keeps = { record { head = λ found rows. refl; rows = λ found. refl } };
 
-    ghost events = { λ wholes outcomes are. flagged_there (events_of_wholes wholes) };
+    ghost events = { λ wholes. flagged_there (events_of_wholes wholes) };
 
     ghost kinds = { λ _. true };
 
-    ghost of_kinds = { λ _ _ _ _ _. refl };
+    ghost of_kinds = { λ _ _ _ _. refl };
 
     ghost bare = { λ e. refl };
 

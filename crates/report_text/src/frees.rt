@@ -27,11 +27,11 @@ impl EventSection for Frees {
 
     ghost keeps = { record { head = λ found rows. refl; rows = λ found. refl } };
 
-    ghost events = { λ wholes outcomes are. listed_there (is_stray_close buffer_pending_of) (events_of_wholes wholes) };
+    ghost events = { λ wholes. listed_there (is_stray_close buffer_pending_of) (events_of_wholes wholes) };
 
     ghost kinds = { is_free };
 
-    ghost of_kinds = { λ wholes outcomes. free_kinds (events_of_wholes wholes) };
+    ghost of_kinds = { λ wholes. free_kinds (events_of_wholes wholes) };
 
     ghost bare = { λ e. refl };
 

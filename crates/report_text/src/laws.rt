@@ -5,8 +5,8 @@ ghost use Rattle.report_text.specs.Laws.{HasExactlyOneText, HasExactlyOneLine};
 ghost use Rattle.report_text.specs.PartLaws.{HaveExactlyOneText, HaveExactlyOneLine};
 ghost use Rattle.report_text.specs.PartLaws.{HasTextOfCapture, HasLineOfCapture};
 
-/// A capture has at most one text, whatever frames and outcomes are chosen for it, and at most one
-/// line of `first-fault`. It never has both a report and a first fault.
+/// A capture has at most one text, whatever frames are chosen for it, and at most one line of
+/// `first-fault`. It never has both a report and a first fault.
 pub fn one_text()
     ensures text { HasOneText }
     ensures line { HasOneLine }

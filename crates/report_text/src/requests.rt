@@ -26,11 +26,11 @@ impl EventSection for Requests {
 
     ghost keeps = { record { head = λ found rows. refl; rows = λ found. refl } };
 
-    ghost events = { λ wholes outcomes are. listed_there is_standing_request (events_of_wholes wholes) };
+    ghost events = { λ wholes. listed_there is_standing_request (events_of_wholes wholes) };
 
     ghost kinds = { is_request };
 
-    ghost of_kinds = { λ wholes outcomes. request_kinds (events_of_wholes wholes) };
+    ghost of_kinds = { λ wholes. request_kinds (events_of_wholes wholes) };
 
     ghost bare = { λ e. refl };
 

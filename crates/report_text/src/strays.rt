@@ -23,11 +23,11 @@ impl EventSection for Strays {
 
     ghost keeps = { record { head = λ found rows. refl; rows = λ found. refl } };
 
-    ghost events = { λ wholes outcomes are. strays_there (events_of_wholes wholes) };
+    ghost events = { λ wholes. strays_there (events_of_wholes wholes) };
 
     ghost kinds = { λ _. true };
 
-    ghost of_kinds = { λ _ _ _ _ _. refl };
+    ghost of_kinds = { λ _ _ _ _. refl };
 
     ghost bare = { λ e. refl };
 

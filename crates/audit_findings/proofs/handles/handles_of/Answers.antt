@@ -22,12 +22,12 @@ loop-list-preserved c =
     ∙ sym (joined_next c.args.lists.now c.loop-list.list-index _ c.loop-list-test.true)
 
 pub returns : goal.returns
-returns c wholes listed outcomes are =
+returns c wholes listed =
     let lists = c.args.lists.now in
     let items = λ (list : ListOfRows). list.items in
     let whole = take_all c.loop-list.list-index lists (omega arith) in
     c.references_of.ensures
     ∙ ap (references is_unbalanced_handle)
     (c.loop-list.invariant ∙ ap (λ ls. flat_map (λ list. list) (map items ls)) whole
-    ∙ ap (λ (ls : List (List (ProcessRow HeldRow))). flat_map (λ list. list) ls) (listed outcomes are)
-    ∙ flat_lists (rows_in (handles_in (events_of_wholes wholes) outcomes)) (processes_of wholes))
+    ∙ ap (λ (ls : List (List (ProcessRow HeldRow))). flat_map (λ list. list) ls) listed
+    ∙ flat_lists (rows_in (handles_in (events_of_wholes wholes))) (processes_of wholes))

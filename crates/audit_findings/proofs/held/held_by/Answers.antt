@@ -1,11 +1,11 @@
-use Rattle.std.proofs.Common.{[], subst, arith}
+use Rattle.std.proofs.Common.{subst, arith}
 use Rattle.std.proofs.lemmas.List.{take_all}
 use Rattle.audit_findings.specs.HeldCounts.{CountsEntries}
 use Rattle.audit_findings.proofs.HeldLaws.{counts_next, room_for_entry}
 use Rattle.audit_findings.proofs.held.held_by.Goals as goal
 
 pub loop-entry-init : goal.loop-entry-init
-loop-entry-init c = ([], tt, c.empty-held.ensures)
+loop-entry-init c = c.empty-held.ensures
 
 pub add_objects-requires : goal.add_objects-requires
 add_objects-requires c =

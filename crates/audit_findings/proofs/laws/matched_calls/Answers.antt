@@ -7,5 +7,5 @@ pub returns-clause-events_rise : goal.returns-clause-events_rise
 returns-clause-events_rise c = events_rise
 
 pub returns-clause-calls : goal.returns-clause-calls
-returns-clause-calls c = λ capture wholes outcomes is.
+returns-clause-calls c = λ capture wholes is.
     calls_matched (events_of_wholes (wholes_of wholes)) (events_rise capture wholes is)

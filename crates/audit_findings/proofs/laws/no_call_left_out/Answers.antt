@@ -3,4 +3,4 @@ use Rattle.audit_findings.proofs.CallsTold.{made_told, served_told}
 use Rattle.audit_findings.proofs.laws.no_call_left_out.Goals as goal
 
 pub returns : goal.returns
-returns c wholes outcomes = (made_told (events_of_wholes wholes), served_told (events_of_wholes wholes))
+returns c wholes = (made_told (events_of_wholes wholes), served_told (events_of_wholes wholes))

@@ -5,8 +5,7 @@ use Rattle.audit_findings.proofs.PlacesRise.{events_rise}
 use Rattle.audit_findings.proofs.laws.rows_of_references.Goals as goal
 
 pub returns-clause-handles : goal.returns-clause-handles
-returns-clause-handles c = λ capture wholes outcomes is are.
-    handle_rows_are (wholes_of wholes) outcomes (events_rise capture wholes is) are
+returns-clause-handles c = λ capture wholes is. handle_rows_are (wholes_of wholes) (events_rise capture wholes is)
 
 pub returns-clause-nodes : goal.returns-clause-nodes
-returns-clause-nodes c = λ wholes outcomes. node_rows_are (wholes_of wholes)
+returns-clause-nodes c = λ wholes. node_rows_are (wholes_of wholes)

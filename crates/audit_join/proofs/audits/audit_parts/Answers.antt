@@ -43,7 +43,7 @@ returns-in_ok-findings_of-in-Ok-clause-found g c =
     let sound = subst AreSound c.as_slice.ensures c.in_ok-judge_parts-in-Ok.ensures.sound in
     let whole = whole_of_parts (bytes_of c.args.parts.now) c.in-Ok.frames c.in-Ok.ensures sound in
     let told = c.in_ok-findings_of-in-Ok.ensures whole.1.0 whole.1.2 in
-    (whole.0, (whole.1.0, told.0, whole.1.1, told.1))
+    (whole.0, (whole.1.0, whole.1.1, told))
 
 pub returns-in_ok-judge_parts-in-Err-Bad-clause-malformed : goal.returns-in_ok-judge_parts-in-Err-Bad-clause-malformed
 returns-in_ok-judge_parts-in-Err-Bad-clause-malformed g c =

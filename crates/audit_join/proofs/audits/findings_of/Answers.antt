@@ -37,7 +37,7 @@ new-requires g c =
     let found = c.in_ok-sections.ensures frames wholes sums (good_cut frames c.requires.cut c.requires.sound) shown.1
     (subst (λ (lists : List (Vec ℕ Global)). AreUnfreed wholes (lists_of lists)) (sym c.as_slice-4.ensures.value) unfreed)
     (subst (λ (lists : List ListOfRows). AreListedHandles wholes (lists_of lists)) (sym c.as_slice-5.ensures.value) listed) in
-    (shown.0, found.0, record { show = shown.1; objects = found.1; are = found.2 })
+    (shown.0, record { show = shown.1; are = found })
 
 pub returns : goal.returns
 returns g c units show =
@@ -50,4 +50,4 @@ returns g c units show =
     let found = c.in_ok-sections.ensures frames wholes sums (good_cut frames c.requires.cut c.requires.sound) show
     (subst (λ (lists : List (Vec ℕ Global)). AreUnfreed wholes (lists_of lists)) (sym c.as_slice-4.ensures.value) unfreed)
     (subst (λ (lists : List ListOfRows). AreListedHandles wholes (lists_of lists)) (sym c.as_slice-5.ensures.value) listed) in
-    (found.0, rw c.new.ensures (record { show = show; objects = found.1; are = found.2 }))
+    rw c.new.ensures (record { show = show; are = found })

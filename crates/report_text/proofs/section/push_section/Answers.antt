@@ -14,6 +14,6 @@ returns g c =
     (λ pushed. record {
       lines = c.head.result.bytes ∷ pushed.0;
       taken = (c.push_line.new.self, c.in_ok-push_line.ensures, pushed.2);
-      told = λ wholes outcomes are. ap (λ (line : List ℕ). line ∷ pushed.0) head ∙ c.rows-rows.ensures.told pushed.0 pushed.1 wholes outcomes are;
+      told = λ wholes are. ap (λ (line : List ℕ). line ∷ pushed.0) head ∙ c.rows-rows.ensures.told pushed.0 pushed.1 wholes are;
     })
     c.push_rows.ensures

@@ -6,7 +6,7 @@ use Rattle.audit_findings.proofs.PlacesRise.{frames_apart}
 use Rattle.audit_findings.proofs.findings.Findings.frame_at.Goals as goal
 
 pub frame_at-requires : goal.frame_at-requires
-frame_at-requires c = subst (AllPairs AreApart) (sym c.as_slice.ensures) (frames_apart _ c.self.invariant.0 c.self.invariant.2.show)
+frame_at-requires c = subst (AllPairs AreApart) (sym c.as_slice.ensures) (frames_apart _ c.self.invariant.0 c.self.invariant.1.show)
 
 -- these frames are the findings' own
 pub returns : goal.returns

@@ -12,10 +12,6 @@ returns c wholes sums few unfreed listed =
     let frames = frame_count c.args.self.sequences wholes sums.sequences in
     let missing = c.missing-missing.ensures wholes sums.sequences in
     let calls = c.in_ok-calls.ensures all (subst (SumsThreadCalls c.args.self.of_events.threads) sums.are_all sums.sums.threads) rise in
-    let counted = c.in_ok-events.ensures all (subst (SumsEvents c.args.self.of_events.all) sums.are_all sums.sums.all) in
-    let events = counted.2 in
-    let processes = c.in_ok-processes.ensures wholes (c.processes.ensures.gives wholes sums c.empty-none.ensures) unfreed listed rise counted.0 counted.1 in (
-      counted.0,
-      counted.1,
-      λ i. record { frames = frames i; missing = missing i; events = events i; calls = calls i; processes = processes i },
-    )
+    let events = c.in_ok-events.ensures all (subst (SumsEvents c.args.self.of_events.all) sums.are_all sums.sums.all) in
+    let processes = c.in_ok-processes.ensures wholes (c.processes.ensures.gives wholes sums c.empty-none.ensures) unfreed listed rise in
+    λ i. record { frames = frames i; missing = missing i; events = events i; calls = calls i; processes = processes i }

@@ -4,7 +4,7 @@ use Rattle.event_core.specs.Reading.{event_text}
 use Rattle.audit_findings.specs.Kept.{bad_at_place}
 use Rattle.audit_findings.specs.Objects.{owned_by}
 use Rattle.audit_findings.proofs.FewLaws.{few_halves, last_small}
-use Rattle.audit_findings.proofs.OutcomeLaws.{counts_short, objects_last}
+use Rattle.audit_findings.proofs.AttachedObjects.{counts_short, objects_more}
 use Rattle.audit_findings.proofs.objects.ObjectLedger.add.Goals as goal
 
 pub count_attachment-requires : goal.count_attachment-requires
@@ -19,12 +19,14 @@ pub returns-in_ok-push : goal.returns-in_ok-push
 returns-in_ok-push c events sums fits =
     let e = event_text c.args.event in
     let counted = c.count_attachment.ensures in
-    objects_last c.args.self.now _ events e c.count_attachment.result counted.0 sums counted.1 counted.2 counted.3
-    (c.in_ok-push.ensures.items ∙ ap (λ bad. c.args.self.now.bad.items ++ map bad_at_place (owned_by e bad)) (sym c.in-Some.is))
+    objects_more c.args.self.now _ events (e ∷ []) sums counted.counted
+    (c.in_ok-push.ensures.items ∙ ap (λ bad. c.args.self.now.bad.items ++ map bad_at_place (owned_by e bad)) (sym c.in-Some.is)
+    ∙ ap (λ rows. c.args.self.now.bad.items ++ map bad_at_place rows) (sym counted.bad))
 
 pub returns-in_default : goal.returns-in_default
 returns-in_default c events sums fits =
     let e = event_text c.args.event in
     let counted = c.count_attachment.ensures in
-    objects_last c.args.self.now _ events e c.count_attachment.result counted.0 sums counted.1 counted.2 counted.3
-    (sym (append-nil c.args.self.now.bad.items) ∙ ap (λ bad. c.args.self.now.bad.items ++ map bad_at_place (owned_by e bad)) (sym c.in_default.is))
+    objects_more c.args.self.now _ events (e ∷ []) sums counted.counted
+    (sym (append-nil c.args.self.now.bad.items) ∙ ap (λ bad. c.args.self.now.bad.items ++ map bad_at_place (owned_by e bad)) (sym c.in_default.is)
+    ∙ ap (λ rows. c.args.self.now.bad.items ++ map bad_at_place rows) (sym counted.bad))

@@ -1,6 +1,6 @@
 use Rattle.std.proofs.Common.{◌++◌, ap, ◌∙◌, arith}
 use Rattle.audit_findings.proofs.FewLaws.{few_halves}
-use Rattle.audit_findings.proofs.OutcomeLaws.{counts_short, objects_joined}
+use Rattle.audit_findings.proofs.AttachedObjects.{counts_short, objects_joined}
 use Rattle.audit_findings.proofs.objects.ObjectLedger.join.Goals as goal
 
 pub plus-requires : goal.plus-requires

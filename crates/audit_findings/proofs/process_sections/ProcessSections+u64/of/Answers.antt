@@ -2,8 +2,8 @@ use Rattle.std.proofs.Common.{◌∙◌}
 use Rattle.audit_findings.proofs.process_sections.ProcessSections+u64.of.Goals as goal
 
 pub returns : goal.returns
-returns c wholes of unfreed listed rise outcomes are =
-    let handles = c.in_ok-handles_of.ensures wholes listed outcomes are in
+returns c wholes of unfreed listed rise =
+    let handles = c.in_ok-handles_of.ensures wholes listed in
     let nodes = c.in_ok-nodes_of.ensures wholes of in
     let leaked = c.of.ensures ∙ c.in_ok-gathered.ensures wholes rise unfreed in
     let strays = c.of-2.ensures ∙ c.in_ok-places_of.ensures wholes of rise in

@@ -19,7 +19,7 @@ keeps : Keeps objects_section bad_at_place head_of rows_of
 keeps = record { head = λ found rows. refl; rows = λ found. refl }
 
 events : HaveEvents objects_section (λ b. b.owner)
-events = λ wholes outcomes are. owners_there (events_of_wholes wholes) outcomes are
+events = λ wholes. owners_there (events_of_wholes wholes)
 
 kept : (c : goal.After-as_slice) → c.as_slice.result.now ≡ rows_of c.args.found.now.sections
 kept c = c.as_slice.ensures ∙ ap rows_of c.sections.ensures.value
