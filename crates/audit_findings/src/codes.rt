@@ -11,7 +11,7 @@ use binder_code::Kind;
 use std::alloc::{AllocError, Global};
 
 /// A code word, and how many records have it.
-#[derive(Clone, Copy, Debug, PartialEq, Eq)]
+#[derive(Clone, Copy, Debug)]
 pub struct CodeRow {
     pub word: u32,
     pub count: u64,

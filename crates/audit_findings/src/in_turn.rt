@@ -13,7 +13,7 @@ use process_ledgers::{ProcessLedgers, Processes};
 use std::alloc::{AllocError, Global};
 
 /// A row of one process, as its ledger gives it.
-#[derive(Clone, Copy, Debug, PartialEq, Eq)]
+#[derive(Clone, Copy, Debug)]
 pub struct ProcessRow<R> {
     pub process: Process,
     pub row: R,

@@ -15,7 +15,7 @@ use std::alloc::{AllocError, Global};
 use transaction_view::Entry;
 
 /// A bad object, and its owner.
-#[derive(Clone, Copy, Debug, PartialEq, Eq)]
+#[derive(Clone, Copy, Debug)]
 pub struct BadRow<E> {
     /// What is kept of the record that owns the attachment.
     pub owner: E,

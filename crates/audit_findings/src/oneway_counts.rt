@@ -7,7 +7,7 @@ ghost use Rattle.audit_findings.specs.Oneway.{oneway_counts};
 use event_core::{Event, OnewayKey, oneway_step};
 
 /// How many oneway transactions are sent, and how many received, over all processes.
-#[derive(Clone, Copy, Debug, PartialEq, Eq)]
+#[derive(Clone, Copy, Debug)]
 pub struct OnewayCounts {
     /// How many are sent, refused ones included.
     pub sent: u64,

@@ -10,7 +10,7 @@ use crate::code_counts::CodeCounts;
 use binder_code::Kind;
 
 /// How many records of these kinds there are.
-#[derive(Clone, Copy, Debug, PartialEq, Eq)]
+#[derive(Clone, Copy, Debug)]
 pub struct RecordCounts {
     /// BR_TRANSACTION, BR_TRANSACTION_SEC_CTX and BR_REPLY: the driver delivers a buffer.
     pub deliveries: u64,

@@ -7,7 +7,7 @@ ghost use Rattle.audit_findings.specs.Objects.{count_of, same_sort};
 use object_view::Sort;
 
 /// A number for each sort.
-#[derive(Clone, Copy, Debug, PartialEq, Eq)]
+#[derive(Clone, Copy, Debug)]
 pub struct SortCounts {
     pub binder: u64,
     pub weak_binder: u64,

@@ -4,7 +4,7 @@ use capture_frame::{Fault, PartFault};
 use std::alloc::AllocError;
 
 /// Why there are no findings of a capture.
-#[derive(Clone, Copy, Debug, PartialEq, Eq)]
+#[derive(Clone, Copy, Debug)]
 pub enum AuditError<F = Fault> {
     /// Memory ran out.
     Memory,

@@ -4,7 +4,7 @@ ghost use Rattle.std.specs.Prelude.{◌≡◌, ◌≤◌, ◌↔◌, IsSome, IfS
 
 /// How many frames a worker judges at a time: 1 to 65,536. It does not say how frames are summed:
 /// that is done in shares.
-#[derive(Clone, Copy, Debug, PartialEq, Eq)]
+#[derive(Clone, Copy)]
 pub struct Piece {
     frames: u64,
     pub ghost at_least_one: { 1 ≤ frames },

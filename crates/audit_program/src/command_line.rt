@@ -14,7 +14,7 @@ use std::alloc::{AllocError, Global};
 const MOST_FILES: usize = 256;
 
 /// Why `clap` does not take the words.
-#[derive(Clone, Copy, Debug, PartialEq, Eq)]
+#[derive(Clone, Copy)]
 pub(crate) enum WordsError {
     Memory,
     Usage,

@@ -17,7 +17,7 @@ use std::io::{Read, Write};
 use std::thread::Threads;
 
 /// What is asked of a capture.
-#[derive(Clone, Copy, Debug, PartialEq)]
+#[derive(Clone, Copy)]
 pub enum Question {
     /// The report, made by this many workers, each of which takes this many frames at a time.
     Report { workers: Workers, piece: Piece },
@@ -26,7 +26,7 @@ pub enum Question {
 }
 
 /// What is asked, and the names of the files that hold the parts of the capture, in order.
-#[derive(Clone, Copy, Debug, PartialEq)]
+#[derive(Clone, Copy)]
 pub struct Request<'a> {
     pub question: Question,
     pub files: &'a [&'a str],

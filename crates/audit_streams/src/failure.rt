@@ -9,7 +9,7 @@ use crate::writing::write_text;
 use std::io::Write;
 
 /// What ended the program without an answer.
-#[derive(Clone, Copy, Debug, PartialEq, Eq)]
+#[derive(Clone, Copy)]
 pub enum Failure {
     /// The words of the command line ask for nothing.
     Usage,

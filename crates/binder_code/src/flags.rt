@@ -5,7 +5,7 @@ ghost use Rattle.binder_code.specs.Flags.{flag_table, known_flags, unknown_of, b
 use bitflags::{Flag, Flags, bitflag_items};
 
 /// The flags of a transaction, `enum transaction_flags` of `linux/android/binder.h`.
-#[derive(Clone, Copy, Debug, PartialEq, Eq)]
+#[derive(Clone, Copy)]
 pub struct TransactionFlags(u32);
 
 bitflag_items! {

@@ -1,5 +1,5 @@
 /// Which of the two protocols of `linux/android/binder.h` a code belongs to.
-#[derive(Clone, Copy, Debug, PartialEq, Eq)]
+#[derive(Clone, Copy)]
 pub enum Protocol {
     /// `binder_driver_command_protocol`: the `BC_` codes, in write frames.
     Command,

@@ -6,7 +6,7 @@ ghost use Rattle.call_stacks.specs.Verdicts.{verdict_of, has_reply};
 use event_core::Bracket;
 
 /// What becomes of a call that a thread makes, or of one that it gets to serve.
-#[derive(Clone, Copy, Debug, PartialEq, Eq)]
+#[derive(Clone, Copy, Debug)]
 pub enum Verdict {
     /// The thread got a reply to the call that it made.
     Answered,

@@ -1,7 +1,7 @@
 //! A job, its state, and a worker's step.
 
 /// A job: the place where it starts, and the place of its fault, if it has one.
-#[derive(Clone, Copy, Debug, PartialEq, Eq)]
+#[derive(Clone, Copy)]
 pub struct Job {
     pub start: u64,
     pub fault: Option<u64>,
@@ -25,7 +25,7 @@ pub enum JobState {
 }
 
 /// What a worker does in one step.
-#[derive(Clone, Copy, Debug, PartialEq, Eq)]
+#[derive(Clone, Copy)]
 pub enum Act {
     Claim,
     Look,
@@ -33,7 +33,7 @@ pub enum Act {
 }
 
 /// One act of one worker. Workers are numbered from 0.
-#[derive(Clone, Copy, Debug, PartialEq, Eq)]
+#[derive(Clone, Copy)]
 pub struct Step {
     pub worker: u64,
     pub act: Act,

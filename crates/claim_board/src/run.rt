@@ -19,7 +19,7 @@ use std::marker::Brand;
 use std::thread::Threads;
 
 /// Why there are no results: the least fault of all jobs, or there was no memory.
-#[derive(Clone, Copy, Debug, PartialEq, Eq)]
+#[derive(Clone, Copy)]
 pub enum Stop {
     Least(u64),
     Memory,

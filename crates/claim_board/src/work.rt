@@ -7,7 +7,7 @@ ghost use Rattle.claim_board.specs.Running.{job_at};
 use std::alloc::Global;
 
 /// Why a job gave no result: memory was refused, or the job has a fault at a place.
-#[derive(Clone, Copy, Debug, PartialEq, Eq)]
+#[derive(Clone, Copy)]
 pub enum JobStop {
     Memory,
     At(u64),
@@ -48,7 +48,7 @@ pub trait Gate {
 }
 
 /// The gate that does nothing.
-#[derive(Clone, Copy, Debug)]
+#[derive(Clone, Copy)]
 pub struct NoGate;
 
 impl Gate for NoGate {

@@ -16,7 +16,7 @@ pub enum HandleChange {
 }
 
 /// A change of one of a handle's two counts.
-#[derive(Clone, Copy, Debug, PartialEq, Eq)]
+#[derive(Clone, Copy)]
 pub struct HandleItem {
     pub handle: u32,
     pub strength: Strength,

@@ -40,7 +40,7 @@ pub enum NodeChange {
 }
 
 /// A change of the references to a node.
-#[derive(Clone, Copy, Debug, PartialEq, Eq)]
+#[derive(Clone, Copy)]
 pub struct NodeItem {
     pub node: NodeKey,
     pub strength: Strength,

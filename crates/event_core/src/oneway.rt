@@ -18,7 +18,7 @@ pub enum OnewayKey {
 }
 
 /// A oneway transaction, and how many bytes of data it says that it has.
-#[derive(Clone, Copy, Debug, PartialEq, Eq)]
+#[derive(Clone, Copy)]
 pub struct OnewayItem {
     pub key: OnewayKey,
     pub data_size: u64,

@@ -40,7 +40,7 @@ pub enum RequestChange {
 }
 
 /// A change of the requests of a process, with the place of the record that makes it.
-#[derive(Clone, Copy, Debug, PartialEq, Eq)]
+#[derive(Clone, Copy)]
 pub struct RequestItem {
     /// Where the record begins in the capture, in bytes.
     pub place: u64,

@@ -3,7 +3,7 @@
 use event_core::PendingChange;
 
 /// An open or a close without its key, which is known from elsewhere.
-#[derive(Clone, Copy, Debug, PartialEq, Eq)]
+#[derive(Clone, Copy)]
 pub struct KeyEvent {
     /// Where the record begins in the capture, in bytes.
     pub place: u64,

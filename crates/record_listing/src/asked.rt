@@ -6,7 +6,7 @@ use record_view::Record;
 use transaction_view::Transaction;
 
 /// What an option narrows the listing by.
-#[derive(Clone, Copy, PartialEq, Eq)]
+#[derive(Clone, Copy)]
 pub enum Narrowing {
     Device,
     Process,
@@ -44,7 +44,7 @@ pub struct Word {
 }
 
 /// What is looked for by its place.
-#[derive(Clone, Copy, PartialEq, Eq)]
+#[derive(Clone, Copy)]
 pub enum Sought {
     /// Nothing: each record that is asked for has a line.
     Nothing,
@@ -57,7 +57,7 @@ pub enum Sought {
 }
 
 /// How the line of a record is written.
-#[derive(Clone, Copy, PartialEq, Eq)]
+#[derive(Clone, Copy)]
 pub enum Form {
     /// Words: what the record says, each field by its name.
     Lines,

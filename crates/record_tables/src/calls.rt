@@ -52,7 +52,7 @@ pub(crate) struct Closer {
 }
 
 /// What became of a call that is closed, as a number of the table.
-#[derive(Clone, Copy, PartialEq, Eq)]
+#[derive(Clone, Copy)]
 pub(crate) enum Verdict {
     Answered = 1,
     Replied = 2,

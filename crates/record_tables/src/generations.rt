@@ -8,7 +8,7 @@ use std::alloc::Global;
 use std::io::Write;
 
 /// What a record does to a handle that it names.
-#[derive(Clone, Copy, PartialEq, Eq)]
+#[derive(Clone, Copy)]
 pub(crate) enum Effect {
     Named,
     Acquire,

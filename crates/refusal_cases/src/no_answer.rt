@@ -6,7 +6,7 @@ use std::io;
 pub(crate) type Printed = Result<(), NoAnswer>;
 
 /// Why no answer is printed.
-#[derive(Clone, Copy, Debug, PartialEq, Eq)]
+#[derive(Clone, Copy, Debug)]
 pub(crate) enum NoAnswer {
     /// The call, or what comes before it, was refused memory.
     Memory,

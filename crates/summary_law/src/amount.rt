@@ -6,7 +6,7 @@ use crate::summary::Summary;
 use std::alloc::{AllocError, Global};
 
 /// How many weights there are, and their sum. The sum takes at most 96 bits, so it never wraps.
-#[derive(Clone, Copy, Debug, PartialEq, Eq)]
+#[derive(Clone, Copy, PartialEq, Eq)]
 pub struct Amount {
     pub count: u64,
     pub sum: u128,

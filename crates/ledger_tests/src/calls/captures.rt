@@ -7,7 +7,7 @@ use std::test::Fail;
 use transaction_view::check_frame;
 
 /// A record of a thread.
-#[derive(Clone, Copy, Debug, PartialEq, Eq)]
+#[derive(Clone, Copy)]
 pub(crate) enum Record {
     Call,
     CallSg,
