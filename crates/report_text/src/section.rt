@@ -12,7 +12,7 @@ use std::alloc::{AllocError, Global};
 use std::thread::Threads;
 
 /// How many rows are held at a time, at most, while a text is made.
-const AT_ONCE: usize = 8_192;
+const AT_ONCE: usize = 4_096;
 
 /// A section: its head, and a line for each of its rows.
 pub(crate) trait Section {
