@@ -5,6 +5,7 @@ ghost use Rattle.event_core.specs.declared.event.Event.{Event};
 ghost use Rattle.audit_findings.specs.Guesses.{guess_in};
 ghost use Rattle.audit_findings.specs.Ledgers.{SumsGiven, AreFewGiven, few_given_halves};
 
+use crate::both::both;
 use crate::event_ledgers::EventLedgers;
 use crate::guesses::Guess;
 use crate::thread_ledger::ThreadLedger;
@@ -71,10 +72,15 @@ impl<'c> Summary for EventSums<'c> {
     }
 
     fn join(self, later: EventSums<'c>) -> Result<EventSums<'c>, AllocError> {
+        let all = self.all.join(later.all);
+        let threads = self.threads.join(later.threads);
+        let processes = self.processes.join(later.processes);
+        let (all, threads) = both(all, threads)?;
+        let processes = processes?;
         Ok(EventSums {
-            all: self.all.join(later.all)?,
-            threads: self.threads.join(later.threads)?,
-            processes: self.processes.join(later.processes)?,
+            all,
+            threads,
+            processes,
         })
     }
 

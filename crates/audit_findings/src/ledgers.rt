@@ -5,6 +5,7 @@ ghost use Rattle.capture_frame.specs.Envelope.{placed_frame};
 ghost use Rattle.summary_law.specs.Summary.{CanJoin, Joins};
 ghost use Rattle.audit_findings.specs.Ledgers.{SumsLedgers, SumsSome, NamesProcess, AreFewFrames, CanTake, TakesFrames, AreOfFew, GiveSections, GivesProcesses};
 
+use crate::both::both;
 use crate::call_sections::CallSections;
 use crate::event_sections::EventSections;
 use crate::event_sums::EventSums;
@@ -88,10 +89,12 @@ impl<'c> FrameLedgers<'c> {
         requires { CanJoin SumsLedgers AreFewFrames self later }
         ensures { IfOk result (Joins SumsLedgers AreFewFrames self.entry later.entry) }
     {
+        let order = self.order.join(later.order);
+        let of_events = self.of_events.join(later.of_events);
         Ok(FrameLedgers {
             sequences: self.sequences.then(later.sequences),
-            order: self.order.join(later.order)?,
-            of_events: self.of_events.join(later.of_events)?,
+            order: order?,
+            of_events: of_events?,
             guesses: self.guesses,
         })
     }
@@ -122,12 +125,13 @@ impl<'c> FrameLedgers<'c> {
             (map (λ list. list.items) handles.now)) }
     {
         let none = ProcessLedgers::empty(alloc);
-        let processes = ProcessSections::of(alloc, self.processes(&none), unfreed, handles)?;
+        let processes = ProcessSections::of(alloc, self.processes(&none), unfreed, handles);
         let frames = self.sequences.frames;
         let missing = self.sequences.missing();
         let of_events = self.of_events;
-        let calls = CallSections::of(alloc, of_events.threads)?;
-        let events = EventSections::of(alloc, of_events.all)?;
+        let calls = CallSections::of(alloc, of_events.threads);
+        let events = EventSections::of(alloc, of_events.all);
+        let ((events, calls), processes) = both(both(events, calls), processes)?;
         Ok(Sections {
             frames,
             missing,

@@ -1,6 +1,7 @@
 //! From the frames of a capture to its findings, kept as places, numbers and rows.
 #![tactic(auto)]
 
+mod both;
 mod buffers;
 mod call_sections;
 mod calls;

@@ -10,6 +10,7 @@ ghost use Rattle.audit_findings.specs.Kept.{processes_at_places};
 ghost use Rattle.audit_findings.specs.Ledgers.{AreListedHandles, AreUnfreed};
 ghost use Rattle.audit_findings.specs.Places.{RiseInPlace};
 
+use crate::both::both;
 use crate::buffers::BufferPairs;
 use crate::clears::ClearPairs;
 use crate::deaths::DeathPairs;
@@ -66,15 +67,30 @@ impl ProcessSections<u64> {
             RiseInPlace (events_of_wholes wholes) →
             kept ≡ processes_at_places (process_sections wholes)) }
     {
+        let references = both(handles_of(alloc, handles), nodes_of(alloc, processes));
+        let buffers = both(
+            gathered::<Unclosed<BufferPairs>>(alloc, unfreed),
+            places_of::<Strays<BufferPairs>>(alloc, processes),
+        );
+        let pairs = both(
+            open_and_stray_of::<DeathPairs>(alloc, processes),
+            open_and_stray_of::<ClearPairs>(alloc, processes),
+        );
+        let others = both(
+            places_of::<Standing>(alloc, processes),
+            oneway_rows(alloc, processes),
+        );
+        let (((handles, nodes), (leaked, stray_frees)), ((deaths, clears), (standing, oneway))) =
+            both(both(references, buffers), both(pairs, others))?;
         Ok(ProcessSections {
-            handles: handles_of(alloc, handles)?,
-            nodes: nodes_of(alloc, processes)?,
-            leaked: Rows::of(gathered::<Unclosed<BufferPairs>>(alloc, unfreed)?),
-            stray_frees: Rows::of(places_of::<Strays<BufferPairs>>(alloc, processes)?),
-            standing: Rows::of(places_of::<Standing>(alloc, processes)?),
-            deaths: open_and_stray_of::<DeathPairs>(alloc, processes)?,
-            clears: open_and_stray_of::<ClearPairs>(alloc, processes)?,
-            oneway: oneway_rows(alloc, processes)?,
+            handles,
+            nodes,
+            leaked: Rows::of(leaked),
+            stray_frees: Rows::of(stray_frees),
+            standing: Rows::of(standing),
+            deaths,
+            clears,
+            oneway,
         })
     }
 }

@@ -15,12 +15,12 @@ then-requires c =
     let short = c.requires.4.0 in
     omega (arith, count, more, long, short)
 
-pub join-requires : goal.join-requires
-join-requires c =
+pub join-order-requires : goal.join-order-requires
+join-order-requires c =
     (map (λ w. (process_of_whole w, tt)) c.requires.0, map (λ w. (process_of_whole w, tt)) c.requires.1, c.requires.2.order, c.requires.3.order, λ key. tt)
 
-pub join-requires-2 : goal.join-requires-2
-join-requires-2 c =
+pub join-of_events-requires : goal.join-of_events-requires
+join-of_events-requires c =
     let sums = c.requires.2 in
     let others = c.requires.3 in
     let both = both_given c.requires.0 c.requires.1 sums.given others.given sums.are_all others.are_all in
@@ -32,8 +32,8 @@ returns c first second sums others fits =
     record {
       sequences = c.then.ensures first second sums.sequences others.sequences;
       order = order_both _ first second
-          (c.in_ok-join.ensures (map (λ w. (process_of_whole w, tt)) first) (map (λ w. (process_of_whole w, tt)) second) sums.order others.order (λ key. tt));
+          (c.in_ok-order.ensures (map (λ w. (process_of_whole w, tt)) first) (map (λ w. (process_of_whole w, tt)) second) sums.order others.order (λ key. tt));
       given = sums.given ++ others.given;
       are_all = both;
-      sums = c.in_ok-join-2.ensures sums.given others.given sums.sums others.sums (subst AreFewEvents (sym both) fits.1);
+      sums = c.in_ok-of_events.ensures sums.given others.given sums.sums others.sums (subst AreFewEvents (sym both) fits.1);
     }
