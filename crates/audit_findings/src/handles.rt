@@ -3,22 +3,24 @@
 ghost use Rattle.std.specs.Prelude.{◌≡◌, List, map, IfOk};
 ghost use Rattle.capture_frame.specs.Units.{Placed};
 ghost use Rattle.transaction_view.specs.Grammar.{WholeFrame};
+ghost use Rattle.handle_ledger.specs.declared.held_row.HeldRow.{HeldRow};
 ghost use Rattle.audit_findings.specs.Frames.{AreGoodFrames};
 ghost use Rattle.audit_findings.specs.Handles.{handle_references};
+ghost use Rattle.audit_findings.specs.InTurn.{process_row};
 ghost use Rattle.audit_findings.specs.Ledgers.{AreListedHandles, GivesHandles};
 
 use crate::entries::entries_at;
 use crate::held::held_by;
-use crate::in_turn::ProcessRow;
+use crate::in_turn::{ProcessRow, push_rows_of};
 use crate::references::{Balance, References, references_of};
-use capture_frame::FrameSlice;
+use capture_frame::{FrameSlice, Process};
 use handle_ledger::HeldRow;
 use process_ledgers::ProcessLedgers;
 use std::alloc::{AllocError, Global};
 
 /// The rows of handles of one process. `unfreed` are the places of its leaked deliveries; what
 /// these hold is read again from the frames.
-pub(crate) fn handles_of_process(
+fn handles_of_process(
     alloc: Global,
     frames: &FrameSlice<'_, '_>,
     ledgers: &ProcessLedgers<'_>,
@@ -31,6 +33,25 @@ pub(crate) fn handles_of_process(
     let entries = entries_at(alloc, frames, unfreed)?;
     let held = held_by(alloc, entries.as_slice())?;
     ledgers.handles.own.rows_held(&held)
+}
+
+/// The same rows, each with the process.
+pub(crate) fn listed_handles(
+    alloc: Global,
+    frames: &FrameSlice<'_, '_>,
+    process: Process,
+    ledgers: &ProcessLedgers<'_>,
+    unfreed: &[u64],
+) -> Result<Vec<ProcessRow<HeldRow>>, AllocError>
+    requires { AreGoodFrames frames.now }
+    ensures { IfOk result (λ rows. (own : List HeldRow)
+        × GivesHandles ledgers.now frames.now unfreed.now own
+        × (rows.items ≡ map (process_row process) own)) }
+{
+    let own = handles_of_process(alloc, frames, ledgers, unfreed)?;
+    let mut rows = Vec::with_capacity(alloc, own.len())?;
+    push_rows_of(&mut rows, process, own.as_slice())?;
+    Ok(rows)
 }
 
 /// The section, from the rows of each process in turn.

@@ -3,8 +3,8 @@
 ghost use Rattle.std.specs.Prelude.{◌≡◌, ◌++◌, List, map, IfOk, OnOk};
 ghost use Rattle.capture_frame.specs.Units.{Placed};
 ghost use Rattle.transaction_view.specs.Grammar.{WholeFrame};
-ghost use Rattle.event_core.specs.Events.{events_of_wholes};
-ghost use Rattle.process_ledgers.specs.EachProcess.{SumsEach};
+ghost use Rattle.event_core.specs.Events.{EventRead, events_of_wholes};
+ghost use Rattle.process_ledgers.specs.EachProcess.{AreLedgersOf, SumsEach};
 ghost use Rattle.process_ledgers.specs.Processes.{processes_of};
 ghost use Rattle.audit_findings.specs.InTurn.{in_turn, process_row};
 
@@ -49,10 +49,25 @@ pub(crate) fn rows_in_turn<S: ByProcess>(
     let mut rows = Vec::new(alloc);
     let mut guess = 0;
     for (process, _nothing) in &processes.order.entries {
-        let own = S::rows(processes.ledgers(*process, &mut guess))?;
-        push_rows_of(&mut rows, *process, own.as_slice())?;
+        let ledgers = processes.ledgers(*process, &mut guess);
+        push_next::<S>(&mut rows, *process, ledgers)?;
     }
     Ok(rows)
+}
+
+/// Pushes the rows of the process with these ledgers.
+fn push_next<S: ByProcess>(
+    rows: &mut Vec<ProcessRow<S::Row>>,
+    process: Process,
+    ledgers: &ProcessLedgers<'_>,
+) -> Result<(), AllocError>
+    ensures { OnOk result ((own : List S.Row)
+        × ((events : List EventRead) → AreLedgersOf ledgers.now events process →
+        own ≡ S.rows_of events process)
+        × (rows.new.items ≡ rows.old.items ++ map (process_row process) own)) }
+{
+    let own = S::rows(ledgers)?;
+    push_rows_of(rows, process, own.as_slice())
 }
 
 /// Pushes the rows of one process.

@@ -8,8 +8,8 @@ ghost use Rattle.audit_findings.specs.Summary.{SumsPiece, GivesHandlesAt, GivesU
 
 use crate::buffers::BufferPairs;
 use crate::findings::Sections;
-use crate::handles::handles_of_process;
-use crate::in_turn::{ProcessRow, push_rows_of};
+use crate::handles::listed_handles;
+use crate::in_turn::ProcessRow;
 use crate::ledgers::FrameLedgers;
 use crate::paired::Unclosed;
 use crate::places::lists_of;
@@ -64,10 +64,7 @@ impl<'c> PieceSummary<'c> {
         let none = ProcessLedgers::empty(self.alloc);
         let mut guess = number;
         let ledgers = self.ledgers.processes(&none).ledgers(*process, &mut guess);
-        let own = handles_of_process(self.alloc, frames, ledgers, unfreed)?;
-        let mut rows = Vec::with_capacity(self.alloc, own.len())?;
-        push_rows_of(&mut rows, *process, own.as_slice())?;
-        Ok(rows)
+        listed_handles(self.alloc, frames, *process, ledgers, unfreed)
     }
 
     /// What the findings keep of the frames. `unfreed` and `handles` have a list for each process,

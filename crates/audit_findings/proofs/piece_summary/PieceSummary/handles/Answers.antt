@@ -1,5 +1,6 @@
-use Rattle.std.proofs.Common.{◌++◌, map, sym, ap, subst, ◌∙◌}
+use Rattle.std.proofs.Common.{map, sym, ap, subst, ◌∙◌}
 use Rattle.std.specs.List.{slice_get}
+use Rattle.std.proofs.lemmas.Result.{IfOk-weaker}
 use Rattle.event_core.specs.Events.{events_of_wholes}
 use Rattle.capture_frame.specs.declared.process.Process.{Process}
 use Rattle.process_ledgers.specs.EachProcess.{AreLedgersOf}
@@ -12,13 +13,15 @@ use Rattle.audit_findings.proofs.HandleRows.{entry_at}
 use Rattle.audit_findings.proofs.piece_summary.PieceSummary.handles.Goals as goal
 
 pub returns : goal.returns
-returns c sums wholes d show unfreed =
+returns c =
+    IfOk-weaker c.listed_handles.result _ _
+    (λ rows given sums wholes d show unfreed.
     let events = events_of_wholes wholes in
     let of = c.processes.ensures.gives wholes (sums wholes show) c.empty-none.ensures in
     let e : Process × Nothing = (c.unwrap.result.0.now, c.unwrap.result.1.now) in
     let is = entry_at c.processes.result wholes c.args.number e of
     (ap (λ order. slice_get order.entries.entries c.args.number) c.processes.ensures.order ∙ sym (rw c.unwrap.ensures at c.get_index.ensures.entry)) d in
     let own = subst (λ ledgers. AreLedgersOf ledgers events e.0) (sym c.ledgers-ledgers.ensures) (of.each e.0) in
-    c.in_ok-push_rows_of.ensures ∙ ap (λ rows. rows ++ map (process_row e.0) c.as_slice.result.now) c.in_ok-rows.ensures.items
-    ∙ ap (map (process_row e.0)) (c.as_slice.ensures.value ∙ c.in_ok-own.ensures wholes e.0 show own (unfreed ∙ ap (places_in is_leaked events) is))
-    ∙ ap (rows_in (handles_in events)) (sym is)
+    given.2 ∙ ap (map (process_row e.0)) (given.1 wholes e.0 show own (unfreed ∙ ap (places_in is_leaked events) is))
+    ∙ ap (rows_in (handles_in events)) (sym is))
+    c.listed_handles.ensures
