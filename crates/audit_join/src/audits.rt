@@ -23,7 +23,7 @@ use crate::part_bytes::take_bytes;
 use crate::part_places::part_of;
 use crate::piece::Piece;
 use crate::shares::sum_shares;
-use audit_findings::{Findings, PieceSummary, ProcessRow};
+use audit_findings::{Findings, PieceSummary, ProcessRow, Sections};
 use capture_frame::{FrameList, FrameSlice, PartCut, cut_parts};
 use claim_board::{Gate, NoGate, Stop, Workers, run_all};
 use handle_ledger::HeldRow;
@@ -116,7 +116,7 @@ pub fn audit_one<'c, T: Threads + Sync>(
     audit(rt, alloc, capture, workers, piece, &NoGate)
 }
 
-/// The findings of these frames, which workers sum in shares.
+/// The findings of these frames.
 fn findings_of<'c, T: Threads + Sync>(
     rt: &T,
     alloc: Global,
@@ -130,18 +130,46 @@ fn findings_of<'c, T: Threads + Sync>(
         AreViews frames.entry (wholes_of wholes) →
         AreSectionsOf wholes found.frames found.sections) }
 {
-    let whole: PieceSummary<'c> = sum_shares(rt, alloc, &frames.as_slice(), workers.get())?;
-    let unfreed = whole.unfreed()?;
-    let handles = look_again(
-        rt,
-        alloc,
-        &frames.as_slice(),
-        &whole,
-        unfreed.as_slice(),
-        workers,
-    )?;
-    let sections = whole.sections(unfreed.as_slice(), handles.as_slice())?;
+    let sections = sections_of(rt, alloc, &frames.as_slice(), workers)?;
     Ok(Findings::new(frames, sections))
+}
+
+/// What the findings keep of these frames, which workers sum in shares.
+fn sections_of<'c, T: Threads + Sync>(
+    rt: &T,
+    alloc: Global,
+    frames: &FrameSlice<'_, 'c>,
+    workers: Workers,
+) -> Result<Sections<u64>, AllocError>
+    requires cut { AreCut frames.now }
+    requires sound { AreSound frames.now }
+    ensures { IfOk result (λ sections. (wholes : List WholeFrame) →
+        AreViews frames.now (wholes_of wholes) →
+        AreSectionsOf wholes frames.now sections) }
+{
+    let whole: PieceSummary<'c> = sum_shares(rt, alloc, frames, workers.get())?;
+    let (unfreed, handles) = leaks_of(rt, alloc, frames, &whole, workers)?;
+    whole.sections(unfreed.as_slice(), handles.as_slice())
+}
+
+/// The places of the leaked deliveries of each process, and its rows of handles.
+fn leaks_of<'c, T: Threads + Sync>(
+    rt: &T,
+    alloc: Global,
+    frames: &FrameSlice<'_, 'c>,
+    whole: &PieceSummary<'c>,
+    workers: Workers,
+) -> Result<(Vec<Vec<u64>>, Vec<Vec<ProcessRow<HeldRow>>>), AllocError>
+    requires cut { AreCut frames.now }
+    requires sound { AreSound frames.now }
+    requires sums { SumsPiece whole.now frames.now }
+    ensures { IfOk result (λ lists. (wholes : List (Placed WholeFrame)) → AreViews frames.now wholes →
+        AreUnfreed wholes (map (λ list. list.items) lists.0.items)
+        × AreListedHandles wholes (map (λ list. list.items) lists.1.items)) }
+{
+    let unfreed = whole.unfreed()?;
+    let handles = look_again(rt, alloc, frames, whole, unfreed.as_slice(), workers)?;
+    Ok((unfreed, handles))
 }
 
 /// The rows of handles of each process. Only when all frames are summed is it known which

@@ -77,6 +77,22 @@ where
             ensures { IfOk result (S.sums back) }
         { sum_shares(rt, alloc, &back, others) },
     );
+    join_halves(share, first, second)
+}
+
+/// The sum of all, from what came of its halves.
+fn join_halves<S: Share>(
+    share: &S,
+    first: Result<S::Sum, AllocError>,
+    second: Result<S::Sum, AllocError>,
+) -> Result<S::Sum, AllocError>
+where
+    S::Sum: Drop,
+    requires { S.fits share.now
+        × ((front back : S) × S.halved share.now front back
+        × IfOk first (S.sums front) × IfOk second (S.sums back)) }
+    ensures { IfOk result (S.sums share.now) }
+{
     let first = first?;
     let second = second?;
     share.join(first, second)
