@@ -1,0 +1,5 @@
+pub mod TestLaws
+pub mod ReadOnLaws
+pub mod FrameLaws
+pub mod RecordLaws
+pub mod EntryLaws
