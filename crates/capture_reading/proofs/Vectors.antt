@@ -1,13 +1,13 @@
--- The definitions at small captures: what each comes to, by computing.
+-- The definitions at small captures: what each comes to, by computing. Each kind of fault is there.
 use Rattle.std.proofs.Common.{◌≡◌, ℕ, List, [], ◌∷◌, ◌++◌, take, Ok, Err, replicate, refl}
 use Rattle.byteorder.specs.Endian.{little_bytes}
 use Rattle.capture_frame.specs.declared.direction.Direction.{Direction}
 use Rattle.capture_frame.specs.declared.direction.Direction.TheVariants.{Write, Read}
 use Rattle.capture_frame.specs.declared.fault.FaultKind.{FaultKind}
-use Rattle.capture_frame.specs.declared.fault.FaultKind.TheVariants.{HeaderShort, HeaderMagic, FrameSequence, FrameLength, RecordShort, AttachShort, AttachRecord, AttachSize}
+use Rattle.capture_frame.specs.declared.fault.FaultKind.TheVariants.{HeaderShort, HeaderMagic, HeaderProtocol, HeaderReserved, FrameShort, FrameSequence, FrameDirection, FrameReserved, FrameLength, RecordShort, RecordDirection, RecordSize, AttachShort, AttachRecord, AttachSize}
 use Rattle.capture_frame.specs.declared.fault.PartFault.{PartFault}
 use Rattle.capture_frame.specs.declared.version.Version.TheVariants.{One, Two}
-use Rattle.capture_frame.specs.Envelope.{FrameText, file_header, frame_bytes, frame_header, number_at}
+use Rattle.capture_frame.specs.Envelope.{FrameText, magic, file_header, frame_bytes, frame_header, number_at}
 use Rattle.capture_frame.specs.Units.{placed_at}
 use Rattle.record_view.specs.Records.{RecordText, record_bytes}
 use Rattle.transaction_view.specs.Attachments.{EntryText, entry_bytes}
@@ -44,6 +44,53 @@ other_magic : frames_of_parts (file_header Two ∷ (0 ∷ file_header Two) ∷ [
 unfolding number_at
 other_magic = refl
 
+other_protocol : frames_of_parts ((magic Two ++ little_bytes 4 7 ++ little_bytes 4 0) ∷ []) ≡ Err (fault_in 1 HeaderProtocol 8)
+unfolding number_at
+other_protocol = refl
+
+reserved_used : frames_of_parts ((magic Two ++ little_bytes 4 8 ++ little_bytes 4 1) ∷ []) ≡ Err (fault_in 1 HeaderReserved 12)
+unfolding number_at
+reserved_used = refl
+
+-- ---- frame headers
+
+-- an empty frame of this device
+abbrev bare_frame : ℕ → FrameText
+bare_frame device = record {
+  sequence = 1;
+  device = device;
+  process = 100;
+  thread = 101;
+  direction = Write;
+  commands = [];
+  attachments = [];
+}
+
+-- in version 2 the device is any number, in version 1 it is 0
+device_read : frames_of_parts ((file_header Two ++ frame_bytes (bare_frame 258)) ∷ [])
+    ≡ Ok (placed_at 16 (record { frame = bare_frame 258; records = []; entries = [] }) ∷ [])
+unfolding number_at frame_bytes
+device_read = refl
+
+device_reserved : frames_of_parts ((file_header One ++ frame_bytes (bare_frame 258)) ∷ []) ≡ Err (fault_in 1 FrameReserved 16)
+unfolding number_at frame_bytes
+device_reserved = refl
+
+frame_short : frames_of_parts ((file_header One ++ replicate 31 0) ∷ []) ≡ Err (fault_in 1 FrameShort 16)
+unfolding number_at
+frame_short = refl
+
+other_direction : frames_of_parts ((file_header One ++ replicate 32 0) ∷ []) ≡ Err (fault_in 1 FrameDirection 16)
+unfolding number_at
+other_direction = refl
+
+-- three empty frames with the sequences 5, 9 and 9
+equal_in_part : frames_of_parts
+    ((file_header One ++ frame_bytes (frame 5 Write [] []) ++ frame_bytes (frame 9 Write [] []) ++ frame_bytes (frame 9 Write [] [])) ∷ [])
+    ≡ Err (fault_in 1 FrameSequence 80)
+unfolding number_at frame_bytes
+equal_in_part = refl
+
 -- ---- records
 
 -- `BC_ACQUIRE` of handle 5
@@ -59,6 +106,17 @@ two_acquires sequence = record { frame = acquires sequence; records = acquire �
 acquires_read : frames_of_parts ((file_header One ++ frame_bytes (acquires 1)) ∷ []) ≡ Ok (placed_at 16 (two_acquires 1) ∷ [])
 unfolding acquire number_at frame_bytes record_bytes
 acquires_read = refl
+
+-- a command in a read
+other_protocol_word : frames_of_parts ((file_header One ++ frame_bytes (frame 1 Read (record_bytes acquire) [])) ∷ []) ≡ Err (fault_in 1 RecordDirection 48)
+unfolding acquire number_at frame_bytes record_bytes
+other_protocol_word = refl
+
+-- the number of `BC_TRANSACTION` with 40 bytes
+other_word_size : frames_of_parts ((file_header One ++ frame_bytes (frame 1 Write (little_bytes 4 0x40286300 ++ replicate 40 0) [])) ∷ [])
+    ≡ Err (fault_in 1 RecordSize 48)
+unfolding number_at frame_bytes
+other_word_size = refl
 
 -- two bytes of a code word, and a bad frame after them
 short_code : frames_of_parts

@@ -52,7 +52,7 @@ abbrev pub last_of : Option ℕ → List WholeFrame → Option ℕ
 last_of last [] = last
 last_of last (whole ∷ wholes) = last_of (Some whole.frame.sequence) wholes
 
--- these frames and then those of the later parts; or else the fault of these, in which a part more is counted
+-- these frames, and then those of the later parts; or the fault of the later parts, with one part more counted
 abbrev pub then_later : List WholeFrame → Result (List WholeFrame) PartFault → Result (List WholeFrame) PartFault
 then_later first (Ok others) = Ok (first ++ others)
 then_later first (Err found) = Err (record { part = suc found.part; fault = found.fault })
