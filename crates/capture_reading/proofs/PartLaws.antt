@@ -1,5 +1,5 @@
 -- The frames that `frames_from` gives are those of the parts, and the fault that it gives is their first.
-use Rattle.std.proofs.Common.{◌≡◌, ℕ, suc, ◌+◌, inl, inr, Bool, true, cond, List, [], ◌∷◌, ◌++◌, length, take, drop, Option, Some, None, Result, Ok, Err, refl, sym, ap, subst, ◌∙◌}
+use Rattle.std.proofs.Common.{◌≡◌, ℕ, suc, ◌+◌, inl, inr, Bool, true, cond, List, [], ◌∷◌, ◌++◌, length, take, drop, Option, Some, Result, Ok, Err, refl, sym, ap, subst, ◌∙◌}
 use Rattle.std.specs.Prelude.{nat_eq, All}
 use Rattle.std.specs.List.{starts_with}
 use Rattle.std.proofs.lemmas.Bool.{leb-true, leb-false, eqb-true, eqb-false, cases_Bool, both_ways}
@@ -18,7 +18,7 @@ use Rattle.capture_frame.proofs.NumberLaws.{IsBytes-drop}
 use Rattle.capture_frame.proofs.PartLaws.{first_here, first_later}
 use Rattle.transaction_view.specs.Grammar.{WholeFrame, whole_format}
 use Rattle.transaction_view.proofs.GrammarLaws.{whole_wide}
-use Rattle.capture_reading.specs.ReadOn.{Parsed, parsed_by, units_of}
+use Rattle.capture_reading.specs.ReadOn.{Parsed, complete, up_to, parsed_by, units_of}
 use Rattle.capture_reading.specs.WholeFrames.{whole_parser}
 use Rattle.capture_reading.specs.Parts.{version_at, header_tests, header_at, frames_if, frames_of_part, last_of, then_later, part_and_later, frames_from}
 use Rattle.capture_reading.proofs.TestLaws.{AllHold, FirstFails, passed, failed}
@@ -85,10 +85,10 @@ spelling found = frame_bytes found.frame
 
 -- what was found of a part is what the relations say
 pub data PartIs (last : Option ℕ) (part : List ℕ) (found : Parsed WholeFrame) : Type 0 where
-  good : (frames : List WholeFrame) → IsPart whole_format last part frames → found ≡ record { good = placed spelling 16 frames; fault = None }
+  good : (frames : List WholeFrame) → IsPart whole_format last part frames → found ≡ complete (placed spelling 16 frames)
       → PartIs last part found
   bad : (before : List (Placed WholeFrame)) (fault : Fault) → IsFirstFaultIn whole_format last part fault
-      → found ≡ record { good = before; fault = Some fault } → PartIs last part found
+      → found ≡ up_to before fault → PartIs last part found
 
 after_header : (last : Option ℕ) (part : List ℕ) (version : Version) → part ≡ file_header version ++ drop 16 part → (found : Parsed WholeFrame)
     → IsParsed whole_format (in_version version last) 16 (drop 16 part) found → PartIs last part found

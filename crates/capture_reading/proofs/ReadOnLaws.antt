@@ -1,6 +1,6 @@
 -- What reading unit by unit finds is what the relations say: the text is these units, or these and then its first
 -- failure.
-use Rattle.std.proofs.Common.{◌≡◌, ℕ, zero, suc, ◌+◌, ◌-◌, ◌<◌, List, [], ◌∷◌, ◌++◌, length, drop, Some, Result, Ok, Err, refl, sym, ap, subst, ◌∙◌, arith, length-append}
+use Rattle.std.proofs.Common.{◌≡◌, ℕ, zero, suc, ◌+◌, ◌-◌, ◌<◌, List, [], ◌∷◌, ◌++◌, length, drop, Result, Ok, Err, refl, sym, ap, subst, ◌∙◌, arith, length-append}
 use Rattle.std.proofs.lemmas.List.{length-drop}
 use Rattle.std.proofs.lemmas.List.Concat.{flat_map-cons}
 use Rattle.capture_frame.specs.declared.fault.FaultKind.{FaultKind}
@@ -8,7 +8,7 @@ use Rattle.capture_frame.specs.Units.{Format, placed_at, placed, spelling_of, Fi
 use Rattle.capture_frame.proofs.NumberLaws.{IsBytes-drop}
 use Rattle.capture_frame.proofs.UnitLaws.{Splits-cons}
 use Rattle.capture_reading.specs.Laws.{IsParsed, whole, faulty}
-use Rattle.capture_reading.specs.ReadOn.{Parser, Parsed, stopped, followed_by, first_and_others, read_on, parsed_by, units_of}
+use Rattle.capture_reading.specs.ReadOn.{Parser, Parsed, up_to, followed_by, first_and_others, read_on, parsed_by, units_of}
 
 -- ---- one unit further
 
@@ -41,7 +41,7 @@ module _ {S U : Type 0} (parser : Parser S U) (state : S) (place b : ℕ) (bytes
       ∙ ap (followed_by (placed_at place unit)) (others_after unit some)
 
   one_bad : (fails : FaultKind × ℕ) → parser.first state (b ∷ bytes) ≡ Err fails
-      → parsed_by parser state place (b ∷ bytes) ≡ stopped (record { kind = fails.0; place = place + fails.1 })
+      → parsed_by parser state place (b ∷ bytes) ≡ up_to [] (record { kind = fails.0; place = place + fails.1 })
   one_bad fails is =
       ap (λ (r : Result U (FaultKind × ℕ)). first_and_others place r
       (λ unit. read_on parser (parser.after state unit) (place + 1) (parser.width unit - 1) bytes)) is
@@ -78,10 +78,8 @@ module _ {S U : Type 0} (format : Format S U FaultKind) (parser : Parser S U) (a
         is_at = omega (arith, fails.is_at, all);
       } in
       faulty kind (width + distance) failure
-      (ap (followed_by (placed_at place unit)) is ∙ ap (λ (n : ℕ). record {
-        good = placed_at place unit ∷ placed format.spelling (place + width) fails.before;
-        fault = Some (record { kind = kind; place = n });
-      }) far)
+      (ap (followed_by (placed_at place unit)) is
+      ∙ ap (λ (n : ℕ). up_to (placed_at place unit ∷ placed format.spelling (place + width) fails.before) (record { kind = kind; place = n })) far)
 
   sound_first : (state : S) (place b : ℕ) (bytes : List ℕ) → IsBytes (b ∷ bytes)
       → ((next : S) (further : ℕ) (rest : List ℕ) → IsBytes rest → length rest < length (b ∷ bytes) → IsParsed format next further rest (parsed_by parser next further rest))

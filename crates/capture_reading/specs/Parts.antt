@@ -10,7 +10,7 @@ use Rattle.capture_frame.specs.declared.version.Version.TheVariants.{One, Two}
 use Rattle.capture_frame.specs.Envelope.{magic, file_header_length, frame_bytes, in_version, number_at}
 use Rattle.capture_frame.specs.Units.{Placed, placed}
 use Rattle.transaction_view.specs.Grammar.{WholeFrame}
-use Rattle.capture_reading.specs.ReadOn.{Parsed, stopped, parsed_by, units_of}
+use Rattle.capture_reading.specs.ReadOn.{Parsed, complete, up_to, parsed_by, units_of}
 use Rattle.capture_reading.specs.Tests.{tested}
 use Rattle.capture_reading.specs.WholeFrames.{whole_parser}
 
@@ -40,7 +40,7 @@ header_at part = tested (header_tests part) (version_at part)
 abbrev pub frames_if : Option ℕ → List ℕ → Result Version Fault → Parsed WholeFrame
 frames_if last part (Ok version) =
     parsed_by whole_parser (in_version version last) file_header_length (drop file_header_length part)
-frames_if last part (Err fault) = stopped fault
+frames_if last part (Err fault) = up_to [] fault
 
 -- the frames of a part, each at its place in the part, up to the first fault. The first of them comes after the frame
 -- with the sequence `last`, if there is one.
@@ -60,10 +60,8 @@ then_later first (Err found) = Err (record { part = suc found.part; fault = foun
 -- what comes of a part, given what comes of the later parts after its frames
 abbrev pub part_and_later : Parsed WholeFrame → (List WholeFrame → Result (List WholeFrame) PartFault)
     → Result (List WholeFrame) PartFault
-part_and_later parsed later = elim parsed.fault [
-  | None ↦ then_later (units_of parsed.good) (later (units_of parsed.good))
-  | Some fault ↦ Err (record { part = 1; fault = fault })
-]
+part_and_later (complete units) later = then_later (units_of units) (later (units_of units))
+part_and_later (up_to before fault) later = Err (record { part = 1; fault = fault })
 
 -- the frames of these parts, or their first fault. Parts are counted from 1. The first frame comes after the one with
 -- the sequence `last`, if there is one.

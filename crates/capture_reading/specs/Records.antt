@@ -13,7 +13,7 @@ use Rattle.record_view.specs.Records.{RecordText, code_at, protocol_of}
 use Rattle.capture_reading.specs.ReadOn.{Parser, Parsed, parsed_by}
 use Rattle.capture_reading.specs.Tests.{tested, at_start}
 
--- whether a code word that means this is of the frame's protocol
+-- whether the letter and the direction bits of a code word that means this are those of the frame's protocol
 abbrev pub is_directed : Result Kind CodeFault → Bool
 is_directed (Err code_fault.Direction) = false
 is_directed (Err code_fault.Size) = true

@@ -1,10 +1,10 @@
 -- Frames with their records and entries (docs/ENVELOPE.md).
-use Rattle.std.specs.Prelude.{ℕ, ◌+◌, List, length, Some, None, Result, Ok, Err}
+use Rattle.std.specs.Prelude.{ℕ, ◌+◌, List, length, Some, Result, Ok, Err}
 use Rattle.capture_frame.specs.declared.fault.FaultKind.{FaultKind}
 use Rattle.capture_frame.specs.Envelope.{FrameText, Before, in_version}
 use Rattle.capture_frame.specs.Units.{Placed}
 use Rattle.transaction_view.specs.Grammar.{WholeFrame}
-use Rattle.capture_reading.specs.ReadOn.{Parser, Parsed, units_of}
+use Rattle.capture_reading.specs.ReadOn.{Parser, Parsed, complete, up_to, units_of}
 use Rattle.capture_reading.specs.Frames.{frame_at}
 use Rattle.capture_reading.specs.Records.{records_of}
 use Rattle.capture_reading.specs.Entries.{entries_of}
@@ -12,10 +12,8 @@ use Rattle.capture_reading.specs.Entries.{entries_of}
 -- what comes of these units if none of them is bad; or else their fault, whose place counts from `start` on
 abbrev pub if_good : {U V : Type 0} → ℕ → Parsed U → (List (Placed U) → Result V (FaultKind × ℕ))
     → Result V (FaultKind × ℕ)
-if_good start parsed whole = elim parsed.fault [
-  | None ↦ whole parsed.good
-  | Some fault ↦ Err (fault.kind, start + fault.place)
-]
+if_good start (complete units) whole = whole units
+if_good start (up_to before fault) whole = Err (fault.kind, start + fault.place)
 
 -- a frame with its records and its entries, or the first fault: that of the records, or, if these are good, of the
 -- entries

@@ -11,7 +11,7 @@ ghost use Rattle.capture_frame.specs.Parts.{joined};
 ghost use Rattle.record_view.specs.Records.{RecordText, record_bytes, HasRecords, format_of};
 ghost use Rattle.transaction_view.specs.Attachments.{entry_format};
 ghost use Rattle.transaction_view.specs.Grammar.{WholeFrame, whole_format, AreInGrammar, IsInGrammar, HasFirstPartFault};
-ghost use Rattle.capture_reading.specs.ReadOn.{parsed_by, units_of};
+ghost use Rattle.capture_reading.specs.ReadOn.{complete, up_to, parsed_by, units_of};
 ghost use Rattle.capture_reading.specs.Frames.{frame_at};
 ghost use Rattle.capture_reading.specs.Records.{records_of};
 ghost use Rattle.capture_reading.specs.Entries.{entries_of};
@@ -55,14 +55,11 @@ pub fn whole_frames_read()
 /// The frames that a part is read as are its frames, each at its place in the part. The fault that
 /// it is read as is its first.
 pub fn part_read()
-    ensures whole { (last : Option ℕ) (part : List ℕ) → IsBytes part →
-        (frames_of_part last part).fault ≡ None →
-        IsPart whole_format last part (units_of (frames_of_part last part).good) }
-    ensures places { (last : Option ℕ) (part : List ℕ) → IsBytes part →
-        (frames_of_part last part).fault ≡ None → (frames_of_part last part).good
-        ≡ joined_frames (units_of (frames_of_part last part).good) }
-    ensures faulty { (last : Option ℕ) (part : List ℕ) (fault : Fault) → IsBytes part →
-        (frames_of_part last part).fault ≡ Some fault →
+    ensures whole { (last : Option ℕ) (part : List ℕ) (wholes : List (Placed WholeFrame)) →
+        IsBytes part → frames_of_part last part ≡ complete wholes →
+        IsPart whole_format last part (units_of wholes) × (wholes ≡ joined_frames (units_of wholes)) }
+    ensures faulty { (last : Option ℕ) (part : List ℕ) (before : List (Placed WholeFrame))
+        (fault : Fault) → IsBytes part → frames_of_part last part ≡ up_to before fault →
         IsFirstFaultIn whole_format last part fault }
 {}
 
