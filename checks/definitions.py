@@ -26,9 +26,10 @@ ROOTS = [("audit_run", "part_runs.rt", "run_parts")]
 # The chapters in their order, and what is in each: crates, and files of crates, which go before their crate. Where
 # definitions do not decide which file comes first, this does.
 CHAPTERS = {
-    "The answer": """audit_run audit_join audit_streams report_text/Answers.antt report_text/Text.antt
-        report_text/Section.antt report_text/Fault.antt""",
-    "The grammar": "transaction_view/Grammar.antt capture_frame transaction_view record_view object_view",
+    "The headline": "audit_run audit_join audit_streams",
+    "The answer": "report_text/Answers.antt report_text/Text.antt report_text/Section.antt report_text/Fault.antt",
+    "The grammar": """capture_reading transaction_view/Grammar.antt capture_frame transaction_view record_view
+        object_view""",
     "Codes, fields and flags": "transaction_view/Transaction.antt binder_code",
     "Events, brackets and calls": """event_core/Events.antt capture_frame/Process.antt capture_frame/process.rt
         call_stacks event_core/Brackets.antt event_core/marks.rt""",
@@ -57,6 +58,7 @@ for `List T`. The words of the toolchain come last. `checks/definitions.py` make
 | `f x y`, `λ x. e` | f of x and y; the function that makes e of x |
 | `f None = a`, `f _ = b` | f of `None` is a, and of all else b: the first line that fits counts |
 | `let x = a in e` | e, where x is a |
+| `elim x [ \| p ↦ a \| q ↦ b ]` | a if x is p, and b if x is q |
 | `P : A → Type 0` | P is a statement about an A, which is true or not |
 | `a ≡ b`, `a ≢ b` | a is b; a is not b |
 | `P × Q`, `P ⊎ Q`, `¬ P`, `P → Q` | P and Q; P or Q, or both; not P; if P, then Q |
@@ -103,6 +105,7 @@ WORDS = {
     "fold": "the value after the last element, where each element in turn makes a new value of the one before",
     "int_eq": "whether two numbers of `ℤ` are the same",
     "int_min": "the lesser of two numbers of `ℤ`",
+    "is_some": "whether there is a value",
     "keys_of": "the first part of each pair",
     "last_or": "the last element, or the given one if the list is empty",
     "length": "how many elements a list has",
@@ -122,6 +125,7 @@ WORDS = {
     "signed_decimal": "a number in decimal digits, after a `-` if it is below 0",
     "slice_get": "the element with this number, counted from 0, if there is one",
     "slice_index": "of a list of numbers the one at this index, counted from 0, or 0 after the end",
+    "starts_with": "whether the list begins with this one, by this test of two elements",
     "suc": "`suc n` is n + 1",
     "sum": "the sum of the elements",
     "sum_by": "the sum of the numbers that are made of the elements",

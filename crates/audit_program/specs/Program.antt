@@ -11,7 +11,8 @@ use Rattle.clap.specs.Words.{Text}
 use Rattle.audit_streams.specs.declared.run_error.RunError.{RunError}
 use Rattle.audit_streams.specs.declared.run_error.RunError.TheVariants.{Memory}
 use Rattle.audit_streams.specs.KnownBytes.{AppendsPrefix}
-use Rattle.audit_run.specs.Question.{GoWithStatus, IsAnswer, names_of}
+use Rattle.capture_reading.specs.Parts.{frames_of_parts}
+use Rattle.audit_run.specs.Question.{answer_to, names_of, reading_status}
 use Rattle.audit_run.specs.PartRuns.{FilesGive}
 use Rattle.audit_run.specs.Run.{RunEnds}
 use Rattle.audit_run.specs.Store.{unknown}
@@ -34,7 +35,8 @@ AskForNothing words = (asked : Request) → ¬ Ask words asked
 -- of the file of a name, if it is known which these are.
 abbrev pub RunsOnFiles : (Text → Option (List ℕ)) → Request → Option (List ℕ) → Option (List ℕ) → Result ℕ RunError → Type 0
 RunsOnFiles bytes_of asked old new result =
-    RunEnds (FilesGive (map bytes_of (names_of asked))) (IsAnswer asked.question) GoWithStatus old new result
+    RunEnds (FilesGive (map bytes_of (names_of asked))) (answer_to asked.question)
+    (λ parts. reading_status (frames_of_parts parts)) old new result
 
 -- the words ask for something, and a run on the files that they name has written the whole answer, with this status
 abbrev pub AnswersWords : (Text → Option (List ℕ)) → List Text → Option (List ℕ) → Option (List ℕ) → ℕ → Type 0

@@ -1,10 +1,9 @@
 -- Lemmas about how a run ends: from readers to their files, from one form of the capture or of the answer to another,
 -- and if a line could not be written.
-use Rattle.std.proofs.Common.{◌≡◌, ℕ, ◌+◌, ◌<◌, List, [], ◌∷◌, ◌++◌, length, map, take, get_or, Vec, Global, Bor, Option, Some, None, Result, Ok, Err, sym, ap, ap₂, subst, ◌∙◌, arith}
+use Rattle.std.proofs.Common.{◌≡◌, ℕ, ◌+◌, ◌<◌, List, [], ◌∷◌, ◌++◌, length, map, take, get_or, Vec, Global, Bor, Option, Some, None, Result, Ok, Err, refl, sym, ap, ap₂, subst, ◌∙◌, arith}
+use Rattle.std.specs.Io.KnownBytes.{Appends}
 use Rattle.std.specs.List.{AllZip}
 use Rattle.std.proofs.lemmas.List.{length-map, map-append, take_more}
-use Rattle.capture_frame.specs.declared.fault.PartFault.{PartFault}
-use Rattle.report_text.specs.Fault.{part_fault_line}
 use Rattle.std.proofs.lemmas.Slice.Zip.{AllZip-long}
 use Rattle.audit_streams.specs.declared.run_error.RunError.{RunError}
 use Rattle.audit_streams.specs.declared.run_error.RunError.TheVariants.{Memory, TooLarge, Read, Write, Open}
@@ -12,7 +11,7 @@ use Rattle.audit_streams.specs.KnownBytes.{AppendsPrefix}
 use Rattle.audit_streams.specs.Parts.{IsAllOf}
 use Rattle.audit_run.specs.PartRuns.{FilesGive, IsOpeningError, ReadersGive}
 use Rattle.audit_run.specs.Store.{HasLeft}
-use Rattle.audit_run.specs.Run.{EndsWithError, IsAnswered, RunEnds, given, none_given}
+use Rattle.audit_run.specs.Run.{RunEnds, Writes, given, none_given}
 
 -- a part is all of what is known of its file, if its reader had all of that left
 all_known : (known left : List (Option (List ℕ))) (parts : List (List ℕ)) → AllZip HasLeft known left → AllZip IsAllOf left parts
@@ -46,12 +45,12 @@ files_give known left Write has gives = gives
 files_give known left Open has gives = absurd gives
 
 -- how a run on the readers ends is how the run on their files ends
-pub run_on_files : {A : Type 0} (known left : List (Option (List ℕ))) (IsOn : List (List ℕ) → List ℕ → Type 0)
-    (GoesWith : List (List ℕ) → A → Type 0) (old new : Option (List ℕ)) (result : Result A RunError) → AllZip HasLeft known left
-    → RunEnds (ReadersGive left) IsOn GoesWith old new result → RunEnds (FilesGive known) IsOn GoesWith old new result
-run_on_files known left IsOn GoesWith old new result has (given parts gives writes) =
+pub run_on_files : {A : Type 0} (known left : List (Option (List ℕ))) (text_of : List (List ℕ) → List ℕ) (value_of : List (List ℕ) → A)
+    (old new : Option (List ℕ)) (result : Result A RunError) → AllZip HasLeft known left
+    → RunEnds (ReadersGive left) text_of value_of old new result → RunEnds (FilesGive known) text_of value_of old new result
+run_on_files known left text_of value_of old new result has (given parts gives writes) =
     given parts ((all_known known left parts has gives.0.0, gives.0.1), gives.1) writes
-run_on_files known left IsOn GoesWith old new result has (none_given error gives is keeps) =
+run_on_files known left text_of value_of old new result has (none_given error gives is keeps) =
     none_given error (files_give known left error has gives) is keeps
 
 -- an error of opening files is one that files may give
@@ -97,39 +96,23 @@ few_slices remaining readers parts slices most read same few =
     let one_each = sym (length-map slices (λ (slice : Bor (List ℕ)). slice.now)) ∙ ap length same in
     omega (arith, many, one_each, few)
 
--- the line of a fault is the same for slices and for their bytes, because there are equally many
-pub line_of_slices : (slices : List (Bor (List ℕ))) (found : PartFault)
-    → part_fault_line (length slices) found ≡ part_fault_line (length (map (λ (slice : Bor (List ℕ)). slice.now) slices)) found
-line_of_slices slices found =
-    ap (λ (n : ℕ). part_fault_line n found) (sym (length-map slices (λ (slice : Bor (List ℕ)). slice.now)))
+-- a run that ends with an error, said of the capture in another form, on which the same text is to be written
+pub broken_by : {C D A B : Type 0} (text_of : C → List ℕ) (value_of : C → A) (other_text : D → List ℕ) (other_value : D → B) (read : C) (form : D)
+    (old new : Option (List ℕ)) (error : RunError) → text_of read ≡ other_text form → Writes text_of value_of read old new (Err error)
+    → Writes other_text other_value form old new (Err error)
+broken_by text_of value_of other_text other_value read form old new Memory same breaks = breaks
+broken_by text_of value_of other_text other_value read form old new TooLarge same breaks = breaks
+broken_by text_of value_of other_text other_value read form old new Read same breaks = breaks
+broken_by text_of value_of other_text other_value read form old new Write same breaks = subst (AppendsPrefix old new) same breaks
+broken_by text_of value_of other_text other_value read form old new Open same breaks = breaks
 
--- a run that answers, said of the capture in another form, with another kind of answer
-pub answered_by : {C D A B : Type 0} (IsOn : C → List ℕ → Type 0) (IsOnOther : D → List ℕ → Type 0) (GoesWith : C → A → Type 0)
-    (GoesWithOther : D → B → Type 0) (read : C) (form : D) (old new : Option (List ℕ)) (answer : A) (other : B)
-    → ((text : List ℕ) → IsOn read text → IsOnOther form text) → (GoesWith read answer → GoesWithOther form other)
-    → IsAnswered IsOn GoesWith read old new answer → IsAnswered IsOnOther GoesWithOther form old new other
-answered_by IsOn IsOnOther GoesWith GoesWithOther read form old new answer other texts goes answered =
-    record { text = answered.text; right = texts answered.text answered.right; written = answered.written; goes = goes answered.goes }
-
--- a run that ends with an error, said of the capture in another form
-pub broken_by : {C D : Type 0} (IsOn : C → List ℕ → Type 0) (IsOnOther : D → List ℕ → Type 0) (read : C) (form : D)
-    (old new : Option (List ℕ)) (error : RunError) → ((text : List ℕ) → IsOn read text → IsOnOther form text)
-    → EndsWithError IsOn read old new error → EndsWithError IsOnOther form old new error
-broken_by IsOn IsOnOther read form old new Memory texts breaks = breaks
-broken_by IsOn IsOnOther read form old new TooLarge texts breaks = breaks
-broken_by IsOn IsOnOther read form old new Read texts breaks = breaks
-broken_by IsOn IsOnOther read form old new Write texts breaks =
-    record { text = breaks.text; right = texts breaks.text breaks.right; begun = breaks.begun }
-broken_by IsOn IsOnOther read form old new Open texts breaks = breaks
-
--- the end of a run that answers, with another kind of answer
-pub runs_to : {C A B : Type 0} (Gives : Result C RunError → Type 0) (IsOn : C → List ℕ → Type 0) (GoesWith : C → A → Type 0)
-    (GoesWithOther : C → B → Type 0) (old new : Option (List ℕ)) (answer : A) (other : B)
-    → ((read : C) → GoesWith read answer → GoesWithOther read other) → RunEnds Gives IsOn GoesWith old new (Ok answer)
-    → RunEnds Gives IsOn GoesWithOther old new (Ok other)
-runs_to Gives IsOn GoesWith GoesWithOther old new answer other goes (given read gives answered) =
-    given read gives (answered_by IsOn IsOn GoesWith GoesWithOther read read old new answer other (λ text right. right) (goes read) answered)
-runs_to Gives IsOn GoesWith GoesWithOther old new answer other goes (none_given error gives is keeps) = absurd (cc)
+-- the end of a run that is Ok, with another kind of value
+pub runs_to : {C A B : Type 0} (Gives : Result C RunError → Type 0) (text_of : C → List ℕ) (value_of : C → A) (other_value : C → B)
+    (old new : Option (List ℕ)) (value : A) (other : B) → ((read : C) → value ≡ value_of read → other ≡ other_value read)
+    → RunEnds Gives text_of value_of old new (Ok value) → RunEnds Gives text_of other_value old new (Ok other)
+runs_to Gives text_of value_of other_value old new value other same (given read gives writes) =
+    given read gives (writes.0, same read writes.1)
+runs_to Gives text_of value_of other_value old new value other same (none_given error gives is keeps) = absurd (cc)
 
 abbrev error_of : (A : Type 0) → RunError → Result A RunError
 error_of A error = Err error
@@ -137,16 +120,22 @@ error_of A error = Err error
 same_error : (A : Type 0) (error other : RunError) → error_of A error ≡ error_of A other → error ≡ other
 same_error A error other is = cc
 
--- the end of a run that ends with an error, for another kind of answer
-pub runs_out : {C A B : Type 0} (Gives : Result C RunError → Type 0) (IsOn : C → List ℕ → Type 0) (GoesWith : C → A → Type 0)
-    (GoesWithOther : C → B → Type 0) (old new : Option (List ℕ)) (error : RunError) → RunEnds Gives IsOn GoesWith old new (Err error)
-    → RunEnds Gives IsOn GoesWithOther old new (Err error)
-runs_out Gives IsOn GoesWith GoesWithOther old new error (given read gives breaks) = given read gives breaks
-runs_out {C} {A} {B} Gives IsOn GoesWith GoesWithOther old new error (none_given other gives is keeps) =
+-- the end of a run that ends with an error, for another kind of value
+pub runs_out : {C A B : Type 0} (Gives : Result C RunError → Type 0) (text_of : C → List ℕ) (value_of : C → A) (other_value : C → B)
+    (old new : Option (List ℕ)) (error : RunError) → RunEnds Gives text_of value_of old new (Err error)
+    → RunEnds Gives text_of other_value old new (Err error)
+runs_out Gives text_of value_of other_value old new error (given read gives breaks) =
+    given read gives (broken_by text_of value_of text_of other_value read read old new error refl breaks)
+runs_out {C} {A} {B} Gives text_of value_of other_value old new error (none_given other gives is keeps) =
     none_given other gives (ap (error_of B) (same_error A error other is)) keeps
 
--- a run ends with `Write` if a right line was written only in part
-pub line_begun : {C : Type 0} (IsOn : C → List ℕ → Type 0) (read : C) (line : List ℕ) (error : RunError) (old new : Option (List ℕ))
-    → IsOn read line → error ≡ Write → AppendsPrefix old new line → EndsWithError IsOn read old new error
-line_begun IsOn read line error old new right is begun =
-    subst (EndsWithError IsOn read old new) (sym is) (record { text = line; right = right; begun = begun })
+-- a run ends with `Write` if the line that is to be written was written only in part
+pub line_begun : {C A : Type 0} (text_of : C → List ℕ) (value_of : C → A) (read : C) (line : List ℕ) (error : RunError) (old new : Option (List ℕ))
+    → text_of read ≡ line → error ≡ Write → AppendsPrefix old new line → Writes text_of value_of read old new (Err error)
+line_begun text_of value_of read line error old new right is begun =
+    subst (λ (e : RunError). Writes text_of value_of read old new (Err e)) (sym is) (subst (AppendsPrefix old new) (sym right) begun)
+
+-- a run is Ok if the text that is to be written was written whole, and the value is the one that is to be returned
+pub line_written : {C A : Type 0} (text_of : C → List ℕ) (value_of : C → A) (read : C) (line : List ℕ) (value : A) (old new : Option (List ℕ))
+    → text_of read ≡ line → value ≡ value_of read → Appends old new line → Writes text_of value_of read old new (Ok value)
+line_written text_of value_of read line value old new right is written = (subst (Appends old new) (sym right) written, is)

@@ -1,8 +1,9 @@
 //! Answers a question about a capture whose parts come from readers or from files.
 ghost use Rattle.std.specs.Prelude.{◌<◌, ◌^◌, length, map, vec_len, IfErr, IfOk, IsOkUnless};
 ghost use Rattle.std.specs.List.{AllZip};
+ghost use Rattle.capture_reading.specs.Parts.{frames_of_parts};
 ghost use Rattle.audit_run.specs.PartRuns.{FilesGive, IsOpeningError, ReadersGive};
-ghost use Rattle.audit_run.specs.Question.{GoWithStatus, IsAnswer, names_of};
+ghost use Rattle.audit_run.specs.Question.{answer_to, names_of, reading_status};
 ghost use Rattle.audit_run.specs.Run.{RunEnds};
 ghost use Rattle.audit_run.specs.Store.{HasLeft};
 
@@ -45,7 +46,7 @@ pub fn answer_files<T: Threads + Sync, S: Store, W: Write>(
 
     // The answer is about the files that the request names, in its order.
     ensures { RunEnds (FilesGive (map (S.bytes_of store.now) (names_of request.entry)))
-        (IsAnswer request.entry.question) GoWithStatus
+        (answer_to request.entry.question) (λ parts. reading_status (frames_of_parts parts))
         (W.contents out.old) (W.contents out.new) result }
 {
     let readers = open_files(alloc, store, request.files)?;
@@ -85,7 +86,8 @@ pub fn answer<T: Threads + Sync, R: Read + Drop, W: Write>(
     out: &mut W,
 ) -> Result<u8, RunError>
     requires { vec_len readers < 2 ^ 32 }
-    ensures { RunEnds (ReadersGive (map R.remaining readers.items)) (IsAnswer question) GoWithStatus
+    ensures { RunEnds (ReadersGive (map R.remaining readers.items)) (answer_to question)
+        (λ parts. reading_status (frames_of_parts parts))
         (W.contents out.old) (W.contents out.new) result }
 {
     match question {

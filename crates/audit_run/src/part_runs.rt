@@ -1,19 +1,19 @@
 //! Runs on a capture in parts, from several readers to a writer.
 
-ghost use Rattle.std.specs.Prelude.{◌≡◌, ◌<◌, ◌≤◌, ◌^◌, List, [], length, map, vec_len, vec_capacity, All, IfOk, IfErr, OnOk, OnErr, IsOkUnless, string_bytes};
+ghost use Rattle.std.specs.Prelude.{◌≡◌, ◌<◌, ◌≤◌, ◌^◌, List, [], length, map, vec_len, vec_capacity, All, IfOk, IfErr, OnOk, OnErr, IsOk, IsOkUnless, string_bytes};
 ghost use Rattle.std.specs.Io.KnownBytes.{Appends};
-ghost use Rattle.capture_frame.specs.Parts.{joined};
+ghost use Rattle.std.specs.Result.{result_err};
 ghost use Rattle.capture_frame.specs.Units.{IsBytes};
-ghost use Rattle.transaction_view.specs.Grammar.{AreReadable, HasFirstPartFault};
+ghost use Rattle.capture_reading.specs.Parts.{frames_of_parts};
 ghost use Rattle.audit_join.specs.Parts.{AreMalformed};
 ghost use Rattle.audit_join.specs.declared.limits.TheConstants.{CAPTURE_LIMIT};
 ghost use Rattle.report_text.specs.Fault.{part_fault_line};
-ghost use Rattle.report_text.specs.Answers.{IsTextOfParts, IsLineOnParts};
-ghost use Rattle.report_text.specs.Text.{IsReportOf, IsReportOn};
+ghost use Rattle.report_text.specs.Answers.{answer, first_fault_line};
+ghost use Rattle.report_text.specs.Text.{IsReportOf};
 ghost use Rattle.audit_streams.specs.KnownBytes.{AppendsPrefix};
 ghost use Rattle.audit_streams.specs.Parts.{AreRead, bytes_of};
 ghost use Rattle.audit_run.specs.PartRuns.{ReadersGive};
-ghost use Rattle.audit_run.specs.Run.{GoesWithFault, GoesWithWritten, RunEnds, Writes};
+ghost use Rattle.audit_run.specs.Run.{RunEnds, Writes, written_of};
 
 use crate::written::PartsWritten;
 use audit_findings::Findings;
@@ -32,9 +32,8 @@ use transaction_view::first_fault_parts;
 /// frames. The workers share the frames of all parts, a piece at a time, and the gate is told
 /// before and after each piece.
 ///
-/// The contract names neither workers nor piece nor gate, and parts have one text
-/// (`laws::one_text_of_parts` of `report_text`). So two runs on the same parts that are both Ok
-/// have written the same text.
+/// The contract names neither workers nor piece nor gate, and the answer is a function of the parts.
+/// So two runs on the same parts that are both Ok have written the same text.
 pub fn run_parts<T: Threads + Sync, R: Read + Drop, W: Write, G: Gate + Sync>(
     rt: &T,
     alloc: Global,
@@ -46,9 +45,9 @@ pub fn run_parts<T: Threads + Sync, R: Read + Drop, W: Write, G: Gate + Sync>(
 ) -> Result<PartsWritten, RunError>
     requires { vec_len readers < 2 ^ 32 }
 
-    // A run that is Ok has written the definitions' text of what was read, and nothing else.
-    ensures { RunEnds (ReadersGive (map R.remaining readers.items)) IsTextOfParts
-        (GoesWithWritten AreReadable HasFirstPartFault)
+    // A run that is Ok has written the answer to what was read, and nothing else.
+    ensures { RunEnds (ReadersGive (map R.remaining readers.items)) answer
+        (λ parts. written_of (frames_of_parts parts))
         (W.contents writer.old) (W.contents writer.new) result }
 {
     let room = room_for(alloc, readers.len())?;
@@ -65,8 +64,8 @@ pub fn run_first_fault_parts<R: Read + Drop, W: Write>(
     writer: &mut W,
 ) -> Result<Option<PartFault>, RunError>
     requires { vec_len readers < 2 ^ 32 }
-    ensures { RunEnds (ReadersGive (map R.remaining readers.items)) IsLineOnParts
-        (GoesWithFault AreReadable HasFirstPartFault)
+    ensures { RunEnds (ReadersGive (map R.remaining readers.items)) first_fault_line
+        (λ parts. result_err (frames_of_parts parts))
         (W.contents writer.old) (W.contents writer.new) result }
 {
     let room = room_for(alloc, readers.len())?;
@@ -130,7 +129,8 @@ pub(crate) fn write_parts<T: Threads + Sync, W: Write, G: Gate + Sync>(
 ) -> Result<PartsWritten, RunError>
     requires few { length parts.now < 2 ^ 32 }
     requires limit { bytes_of (map (λ part. part.now) parts.now) ≤ CAPTURE_LIMIT }
-    ensures { Writes IsTextOfParts (GoesWithWritten AreReadable HasFirstPartFault)
+    requires bytes { All IsBytes (map (λ part. part.now) parts.now) }
+    ensures { Writes answer (λ parts. written_of (frames_of_parts parts))
         (map (λ part. part.now) parts.now)
         (W.contents writer.old) (W.contents writer.new) result }
 {
@@ -160,9 +160,10 @@ fn report_on<T: Threads + Sync, G: Gate + Sync>(
 ) -> Result<String, PartsError>
     requires few { length parts.now < 2 ^ 32 }
     requires limit { bytes_of (map (λ part. part.now) parts.now) ≤ CAPTURE_LIMIT }
-    ensures readable { OnOk result (AreReadable (map (λ part. part.now) parts.now)) }
+    requires bytes { All IsBytes (map (λ part. part.now) parts.now) }
+    ensures read { OnOk result (IsOk (frames_of_parts (map (λ part. part.now) parts.now))) }
     ensures report { IfOk result (λ text.
-        IsReportOn (joined (map (λ part. part.now) parts.now)) (string_bytes text)) }
+        string_bytes text ≡ answer (map (λ part. part.now) parts.now)) }
     ensures malformed { IfErr result (AreMalformed (map (λ part. part.now) parts.now)) }
 {
     let found = audit_parts(rt, alloc, parts, workers, piece, gate)?;
@@ -187,8 +188,9 @@ pub(crate) fn write_first_fault_parts<W: Write>(
     parts: &[&[u8]],
     writer: &mut W,
 ) -> Result<Option<PartFault>, RunError>
-    requires { length parts.now < 2 ^ 32 }
-    ensures written { Writes IsLineOnParts (GoesWithFault AreReadable HasFirstPartFault)
+    requires few { length parts.now < 2 ^ 32 }
+    requires bytes { All IsBytes (map (λ part. part.now) parts.now) }
+    ensures written { Writes first_fault_line (λ parts. result_err (frames_of_parts parts))
         (map (λ part. part.now) parts.now)
         (W.contents writer.old) (W.contents writer.new) result }
     ensures fault { IsOkUnless result RunError.Write }

@@ -1,9 +1,9 @@
 //! Runs on a capture in one part, from a reader to a writer.
 
-ghost use Rattle.std.specs.Prelude.{◌≡◌, ◌≤◌, length, vec_len, IfOk, IfErr, IfSome, IsOkUnless};
-ghost use Rattle.audit_run.specs.Run.{GoesWithFault, GoesWithWritten, ReaderGives, RunEnds, Writes};
-ghost use Rattle.transaction_view.specs.Grammar.{HasFirstFault, IsReadable};
-ghost use Rattle.report_text.specs.Answers.{IsTextOf, IsLineOn};
+ghost use Rattle.std.specs.Prelude.{◌≡◌, ◌≤◌, [], ◌∷◌, length, vec_len, IfOk, IfErr, IfSome, IsOkUnless};
+ghost use Rattle.std.specs.Result.{result_err};
+ghost use Rattle.report_text.specs.Answers.{answer, first_fault_line};
+ghost use Rattle.audit_run.specs.Run.{ReaderGives, RunEnds, Writes, frames_of_capture, written_of};
 ghost use Rattle.audit_join.specs.declared.limits.TheConstants.{CAPTURE_LIMIT};
 
 use crate::part_runs::{as_bytes, write_first_fault_parts, write_parts};
@@ -27,9 +27,9 @@ pub fn run<T: Threads + Sync, R: Read, W: Write>(
     workers: Workers,
     piece: Piece,
 ) -> Result<Written, RunError>
-    // A run that is Ok has written the definitions' text of what was read, and nothing else.
-    ensures { RunEnds (ReaderGives (R.remaining reader.old)) IsTextOf
-        (GoesWithWritten IsReadable HasFirstFault)
+    // A run that is Ok has written the answer to what was read, and nothing else.
+    ensures { RunEnds (ReaderGives (R.remaining reader.old)) (λ capture. answer (capture ∷ []))
+        (λ capture. written_of (frames_of_capture capture))
         (W.contents writer.old) (W.contents writer.new) result }
 {
     run_gated(rt, alloc, reader, writer, workers, piece, &NoGate)
@@ -45,9 +45,9 @@ pub fn run_gated<T: Threads + Sync, R: Read, W: Write, G: Gate + Sync>(
     piece: Piece,
     gate: &G,
 ) -> Result<Written, RunError>
-    // A run that is Ok has written the definitions' text of what was read, and nothing else.
-    ensures { RunEnds (ReaderGives (R.remaining reader.old)) IsTextOf
-        (GoesWithWritten IsReadable HasFirstFault)
+    // A run that is Ok has written the answer to what was read, and nothing else.
+    ensures { RunEnds (ReaderGives (R.remaining reader.old)) (λ capture. answer (capture ∷ []))
+        (λ capture. written_of (frames_of_capture capture))
         (W.contents writer.old) (W.contents writer.new) result }
 {
     let capture = read_within(alloc, reader)?;
@@ -83,7 +83,8 @@ fn write_report<T: Threads + Sync, W: Write, G: Gate + Sync>(
     gate: &G,
 ) -> Result<Written, RunError>
     requires { length capture.now ≤ CAPTURE_LIMIT }
-    ensures { Writes IsTextOf (GoesWithWritten IsReadable HasFirstFault) capture.now
+    ensures { Writes (λ capture. answer (capture ∷ []))
+        (λ capture. written_of (frames_of_capture capture)) capture.now
         (W.contents writer.old) (W.contents writer.new) result }
 {
     match write_parts(rt, alloc, &[capture], writer, workers, piece, gate)? {
@@ -99,8 +100,9 @@ pub fn run_first_fault<R: Read, W: Write>(
     reader: &mut R,
     writer: &mut W,
 ) -> Result<Option<Fault>, RunError>
-    ensures { RunEnds (ReaderGives (R.remaining reader.old)) IsLineOn
-        (GoesWithFault IsReadable HasFirstFault)
+    ensures { RunEnds (ReaderGives (R.remaining reader.old))
+        (λ capture. first_fault_line (capture ∷ []))
+        (λ capture. result_err (frames_of_capture capture))
         (W.contents writer.old) (W.contents writer.new) result }
 {
     let capture = read_within(alloc, reader)?;
@@ -113,7 +115,8 @@ pub fn write_first_fault<W: Write>(
     capture: &[u8],
     writer: &mut W,
 ) -> Result<Option<Fault>, RunError>
-    ensures written { Writes IsLineOn (GoesWithFault IsReadable HasFirstFault) capture.now
+    ensures written { Writes (λ capture. first_fault_line (capture ∷ []))
+        (λ capture. result_err (frames_of_capture capture)) capture.now
         (W.contents writer.old) (W.contents writer.new) result }
     ensures fault { IsOkUnless result RunError.Write }
 {

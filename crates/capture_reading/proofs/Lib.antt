@@ -5,4 +5,5 @@ pub mod RecordLaws
 pub mod EntryLaws
 pub mod WholeLaws
 pub mod PartLaws
+pub mod ReadingLaws
 pub mod Vectors

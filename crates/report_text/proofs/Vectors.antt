@@ -1,11 +1,12 @@
 -- The definitions at findings that were worked out by hand.
-use Rattle.std.proofs.Common.{◌≡◌, ℕ, List, [], ◌∷◌, ◌++◌, replicate, codes, refl, ap, ◌∙◌, arith}
+use Rattle.std.proofs.Common.{◌≡◌, ℕ, List, [], ◌∷◌, ◌++◌, replicate, codes, take, refl, ap, ◌∙◌, arith}
 use Rattle.std.specs.Prelude.{Some, None, pos, negsuc}
 use Rattle.std.specs.Fmt.{decimal, digits}
 use Rattle.std.proofs.lemmas.Fmt.{decimal_digit}
 use Rattle.itoa.proofs.Decimal.{decimal_two, decimal_pair}
 use Rattle.binder_code.specs.declared.record_kind.Kind.TheVariants.{BcDeadBinderDone, BcTransaction, BrDeadBinder, BrFailedReply, BrTransaction}
-use Rattle.capture_frame.specs.Envelope.{number_at}
+use Rattle.capture_frame.specs.Envelope.{file_header, number_at}
+use Rattle.capture_frame.specs.declared.version.Version.TheVariants.{One, Two}
 use Rattle.capture_frame.specs.declared.fault.FaultKind.TheVariants.{RecordDirection}
 use Rattle.object_view.specs.declared.bad_object.Cause.TheVariants.{ListLength, Misaligned, Overlap, Short, UnknownSort}
 use Rattle.object_view.specs.Objects.{bad_at}
@@ -15,6 +16,7 @@ use Rattle.call_stacks.specs.declared.verdict.Verdict.TheVariants.{Failed, Cross
 use Rattle.capture_frame.specs.declared.process.Process.{Process}
 use Rattle.audit_findings.specs.declared.findings.Sections.{Sections}
 use Rattle.audit_findings.specs.InTurn.{process_row}
+use Rattle.report_text.specs.Answers.{answer, first_fault_line}
 use Rattle.report_text.specs.Calls.{calls_row}
 use Rattle.report_text.specs.Codes.{codes_row}
 use Rattle.report_text.specs.Deaths.{deaths_row}
@@ -240,3 +242,25 @@ widest_node : nodes_row (process_row (numbered 7) (record {
 })) ≡ codes "  1 7 0x0 0xffffffffffffffff 10 -10 2 -3 4 -9223372036854775808"
 unfolding most digits
 widest_node = refl
+
+-- ---- the answer to parts, from their bytes
+
+-- a file header alone is a capture without frames
+empty_answer : answer (file_header One ∷ [])
+    ≡ codes "BINDER AUDIT 2\nframes 0 records 0 opaque 0 missing 0\ncodes 0\ncalls 0 answered 0 failed 0 unanswered 0\nserved 0 replied 0 crossed 0 open 0\nstrays 0\nrefused 0\nhandles 0 unbalanced 0\nnodes 0 unbalanced 0\nbuffers 0 leaked 0\nfrees 0 stray 0\nrequests 0 standing 0\ndeaths 0 unacknowledged 0 stray 0\nclears 0 unconfirmed 0 stray 0\noneway sent 0 received 0 refused 0\nobjects binder 0 weak_binder 0 handle 0 weak_handle 0 fd 0 fda 0 ptr 0 bad 0\nflags 0\n"
+unfolding number_at report_text digits
+empty_answer = refl
+
+-- a file header that is cut
+cut_answer : answer (take 15 (file_header Two) ∷ []) ≡ codes "malformed HeaderShort at 0\n"
+unfolding number_at part_fault_line fault_line digits
+cut_answer = refl
+
+-- the second of two parts has another magic
+second_part_answer : answer (file_header Two ∷ (0 ∷ file_header Two) ∷ []) ≡ codes "malformed HeaderMagic at 0 in part 2\n"
+unfolding number_at part_fault_line digits
+second_part_answer = refl
+
+no_fault_answer : first_fault_line (file_header One ∷ file_header Two ∷ []) ≡ codes "no malformed record\n"
+unfolding number_at
+no_fault_answer = refl

@@ -23,6 +23,4 @@ pub mod Flags
 pub mod Fault
 pub mod Text
 pub mod Answers
-pub mod Laws
-pub mod PartLaws
 pub mod Pushed

@@ -2,7 +2,7 @@
 use Rattle.std.specs.Prelude.{◌≡◌, ℕ, List, [], ◌∷◌, ◌++◌, codes}
 use Rattle.std.specs.List.{flat_map}
 use Rattle.std.specs.Fmt.{decimal}
-use Rattle.transaction_view.specs.Grammar.{WholeFrame, IsInGrammar}
+use Rattle.transaction_view.specs.Grammar.{WholeFrame}
 use Rattle.event_core.specs.Events.{EventRead, wholes_of}
 use Rattle.audit_findings.specs.Findings.{findings_of}
 use Rattle.audit_findings.specs.Kept.{AreSectionsOf, KeptFindings}
@@ -64,10 +64,3 @@ abbrev pub IsReportOf : KeptFindings → List ℕ → Type 0
 IsReportOf kept text =
     (wholes : List WholeFrame) → AreSectionsOf wholes kept.frames kept.sections
     → text ≡ report_text (findings_of (wholes_of wholes))
-
--- the text is the report on a capture: the capture is in the grammar by some frames, and the text is the report on their
--- findings
-abbrev pub IsReportOn : List ℕ → List ℕ → Type 0
-IsReportOn capture text =
-    (wholes : List WholeFrame) × IsInGrammar capture wholes
-    × (text ≡ report_text (findings_of (wholes_of wholes)))

@@ -12,7 +12,6 @@ mod fault;
 mod flags;
 mod frees;
 mod handles;
-pub mod laws;
 mod line;
 mod lines;
 mod nodes;

@@ -1,6 +1,7 @@
 use Rattle.std.proofs.KnownBytes.{Keeps-refl}
 use Rattle.std.proofs.lemmas.Result.{err_from_is_err_and}
-use Rattle.audit_run.specs.Question.{GoWithStatus, IsAnswer}
+use Rattle.capture_reading.specs.Parts.{frames_of_parts}
+use Rattle.audit_run.specs.Question.{answer_to, reading_status}
 use Rattle.audit_run.specs.Run.{none_given}
 use Rattle.audit_run.proofs.RunLaws.{opening_gives, run_on_files}
 use Rattle.audit_run.proofs.answers.answer_files.Goals as goal
@@ -12,4 +13,5 @@ returns-in_err-readers g c =
 
 pub returns : goal.returns
 returns g c =
-    run_on_files _ _ (IsAnswer c.args.request.question) GoWithStatus _ _ c.answer.result c.in_ok-readers.ensures.each c.answer.ensures
+    run_on_files _ _ (answer_to c.args.request.question) (λ parts. reading_status (frames_of_parts parts)) _ _ c.answer.result c.in_ok-readers.ensures.each
+    c.answer.ensures

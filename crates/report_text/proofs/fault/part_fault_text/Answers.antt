@@ -1,7 +1,7 @@
 use Rattle.std.proofs.Common.{◌≡◌, ℕ, ◌++◌, codes, sym, subst, ◌∙◌, rules}
 use Rattle.std.specs.Fmt.{decimal}
 use Rattle.report_text.specs.Fault.{fault_words, part_fault_line}
-use Rattle.report_text.proofs.PartText.{one_line_said, many_lines_said}
+use Rattle.report_text.proofs.FaultLines.{one_line_said, many_lines_said}
 use Rattle.report_text.proofs.fault.part_fault_text.Goals as goal
 
 pub returns-then-parts-eq1-clause-line : goal.returns-then-parts-eq1-clause-line

@@ -1,0 +1,105 @@
+-- What is read of parts, by what the audit says of them, and so what is to be written and returned.
+use Rattle.std.proofs.Common.{◌≡◌, ℕ, List, length, map, Bor, Some, None, Result, Ok, Err, true, refl, sym, ap, ◌∙◌}
+use Rattle.std.specs.Prelude.{All, is_ok}
+use Rattle.std.specs.Result.{result_err, result_map_both}
+use Rattle.std.proofs.lemmas.List.{length-map}
+use Rattle.capture_frame.specs.declared.fault.Fault.{Fault}
+use Rattle.capture_frame.specs.declared.fault.PartFault.{PartFault}
+use Rattle.capture_frame.specs.Parts.{joined}
+use Rattle.capture_frame.specs.Units.{IsBytes, Placed}
+use Rattle.capture_frame.proofs.CaptureLaws.{capture_one_reading}
+use Rattle.capture_frame.proofs.PartLaws.{parts_joined}
+use Rattle.transaction_view.specs.Grammar.{WholeFrame, AreReadable, IsInGrammar, whole_format}
+use Rattle.transaction_view.proofs.GrammarLaws.{whole_decided, whole_wide}
+use Rattle.capture_reading.specs.Parts.{frames_of_parts}
+use Rattle.capture_reading.proofs.ReadingLaws.{frames_read}
+use Rattle.event_core.specs.Events.{wholes_of}
+use Rattle.audit_findings.specs.Findings.{findings_of}
+use Rattle.report_text.specs.Answers.{answer, first_fault_line}
+use Rattle.report_text.specs.Fault.{no_fault_line, part_fault_line}
+use Rattle.report_text.specs.Text.{report_text}
+use Rattle.audit_run.specs.Run.{written_of}
+use Rattle.audit_run.specs.declared.written.Written.TheVariants.{Report, Malformed}
+
+-- ---- what is to be written
+
+abbrev Reading : Type 0
+Reading = Result (List (Placed WholeFrame)) PartFault
+
+-- the answer to parts of which this is read
+abbrev answer_by : List (List ℕ) → Reading → List ℕ
+answer_by parts read = elim read [
+  | Ok wholes ↦ report_text (findings_of wholes)
+  | Err found ↦ part_fault_line (length parts) found
+]
+
+-- the line of `first-fault` on parts of which this is read
+abbrev line_by : List (List ℕ) → Reading → List ℕ
+line_by parts read = elim read [
+  | Ok wholes ↦ no_fault_line
+  | Err found ↦ part_fault_line (length parts) found
+]
+
+pub answer_of : (parts : List (List ℕ)) (read : Reading) → frames_of_parts parts ≡ read → answer parts ≡ answer_by parts read
+answer_of parts read is = ap (answer_by parts) is
+
+pub line_of : (parts : List (List ℕ)) (read : Reading) → frames_of_parts parts ≡ read → first_fault_line parts ≡ line_by parts read
+line_of parts read is = ap (line_by parts) is
+
+-- the line of a fault is the same for slices and for their bytes, because there are equally many
+pub line_of_slices : (slices : List (Bor (List ℕ))) (found : PartFault)
+    → part_fault_line (length (map (λ (slice : Bor (List ℕ)). slice.now) slices)) found ≡ part_fault_line (length slices) found
+line_of_slices slices found =
+    ap (λ (n : ℕ). part_fault_line n found) (length-map slices (λ (slice : Bor (List ℕ)). slice.now))
+
+-- ---- what is read
+
+-- of parts in the grammar, whose joined capture is these frames, these frames are read
+pub audited_frames : (parts : List (List ℕ)) (wholes : List WholeFrame) → All IsBytes parts → AreReadable parts → IsInGrammar (joined parts) wholes
+    → frames_of_parts parts ≡ Ok (wholes_of wholes)
+audited_frames parts wholes bytes readable whole =
+    let joined_are = parts_joined whole_format whole_wide parts readable.0 readable.1 in
+    frames_read parts readable.0 bytes readable.1
+    ∙ ap (λ (frames : List WholeFrame). Ok (wholes_of frames))
+    (capture_one_reading whole_format whole_decided (joined parts) readable.0 wholes joined_are whole)
+
+-- ---- what was read, by what is returned
+
+pub if_ok : {W F : Type 0} (read : Result W F) → is_ok read ≡ true → Report ≡ written_of read
+if_ok (Ok wholes) ok = refl
+if_ok (Err found) ok = absurd (cc)
+
+pub if_report : {W F : Type 0} (read : Result W F) → Report ≡ written_of read → (wholes : W) × (read ≡ Ok wholes)
+if_report (Ok wholes) is = (wholes, refl)
+if_report (Err found) is = absurd (cc)
+
+pub if_malformed : {W F : Type 0} (read : Result W F) (found : F) → Malformed found ≡ written_of read → read ≡ Err found
+if_malformed (Ok wholes) found is = absurd (cc)
+if_malformed (Err other) found is = let same : found ≡ other = cc in ap Err (sym same)
+
+pub if_none : {W F : Type 0} (read : Result W F) → None ≡ result_err read → (wholes : W) × (read ≡ Ok wholes)
+if_none (Ok wholes) is = (wholes, refl)
+if_none (Err found) is = absurd (cc)
+
+pub if_some : {W F : Type 0} (read : Result W F) (found : F) → Some found ≡ result_err read → read ≡ Err found
+if_some (Ok wholes) found is = absurd (cc)
+if_some (Err other) found is = let same : found ≡ other = cc in ap Err (sym same)
+
+-- ---- a single part, as a capture
+
+abbrev alone : {W : Type 0} → Result W PartFault → Result W Fault
+alone read = result_map_both (λ wholes. wholes) (λ found. found.fault) read
+
+pub report_alone : {W : Type 0} (read : Result W PartFault) → Report ≡ written_of read → Report ≡ written_of (alone read)
+report_alone {W} read is = sym (ap (λ (r : Result W PartFault). written_of (alone r)) (if_report read is).1)
+
+pub malformed_alone : {W : Type 0} (read : Result W PartFault) (found : PartFault) → Malformed found ≡ written_of read
+    → Malformed found.fault ≡ written_of (alone read)
+malformed_alone {W} read found is = sym (ap (λ (r : Result W PartFault). written_of (alone r)) (if_malformed read found is))
+
+pub none_alone : {W : Type 0} (read : Result W PartFault) → None ≡ result_err read → None ≡ result_err (alone read)
+none_alone {W} read is = sym (ap (λ (r : Result W PartFault). result_err (alone r)) (if_none read is).1)
+
+pub some_alone : {W : Type 0} (read : Result W PartFault) (found : PartFault) → Some found ≡ result_err read
+    → Some found.fault ≡ result_err (alone read)
+some_alone {W} read found is = sym (ap (λ (r : Result W PartFault). result_err (alone r)) (if_some read found is))
