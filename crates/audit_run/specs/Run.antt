@@ -28,9 +28,9 @@ ReaderGives had (Err Read) = ⊤
 ReaderGives had (Err Write) = ⊥
 ReaderGives had (Err Open) = ⊥
 
--- How a run ends once it has the capture. `text_of` gives the text that is to be written on a capture, and `value_of` the
--- value that is to be returned. At Ok the writer has grown by this text, whole, and by nothing else, and the value is
--- this one. With `Memory` the writer is unchanged. With `Write` it has grown by a beginning of the text, which can be
+-- How a run ends once it has the capture. `text_of` gives the text that is to be written on a capture, and `value_of`
+-- the value that is to be returned. At Ok the writer has grown by this text, whole, and by nothing else, and the value
+-- is this one. With `Memory` the writer is unchanged. With `Write` it has grown by a beginning of the text, which can be
 -- nothing or the whole text. Once the capture is read, no other error comes.
 abbrev pub Writes : {C A : Type 0} → (C → List ℕ) → (C → A) → C → Option (List ℕ) → Option (List ℕ)
     → Result A RunError → Type 0
@@ -41,10 +41,10 @@ Writes text_of value_of capture old new (Err Read) = ⊥
 Writes text_of value_of capture old new (Err Write) = AppendsPrefix old new (text_of capture)
 Writes text_of value_of capture old new (Err Open) = ⊥
 
--- How a run ends. `Gives` says what reading may give, `text_of` which text is to be written on a capture, and `value_of`
--- which value is to be returned. The writer has the bytes `old` before the run and `new` after it, and `result` is the
--- value or the error. Either reading gave a capture, and the run ends as `Writes` says of that capture. Or reading gave
--- an error, the run ends with that error, and the writer is unchanged.
+-- How a run ends. `Gives` says what reading may give, `text_of` which text is to be written on a capture, and
+-- `value_of` which value is to be returned. The writer has the bytes `old` before the run and `new` after it, and
+-- `result` is the value or the error. Either reading gave a capture, and the run ends as `Writes` says of that capture.
+-- Or reading gave an error, the run ends with that error, and the writer is unchanged.
 pub data RunEnds {C A : Type 0} (Gives : Result C RunError → Type 0) (text_of : C → List ℕ) (value_of : C → A)
     (old new : Option (List ℕ)) (result : Result A RunError) : Type 0 where
   given : (capture : C) → Gives (Ok capture) → Writes text_of value_of capture old new result

@@ -5,7 +5,8 @@ use Rattle.std.specs.Fmt.{decimal, digits}
 use Rattle.std.proofs.lemmas.Fmt.{decimal_digit}
 use Rattle.itoa.proofs.Decimal.{decimal_two, decimal_pair}
 use Rattle.binder_code.specs.declared.record_kind.Kind.TheVariants.{BcDeadBinderDone, BcTransaction, BrDeadBinder, BrFailedReply, BrTransaction}
-use Rattle.capture_frame.specs.Envelope.{file_header, number_at}
+use Rattle.capture_frame.specs.Envelope.{FrameText, file_header, frame_bytes, number_at}
+use Rattle.capture_frame.specs.declared.direction.Direction.TheVariants.{Read}
 use Rattle.capture_frame.specs.declared.version.Version.TheVariants.{One, Two}
 use Rattle.capture_frame.specs.declared.fault.FaultKind.TheVariants.{RecordDirection}
 use Rattle.object_view.specs.declared.bad_object.Cause.TheVariants.{ListLength, Misaligned, Overlap, Short, UnknownSort}
@@ -264,3 +265,20 @@ second_part_answer = refl
 no_fault_answer : first_fault_line (file_header One ∷ file_header Two ∷ []) ≡ codes "no malformed record\n"
 unfolding number_at
 no_fault_answer = refl
+
+-- a frame of process 100 with the one record `BR_FAILED_REPLY`, which ends no call
+lone_reply : FrameText
+lone_reply = record {
+  sequence = 1;
+  device = 0;
+  process = 100;
+  thread = 101;
+  direction = Read;
+  commands = 0x11 ∷ 0x72 ∷ 0 ∷ 0 ∷ [];
+  attachments = [];
+}
+
+stray_answer : answer ((file_header One ++ frame_bytes lone_reply) ∷ [])
+    ≡ codes "BINDER AUDIT 2\nframes 1 records 1 opaque 0 missing 0\ncodes 1\n  0x00007211 BR_FAILED_REPLY 1\ncalls 0 answered 0 failed 0 unanswered 0\nserved 0 replied 0 crossed 0 open 0\nstrays 1\n  48 0 100 101 BR_FAILED_REPLY\nrefused 0\nhandles 0 unbalanced 0\nnodes 0 unbalanced 0\nbuffers 0 leaked 0\nfrees 0 stray 0\nrequests 0 standing 0\ndeaths 0 unacknowledged 0 stray 0\nclears 0 unconfirmed 0 stray 0\noneway sent 0 received 0 refused 0\nobjects binder 0 weak_binder 0 handle 0 weak_handle 0 fd 0 fda 0 ptr 0 bad 0\nflags 0\n"
+unfolding lone_reply number_at frame_bytes report_text digits
+stray_answer = refl
