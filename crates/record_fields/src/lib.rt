@@ -7,6 +7,7 @@ mod content;
 mod error;
 mod fields;
 mod frames;
+mod interface;
 mod stopped;
 mod text;
 
@@ -15,5 +16,6 @@ pub use content::{Content, Item};
 pub use error::{ListingError, read_error, write_error};
 pub use fields::{Field, Form, Shown, Value, fields_of, has_field, object_fields};
 pub use frames::{direction_number, is_oneway, thread_of};
+pub use interface::{InterfaceName, interface_of, reply_name};
 pub use stopped::Stopped;
 pub use text::{push_decimal, push_digits, push_hexadecimal, push_place, push_signed};
