@@ -396,6 +396,18 @@ class SideList:
             self.facts.update(end_ts=time, lost=number(keyed["lost"]))
 
 
+# ---- the names of interfaces
+
+
+def load_interfaces(database: sqlite3.Connection) -> None:
+    """Puts the names together, of which the raw table has eight characters in a number."""
+    names: dict[int, bytes] = {}
+    for number, letters in database.execute("SELECT id, letters FROM raw_interface ORDER BY id, idx"):
+        names[number] = names.get(number, b"") + struct.pack("<q", letters).rstrip(b"\0")
+    database.executemany("INSERT INTO interface VALUES (?, ?)",
+                         ((number, name.decode("ascii")) for number, name in names.items()))
+
+
 # ---- the numbers of replies that are a status
 
 
@@ -571,6 +583,7 @@ def fill(database: sqlite3.Connection, files: list[str], side: str | None, has_t
     load_report(database, report)
     load_facts(database, files, malformed, taken.facts if side is not None else {})
     load_findings(database)
+    load_interfaces(database)
     load_status(database, files)
     database.execute("COMMIT")
 

@@ -1,7 +1,6 @@
 -- The database of a capture. docs/DATABASE.md describes it as an interface, and this is the version of that interface.
--- Since version 2, status, finding.waiting, finding_group.waiting and finding_group.note are new, and side_missed,
--- side_calls and side_handle; process.met may be before-file.
-PRAGMA user_version = 3;
+-- Since version 3, interface is new, and the column interface of record, listing, call, send and delivery.
+PRAGMA user_version = 4;
 
 -- ---- raw tables: the rows that `./listing --tables` writes, column by column
 --
@@ -11,11 +10,11 @@ PRAGMA user_version = 3;
 --
 -- A column is present in every row unless it may be NULL. A place is the place of a record's code word unless said
 -- otherwise. A difference of two sequences is taken in 64 bits without a sign. Rows rise by the first column, in
--- raw_object and raw_level by the first two. Wherever the end of the capture is meant, a malformed capture ends at its
+-- raw_interface, raw_object and raw_level by the first two. Wherever the end of the capture is meant, a malformed capture ends at its
 -- first fault.
 
 -- The capture, in one row.
---   layout                1
+--   layout                2
 --   parts                 the number of files
 --   bytes                 the length of the joined capture; of a malformed one, the place of its fault in that
 --   frames, records       the numbers of rows of raw_frame and raw_record
@@ -67,6 +66,8 @@ CREATE TABLE raw_frame(seq INTEGER PRIMARY KEY, place INTEGER NOT NULL, utid INT
 --   attachment   the place of the record's attachment entry; NULL without one
 --   value        the code word of an opaque record. With a sign: the error of BR_ERROR, the result of BC_ACQUIRE_RESULT
 --                and BR_ACQUIRE_RESULT, the priority of BC_ATTEMPT_ACQUIRE and BR_ATTEMPT_ACQUIRE
+--   interface    the id in raw_interface of the interface with which the data of a transaction begin, or of the one
+--                that is all of the data of a reply; NULL if they name none
 -- The target of a reply means nothing, so BC_REPLY, BC_REPLY_SG and BR_REPLY have no handle, ptr or cookie. A sent
 -- transaction goes to a handle and a received one to a ptr and a cookie; the other reading of these bytes is left out.
 -- Indexes are those that a query of the page, or of docs/DATABASE.md, was measured to need: nodes.sql begins with them.
@@ -74,7 +75,14 @@ CREATE TABLE raw_frame(seq INTEGER PRIMARY KEY, place INTEGER NOT NULL, utid INT
 CREATE TABLE raw_record(place INTEGER PRIMARY KEY, seq INTEGER NOT NULL, utid INTEGER NOT NULL, kind INTEGER NOT NULL,
   handle INTEGER, ptr INTEGER, cookie INTEGER, address INTEGER, code INTEGER, flags INTEGER, sender_pid INTEGER,
   sender_euid INTEGER, data_size INTEGER, offsets_size INTEGER, offsets INTEGER, extra INTEGER, attachment INTEGER,
-  value INTEGER);
+  value INTEGER, interface INTEGER);
+
+-- A row for each eight characters of the name of an interface. Each name is there once, in the order of the first
+-- records that have it.
+--   id        1, 2 and so on
+--   idx       0 of the first eight characters, then 1 and so on
+--   letters   the characters in ASCII, the first one in the lowest byte; bytes after the last one are 0
+CREATE TABLE raw_interface(id INTEGER NOT NULL, idx INTEGER NOT NULL, letters INTEGER NOT NULL);
 
 -- A row for each object of an attachment, up to the first bad one, which has a row too (docs/REPORT.md#objects). Of a
 -- bad object only place, idx, offset and bad are there.
@@ -218,6 +226,8 @@ CREATE INDEX side_process_of_pid ON side_process(pid);
 CREATE INDEX side_thread_of_tid ON side_thread(tid);
 CREATE TABLE side_time(seq INTEGER PRIMARY KEY, ts INTEGER NOT NULL) STRICT;
 CREATE TABLE side_lost(seq INTEGER PRIMARY KEY, device INTEGER, process INTEGER, thread INTEGER, why TEXT) STRICT;
+-- The names in raw_interface, put together.
+CREATE TABLE interface(id INTEGER PRIMARY KEY, name TEXT NOT NULL) STRICT;
 -- The number that a BR_REPLY with TF_STATUS_CODE has in place of data; NULL if its data are not in the capture.
 CREATE TABLE status(place INTEGER PRIMARY KEY, value INTEGER) STRICT;
 CREATE TABLE side_missed(id INTEGER PRIMARY KEY, what TEXT NOT NULL, count INTEGER NOT NULL, from_seq INTEGER NOT NULL,
@@ -284,22 +294,25 @@ FROM raw_frame f JOIN raw_thread t USING (utid) LEFT JOIN side_time x USING (seq
 CREATE VIEW record AS
 SELECT r.place, r.seq, r.utid, t.upid, k.name AS kind, r.handle, r.ptr, r.cookie, r.address, r.code, r.flags,
   r.flags & 1 AS oneway, r.sender_pid, r.sender_euid, r.data_size, r.offsets_size, r.offsets, r.extra, r.attachment,
-  r.value, x.ts
+  r.value, x.ts, i.name AS interface
 FROM raw_record r JOIN raw_thread t USING (utid) LEFT JOIN kind k ON k.number = r.kind
-  LEFT JOIN side_time x USING (seq);
+  LEFT JOIN side_time x USING (seq) LEFT JOIN interface i ON i.id = r.interface;
 
 CREATE VIEW object AS
 SELECT o.place, o.idx, o.offset, s.name AS sort, o.flags, o.binder, o.handle, o.fd, o.cookie, o.num_fds, o.buffer,
   o.length, o.parent, o.parent_offset, c.name AS bad
 FROM raw_object o LEFT JOIN sort s ON s.number = o.sort LEFT JOIN cause c ON c.number = o.bad;
 
+-- The reply to the code _NTF, 0x5f4e5446, names the interface of the node that is asked.
 CREATE VIEW call AS
 SELECT c.place, c.seq, c.utid, t.upid, iif(c.served, 'served', 'made') AS side, c.depth, c.parent, r.code, r.flags,
   r.handle, s.generation, r.ptr, r.cookie, r.sender_pid, r.data_size, v.name AS verdict, c.closer,
-  c.seq + c.dur_seq AS closer_seq, c.dur_seq, b.ts, z.ts - b.ts AS dur, s.delivery, s.certain
+  c.seq + c.dur_seq AS closer_seq, c.dur_seq, b.ts, z.ts - b.ts AS dur, s.delivery, s.certain, i.name AS interface
 FROM raw_call c JOIN raw_thread t USING (utid) JOIN raw_record r USING (place)
   LEFT JOIN verdict v ON v.number = c.verdict LEFT JOIN raw_send s ON s.place = c.place
-  LEFT JOIN side_time b ON b.seq = c.seq LEFT JOIN side_time z ON z.seq = c.seq + c.dur_seq;
+  LEFT JOIN side_time b ON b.seq = c.seq LEFT JOIN side_time z ON z.seq = c.seq + c.dur_seq
+  LEFT JOIN raw_record a ON a.place = iif(r.code = 0x5f4e5446, c.closer, NULL)
+  LEFT JOIN interface i ON i.id = coalesce(r.interface, a.interface);
 
 CREATE VIEW handle AS
 SELECT g.id AS generation, g.upid, g.handle, g.n, g.begin, g.end, g.given_by, g.held_since, g.strong, g.weak,
@@ -311,20 +324,22 @@ SELECT s.place, s.seq, s.utid, t.upid, k.name AS kind, r.handle, s.generation, r
   r.data_size,
   CASE WHEN s.refused IS NOT NULL THEN 'refused' WHEN s.delivery IS NOT NULL THEN 'delivered'
     WHEN s.confirmed IS NOT NULL THEN 'confirmed' ELSE 'unknown' END AS outcome,
-  s.confirmed, s.refused, s.delivery, s.certain, s.fits, x.ts
+  s.confirmed, s.refused, s.delivery, s.certain, s.fits, x.ts, i.name AS interface
 FROM raw_send s JOIN raw_thread t USING (utid) JOIN raw_record r USING (place) LEFT JOIN kind k ON k.number = r.kind
-  LEFT JOIN side_time x ON x.seq = s.seq;
+  LEFT JOIN side_time x ON x.seq = s.seq
+  LEFT JOIN interface i ON i.id = iif(r.kind IN (1, 18), NULL, r.interface);
 
--- The code and the handle of a BR_REPLY are those of the call that it answers.
+-- The code, the handle and the interface of a BR_REPLY are those of the call that it answers.
 CREATE VIEW delivery AS
 SELECT d.place, d.seq, d.utid, t.upid, k.name AS kind, r.address, r.data_size,
   iif(r.kind = 259, c.code, r.code) AS code, iif(r.kind = 259, c.handle, NULL) AS handle, r.ptr, r.cookie,
   iif(r.kind = 259, 0, r.flags & 1) AS oneway, d.call, d.send, d.freed_by, f.utid AS freed_by_utid, d.dur_seq, d.held,
-  b.ts, z.ts - b.ts AS dur
+  b.ts, z.ts - b.ts AS dur, i.name AS interface
 FROM raw_delivery d JOIN raw_thread t USING (utid) JOIN raw_record r USING (place)
   LEFT JOIN kind k ON k.number = r.kind LEFT JOIN raw_record c ON c.place = d.call
   LEFT JOIN raw_record f ON f.place = d.freed_by LEFT JOIN side_time b ON b.seq = d.seq
-  LEFT JOIN side_time z ON z.seq = d.seq + d.dur_seq;
+  LEFT JOIN side_time z ON z.seq = d.seq + d.dur_seq
+  LEFT JOIN interface i ON i.id = iif(r.kind = 259, c.interface, r.interface);
 
 CREATE VIEW level AS SELECT upid, slice, buffers, bytes, refs, calls, served FROM raw_level;
 
@@ -339,8 +354,10 @@ WINDOW changes AS (PARTITION BY t.upid, r.handle ORDER BY r.place ROWS UNBOUNDED
 -- A row is a line of `./listing`.
 CREATE VIEW listing AS
 SELECT r.place, r.seq, p.device, p.process, t.thread, k.name AS kind, r.handle, printf('0x%x', r.ptr) AS ptr,
-  printf('0x%x', r.cookie) AS cookie, r.code, r.flags, r.sender_pid, r.data_size, printf('0x%x', r.address) AS address
-FROM raw_record r JOIN raw_thread t USING (utid) JOIN raw_process p USING (upid) LEFT JOIN kind k ON k.number = r.kind;
+  printf('0x%x', r.cookie) AS cookie, r.code, r.flags, r.sender_pid, r.data_size, printf('0x%x', r.address) AS address,
+  i.name AS interface
+FROM raw_record r JOIN raw_thread t USING (utid) JOIN raw_process p USING (upid) LEFT JOIN kind k ON k.number = r.kind
+  LEFT JOIN interface i ON i.id = iif(r.kind IN (1, 18, 259), NULL, r.interface);
 
 -- ---- what each name rests on
 
@@ -358,6 +375,7 @@ INSERT INTO about VALUES
   ('frame', 'bytes', 'what one call wrote or read; ts, in nanoseconds, is from the side list'),
   ('record', 'bytes', 'a record, with its fields by the names of binder.h; a field that it has not is NULL'),
   ('object', 'bytes', 'an object of an attachment, up to the first bad one'),
+  ('interface', 'bytes', 'the name of an interface that a record has in its data'),
   ('listing', 'bytes', 'a line of ./listing'),
   ('call', 'rule', 'a call that a thread makes or gets to serve, by the rules of REPORT.md; delivery is inferred'),
   ('delivery', 'rule', 'a buffer that a process got, and the free that gave it back; send is inferred'),

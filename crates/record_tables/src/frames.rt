@@ -9,7 +9,7 @@ use std::alloc::Global;
 use std::io::Write;
 
 /// The layout of the tables.
-const LAYOUT: u64 = 1;
+const LAYOUT: u64 = 2;
 
 /// The capture itself, in one row.
 #[derive(Drop)]

@@ -5,6 +5,7 @@ mod calls;
 mod deliveries;
 mod frames;
 mod generations;
+mod interfaces;
 mod ledger;
 mod levels;
 mod list;

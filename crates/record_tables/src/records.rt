@@ -1,17 +1,30 @@
 //! The table record.
 
+use crate::interfaces::Interfaces;
 use crate::rows::{Rows, signed};
 use crate::walk::{Standing, Table};
 use binder_code::{Code, Kind};
 use capture_frame::Direction;
 use record_fields::{Item, ListingError, Value, fields_of};
 use record_view::Record;
+use std::alloc::Global;
 use std::io::Write;
 use transaction_view::Transaction;
 
 /// A row for each record.
 #[derive(Drop)]
-pub(crate) struct RecordTable;
+pub(crate) struct RecordTable {
+    /// The interfaces of the rows so far.
+    pub interfaces: Interfaces,
+}
+
+impl RecordTable {
+    pub(crate) fn new(alloc: Global) -> RecordTable {
+        RecordTable {
+            interfaces: Interfaces::new(alloc),
+        }
+    }
+}
 
 impl Table for RecordTable {
     fn add_item<W: Write>(
@@ -21,7 +34,7 @@ impl Table for RecordTable {
         rows: &mut Rows<'_, W>,
     ) -> Result<(), ListingError> {
         let record = item.record;
-        let mut columns = [None; 18];
+        let mut columns = [None; 19];
         columns[0] = Some(record.place);
         columns[1] = Some(standing.frame.sequence);
         columns[2] = Some(u64::from(standing.utid));
@@ -32,6 +45,7 @@ impl Table for RecordTable {
             columns[16] = item.entry.map(|entry| entry.place);
         }
         columns[17] = value_of(record);
+        columns[18] = self.interfaces.number_of(item)?;
         rows.push(&columns)
     }
 }
@@ -51,7 +65,7 @@ pub(crate) fn kind_number(record: Record<'_>, direction: Direction) -> u64 {
 }
 
 /// Sets handle, ptr, cookie and address. The target of a reply means nothing.
-fn set_target(columns: &mut [Option<u64>; 18], record: Record<'_>) {
+fn set_target(columns: &mut [Option<u64>; 19], record: Record<'_>) {
     let is_reply = matches!(record.kind, Kind::BcReply | Kind::BcReplySg | Kind::BrReply);
     for field in fields_of(record.kind) {
         let column = match field.0 {
@@ -71,7 +85,7 @@ fn set_target(columns: &mut [Option<u64>; 18], record: Record<'_>) {
     }
 }
 
-fn set_transaction(columns: &mut [Option<u64>; 18], transaction: Transaction<'_>) {
+fn set_transaction(columns: &mut [Option<u64>; 19], transaction: Transaction<'_>) {
     columns[8] = Some(u64::from(transaction.code()));
     columns[9] = Some(u64::from(transaction.flags()));
     columns[10] = Some(signed(transaction.sender_pid()));

@@ -24,6 +24,7 @@ pub enum Name {
     Thread,
     Frame,
     Record,
+    Interface,
     Object,
     Call,
     Generation,
@@ -101,12 +102,13 @@ pub(crate) trait Table {
 }
 
 /// The tables by name.
-pub const NAMES: [(&str, Name); 11] = [
+pub const NAMES: [(&str, Name); 12] = [
     ("capture", Name::Capture),
     ("process", Name::Process),
     ("thread", Name::Thread),
     ("frame", Name::Frame),
     ("record", Name::Record),
+    ("interface", Name::Interface),
     ("object", Name::Object),
     ("call", Name::Call),
     ("generation", Name::Generation),
@@ -125,11 +127,15 @@ pub fn name_of(word: &str) -> Option<Name> {
     None
 }
 
-/// What is kept from walk to walk: the processes and threads of the latest walk, and the ledger of
-/// which the tables from call on are made. The ledger is made once.
+/// What is kept from walk to walk: the processes and threads of the latest walk, the interfaces that
+/// records name, and the ledger of which the tables from call on are made. Interfaces and ledger are
+/// made once.
 #[derive(Drop)]
 pub struct Book {
     spans: Spans,
+    records: RecordTable,
+    /// How the walk that found the interfaces ended.
+    named: Option<Ending>,
     ledger: Ledger,
     /// How the walk that made the ledger ended.
     made: Option<Ending>,
@@ -139,6 +145,8 @@ impl Book {
     pub fn new(alloc: Global) -> Book {
         Book {
             spans: Spans::new(alloc),
+            records: RecordTable::new(alloc),
+            named: None,
             ledger: Ledger::new(alloc),
             made: None,
         }
@@ -158,7 +166,8 @@ pub fn write_table<W: Write>(
         Name::Process => written(&mut ProcessTable, parts, &mut book.spans, rows),
         Name::Thread => written(&mut ThreadTable::new(alloc), parts, &mut book.spans, rows),
         Name::Frame => written(&mut FrameTable, parts, &mut book.spans, rows),
-        Name::Record => written(&mut RecordTable, parts, &mut book.spans, rows),
+        Name::Record => write_records(parts, book, rows),
+        Name::Interface => write_interfaces(parts, book, rows),
         Name::Object => written(&mut ObjectTable, parts, &mut book.spans, rows),
         _ => write_booked(alloc, name, parts, book, rows),
     }
@@ -173,6 +182,34 @@ fn written<T: Table, W: Write>(
 ) -> Result<Ending, ListingError> {
     let ending = walk(table, spans, parts, rows)?;
     table.finish(spans, ending, rows)?;
+    rows.flush()?;
+    Ok(ending)
+}
+
+/// Writes the table record, and keeps the interfaces that records name.
+fn write_records<W: Write>(
+    parts: &[Vec<u8>],
+    book: &mut Book,
+    rows: &mut Rows<'_, W>,
+) -> Result<Ending, ListingError> {
+    let ending = written(&mut book.records, parts, &mut book.spans, rows)?;
+    book.named = Some(ending);
+    Ok(ending)
+}
+
+/// Writes the table interface. If the table record was not written before it, a walk finds the
+/// interfaces.
+fn write_interfaces<W: Write>(
+    parts: &[Vec<u8>],
+    book: &mut Book,
+    rows: &mut Rows<'_, W>,
+) -> Result<Ending, ListingError> {
+    let ending = match book.named {
+        Some(ending) => ending,
+        None => walk(&mut book.records.interfaces, &mut book.spans, parts, rows)?,
+    };
+    book.named = Some(ending);
+    book.records.interfaces.write(rows)?;
     rows.flush()?;
     Ok(ending)
 }
