@@ -15,6 +15,7 @@ const ENTER: &[u8] = b"BNDRCAP1\x08\0\0\0\0\0\0\0\
 fn all(alloc: Global) -> Asked {
     Asked {
         words: Vec::new(alloc),
+        interfaces: Vec::new(alloc),
         sought: Sought::Nothing,
         places: Vec::new(alloc),
         objects: false,

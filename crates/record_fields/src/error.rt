@@ -44,8 +44,8 @@ impl ListingError {
                 "usage: listing FILE... [--at PLACE] [--frame PLACE] [--call PLACE] \
 [--process P] [--thread T] [--device D] [--direction write|read] [--from N] [--to N] \
 [--code NAME] [--handle H] [--cookie X] [--node PTR] [--address A] [--flag NAME] \
-[--larger BYTES] [--objects] [--form tab] [--side FILE]; or --tables FOLDER FILE..., --table \
-NAME FILE..., or --help\n"
+[--larger BYTES] [--interface NAME] [--objects] [--form tab] [--side FILE]; or --tables \
+FOLDER FILE..., --table NAME FILE..., or --help\n"
             }
             ListingError::Memory => "fault Memory\n",
             ListingError::TooLarge => "fault TooLarge\n",

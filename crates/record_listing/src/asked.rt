@@ -1,7 +1,7 @@
 //! What is asked for: which frames and records are listed, and in which form.
 
 use capture_frame::Frame;
-use record_fields::{Item, direction_number, fields_of, has_field, has_named};
+use record_fields::{Item, direction_number, fields_of, has_field, has_named, interface_of};
 use record_view::Record;
 use transaction_view::Transaction;
 
@@ -69,6 +69,8 @@ pub enum Form {
 #[derive(Drop)]
 pub struct Asked {
     pub words: Vec<Word>,
+    /// The interfaces that are asked for; none if they don't matter.
+    pub interfaces: Vec<String>,
     pub sought: Sought,
     /// The places that are looked for, in bytes from the first byte of the capture.
     pub places: Vec<u64>,
@@ -94,10 +96,27 @@ impl Asked {
 
     /// Whether the record is asked for, its place left aside.
     pub(crate) fn has_item(&self, item: Item<'_>) -> bool {
+        self.has_words(item) && (self.interfaces.is_empty() || self.has_interface(item))
+    }
+
+    fn has_words(&self, item: Item<'_>) -> bool {
         self.words.is_empty()
             || self.has_code(item.record)
                 && self.has_fields(item)
                 && self.has_transaction(item.record)
+    }
+
+    /// Whether the record names an interface that is asked for.
+    fn has_interface(&self, item: Item<'_>) -> bool {
+        let Some(name) = interface_of(item) else {
+            return false;
+        };
+        for interface in &self.interfaces {
+            if name.is(interface.as_str()) {
+                return true;
+            }
+        }
+        false
     }
 
     /// Whether what a frame or a record holds fits a number of this narrowing, if it is given any.

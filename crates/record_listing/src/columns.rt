@@ -1,6 +1,6 @@
 //! The line of a record in columns.
 
-use crate::line::{push_counted, push_value};
+use crate::line::{push_counted, push_interface, push_value};
 use crate::whole::direction_name;
 use capture_frame::Frame;
 use record_fields::{Field, Item, fields_of, push_decimal, push_digits};
@@ -28,7 +28,7 @@ const FIELDS: [&str; 16] = [
 ];
 
 /// Pushes the columns of a record, without a line feed: place, sequence, device, process, thread,
-/// direction, name, code word, and a column for each name of a field.
+/// direction, name, code word, a column for each name of a field, and the interface.
 pub(crate) fn push_columns(
     text: &mut String,
     frame: Frame<'_>,
@@ -41,7 +41,9 @@ pub(crate) fn push_columns(
     push_counted(text, "\t", u64::from(frame.thread))?;
     text.push_str("\t")?;
     text.push_str(direction_name(frame.direction))?;
-    push_record(text, item.record)
+    push_record(text, item.record)?;
+    text.push_str("\t")?;
+    push_interface(text, "", item)
 }
 
 fn push_record(text: &mut String, record: Record<'_>) -> Result<(), AllocError> {

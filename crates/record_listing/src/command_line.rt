@@ -37,7 +37,7 @@ const PLACES: [(&str, Sought); 3] = [
 ];
 
 /// The other options with a value.
-const OTHERS: [&str; 4] = ["form", "side", "table", "tables"];
+const OTHERS: [&str; 5] = ["interface", "form", "side", "table", "tables"];
 
 /// Why the words are not accepted.
 #[derive(Clone, Copy)]
@@ -149,22 +149,24 @@ pub(crate) fn tables_of<'a>(matches: &ArgMatches<'a>) -> Result<Option<Tables<'a
 pub(crate) fn asked_of(alloc: Global, matches: &ArgMatches<'_>) -> Result<Asked, ListingError> {
     let mut asked = Asked {
         words: Vec::new(alloc),
+        interfaces: Vec::new(alloc),
         sought: Sought::Nothing,
         places: Vec::new(alloc),
         objects: matches.get_flag("objects"),
         form: Form::Lines,
     };
-    ask(&mut asked, matches)?;
+    ask(alloc, &mut asked, matches)?;
     Ok(asked)
 }
 
-fn ask(asked: &mut Asked, matches: &ArgMatches<'_>) -> Result<(), ListingError> {
+fn ask(alloc: Global, asked: &mut Asked, matches: &ArgMatches<'_>) -> Result<(), ListingError> {
     for (name, narrowing) in NARROWINGS {
         push_words(asked, matches, name, narrowing)?;
     }
     for (name, sought) in PLACES {
         push_places(asked, matches, name, sought)?;
     }
+    push_interfaces(alloc, asked, matches)?;
     set_form(asked, matches)
 }
 
@@ -233,6 +235,21 @@ fn push_places(
             return Err(ListingError::Usage);
         };
         asked.places.push(place)?;
+    }
+    Ok(())
+}
+
+/// Pushes the names of interfaces.
+fn push_interfaces(
+    alloc: Global,
+    asked: &mut Asked,
+    matches: &ArgMatches<'_>,
+) -> Result<(), ListingError> {
+    let Some(names) = matches.get_strs("interface") else {
+        return Ok(());
+    };
+    for name in names {
+        asked.interfaces.push(String::from_str(alloc, name)?)?;
     }
     Ok(())
 }

@@ -2,12 +2,12 @@
 
 pub(crate) const HELP: &str =
     "Lists the records of a capture, a line each: place, sequence, device, process, thread, name,
-and the fields by name.
+and the fields by name; last, the interface that a transaction names at the begin of its data.
 
     ./listing FILE... [--at PLACE] [--frame PLACE] [--call PLACE] [--process P] [--thread T]
               [--device D] [--direction write|read] [--from N] [--to N] [--code NAME]
               [--handle H] [--cookie X] [--node PTR] [--address A] [--flag NAME]
-              [--larger BYTES] [--objects] [--form tab] [--side FILE]
+              [--larger BYTES] [--interface NAME] [--objects] [--form tab] [--side FILE]
     ./listing --tables FOLDER FILE...
     ./listing --table NAME FILE...
 
@@ -33,11 +33,12 @@ hexadecimal after 0x.
 --address    transactions and replies with this buffer, and the frees of it
 --flag       transactions and replies with this flag, for example TF_ONE_WAY
 --larger     transactions and replies with more than this many bytes of data
+--interface  transactions whose data begin with this name of an interface
 --objects    after the line of a record, a line for each object of its attachment
 --form tab   columns separated by tabs: place, sequence, device, process, thread, direction, name,
              code word, result, error, priority, handle, ptr, cookie, address, code, flags,
-             sender_pid, sender_euid, data_size, offsets_size, buffer, buffers_size, secctx; a
-             column is empty if the record has no such field
+             sender_pid, sender_euid, data_size, offsets_size, buffer, buffers_size, secctx,
+             interface; a column is empty if the record has no such field
 --side       at the end of each line, what the side list of ./record says: time=, in nanoseconds of
              CLOCK_MONOTONIC, pid=, tid=, and the names, thread= and process=; with --form tab, five
              more columns

@@ -4,7 +4,8 @@ use crate::flags::push_flags;
 use binder_code::Kind;
 use capture_frame::Frame;
 use record_fields::{
-    Field, Item, Value, fields_of, push_decimal, push_digits, push_hexadecimal, push_signed,
+    Field, Item, Value, fields_of, interface_of, push_decimal, push_digits, push_hexadecimal,
+    push_signed,
 };
 use record_view::Record;
 use std::alloc::AllocError;
@@ -17,7 +18,8 @@ pub(crate) fn push_line(
 ) -> Result<(), AllocError> {
     push_decimal(text, item.record.place)?;
     push_frame(text, frame)?;
-    push_record(text, item.record)
+    push_record(text, item.record)?;
+    push_interface(text, " interface=", item)
 }
 
 /// Pushes the numbers of a frame: its sequence, its device, its process and its thread.
@@ -37,6 +39,21 @@ fn push_record(text: &mut String, record: Record<'_>) -> Result<(), AllocError> 
         return push_digits(text, u64::from(record.code.0), 8);
     }
     push_fields(text, fields_of(record.kind), record.payload)
+}
+
+/// Pushes a word and the interface that a record names, if it names one.
+pub(crate) fn push_interface(
+    text: &mut String,
+    word: &str,
+    item: Item<'_>,
+) -> Result<(), AllocError> {
+    match interface_of(item) {
+        Some(name) => {
+            text.push_str(word)?;
+            name.push_to(text)
+        }
+        None => Ok(()),
+    }
 }
 
 /// Pushes a word, and a number in decimal.
