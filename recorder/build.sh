@@ -29,6 +29,7 @@ while [[ ${1:-} == --* ]]; do
 done
 folder=${1:?usage: recorder/build.sh [--sanitize] [--machine MACHINE] FOLDER}
 mkdir -p -- "$folder"
+folder=$(readlink -f -- "$folder")
 case $machine in
   x86_64) target=x86 ;;
   aarch64) target=arm64 ;;
@@ -41,9 +42,10 @@ for source in "$here"/*.c; do
   if [[ $source != *.bpf.c ]]; then sources+=("$source"); fi
 done
 
-clang -O2 -g -target bpf -mcpu=v3 "-D__TARGET_ARCH_$target" "-I/usr/include/$machine-linux-gnu" \
-  "-I/usr/$machine-linux-gnu/include" -Wall -Werror \
-  -c "$here/record.bpf.c" -o "$folder/record.bpf.o"
+# The names of files in the program do not depend on the folder of the sources.
+(cd -- "$here" && clang -O2 -g -fdebug-compilation-dir=. -target bpf -mcpu=v3 "-D__TARGET_ARCH_$target" \
+  "-I/usr/include/$machine-linux-gnu" "-I/usr/$machine-linux-gnu/include" -Wall -Werror \
+  -c record.bpf.c -o "$folder/record.bpf.o")
 bpftool gen skeleton "$folder/record.bpf.o" name record >"$folder/record.skel.h"
 "${CC:-gcc}" "${flags[@]}" -std=gnu11 -Wall -Wextra -Werror "-I$here" -isystem "$folder" "${sources[@]}" -o "$folder/record.new" \
   "${link[@]}" -lbpf -lelf -lz 2>"$folder/errors" || { cat -- "$folder/errors" >&2; exit 1; }
