@@ -167,12 +167,12 @@ static void tell_end(const char *audit)
 		(unsigned long long)parts_bytes(), commands);
 }
 
-/* The auditor is in the folder of the script that was called. */
+/* The auditor is in the folder of the script that was called. In a package both names begin with `binder-`. */
 static const char *audit_beside(const char *self)
 {
 	static char path[4100];
-	const char *slash = strrchr(self, '/');
-	snprintf(path, sizeof path, "%.*saudit", slash ? (int)(slash - self + 1) : 0, self);
+	const char *slash = strrchr(self, '/'), *name = slash ? slash + 1 : self;
+	snprintf(path, sizeof path, "%.*s%saudit", (int)(name - self), self, strcmp(name, "binder-record") ? "" : "binder-");
 	return path;
 }
 

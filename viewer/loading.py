@@ -13,6 +13,7 @@ import subprocess
 from typing import Callable, Iterable, Iterator
 
 from viewer import fit
+from viewer.called import LIBRARY, PACKED, called
 from viewer.columns import COLUMNS, fields_of, number_of as number_in
 from viewer.units import code_name, counted, duration_of, likeness, status_name
 
@@ -51,9 +52,19 @@ def missing_tool() -> tuple[str, str] | None:
     return None if has_header("sqlite3.h") else ("sqlite3.h", "libsqlite3-dev")
 
 
+def build_loader(program: pathlib.Path) -> None:
+    """Builds the loader. Its bytes do not depend on the folder of the source."""
+    built = subprocess.run(["cc", "-O2", "-std=gnu11", "-Wall", "-Wextra", "-o", program, "load.c", "-lsqlite3"],
+                           cwd=FOLDER, capture_output=True, text=True)
+    if built.returncode:
+        raise Stopped(1, f"the loader could not be built: {built.stderr.strip()}")
+
+
 @functools.cache
 def loader() -> pathlib.Path | None:
     """The loader. It is built if it is missing or older than its source; None if it can't be built."""
+    if PACKED:
+        return LIBRARY / "load"
     source, program = FOLDER / "load.c", FOLDER / "out" / "load"
     if program.exists() and program.stat().st_mtime >= source.stat().st_mtime:
         return program
@@ -61,10 +72,7 @@ def loader() -> pathlib.Path | None:
         return None
     program.parent.mkdir(exist_ok=True)
     new = program.with_suffix(f".{os.getpid()}")
-    built = subprocess.run(["cc", "-O2", "-std=gnu11", "-Wall", "-Wextra", "-o", new, source, "-lsqlite3"],
-                           capture_output=True, text=True)
-    if built.returncode:
-        raise Stopped(1, f"the loader could not be built: {built.stderr.strip()}")
+    build_loader(new)
     new.replace(program)
     return program
 
@@ -146,7 +154,7 @@ def build_programs(root: pathlib.Path) -> None:
     except OSError as error:
         raise Stopped(1, f"crates/run: {error.strerror}") from error
     if built.returncode:
-        raise Stopped(1, "./audit and ./listing could not be built")
+        raise Stopped(1, f"{called('audit')} and {called('listing')} could not be built")
 
 
 def answer(root: pathlib.Path, to: pathlib.Path, program: str, *words: object) -> int:
@@ -156,10 +164,10 @@ def answer(root: pathlib.Path, to: pathlib.Path, program: str, *words: object) -
         with open(to, "wb") as out:
             ended = subprocess.run([root / program, *map(str, words)], stdin=subprocess.DEVNULL, stdout=out)
     except OSError as error:
-        raise Stopped(1, f"./{program}: {error.strerror}") from error
+        raise Stopped(1, f"{called(program)}: {error.strerror}") from error
     if ended.returncode not in (0, 2):
         raise Stopped(ended.returncode if ended.returncode in (3, 4) else 1,
-                      f"./{program} ended with status {ended.returncode}")
+                      f"{called(program)} ended with status {ended.returncode}")
     return ended.returncode
 
 
@@ -602,7 +610,7 @@ def database_of(root: pathlib.Path, files: list[str], side: str | None, made: pa
     tell("reading the capture")
     listed = fault_in(answer(root, told, "listing", "--tables", rows, *files), told)
     if listed != malformed:
-        raise Stopped(1, f"./listing and ./audit do not agree: {listed!r} and {malformed!r}")
+        raise Stopped(1, f"{called('listing')} and {called('audit')} do not agree: {listed!r} and {malformed!r}")
     tell("making the database")
     has_times = load_rows(made, rows, side)
     shutil.rmtree(rows)

@@ -11,6 +11,7 @@ import unicodedata
 from typing import Iterator, NamedTuple
 
 from viewer import columns
+from viewer.called import called
 from viewer.lane import lane_of
 from viewer.loading import Stopped, for_owner
 from viewer.units import code_name, counted, duration_of
@@ -136,7 +137,7 @@ class Page:
     def __init__(self, database: sqlite3.Connection, files: list[str], sides: list[str]):
         self.database = database
         named = " ".join(map(shlex.quote, files))
-        self.command, self.report = f"./listing {named}", f"./audit report {named}"
+        self.command, self.report = f"{called('listing')} {named}", f"{called('audit')} report {named}"
         self.side = "".join(f" --side {shlex.quote(side)}" for side in sides)
         self.facts = dict(database.execute("SELECT key, value FROM capture"))
         self.who = dict(database.execute("SELECT upid, who FROM who"))
