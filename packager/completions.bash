@@ -1,0 +1,68 @@
+# Completions of binder-audit, binder-listing, binder-record and binder-view for bash.
+
+# Offers these words.
+_binder_audit_words() { # WORD CHOICES
+  mapfile -t COMPREPLY < <(compgen -W "$2" -- "$1")
+}
+
+# Leaves the word to the completion of file names.
+_binder_audit_files() {
+  compopt -o default
+}
+
+# An option if one is begun, or else a file.
+_binder_audit_options() { # WORD CHOICES
+  if [[ $1 == -* ]]; then _binder_audit_words "$1" "$2"; else _binder_audit_files; fi
+}
+
+_binder_audit() { # COMMAND WORD BEFORE
+  COMPREPLY=()
+  case $COMP_CWORD,$3,${COMP_WORDS[1]-} in
+    1,*) _binder_audit_words "$2" 'report first-fault --help --version' ;;
+    *,--workers,* | *,--piece,*) ;;
+    *,report) _binder_audit_options "$2" '--workers --piece' ;;
+    *) _binder_audit_files ;;
+  esac
+}
+
+_binder_listing() { # COMMAND WORD BEFORE
+  COMPREPLY=()
+  case $3 in
+    --direction) _binder_audit_words "$2" 'write read' ;;
+    --form) _binder_audit_words "$2" tab ;;
+    --side | --tables) _binder_audit_files ;;
+    --at | --frame | --call | --process | --thread | --device | --from | --to | --code) ;;
+    --handle | --cookie | --node | --address | --flag | --larger | --table) ;;
+    *)
+      _binder_audit_options "$2" '--at --frame --call --process --thread --device --direction --from --to --code
+        --handle --cookie --node --address --flag --larger --objects --form --side --tables --table --help'
+      ;;
+  esac
+}
+
+_binder_record() { # COMMAND WORD BEFORE
+  COMPREPLY=()
+  case $3 in
+    -o) _binder_audit_files ;;
+    --device) _binder_audit_words "$2" 'binder hwbinder vndbinder' ;;
+    --size | --files | --pid | --ring) ;;
+    *)
+      _binder_audit_options "$2" '-o --size --files --pid --device --redact --no-attachments --ring --help --'
+      ;;
+  esac
+}
+
+_binder_view() { # COMMAND WORD BEFORE
+  COMPREPLY=()
+  case $3 in
+    --process | --thread | --from | --to) ;;
+    *)
+      _binder_audit_options "$2" '--side -o --database --groups --trace --process --thread --from --to --help'
+      ;;
+  esac
+}
+
+complete -F _binder_audit binder-audit
+complete -F _binder_listing binder-listing
+complete -F _binder_record binder-record
+complete -F _binder_view binder-view

@@ -1,0 +1,76 @@
+#compdef binder-audit binder-listing binder-record binder-view
+# Completions of binder-audit, binder-listing, binder-record and binder-view for zsh.
+
+local parts='*:part of the capture:_files'
+
+case $service in
+  binder-audit)
+    if ((CURRENT == 2)); then
+      local -a words=(
+        'report:write the report'
+        'first-fault:name the first malformed record'
+        '--help:say what the words mean'
+        '--version:say what the package was made of'
+      )
+      _describe word words
+    elif [[ $words[2] == report ]]; then
+      _arguments '--workers[number of threads]:1 to 64:' '--piece[frames at a time]:1 to 65536:' ':word:' $parts
+    elif [[ $words[2] == first-fault ]]; then
+      _arguments ':word:' $parts
+    fi
+    ;;
+  binder-listing)
+    _arguments \
+      '*--at[the record that has this byte, in full]:place:' \
+      '*--frame[the records of the frame that has this byte]:place:' \
+      '*--call[the records of a call]:place of its opener:' \
+      '*--process[records of this process]:process:' \
+      '*--thread[records of this thread]:thread:' \
+      '*--device[records of this device]:device:' \
+      '*--direction[records of frames of this direction]:direction:(write read)' \
+      '--from[from this frame on]:sequence:' \
+      '--to[up to this frame]:sequence:' \
+      '*--code[records of this name]:name or code word:' \
+      '*--handle[records that name this handle]:handle:' \
+      '*--cookie[records that name this cookie]:cookie:' \
+      '*--node[records that name this node]:ptr:' \
+      '*--address[transactions with this buffer, and its frees]:address:' \
+      '*--flag[transactions with this flag]:flag:' \
+      '*--larger[transactions with more data than this]:bytes:' \
+      '--objects[a line for each object]' \
+      '--form[the form of a line]:form:(tab)' \
+      '--side[side list, for times and names]:side list:_files' \
+      '--tables[write all raw tables]:folder:_files -/' \
+      '--table[write one raw table]:name:' \
+      '(- *)--help[say what the options do]' \
+      $parts
+    ;;
+  binder-record)
+    _arguments -S \
+      '-o[start of the names of the files]:start of names:_files' \
+      '--size[most bytes of a file]:65536 to 1073741824:' \
+      '--files[keep only the newest files]:2 to 65536:' \
+      '*--pid[only this process]:process:_pids' \
+      '*--device[only this device]:device:(binder hwbinder vndbinder)' \
+      '--redact[replace what is secret]' \
+      '--no-attachments[leave out the data]' \
+      '--ring[size of the buffer]:a power of two:' \
+      '(- *)--help[say what the options do]' \
+      '(-)1:program:_command_names -e' \
+      '*::argument:_normal'
+    ;;
+  binder-view)
+    _arguments \
+      '*--side[side list, for times and names]:side list:_files' \
+      '-o[file of the page]:page:_files' \
+      '--database[keep the database]:database:_files' \
+      '--groups[print the groups of findings]' \
+      '--trace[write a timeline]:timeline:_files' \
+      '--process[narrow it to a process]:process:' \
+      '--thread[narrow it to a thread]:thread:' \
+      '--from[from this frame on]:sequence:' \
+      '--to[up to this frame]:sequence:' \
+      '(- *)--help[say what the options do]' \
+      $parts
+    ;;
+esac
