@@ -41,14 +41,17 @@ _binder_listing() { # COMMAND WORD BEFORE
 }
 
 _binder_record() { # COMMAND WORD BEFORE
+  local word
   COMPREPLY=()
+  for word in "${COMP_WORDS[@]:1:COMP_CWORD > 1 ? COMP_CWORD - 2 : 0}"; do
+    if [[ $word == -- ]]; then _binder_audit_files && return; fi
+  done
   case $3 in
+    --) mapfile -t COMPREPLY < <(compgen -c -- "$2") ;;
     -o) _binder_audit_files ;;
     --device) _binder_audit_words "$2" 'binder hwbinder vndbinder' ;;
     --size | --files | --pid | --ring) ;;
-    *)
-      _binder_audit_options "$2" '-o --size --files --pid --device --redact --no-attachments --ring --help --'
-      ;;
+    *) _binder_audit_words "$2" '-o --size --files --pid --device --redact --no-attachments --ring --help --' ;;
   esac
 }
 

@@ -46,7 +46,14 @@ case $service in
       $parts
     ;;
   binder-record)
-    _arguments -S \
+    local at=${words[(i)--]}
+    if ((at < CURRENT)); then
+      shift $at words
+      ((CURRENT -= at))
+      _normal
+      return
+    fi
+    _arguments \
       '-o[start of the names of the files]:start of names:_files' \
       '--size[most bytes of a file]:65536 to 1073741824:' \
       '--files[keep only the newest files]:2 to 65536:' \
@@ -55,9 +62,7 @@ case $service in
       '--redact[replace what is secret]' \
       '--no-attachments[leave out the data]' \
       '--ring[size of the buffer]:a power of two:' \
-      '(- *)--help[say what the options do]' \
-      '(-)1:program:_command_names -e' \
-      '*::argument:_normal'
+      '(- *)--help[say what the options do]'
     ;;
   binder-view)
     _arguments \
