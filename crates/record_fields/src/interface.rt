@@ -12,8 +12,8 @@
 //! Strict mode, work source and mark are numbers of four bytes. A `String16` is the count of its
 //! units in four bytes, the units in UTF-16, and a NUL unit. All ends at a multiple of four bytes.
 
-ghost use Rattle.std.specs.Prelude.{◌≡◌, IsTrue, All};
-ghost use Rattle.record_fields.specs.Interface.{may_spell};
+ghost use Rattle.std.specs.Prelude.{◌≡◌, IsTrue, IfSome, All, take, length};
+ghost use Rattle.record_fields.specs.Interface.{may_spell, string_of, IsToken};
 
 use crate::content::Item;
 use binder_code::Kind;
@@ -80,7 +80,9 @@ impl InterfaceName<'_> {
 }
 
 /// The interface that a transaction names: that of the method that it calls.
-pub fn interface_of(item: Item<'_>) -> Option<InterfaceName<'_>> {
+pub fn interface_of(item: Item<'_>) -> Option<InterfaceName<'_>>
+    ensures { IfSome item.entry.entry (λ entry. IfSome result (λ name. IsToken entry.body.now name.bytes.now)) }
+{
     let entry = item.entry?;
     let transaction = Transaction::of(item.record)?;
     if is_reply(item.record.kind) {
@@ -95,7 +97,9 @@ pub fn interface_of(item: Item<'_>) -> Option<InterfaceName<'_>> {
 
 /// The name that is all of a reply's data. The reply to the code `_NTF`, 0x5f4e5446, is the interface
 /// of the node that is asked.
-pub fn reply_name(item: Item<'_>) -> Option<InterfaceName<'_>> {
+pub fn reply_name(item: Item<'_>) -> Option<InterfaceName<'_>>
+    ensures { IfSome item.entry.entry (λ entry. IfSome result (λ name. name.bytes.now ≡ string_of entry.body.now)) }
+{
     let entry = item.entry?;
     if !is_reply(item.record.kind) {
         return None;
@@ -112,22 +116,26 @@ fn is_reply(kind: Kind) -> bool {
 }
 
 /// The name that the data of a transaction begin with.
-fn token_in(data: &[u8]) -> Option<InterfaceName<'_>> {
-    if data.len() < 12 {
+fn token_in(bytes: &[u8]) -> Option<InterfaceName<'_>>
+    ensures { IfSome result (λ name. IsToken bytes.now name.bytes.now) }
+{
+    if bytes.len() < 12 {
         return None;
     }
-    if matches!(u32_at(data, 8), SYST | VNDR | RECO | UNKN) {
-        return marked_in(&data[12..]);
+    if matches!(u32_at(bytes, 8), SYST | VNDR | RECO | UNKN) {
+        return marked_in(&bytes[12..]);
     }
-    match unmarked_in(&data[8..]).or(unmarked_in(&data[4..])) {
+    match unmarked_in(&bytes[8..]).or(unmarked_in(&bytes[4..])) {
         Some(name) => Some(name),
-        None => versioned_in(data),
+        None => versioned_in(bytes),
     }
 }
 
 /// The name that comes after the mark of a partition.
-fn marked_in(data: &[u8]) -> Option<InterfaceName<'_>> {
-    let (text, _) = string_in(data)?;
+fn marked_in(bytes: &[u8]) -> Option<InterfaceName<'_>>
+    ensures { IfSome result (λ name. name.bytes.now ≡ string_of bytes.now) }
+{
+    let (text, _) = string_in(bytes)?;
     match read_units(text) {
         Reading::Plain | Reading::Dotted | Reading::Interface => spelled(text),
         _ => None,
@@ -136,8 +144,10 @@ fn marked_in(data: &[u8]) -> Option<InterfaceName<'_>> {
 
 /// The name that comes after no mark. Other data may begin with a number and a text, so it has to
 /// look like the name of an interface.
-fn unmarked_in(data: &[u8]) -> Option<InterfaceName<'_>> {
-    let (text, _) = string_in(data)?;
+fn unmarked_in(bytes: &[u8]) -> Option<InterfaceName<'_>>
+    ensures { IfSome result (λ name. name.bytes.now ≡ string_of bytes.now) }
+{
+    let (text, _) = string_in(bytes)?;
     match read_units(text) {
         Reading::Interface => spelled(text),
         _ => None,
@@ -145,9 +155,11 @@ fn unmarked_in(data: &[u8]) -> Option<InterfaceName<'_>> {
 }
 
 /// The name in ASCII, with a NUL after it.
-fn versioned_in(data: &[u8]) -> Option<InterfaceName<'_>> {
-    let length = data.iter().take(LONGEST + 1).position(|byte| *byte == 0)?;
-    let text = data.get(..length)?;
+fn versioned_in(bytes: &[u8]) -> Option<InterfaceName<'_>>
+    ensures { IfSome result (λ name. name.bytes.now ≡ take (length name.bytes.now) bytes.now) }
+{
+    let length = bytes.iter().take(LONGEST + 1).position(|byte| *byte == 0)?;
+    let text = bytes.get(..length)?;
     match read_bytes(text) {
         Reading::Versioned => spelled(text),
         _ => None,
@@ -156,16 +168,18 @@ fn versioned_in(data: &[u8]) -> Option<InterfaceName<'_>> {
 
 /// The units of the `String16` at the begin of the data, and what follows it. A longer one than a
 /// name can be is none.
-fn string_in(data: &[u8]) -> Option<(&[u8], &[u8])> {
-    if data.len() < 4 {
+fn string_in(bytes: &[u8]) -> Option<(&[u8], &[u8])>
+    ensures { IfSome result (λ found. found.0.now ≡ string_of bytes.now) }
+{
+    if bytes.len() < 4 {
         return None;
     }
-    let units = u32_at(data, 0) as usize;
+    let units = u32_at(bytes, 0) as usize;
     if units > LONGEST {
         return None;
     }
     let length = 2 * units;
-    let rest = &data[4..];
+    let rest = &bytes[4..];
     let text = rest.get(..length)?;
     match rest.get(length..)? {
         // Both the units and all of it end at a multiple of four.
@@ -176,7 +190,9 @@ fn string_in(data: &[u8]) -> Option<(&[u8], &[u8])> {
 }
 
 /// The name of these bytes, if none of them is foreign to names.
-fn spelled(bytes: &[u8]) -> Option<InterfaceName<'_>> {
+fn spelled(bytes: &[u8]) -> Option<InterfaceName<'_>>
+    ensures { IfSome result (λ name. name.bytes.now ≡ bytes.now) }
+{
     if !bytes.iter().all(|byte| may_spell(*byte)) {
         return None;
     }
