@@ -1,0 +1,9 @@
+pub mod Bytes
+pub mod Cuts
+pub mod Sections
+pub mod Calls
+pub mod Counts
+pub mod Objects
+pub mod Long
+pub mod Faults
+pub mod Parts
