@@ -2,7 +2,7 @@ use Rattle.std.proofs.Common.{refl}
 use Rattle.std.specs.Fmt.{digits}
 use Rattle.capture_frame.specs.Envelope.{number_at}
 use Rattle.report_text.specs.Fault.{fault_line, part_fault_line}
-use Rattle.worked_rows.proofs.faults.frames.Goals as goal
+use Rattle.worked_rows.proofs.faults.units.Goals as goal
 
 pub returns-clause-sequence : goal.returns-clause-sequence
 unfolding digits number_at part_fault_line fault_line
@@ -27,3 +27,7 @@ returns-clause-call_of_40_bytes c = refl
 pub returns-clause-two_wrong_directions : goal.returns-clause-two_wrong_directions
 unfolding digits number_at part_fault_line fault_line
 returns-clause-two_wrong_directions c = refl
+
+pub returns-clause-wrong_attachment : goal.returns-clause-wrong_attachment
+unfolding digits number_at part_fault_line fault_line
+returns-clause-wrong_attachment c = refl

@@ -1,9 +1,0 @@
-use Rattle.std.proofs.Common.{refl}
-use Rattle.std.specs.Fmt.{digits}
-use Rattle.capture_frame.specs.Envelope.{number_at}
-use Rattle.report_text.specs.Fault.{fault_line, part_fault_line}
-use Rattle.worked_rows.proofs.faults.attachment_short.Goals as goal
-
-pub returns : goal.returns
-unfolding digits number_at part_fault_line fault_line
-returns c = refl
