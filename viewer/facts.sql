@@ -91,21 +91,24 @@ FROM node_of n WHERE n.generation = finding.generation;
 UPDATE finding SET path = CASE
   WHEN section IN ('calls', 'refused', 'oneway', 'spam')
     OR section IN ('strays', 'objects', 'flags') AND generation IS NOT NULL
-  THEN iif(generation IS NULL, 'a reply', 'code ' || code_name(code) || ' to '
+  THEN iif(generation IS NULL, 'a reply', call_name(code, coalesce(target, -upid), iif(target IS NULL, handle, ptr))
+    || ' to '
     || coalesce((SELECT who FROM who WHERE upid = target) || printf(' node 0x%x', ptr), 'handle ' || handle))
-  WHEN section = 'buffers' AND what = 'BR_REPLY' THEN coalesce('reply to code ' || code_name(code) || ' of '
+  WHEN section = 'buffers' AND what = 'BR_REPLY' THEN coalesce('reply to '
+    || call_name(code, coalesce(target, -upid), iif(target IS NULL, handle, ptr)) || ' of '
     || coalesce((SELECT who FROM who WHERE upid = target) || printf(' node 0x%x', ptr), 'handle ' || handle),
     'reply to no call')
   WHEN section IN ('buffers', 'served') THEN iif(section = 'buffers' AND (SELECT flags & :TF_ONE_WAY FROM raw_record r
-    WHERE r.place = finding.place), 'oneway code ', 'code ') || code_name(code) || ' at '
+    WHERE r.place = finding.place), 'oneway ', '') || call_name(code, upid, ptr) || ' at '
     || (SELECT who FROM who w WHERE w.upid = finding.upid) || printf(' node 0x%x', ptr)
-  WHEN section = 'objects' THEN coalesce('a reply to code ' || code_name(code), 'a reply')
+  WHEN section = 'objects' THEN coalesce('a reply to ' || call_name(code, upid, ptr), 'a reply')
   WHEN section IN ('handles', 'requests', 'deaths', 'clears') AND target IS NOT NULL
   THEN 'handle ' || coalesce(handle, '?') || ', ' || (SELECT who FROM who WHERE upid = target)
-    || printf(' node 0x%x', ptr)
-  WHEN section = 'handles' THEN 'handle ' || handle
-  WHEN section IN ('requests', 'deaths', 'clears') THEN coalesce('handle ' || handle, printf('cookie 0x%x', cookie))
-  WHEN section = 'nodes' THEN printf('node 0x%x', ptr)
+    || printf(' node 0x%x', ptr) || object_name(target, ptr)
+  WHEN section = 'handles' THEN 'handle ' || handle || object_name(-upid, handle)
+  WHEN section IN ('requests', 'deaths', 'clears') THEN coalesce('handle ' || handle || object_name(-upid, handle),
+    printf('cookie 0x%x', cookie))
+  WHEN section = 'nodes' THEN printf('node 0x%x', ptr) || object_name(upid, ptr)
   WHEN section = 'frees' THEN (SELECT printf('address 0x%x', address) FROM raw_record r WHERE r.place = finding.place)
   ELSE '' END;
 UPDATE finding SET path = '' WHERE path IS NULL;
@@ -167,9 +170,10 @@ WHERE section = 'served'
 CREATE TEMP TABLE given AS
 SELECT g.id AS generation, g.upid, d.code, d.kind = 'BR_REPLY' AS reply, d.handle AS asked,
   coalesce(n.upid, (SELECT t.upid FROM raw_send x JOIN raw_thread t USING (utid) WHERE x.place = d.send)) AS sender,
-  iif(d.kind = 'BR_REPLY', 'given by replies to code ' || code_name(d.code) || ' of '
+  iif(d.kind = 'BR_REPLY', 'given by replies to '
+    || call_name(d.code, coalesce(n.upid, -g.upid), coalesce(n.ptr, d.handle)) || ' of '
     || coalesce(w.who || printf(' node 0x%x', n.ptr), 'handle ' || d.handle),
-    'given by calls of code ' || code_name(d.code)) AS way,
+    'given by calls of ' || call_name(d.code, g.upid, d.ptr)) AS way,
   g.strong + g.weak > 0 AS kept
 FROM raw_generation g JOIN delivery d ON d.place = g.given_by
   LEFT JOIN raw_send s ON s.place = d.call AND d.kind = 'BR_REPLY' LEFT JOIN node_of n ON n.generation = s.generation
@@ -197,9 +201,16 @@ FROM (SELECT 1 FROM object_of LIMIT 1) CROSS JOIN raw_call c JOIN raw_send s USI
   JOIN raw_record r USING (place) JOIN object_of o USING (generation)
   LEFT JOIN (SELECT d.call, 1 AS status FROM status x JOIN raw_delivery d USING (place)) d ON d.call = c.place
 WHERE c.verdict = 1 AND c.served = 0 AND r.code IN (SELECT code FROM finding WHERE section = 'answers') GROUP BY 1, 2;
+-- The name of such calls, if those that have one agree.
+CREATE TEMP TABLE answered_name AS
+SELECT code, name, coalesce(iif(min(call) = max(call), min(call), NULL), call_name(code, NULL, NULL)) AS call
+FROM (SELECT a.code, a.name, nullif(call_name(a.code, coalesce(n.upid, -g.upid), coalesce(n.ptr, g.handle)),
+    call_name(a.code, NULL, NULL)) AS call
+  FROM answered a JOIN object_of o USING (name) JOIN raw_generation g ON g.id = o.generation
+    LEFT JOIN node_of n ON n.generation = g.id) GROUP BY 1, 2;
 UPDATE finding SET n_all = a.n, n_good = a.n - a.others,
-  path = 'code ' || code_name(a.code) || ' to ' || a.name || ': ' || status_name(x.value)
-FROM object_of o, answered a, status x JOIN raw_delivery d USING (place)
+  path = b.call || ' to ' || a.name || ': ' || status_name(x.value)
+FROM object_of o, answered a JOIN answered_name b ON (b.code, b.name) = (a.code, a.name), status x JOIN raw_delivery d USING (place)
 WHERE section = 'answers' AND o.generation = finding.generation AND a.name = o.name AND a.code = finding.code
   AND d.call = finding.place;
 

@@ -3,6 +3,8 @@
 import sqlite3
 from typing import Iterator, NamedTuple
 
+from viewer.names import Names
+
 # At most RECORDS records before the place, and as many after it, within FRAMES frames of all threads; of each frame at
 # most BYTES bytes are looked at.
 RECORDS, FRAMES, BYTES = 6, 20_000, 4000
@@ -17,16 +19,19 @@ class Line(NamedTuple):
     text: str
 
 
-def fields_of(kind: str, handle: int | None, code: int | None, size: int | None, address: int | None,
-              cookie: int | None) -> str:
+def fields_of(names: Names, kind: str, handle: int | None, code: int | None, size: int | None, address: int | None,
+              cookie: int | None, interface: int | None) -> str:
+    is_call = code is not None and not kind.endswith("_REPLY")
     told = [kind]
-    told += [f"{name}={value}" for name, value in (("handle", handle), ("code", code), ("data_size", size))
-             if value is not None and not (name == "code" and kind.endswith("_REPLY"))]
+    told += [f"{name}={value}" for name, value in (("handle", handle), ("code", code if is_call else None))
+             if value is not None]
+    told += [names.field(code, interface)] if is_call and names.named(code, None, None, interface) else []
+    told += [f"data_size={size}"] if size is not None else []
     told += [f"{name}=0x{value % 2**64:x}" for name, value in (("address", address), ("cookie", cookie)) if value]
     return " ".join(told)
 
 
-FIELDS = "SELECT r.place, r.seq, k.name, r.handle, r.code, r.data_size, r.address, r.cookie"
+FIELDS = "SELECT r.place, r.seq, k.name, r.handle, r.code, r.data_size, r.address, r.cookie, r.interface"
 WANTED = f"JOIN kind k ON k.number = r.kind WHERE r.kind NOT IN {LEFT_OUT} ORDER BY r.place"
 OF_THREAD = "FROM (SELECT * FROM raw_frame WHERE utid = :utid AND records > 0 AND seq BETWEEN"
 ITS_SEQ = "(SELECT seq FROM raw_record WHERE place = :place)"
@@ -38,10 +43,10 @@ AFTER = (f"{FIELDS} {OF_THREAD} {ITS_SEQ} AND {ITS_SEQ} + {FRAMES} ORDER BY seq 
          f" AND min(f.place + 31 + f.command_length, max(f.place + 32, :place) + :bytes) {WANTED} LIMIT :count")
 
 
-def records(database: sqlite3.Connection, query: str, utid: int, place: int, count: int) -> list[Line]:
+def records(database: sqlite3.Connection, names: Names, query: str, utid: int, place: int, count: int) -> list[Line]:
     """The records of a thread before a place or after it, in the order of the file."""
     rows = database.execute(query, {"utid": utid, "place": place, "bytes": BYTES, "count": count})
-    return sorted(Line(row[0], row[1], fields_of(*row[2:])) for row in rows)
+    return sorted(Line(row[0], row[1], fields_of(names, *row[2:])) for row in rows)
 
 
 def open_calls(database: sqlite3.Connection, utid: int, place: int) -> list[int]:
@@ -57,9 +62,10 @@ def open_calls(database: sqlite3.Connection, utid: int, place: int) -> list[int]
     return found[::-1]
 
 
-def lane_of(database: sqlite3.Connection, utid: int, place: int) -> Iterator[tuple[str, bool]]:
+def lane_of(database: sqlite3.Connection, names: Names, utid: int, place: int) -> Iterator[tuple[str, bool]]:
     """The lines of a lane, each with whether it is that of the place."""
-    lines = records(database, BEFORE, utid, place, RECORDS + 1) + records(database, AFTER, utid, place, RECORDS)
+    lines = (records(database, names, BEFORE, utid, place, RECORDS + 1)
+             + records(database, names, AFTER, utid, place, RECORDS))
     if not lines:
         return
     openers = dict(database.execute("SELECT place, coalesce(closer, 9223372036854775807) FROM raw_call"

@@ -15,7 +15,8 @@ from typing import Callable, Iterable, Iterator
 from viewer import fit
 from viewer.called import LIBRARY, PACKED, called
 from viewer.columns import COLUMNS, fields_of, number_of as number_in
-from viewer.units import code_name, counted, duration_of, likeness, status_name
+from viewer.names import Methods, Names, load_methods
+from viewer.units import counted, duration_of, likeness, status_name
 
 FOLDER = pathlib.Path(__file__).resolve().parent
 
@@ -530,23 +531,27 @@ def named_numbers(database: sqlite3.Connection) -> dict[str, int]:
 
 
 # The files that judge the rows of the report, in order.
-JUDGING = ("nodes.sql", "facts.sql", "ages.sql", "waits.sql", "rules.sql", "groups.sql")
+JUDGING = ("nodes.sql", "names.sql", "facts.sql", "ages.sql", "waits.sql", "rules.sql", "groups.sql")
 
 
 def judge(database: sqlite3.Connection, folder: pathlib.Path = FOLDER) -> None:
     """Gives each finding its verdict. In the statements `:BR_REPLY` is the number of that name. They make texts by
-    `duration(nanoseconds)`, `counted(n, 'row')`, `code_name(code)` and `status_name(number)`, alike ones by
-    `likeness(path, ..)`, and look into a row of the report by `number_in(section, text, column)`."""
+    `duration(nanoseconds)`, `counted(n, 'row')` and `status_name(number)`, alike ones by `likeness(path, ..)`, and look
+    into a row of the report by `number_in(section, text, column)`. After names.sql, `call_name(code, upid, ptr)` names a
+    call, and `object_name(upid, ptr)` an object."""
     database.create_function("duration", 1, duration_of, deterministic=True)
     database.create_function("counted", -1, counted, deterministic=True)
     database.create_function("likeness", 5, likeness, deterministic=True)
     database.create_function("number_in", 3, number_in, deterministic=True)
-    for named in (code_name, status_name):
-        database.create_function(named.__name__, 1, named, deterministic=True)
+    database.create_function("status_name", 1, status_name, deterministic=True)
     names = named_numbers(database)
     for name in JUDGING:
         for statement in statements_of(folder / name):
             database.execute(statement, names)
+        if name == "names.sql":
+            names_of = Names(database)
+            database.create_function("call_name", 3, names_of.call, deterministic=True)
+            database.create_function("object_name", 2, names_of.object, deterministic=True)
 
 
 def open_database(path: pathlib.Path) -> sqlite3.Connection:
@@ -581,7 +586,7 @@ def refuse_unreadable(files: list[str]) -> None:
 
 
 def fill(database: sqlite3.Connection, files: list[str], side: str | None, has_times: bool, report: pathlib.Path,
-         malformed: str | None) -> None:
+         malformed: str | None, methods: Methods | None = None) -> None:
     """Adds the side list, the report and its findings to the raw tables."""
     database.execute("BEGIN")
     taken = SideList(database, has_times)
@@ -592,14 +597,15 @@ def fill(database: sqlite3.Connection, files: list[str], side: str | None, has_t
     load_facts(database, files, malformed, taken.facts if side is not None else {})
     load_findings(database)
     load_interfaces(database)
+    load_methods(database, methods or {})
     load_status(database, files)
     database.execute("COMMIT")
 
 
 def database_of(root: pathlib.Path, files: list[str], side: str | None, made: pathlib.Path,
-                tell: Callable[[str], None]) -> str | None:
-    """Makes the database of a capture, with the report and the verdicts of the rules. Returns the line of the capture's
-    first fault, or None."""
+                tell: Callable[[str], None], methods: Methods | None = None) -> str | None:
+    """Makes the database of a capture, with the report and the verdicts of the rules, and the names of methods. Returns
+    the line of the capture's first fault, or None."""
     refuse_unreadable(files)
     build_programs(root)
     rows, report, told = (made.with_suffix(f".{what}") for what in ("rows", "report", "told"))
@@ -618,7 +624,7 @@ def database_of(root: pathlib.Path, files: list[str], side: str | None, made: pa
     if malformed:
         answer(root, report, "audit", "report", *before_fault(database, files, made.parent))
     tell("applying the rules")
-    fill(database, files, side, has_times, report, malformed)
+    fill(database, files, side, has_times, report, malformed, methods)
     report.unlink()
     judge(database)
     database.close()

@@ -14,6 +14,7 @@ from viewer import columns
 from viewer.called import called
 from viewer.lane import lane_of
 from viewer.loading import Stopped, for_owner
+from viewer.names import Names
 from viewer.units import code_name, counted, duration_of
 
 FOLDER = pathlib.Path(__file__).resolve().parent
@@ -142,6 +143,7 @@ class Page:
         self.facts = dict(database.execute("SELECT key, value FROM capture"))
         self.who = dict(database.execute("SELECT upid, who FROM who"))
         self.rules = dict(database.execute("SELECT id, text FROM rule"))
+        self.names = Names(database)
         self.lanes = 0
 
     def ask(self, query: str, *values: object) -> list[tuple]:
@@ -153,6 +155,12 @@ class Page:
 
     def count(self, table: str, condition: str = "1", *values: object) -> int:
         return self.ask(f"SELECT count(*) FROM {table} WHERE {condition}", *values)[0][0]
+
+    def call_cell(self, code: int, upid: int, ptr: int, interface: int | None = None) -> Cell:
+        """A call: by its name if it has one, with the code, and else by its code."""
+        if self.names.named(code, upid, ptr, interface) is None:
+            return code_cell(code)
+        return Cell(name_of(self.names.call(code, upid, ptr, interface)), False, code)
 
     def name(self, upid: int | None) -> str:
         return name_of(self.who.get(upid)) if upid is not None else ""
@@ -245,7 +253,7 @@ class Page:
         why += f" ({text_of(note)})" if note else ""
         line = (f'<span><span class="verdict {verdict}">{verdict}</span></span>'
                 f'<span><b>{title}</b> {name_of(path)}<br><span class="dim">{why}</span></span>'
-                f'<span class="count">{count}{waits}</span><span class="who">{self.names(number)}</span>'
+                f'<span class="count">{count}{waits}</span><span class="who">{self.who_of(number)}</span>'
                 f'<span class="marks">{marks}<br><span class="of">{span}</span></span>')
         return (f'<details class="group {verdict}" id="group-{number}"><summary>{line}</summary><div class="inner">'
                 f"{self.findings(number, found)}{self.lane(verdict, found)}</div></details>\n")
@@ -262,7 +270,7 @@ class Page:
             rows += self.finding(row)
         return f'<div class="scroll" tabindex=0 role=region aria-label="findings"><table>{rows}</table></div>{more}'
 
-    def names(self, group: int) -> str:
+    def who_of(self, group: int) -> str:
         """At most eight of the processes of a group, and how many more there are."""
         names = [self.name(upid) for upid, in self.asked("group_who", group)]
         return ", ".join(names[:8]) + (f" and {len(names) - 8:,} more" if len(names) > 8 else "")
@@ -283,7 +291,7 @@ class Page:
             return ""
         self.lanes += 1
         lines = "\n".join(f"<b>{text_of(line)}</b>" if bold else text_of(line)
-                          for line, bold in lane_of(self.database, *at))
+                          for line, bold in lane_of(self.database, self.names, *at))
         return f'<p class="of">What its thread did around place {at[1]}:</p><pre class="lane" tabindex=0>{lines}</pre>'
 
     def groups(self, *verdicts: str) -> str:
@@ -320,9 +328,13 @@ class Page:
             certain = ("no delivery" if not delivered else "all" if one_fits == delivered
                        else f"{100 * one_fits // delivered} %")
             server, its_node = '<span class="dim">not known</span>', ""
+            to = (-upid, handle) if node is None else (node, ptr)
             if node is not None:
                 server, its_node = self.name(node), f"<code>0x{ptr % 2**64:x}</code>"
-            cells.append([Cell(self.name(upid)), number_cell(handle), Cell(server), Cell(its_node), code_cell(code),
+            if interface := self.names.interface(*to):
+                its_node += f' <span class="of">{name_of(interface)}</span>'
+            cells.append([Cell(self.name(upid)), number_cell(handle), Cell(server), Cell(its_node),
+                          self.call_cell(code, *to),
                           Cell("oneway" if oneway else "call"), *map(number_cell, numbers),
                           duration_cell(longest, frames), Cell(certain)])
         return table_of("who talks to whom", heads, cells, self.count("traffic"))
@@ -360,12 +372,12 @@ class Page:
                  "#replied at", "#closed at"]
         cells = []
         for (place, upid, thread, handle, code, verdict, closer, frames, took, delivery, fits, server,
-             replied, got_frames, got_time) in self.asked("calls", ROWS):
+             replied, got_frames, got_time, *to) in self.asked("calls", ROWS):
             got = "" if delivery is None else str(delivery)
             if fits is not None and fits != 1:
                 got += f' <i class="of">one of {fits}</i>'
             cells.append([Cell(f"<code>{place}</code>", True, place), Cell(f"{self.name(upid)} thread {thread}"),
-                          Cell(self.name(server) or f"handle {handle}"), code_cell(code), Cell(verdict),
+                          Cell(self.name(server) or f"handle {handle}"), self.call_cell(code, *to), Cell(verdict),
                           duration_cell(took, frames), duration_cell(got_time, got_frames), Cell(got, True, delivery),
                           Cell("" if replied is None else str(replied), True, replied),
                           Cell("<b>never</b>" if closer is None else str(closer), True, closer)])

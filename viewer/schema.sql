@@ -1,6 +1,7 @@
 -- The database of a capture. docs/DATABASE.md describes it as an interface, and this is the version of that interface.
--- Since version 3, interface is new, and the column interface of record, listing, call, send and delivery.
-PRAGMA user_version = 4;
+-- Since version 3, interface is new, and the column interface of record, listing, call, send and delivery. Since version
+-- 4, method and node_interface are new.
+PRAGMA user_version = 5;
 
 -- ---- raw tables: the rows that `./listing --tables` writes, column by column
 --
@@ -228,6 +229,14 @@ CREATE TABLE side_time(seq INTEGER PRIMARY KEY, ts INTEGER NOT NULL) STRICT;
 CREATE TABLE side_lost(seq INTEGER PRIMARY KEY, device INTEGER, process INTEGER, thread INTEGER, why TEXT) STRICT;
 -- The names in raw_interface, put together.
 CREATE TABLE interface(id INTEGER PRIMARY KEY, name TEXT NOT NULL) STRICT;
+-- The methods of these interfaces, as far as they are known, and those that all objects have.
+CREATE TABLE method(interface TEXT, code INTEGER, method TEXT NOT NULL, source TEXT NOT NULL,
+  PRIMARY KEY(interface, code)) STRICT, WITHOUT ROWID;
+-- The interface of each code at a node, and that of each node. In names.sql.
+CREATE TABLE call_interface(code INTEGER, upid INTEGER, ptr INTEGER, interface INTEGER NOT NULL,
+  others INTEGER NOT NULL, PRIMARY KEY(code, upid, ptr)) STRICT, WITHOUT ROWID;
+CREATE TABLE object_interface(upid INTEGER, ptr INTEGER, interface INTEGER NOT NULL, n INTEGER NOT NULL,
+  others INTEGER NOT NULL, PRIMARY KEY(upid, ptr)) STRICT, WITHOUT ROWID;
 -- The number that a BR_REPLY with TF_STATUS_CODE has in place of data; NULL if its data are not in the capture.
 CREATE TABLE status(place INTEGER PRIMARY KEY, value INTEGER) STRICT;
 CREATE TABLE side_missed(id INTEGER PRIMARY KEY, what TEXT NOT NULL, count INTEGER NOT NULL, from_seq INTEGER NOT NULL,
@@ -359,6 +368,20 @@ SELECT r.place, r.seq, p.device, p.process, t.thread, k.name AS kind, r.handle, 
 FROM raw_record r JOIN raw_thread t USING (utid) JOIN raw_process p USING (upid) LEFT JOIN kind k ON k.number = r.kind
   LEFT JOIN interface i ON i.id = iif(r.kind IN (1, 18, 259), NULL, r.interface);
 
+-- Where each transaction goes that is sent or delivered: to a node; or if that is not known, to a handle, with the
+-- process that sends it.
+CREATE VIEW reached AS
+SELECT d.place, r.code, t.upid, r.ptr, r.interface
+FROM raw_delivery d JOIN raw_record r USING (place) JOIN raw_thread t ON t.utid = d.utid WHERE r.kind <> 259
+UNION ALL
+SELECT s.place, r.code, coalesce(n.upid, -g.upid), coalesce(n.ptr, r.handle), r.interface
+FROM raw_send s JOIN raw_record r USING (place) JOIN raw_generation g ON g.id = s.generation
+  LEFT JOIN node_of n ON n.generation = s.generation;
+
+CREATE VIEW node_interface AS
+SELECT o.upid, o.ptr, i.name AS interface, o.n, o.others
+FROM object_interface o JOIN interface i ON i.id = o.interface WHERE o.upid > 0;
+
 -- ---- what each name rests on
 
 CREATE TABLE about(name TEXT PRIMARY KEY, rests_on TEXT NOT NULL
@@ -376,6 +399,8 @@ INSERT INTO about VALUES
   ('record', 'bytes', 'a record, with its fields by the names of binder.h; a field that it has not is NULL'),
   ('object', 'bytes', 'an object of an attachment, up to the first bad one'),
   ('interface', 'bytes', 'the name of an interface that a record has in its data'),
+  ('method', 'inferred', 'a method of an interface, by the files of --methods, or built in; source says where'),
+  ('node_interface', 'inferred', 'the interface that most calls to a node name'),
   ('listing', 'bytes', 'a line of ./listing'),
   ('call', 'rule', 'a call that a thread makes or gets to serve, by the rules of REPORT.md; delivery is inferred'),
   ('delivery', 'rule', 'a buffer that a process got, and the free that gave it back; send is inferred'),

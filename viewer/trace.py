@@ -15,8 +15,8 @@ from typing import Callable, Iterable, Iterator, NamedTuple
 
 from viewer import loading
 from viewer.ends import Mark, ends_of, gaps_of, lost_of, missed_of
+from viewer.names import Names
 from viewer.tracks import Axis, Tracks, Window
-from viewer.units import code_name
 
 # What a row is about, and its order among rows of one place.
 SEND, DELIVERY, FREE, OTHER, FINDING = range(5)
@@ -40,14 +40,14 @@ QUERIES = {
     # A send, its call, its delivery if each names the other, and the node that its handle leads to.
     SEND: """
 SELECT s.place, 0, s.seq, x.ts, s.utid, r.kind, r.code, r.flags, r.data_size, r.handle, c.verdict, c.closer,
-  s.refused, s.certain, s.fits, e.place, e.utid, e.seq, n.upid, n.certain
+  s.refused, s.certain, s.fits, e.place, e.utid, e.seq, n.upid, n.certain, n.ptr, r.interface
 FROM raw_send s CROSS JOIN raw_record r ON r.place = s.place LEFT JOIN side_time x ON x.seq = s.seq
   LEFT JOIN raw_call c ON c.place = s.place LEFT JOIN raw_delivery e ON e.place = s.delivery AND e.send = s.place
   LEFT JOIN node_of n ON n.generation = s.generation ORDER BY s.place""",
     # A delivery, its call, and its send if each names the other.
     DELIVERY: """
 SELECT d.place, 1, d.seq, x.ts, d.utid, r.kind, r.code, r.flags, r.data_size, r.ptr, r.cookie, r.sender_pid,
-  c.verdict, c.closer, p.place, p.utid, p.seq, p.certain, p.fits, y.ts
+  c.verdict, c.closer, p.place, p.utid, p.seq, p.certain, p.fits, y.ts, r.interface
 FROM raw_delivery d CROSS JOIN raw_record r ON r.place = d.place LEFT JOIN side_time x ON x.seq = d.seq
   LEFT JOIN raw_call c ON c.place = d.place LEFT JOIN raw_send p ON p.place = d.send AND p.delivery = d.place
   LEFT JOIN side_time y ON y.seq = p.seq ORDER BY d.place""",
@@ -76,12 +76,6 @@ class Open(NamedTuple):
     closer: int | None
     kind: int
     text: str
-
-
-@functools.lru_cache(4096)
-def label(code: int) -> str:
-    """A code as part of a name, within the quotes of JSON."""
-    return json.dumps(f"code {code_name(code)}")[1:-1]
 
 
 def hexadecimal(value: int | None) -> str:
@@ -118,6 +112,8 @@ class Timeline:
         self.database, self.out, self.events, self.window = database, out, out.events, window
         self.axis = Axis(database, window)
         self.tracks = Tracks(database, window)
+        self.call_names = Names(database)
+        self.label = functools.lru_cache(4096)(self.label_of)
         self.numbers = loading.named_numbers(database)
         self.reply = self.numbers["BR_REPLY"]
         self.names = {number: name for name, number in self.numbers.items()}
@@ -158,11 +154,15 @@ class Timeline:
             return False
         return utid in self.tracks.heads and other in self.tracks.heads and self.window.has(seq)
 
-    def queue(self, utid: int | None, code: int, place: int, begin: int, end: int, fields: str) -> None:
+    def label_of(self, code: int, upid: int, ptr: int, interface: int | None) -> str:
+        """The name of a call as part of a name, within the quotes of JSON."""
+        return json.dumps(self.call_names.call(code, upid, ptr, interface))[1:-1]
+
+    def queue(self, utid: int | None, label: str, place: int, begin: int, end: int, fields: str) -> None:
         """How long a oneway transaction waited, in the process that gets it."""
         head, end = "" if utid is None else self.tracks.heads.get(utid, ""), max(begin, end)
         if head:
-            named = f'"cat":"queue","id":{place},"name":"queue {label(code)}"'
+            named = f'"cat":"queue","id":{place},"name":"queue {label}"'
             fields = f'"args":{{"place":{place},{fields}}}'
             self.events.append(f'{{"ph":"b",{head}{self.axis.text_of(begin)},{named},{fields}}}')
             self.events.append(f'{{"ph":"e",{head}{self.axis.text_of(end)},{named}}}')
@@ -243,7 +243,7 @@ class Timeline:
 
     def send(self, row: tuple) -> None:
         (place, _, seq, _, utid, _, code, flags, size, handle, verdict, closer, refused, certain, fits, delivery,
-         receiver, receiver_seq, node, node_certain) = row
+         receiver, receiver_seq, node, node_certain, ptr, interface) = row
         flow = self.has_flow(certain, utid, receiver, receiver_seq)
         if delivery is not None and not certain:
             self.told["pairs_without_flow"] += self.live
@@ -253,42 +253,43 @@ class Timeline:
                     self.flow("s", utid, "reply", place)
                 self.pop(utid)
             return
+        label = self.label(code, *((-self.tracks.upid_of[utid], handle) if node is None else (node, ptr)), interface)
         to = "" if node is None else f',"to":{self.tracks.who(node, node_certain)}'
         got = "" if not certain else f',"delivery":{delivery},"fits":{fits}'
         fields = f'"place":{place},"seq":{seq % 2**64},"handle":{handle}{to},"data_size":{size % 2**64}{got}'
         if verdict is not None:
             closed = "" if closer is None else f',"closer":{closer}'
-            self.push(utid, Open(place, closer, MADE, f'"cat":"call","name":"call {label(code)}","args":{{{fields},'
+            self.push(utid, Open(place, closer, MADE, f'"cat":"call","name":"call {label}","args":{{{fields},'
                                  f'"verdict":"{VERDICTS[verdict]}"{closed}'))
             if flow:
                 self.flow("s", utid, "call", place)
         elif self.live:
-            self.send_oneway(utid, place, code, fields, flow, refused)
+            self.send_oneway(utid, place, label, fields, flow, refused)
             if refused is None and (delivery is None or certain and not self.window.has(receiver_seq)):
-                self.wait(place, code, delivery, receiver, node, node_certain)
+                self.wait(place, label, delivery, receiver, node, node_certain)
 
-    def send_oneway(self, utid: int, place: int, code: int, fields: str, flow: bool, refused: int | None) -> None:
+    def send_oneway(self, utid: int, place: int, label: str, fields: str, flow: bool, refused: int | None) -> None:
         """A oneway send takes no time here: what the driver says of it is read later, maybe after other things."""
         if utid in self.tracks.heads:
             fields += f',"refused":{refused}' if refused is not None else ""
             self.begin(utid, self.axis.text, Open(place, None, MADE,
-                                  f'"cat":"oneway","name":"send oneway {label(code)}","args":{{{fields}'))
+                                  f'"cat":"oneway","name":"send oneway {label}","args":{{{fields}'))
             if flow:
                 self.flow("s", utid, "oneway", place)
             self.events.append(f'{{"ph":"E",{self.tracks.heads[utid]}{self.axis.text}}}')
 
-    def wait(self, place: int, code: int, delivery: int | None, receiver: int | None, node: int | None,
+    def wait(self, place: int, label: str, delivery: int | None, receiver: int | None, node: int | None,
              certain: int | None) -> None:
         """A oneway transaction that is not delivered in what is shown."""
         if delivery is not None and receiver is not None:
-            self.queue(receiver, code, place, self.axis.ns, self.axis.end, f'"end":"{self.at_end}"')
+            self.queue(receiver, label, place, self.axis.ns, self.axis.end, f'"end":"{self.at_end}"')
         elif delivery is None and certain and node is not None:
-            self.queue(self.tracks.first_of.get(node), code, place, self.axis.ns,
+            self.queue(self.tracks.first_of.get(node), label, place, self.axis.ns,
                        min(self.axis.end, self.tracks.ended.get(node, self.axis.end)), '"end":"never seen to come"')
 
     def deliver(self, row: tuple) -> None:
         (place, _, seq, _, utid, kind, code, flags, size, ptr, cookie, sender_pid, verdict, closer, send, sender,
-         send_seq, certain, fits, send_ts) = row
+         send_seq, certain, fits, send_ts, interface) = row
         is_reply = kind == self.reply
         oneway = not is_reply and flags & TF_ONE_WAY
         self.hold(utid, 1, size, oneway)
@@ -301,6 +302,7 @@ class Timeline:
         stack = self.stacks.get(utid)
         if stack and stack[-1].kind == ONEWAY:
             self.pop(utid)
+        label = self.label(code, self.tracks.upid_of[utid], ptr, interface)
         came = "" if not certain else (f',"from":{self.tracks.who(self.tracks.upid_of[sender], 1)},"send":{send},'
                                        f'"fits":{fits}')
         fields = (f'"place":{place},"seq":{seq % 2**64},"ptr":{hexadecimal(ptr)},"cookie":{hexadecimal(cookie)},'
@@ -308,12 +310,12 @@ class Timeline:
         if oneway:
             if certain and self.live:
                 begin = max(self.entered, min(self.axis.ns, self.axis.at(send_seq, send_ts)))
-                self.queue(utid, code, send, begin, self.axis.ns, f'"delivery":{place},"fits":{fits}')
-            self.push(utid, Open(place, None, ONEWAY, f'"cat":"oneway","name":"serve oneway {label(code)}",'
+                self.queue(utid, label, send, begin, self.axis.ns, f'"delivery":{place},"fits":{fits}')
+            self.push(utid, Open(place, None, ONEWAY, f'"cat":"oneway","name":"serve oneway {label}",'
                                  f'"args":{{{fields}'))
         else:
             closed = "" if closer is None else f',"closer":{closer}'
-            self.push(utid, Open(place, closer, SERVED, f'"cat":"served","name":"serve {label(code)}",'
+            self.push(utid, Open(place, closer, SERVED, f'"cat":"served","name":"serve {label}",'
                                  f'"args":{{{fields},"verdict":"{VERDICTS[verdict]}"{closed}'))
         self.arrive(flow, utid, "oneway" if oneway else "call", send)
 

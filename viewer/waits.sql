@@ -78,7 +78,9 @@ WHERE s.upid IN (SELECT upid FROM queued) AND NOT EXISTS (SELECT 1 FROM taker t 
 -- What each of them is in: the innermost open call, or else a oneway transaction after which it has done nothing, or a
 -- call from before the capture.
 CREATE TEMP TABLE taken AS
-SELECT k.utid, k.upid, k.earlier, coalesce(c.place, o.place) AS place, c.served, r.code, x.ts
+SELECT k.utid, k.upid, k.earlier, coalesce(c.place, o.place) AS place, c.served, x.ts,
+  coalesce((SELECT call_name(v.code, v.upid, v.ptr) FROM reached v WHERE v.place = r.place),
+    call_name(r.code, NULL, NULL)) AS call
 FROM taker k LEFT JOIN raw_call c ON c.place = (SELECT place FROM raw_call i WHERE i.utid = k.utid AND i.verdict = 0
     ORDER BY place DESC LIMIT 1)
   LEFT JOIN raw_record o ON o.place = k.last_record AND o.kind IN (:BR_TRANSACTION, :BR_TRANSACTION_SEC_CTX)
@@ -98,7 +100,7 @@ SELECT t.upid, count(*) AS threads, sum(t.place NOTNULL OR t.earlier) AS busy,
   iif(p.known, iif(count(*) = 1, 'its only looper is', 'its ' || count(*) || ' loopers are'),
       iif(count(*) = 1, 'a looper is', count(*) || ' loopers are')) || ' in '
     || group_concat(DISTINCT iif(t.place IS NULL, iif(t.earlier, 'a call from before the capture', NULL),
-      iif(t.served, 'code ', iif(t.served IS NULL, 'oneway code ', 'a call of its own, code ')) || t.code))
+      iif(t.served, '', iif(t.served IS NULL, 'oneway ', 'a call of its own, ')) || t.call))
     || iif(max(t.earlier AND t.place IS NULL), '', coalesce(' since ' || duration(max(0, last.ts - min(t.ts))), ''))
   AS doing
 FROM taken t JOIN process_life p USING (upid), last GROUP BY t.upid;

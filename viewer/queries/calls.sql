@@ -7,11 +7,12 @@ WITH asked AS (
     WHERE c.served = 0 AND c.verdict = 1 ORDER BY z.ts - x.ts DESC, c.dur_seq DESC LIMIT 50)
   LIMIT ?1)
 SELECT c.place, t.upid, t.thread, r.handle, r.code, v.name, c.closer, c.dur_seq, z.ts - x.ts, s.delivery, s.fits,
-  coalesce((SELECT g.upid FROM raw_delivery d JOIN raw_thread g USING (utid) WHERE d.place = s.delivery),
-    (SELECT n.upid FROM node_of n WHERE n.generation = s.generation)),
-  (SELECT k.closer FROM raw_call k WHERE k.place = s.delivery), d.seq - c.seq, y.ts - x.ts
+  coalesce((SELECT g.upid FROM raw_delivery d JOIN raw_thread g USING (utid) WHERE d.place = s.delivery), n.upid),
+  (SELECT k.closer FROM raw_call k WHERE k.place = s.delivery), d.seq - c.seq, y.ts - x.ts, coalesce(n.upid, -t.upid),
+  coalesce(n.ptr, r.handle), r.interface
 FROM asked c JOIN raw_thread t USING (utid) JOIN raw_record r USING (place) JOIN verdict v ON v.number = c.verdict
   LEFT JOIN raw_send s USING (place) LEFT JOIN raw_delivery d ON d.place = s.delivery
+  LEFT JOIN node_of n ON n.generation = s.generation
   LEFT JOIN side_time x ON x.seq = c.seq LEFT JOIN side_time y ON y.seq = d.seq
   LEFT JOIN side_time z ON z.seq = c.seq + c.dur_seq
 ORDER BY c.verdict = 1, z.ts - x.ts DESC, c.dur_seq DESC
