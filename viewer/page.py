@@ -383,6 +383,18 @@ class Page:
                           Cell("<b>never</b>" if closer is None else str(closer), True, closer)])
         return table_of("calls", heads, cells)
 
+    def methods(self) -> str:
+        """The calls that have a name; nothing if none has one."""
+        rows = self.asked("methods", ROWS)
+        cells = [[Cell(name_of(interface)), code_cell(code), Cell(name_of(method)), Cell(name_of(source)),
+                  number_cell(sends)] for interface, code, method, source, sends in rows]
+        return ('<details class="fold"><summary>Interfaces and methods that are called</summary><p class="dim">An'
+                " interface is what the data of calls name, and a path has it without its package. Which method a code"
+                " means is in no capture: it is built in, or in a table that --methods names"
+                " (docs/VIEW.md#names-of-methods).</p>"
+                + table_of("interfaces and methods", ["interface", "#code", "method", "source", "#sends"], cells)
+                + "</details>") if rows else ""
+
     def heads(self) -> str:
         lines = "".join(f'<div class="proved">{text_of(text)}</div>' for text, in
                         self.ask("SELECT text FROM report WHERE section = 'head' ORDER BY id"))
@@ -390,6 +402,7 @@ class Page:
                 f' explains each section.</p><div class="box heads">{lines}</div>')
 
     def parts(self) -> Iterator[str]:
+        of_nodes = " The interface of a node is what calls to it name." if self.names.objects else ""
         yield self.head()
         yield self.counts()
         yield "<h2>Look at these</h2>" + self.groups("real", "maybe")
@@ -401,7 +414,7 @@ class Page:
                " sends and deliveries that fit. The last column says for how many deliveries only one send fits. For"
                " the others the sums are right, but which send is which is not certain. Failed sends are those that an"
                " error reply ended. Open calls, and buffers that are not freed, also count those of ended processes."
-               " Buffers at the peak are those of all callers.</p>" + self.talk())
+               f" Buffers at the peak are those of all callers.{of_nodes}</p>" + self.talk())
         yield ('<h2>Growth</h2><p class="dim">Each step is the most that a process held in one of 16 slices of the'
                " capture, of as many frames each, and as wide as the slice took. So what it let go of in a slice only"
                " makes the next step lower. The numbers below the steps are the most of all, and what the process held"
@@ -409,6 +422,7 @@ class Page:
                " driver gives space for data and offsets, each rounded up to 8 bytes. After its end a process holds"
                " nothing, and a call ends with its thread.</p>" + self.levels())
         yield "<h2>Calls without an answer, and those that took longest</h2>" + self.slow_calls()
+        yield self.methods()
         yield ('<details class="fold"><summary>Normal rows: references that are held or were let go, and requests that'
                " wait</summary>" + self.groups("normal") + "</details>")
         yield "<h2>The heads of the proved report</h2>" + self.heads()
