@@ -60,7 +60,7 @@ _binder_view() { # COMMAND WORD BEFORE
   case $3 in
     --process | --thread | --from | --to) ;;
     *)
-      _binder_audit_options "$2" '--side -o --database --groups --trace --process --thread --from --to --help'
+      _binder_audit_options "$2" '--side --methods -o --database --groups --trace --process --thread --from --to --help'
       ;;
   esac
 }

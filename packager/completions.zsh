@@ -67,6 +67,7 @@ case $service in
   binder-view)
     _arguments \
       '*--side[side list, for times and names]:side list:_files' \
+      '*--methods[table of methods]:table:_files' \
       '-o[file of the page]:page:_files' \
       '--database[keep the database]:database:_files' \
       '--groups[print the groups of findings]' \

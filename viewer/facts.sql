@@ -210,7 +210,8 @@ FROM (SELECT a.code, a.name, nullif(call_name(a.code, coalesce(n.upid, -g.upid),
     LEFT JOIN node_of n ON n.generation = g.id) GROUP BY 1, 2;
 UPDATE finding SET n_all = a.n, n_good = a.n - a.others,
   path = b.call || ' to ' || a.name || ': ' || status_name(x.value)
-FROM object_of o, answered a JOIN answered_name b ON (b.code, b.name) = (a.code, a.name), status x JOIN raw_delivery d USING (place)
+FROM object_of o, answered a JOIN answered_name b ON (b.code, b.name) = (a.code, a.name),
+  status x JOIN raw_delivery d USING (place)
 WHERE section = 'answers' AND o.generation = finding.generation AND a.name = o.name AND a.code = finding.code
   AND d.call = finding.place;
 

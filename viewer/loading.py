@@ -537,8 +537,8 @@ JUDGING = ("nodes.sql", "names.sql", "facts.sql", "ages.sql", "waits.sql", "rule
 def judge(database: sqlite3.Connection, folder: pathlib.Path = FOLDER) -> None:
     """Gives each finding its verdict. In the statements `:BR_REPLY` is the number of that name. They make texts by
     `duration(nanoseconds)`, `counted(n, 'row')` and `status_name(number)`, alike ones by `likeness(path, ..)`, and look
-    into a row of the report by `number_in(section, text, column)`. After names.sql, `call_name(code, upid, ptr)` names a
-    call, and `object_name(upid, ptr)` an object."""
+    into a row of the report by `number_in(section, text, column)`. After names.sql, `call_name(code, upid, ptr)` names
+    a call, and `object_name(upid, ptr)` an object."""
     database.create_function("duration", 1, duration_of, deterministic=True)
     database.create_function("counted", -1, counted, deterministic=True)
     database.create_function("likeness", 5, likeness, deterministic=True)

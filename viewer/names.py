@@ -42,7 +42,8 @@ def built_in() -> Methods:
     """The methods that need no file."""
     every = "built in: the same in all releases"
     return {
-        **{(BINDER, int.from_bytes(letters.encode(), "big")): Method(name, every) for letters, name in OF_BINDER.items()},
+        **{(BINDER, int.from_bytes(letters.encode(), "big")): Method(name, every)
+           for letters, name in OF_BINDER.items()},
         (MANAGER, 1): Method("getService", every),
         **{(BASE, code): Method(name, every) for name, code in OF_BASE.items()},
         **{("android.hidl.manager@1.0::IServiceManager", code): Method(name, every)

@@ -5,13 +5,18 @@ BEGIN;
 -- minus in place of the node's, and the handle in place of its ptr. The driver knows a node of a process by its ptr.
 -- A code of NULL: the reply to _NTF names the interface of the node that was asked.
 CREATE TEMP TABLE naming AS
-SELECT a.code, a.upid, a.ptr, a.interface, count(*) AS n
-FROM (SELECT 1 FROM interface LIMIT 1) CROSS JOIN reached a WHERE a.interface NOTNULL GROUP BY 1, 2, 3, 4;
+SELECT code, upid, ptr, interface, count(*) AS n
+FROM (SELECT code, upid, ptr, interface FROM came_to WHERE interface NOTNULL
+  UNION ALL SELECT code, upid, ptr, interface FROM sent_to WHERE interface NOTNULL)
+WHERE EXISTS (SELECT 1 FROM interface) GROUP BY 1, 2, 3, 4;
+CREATE TEMP TABLE told_name AS
+SELECT r.place, b.interface FROM raw_record r JOIN raw_call c USING (place) JOIN raw_record b ON b.place = c.closer
+WHERE r.code = 0x5f4e5446 AND b.interface NOTNULL AND EXISTS (SELECT 1 FROM interface);
 INSERT INTO naming
-SELECT NULL, a.upid, a.ptr, b.interface, count(*)
-FROM (SELECT 1 FROM interface LIMIT 1) CROSS JOIN raw_record r JOIN raw_call c USING (place)
-  JOIN raw_record b ON b.place = c.closer JOIN reached a ON a.place = r.place
-WHERE r.code = 0x5f4e5446 AND b.interface NOTNULL GROUP BY 2, 3, 4;
+SELECT NULL, a.upid, a.ptr, t.interface, count(*)
+FROM (SELECT place, upid, ptr FROM told_name JOIN came_to USING (place)
+  UNION ALL SELECT place, upid, ptr FROM told_name JOIN sent_to USING (place)) a JOIN told_name t USING (place)
+GROUP BY 2, 3, 4;
 
 -- The interface that most of them name.
 INSERT INTO call_interface

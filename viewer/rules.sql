@@ -365,8 +365,10 @@ WHERE EXISTS (SELECT 1 FROM finding WHERE section = 'frees') AND d.freed_by IS N
   AND r.address IN (SELECT x.address FROM finding f JOIN raw_record x USING (place) WHERE f.section = 'frees');
 CREATE INDEX temp.freed_address ON freed(upid, address, place);
 UPDATE finding SET rule = iif(finding.upid IN (SELECT upid FROM lossy), 'M1', 'F1'), note = 'at ' || d.freed_by,
-  path = iif(d.kind = 'BR_REPLY', 'reply to ', '') || coalesce((SELECT call_name(v.code, v.upid, v.ptr) FROM reached v
-    WHERE v.place = iif(d.kind = 'BR_REPLY', d.call, d.place)), 'code ' || coalesce(d.code, '?'))
+  path = iif(d.kind = 'BR_REPLY', 'reply to ', '') || coalesce(
+    (SELECT call_name(v.code, v.upid, v.ptr) FROM came_to v WHERE v.place = d.place),
+    (SELECT call_name(v.code, v.upid, v.ptr) FROM sent_to v WHERE v.place = d.call), call_name(d.code, NULL, NULL),
+    'code ?')
 FROM raw_record x, delivery d
 WHERE rule IS NULL AND finding.section = 'frees' AND x.place = finding.place AND d.freed_by < finding.place
   AND d.place = (SELECT e.place FROM freed e WHERE e.upid = finding.upid AND e.address = x.address

@@ -1,6 +1,6 @@
 -- The database of a capture. docs/DATABASE.md describes it as an interface, and this is the version of that interface.
--- Since version 3, interface is new, and the column interface of record, listing, call, send and delivery. Since version
--- 4, method and node_interface are new.
+-- Since version 3, interface is new, and the column interface of record, listing, call, send and delivery.
+-- Since version 4, method and node_interface are new.
 PRAGMA user_version = 5;
 
 -- ---- raw tables: the rows that `./listing --tables` writes, column by column
@@ -368,13 +368,13 @@ SELECT r.place, r.seq, p.device, p.process, t.thread, k.name AS kind, r.handle, 
 FROM raw_record r JOIN raw_thread t USING (utid) JOIN raw_process p USING (upid) LEFT JOIN kind k ON k.number = r.kind
   LEFT JOIN interface i ON i.id = iif(r.kind IN (1, 18, 259), NULL, r.interface);
 
--- Where each transaction goes that is sent or delivered: to a node; or if that is not known, to a handle, with the
--- process that sends it.
-CREATE VIEW reached AS
+-- Which node each transaction reached; and to which one each was sent, or if that is not known, to which handle, with
+-- the process that sent it.
+CREATE VIEW came_to AS
 SELECT d.place, r.code, t.upid, r.ptr, r.interface
-FROM raw_delivery d JOIN raw_record r USING (place) JOIN raw_thread t ON t.utid = d.utid WHERE r.kind <> 259
-UNION ALL
-SELECT s.place, r.code, coalesce(n.upid, -g.upid), coalesce(n.ptr, r.handle), r.interface
+FROM raw_delivery d JOIN raw_record r USING (place) JOIN raw_thread t ON t.utid = d.utid WHERE r.kind <> 259;
+CREATE VIEW sent_to AS
+SELECT s.place, r.code, coalesce(n.upid, -g.upid) AS upid, coalesce(n.ptr, r.handle) AS ptr, r.interface
 FROM raw_send s JOIN raw_record r USING (place) JOIN raw_generation g ON g.id = s.generation
   LEFT JOIN node_of n ON n.generation = s.generation;
 

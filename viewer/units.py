@@ -54,7 +54,8 @@ INTERFACE = r"(?: \([\w$.:@]+(?: or others)?\))?"
 
 def likeness(path: str, *processes: str | None) -> str:
     """A path without what differs if one cause is seen in several processes: the processes' numbers, nodes with their
-    interfaces, handles, cookies and addresses. `processes` are what a process is called in the path, and its name, in turns."""
+    interfaces, handles, cookies and addresses. `processes` are what a process is called in the path, and its name, in
+    turns."""
     for who, name in zip(processes[::2], processes[1::2]):
         if who:
             path = path.replace(who, name or "a process")

@@ -79,8 +79,9 @@ WHERE s.upid IN (SELECT upid FROM queued) AND NOT EXISTS (SELECT 1 FROM taker t 
 -- call from before the capture.
 CREATE TEMP TABLE taken AS
 SELECT k.utid, k.upid, k.earlier, coalesce(c.place, o.place) AS place, c.served, x.ts,
-  coalesce((SELECT call_name(v.code, v.upid, v.ptr) FROM reached v WHERE v.place = r.place),
-    call_name(r.code, NULL, NULL)) AS call
+  coalesce((SELECT call_name(v.code, v.upid, v.ptr) FROM came_to v WHERE v.place = r.place),
+    (SELECT call_name(v.code, v.upid, v.ptr) FROM sent_to v WHERE v.place = r.place), call_name(r.code, NULL, NULL))
+  AS call
 FROM taker k LEFT JOIN raw_call c ON c.place = (SELECT place FROM raw_call i WHERE i.utid = k.utid AND i.verdict = 0
     ORDER BY place DESC LIMIT 1)
   LEFT JOIN raw_record o ON o.place = k.last_record AND o.kind IN (:BR_TRANSACTION, :BR_TRANSACTION_SEC_CTX)

@@ -118,4 +118,5 @@ def check_unnamed(folder: pathlib.Path, room: pathlib.Path, fail: Fail) -> None:
     words = (here / "capture-1.cap", "--side", here / "capture.side")
     for name, more in ("with", ("--methods", "any")), ("without", ()):
         view(folder, room, *words, *more, "-o", f"{name}.html")
-    compare("the page with a table", (room / "with.html").read_text() == (room / "without.html").read_text(), True, fail)
+    pages = {(room / f"{name}.html").read_text() for name in ("with", "without")}
+    compare("pages with a table and without", len(pages), 1, fail)
