@@ -38,7 +38,8 @@ FROM finding f JOIN rule r ON r.id = f.rule LEFT JOIN who t ON t.upid = f.target
   LEFT JOIN process p ON p.upid = f.target LEFT JOIN who o ON o.upid = f.upid LEFT JOIN process q ON q.upid = f.upid
 WHERE f.lead IS NULL;
 -- What is real and what is maybe on like paths is one group, with the strongest verdict of its findings.
-INSERT INTO finding_head SELECT id, min(id) OVER (PARTITION BY title, likeness, max(rank, 2)) FROM named;
+INSERT INTO finding_head
+SELECT id, min(id) OVER (PARTITION BY title, without_methods(likeness), max(rank, 2)) FROM named;
 INSERT INTO finding_head
 SELECT f.id, h.grp FROM finding f JOIN finding_head h ON h.id = f.lead;
 CREATE INDEX head_of_group ON finding_head(grp);
@@ -47,6 +48,12 @@ CREATE TEMP TABLE ranked AS
 SELECT grp, min(rank) AS rank, group_concat(rule) AS rules
 FROM (SELECT DISTINCT h.grp, n.rank, n.rule FROM named n JOIN finding_head h USING (id) ORDER BY 1, 2, 3) GROUP BY grp;
 CREATE UNIQUE INDEX temp.ranked_group ON ranked(grp);
+
+-- What the paths of a group have in common.
+CREATE TEMP TABLE common AS
+SELECT h.grp, iif(min(n.likeness) = max(n.likeness), n.likeness, without_methods(n.likeness)) AS likeness
+FROM named n JOIN finding_head h USING (id) GROUP BY 1;
+CREATE UNIQUE INDEX temp.common_of ON common(grp);
 
 -- Of each path in a group how many there are, as far as it is counted.
 CREATE TEMP TABLE paths AS
@@ -63,7 +70,7 @@ CREATE TABLE finding_group(grp INTEGER PRIMARY KEY, verdict TEXT NOT NULL, title
 INSERT INTO finding_group
 SELECT h.grp, CASE k.rank WHEN 1 THEN 'real' WHEN 2 THEN 'maybe' WHEN 3 THEN 'explained' ELSE 'normal' END, n.title,
   iif(min(iif(f.lead IS NULL, f.path, NULL)) = max(iif(f.lead IS NULL, f.path, NULL)), n.path,
-    n.likeness || iif(count(DISTINCT iif(f.lead IS NULL, f.upid, NULL)) > 1,
+    o.likeness || iif(count(DISTINCT iif(f.lead IS NULL, f.upid, NULL)) > 1,
       ' in ' || count(DISTINCT iif(f.lead IS NULL, f.upid, NULL)) || ' processes', '')),
   sum(f.lead IS NULL), s.n_all,
   count(DISTINCT iif(f.lead IS NULL, f.upid, NULL)),
@@ -71,7 +78,7 @@ SELECT h.grp, CASE k.rank WHEN 1 THEN 'real' WHEN 2 THEN 'maybe' WHEN 3 THEN 'ex
   min(iif(f.lead IS NULL, f.place, NULL)), max(iif(f.lead IS NULL, f.place, NULL)),
   coalesce(max(f.waiting), 0), k.rules, NULL
 FROM finding_head h JOIN finding f USING (id) JOIN named n ON n.id = h.grp JOIN ranked k ON k.grp = h.grp
-  JOIN paths s ON s.grp = h.grp
+  JOIN paths s ON s.grp = h.grp JOIN common o ON o.grp = h.grp
 GROUP BY h.grp;
 UPDATE finding_group SET note = (SELECT f.note FROM finding_head h JOIN finding f USING (id)
   WHERE h.grp = finding_group.grp AND f.lead IS NULL AND f.note <> '' ORDER BY f.place LIMIT 1);

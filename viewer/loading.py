@@ -538,7 +538,7 @@ def judge(database: sqlite3.Connection, folder: pathlib.Path = FOLDER) -> None:
     """Gives each finding its verdict. In the statements `:BR_REPLY` is the number of that name. They make texts by
     `duration(nanoseconds)`, `counted(n, 'row')` and `status_name(number)`, alike ones by `likeness(path, ..)`, and look
     into a row of the report by `number_in(section, text, column)`. After names.sql, `call_name(code, upid, ptr)` names
-    a call, and `object_name(upid, ptr)` an object."""
+    a call, `object_name(upid, ptr)` an object, and `without_methods(path)` takes methods and packages out."""
     database.create_function("duration", 1, duration_of, deterministic=True)
     database.create_function("counted", -1, counted, deterministic=True)
     database.create_function("likeness", 5, likeness, deterministic=True)
@@ -551,6 +551,7 @@ def judge(database: sqlite3.Connection, folder: pathlib.Path = FOLDER) -> None:
         if name == "names.sql":
             names_of = Names(database)
             database.create_function("call_name", 3, names_of.call, deterministic=True)
+            database.create_function("without_methods", 1, names_of.without_methods, deterministic=True)
             database.create_function("object_name", 2, names_of.object, deterministic=True)
 
 

@@ -145,6 +145,14 @@ class Names:
         told, name = f"code {code_name(code)}", self.named(code, upid, ptr, own)
         return told if name is None else f"{name[0]} ({told})" if name[1] else f"{name[0]} {told}"
 
+    def without_methods(self, path: str) -> str:
+        """A path in which calls are named by interface and code alone, without packages: what is alike in AIDL and in
+        HIDL, in two versions, and with a table of methods or without."""
+        if self.full:
+            path = re.sub(r"([\w$.:@]+)\.[\w$]+(?: or others)? \((code \S+)\)", r"\1 \2", path)
+            path = re.sub(r"([\w$.:@]+)(?: or others)? code ", lambda found: f"{short_of(found[1])} code ", path)
+        return path
+
     def field(self, code: int, own: int | None) -> str:
         """The name of a call as a field in a line of its record."""
         name = self.named(code, None, None, own)

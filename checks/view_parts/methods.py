@@ -80,7 +80,26 @@ def check_methods(folder: pathlib.Path, room: pathlib.Path, fail: Fail) -> None:
             [one.split("\t")[:6] for one in lines.splitlines()], fail)
     compare("--groups", ("IIds.tenth (code 10) to service" in lines, "IIds.tenth" in plain, "IIds code 10 to" in plain),
             (True, False, True), fail)
+    check_groups(folder, room, fail)
     check_tables(folder, room, fail)
+
+
+def check_groups(folder: pathlib.Path, room: pathlib.Path, fail: Fail) -> None:
+    """Calls that hang are one group if their interfaces differ only in the package, and else several."""
+    s = Session()
+    service, client = s.two()
+    for at, name in enumerate(("a.b.IOne", "c.IOne", "a.b.IOther"), 1):
+        client.main.is_given(service.main, at, node=0x100 * at)
+        service.looper(at).gets(client.thread(at).sends(at, 1, body=marked(name)), 0x100 * at)
+    s.wait(300)
+    (room / "groups.cap").write_bytes(s.capture())
+    (room / "groups.side").write_text(s.side())
+    (room / "one").write_text("a.b.IOne\t1\tf\t-\n")
+    for more in (), ("--methods", "one"):
+        _, lines, _ = view(folder, room, "groups.cap", "--side", "groups.side", "--groups", *more)
+        fields = [line.split("\t") for line in lines.splitlines() if line.startswith("maybe")]
+        compare(f"groups of calls that hang {more}", sorted((one[2], one[6]) for one in fields),
+                [("1", "IOther code 1 to service 100 node 0x300"), ("2", "IOne code 1 to service")], fail)
 
 
 def check_tables(folder: pathlib.Path, room: pathlib.Path, fail: Fail) -> None:
