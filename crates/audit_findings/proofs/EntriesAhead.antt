@@ -1,272 +1,36 @@
--- The frame of the first place that is left, among whole frames that views show.
-use Rattle.std.proofs.Common.{◌≡◌, ℕ, suc, ◌+◌, ◌-◌, ◌*◌, ◌^◌, ◌<◌, ◌≤◌, inl, inr, Bool, List, [], ◌∷◌, ◌++◌, length, map, take, drop, All, Option, Some, None, refl, sym, ap, ap₂, subst, ◌∙◌, append_assoc, length-append, arith, get_or}
-use Rattle.std.proofs.Math.Seq.{drop-append-add, get_or-append_seam, split_at}
-use Rattle.std.proofs.lemmas.Bool.{cases_lt}
+-- The frame of the first place that is left, among the frames ahead.
+use Rattle.std.proofs.Common.{◌≡◌, ℕ, suc, ◌+◌, ◌-◌, ◌*◌, ◌^◌, ◌<◌, ◌≤◌, Bool, List, [], ◌∷◌, ◌++◌, length, map, take, drop, All, Option, Some, None, refl, sym, ap, subst, ◌∙◌, append_assoc, arith, get_or}
+use Rattle.std.proofs.Math.Seq.{split_at}
 use Rattle.std.specs.Prelude.{AllPairs, filter, slice_get}
 use Rattle.std.specs.Option.{unwrap_or}
 use Rattle.std.specs.List.{sum_by}
 use Rattle.std.proofs.lemmas.List.{append-nil, map-append}
-use Rattle.std.proofs.lemmas.List.Concat.{flat_map-cons}
-use Rattle.std.proofs.lemmas.List.Elements.{All-cons, All-filter, All-head, All-map, All-nil, All-tail, filter-append, filter_map-append}
+use Rattle.std.proofs.lemmas.List.Elements.{All-filter, All-head, All-map, All-weaker, filter-append, filter_map-append}
 use Rattle.std.proofs.lemmas.List.Sums.{sum_by-append, sum_by-cons}
-use Rattle.capture_frame.specs.Envelope.{FrameText, PlacedFrame}
-use Rattle.capture_frame.specs.Lookup.{Holds, IsSplitAt, AreApart, span_of}
-use Rattle.capture_frame.specs.Units.{Placed}
-use Rattle.event_core.specs.Events.{EventRead, events_of_whole, events_of_wholes, placed_text}
+use Rattle.std.proofs.lemmas.Option.{get_or_from_slice_get}
+use Rattle.capture_frame.specs.Envelope.{PlacedFrame}
+use Rattle.capture_frame.specs.Lookup.{AreApart, IsSplitAt, span_of}
+use Rattle.event_core.specs.Events.{EventRead, events_of, events_of_frames}
 use Rattle.event_core.specs.Reading.{entry_attachment}
-use Rattle.transaction_view.specs.FirstFault.{HasGoodContent}
-use Rattle.transaction_view.specs.Grammar.{WholeFrame}
+use Rattle.transaction_view.specs.Grammar.{IsGood}
 use Rattle.transaction_view.specs.declared.entry.Entry.{Entry}
-use Rattle.audit_findings.specs.Entries.{AddsEntries, AreChosen, AreEntriesAt, AreEventsOfFrame, Rise, ShowAttachments, carried_by, list_bytes}
-use Rattle.audit_findings.specs.Frames.{AreGoodFrames, IsWhole, AreViews}
+use Rattle.audit_findings.specs.Entries.{AddsEntries, AreChosen, AreEntriesAt, ShowAttachments, carried_by, list_bytes}
+use Rattle.audit_findings.specs.Frames.{AreGoodFrames}
 use Rattle.audit_findings.specs.Kept.{places_of}
-use Rattle.audit_findings.proofs.EventSizes.{few_frames}
-use Rattle.audit_findings.proofs.FrameLaws.{events-append, first_same, none_shown, shown_first, whole_events}
-use Rattle.audit_findings.proofs.PlacesRise.{IsInSpan, whole_within, within_span}
-use Rattle.audit_findings.proofs.Rising.{pairs_head, pairs_map, pairs_tail, pairs_unmap, rising_kept}
-use Rattle.std.proofs.lemmas.List.Kept.{AllPairs-cons}
-use Rattle.summary_law.specs.Fits.{PlacesRise, all_halves, pairs_halves, rising_halves}
-
--- ---- views of whole frames, some after others
+use Rattle.audit_findings.proofs.FrameLaws.{events-append, events_after, events_before, first_same}
+use Rattle.capture_frame.proofs.Pairs.{pairs_head}
+use Rattle.audit_findings.proofs.Rising.{pairs_before}
+use Rattle.summary_law.specs.Fits.{all_halves, pairs_halves}
 
 -- how many attachment bytes a frame has
-abbrev pub attachment_bytes : PlacedFrame → ℕ
+abbrev attachment_bytes : PlacedFrame → ℕ
 attachment_bytes frame = length frame.unit.attachments
-
--- if whole frames are split in two, so are their views
-record ShownApart (frames : List PlacedFrame) (first second : List (Placed WholeFrame)) : Type 0 where
-  earlier : List PlacedFrame
-  later : List PlacedFrame
-  are : frames ≡ earlier ++ later
-  show_first : AreViews earlier first
-  show_second : AreViews later second
-
-shown_split : (frames : List PlacedFrame) (first second : List (Placed WholeFrame)) → AreViews frames (first ++ second) → ShownApart frames first second
-shown_split frames [] second show = record { earlier = []; later = frames; are = refl; show_first = none_shown; show_second = show }
-shown_split [] (w ∷ first) second show = let wrong = ap length show.in_order in absurd (omega (arith, wrong))
-shown_split (f ∷ frames) (w ∷ first) second show =
-    let one = shown_first f frames (w ∷ (first ++ second)) show in
-    let same = first_same w one.0 (first ++ second) one.1 one.2 in
-    let rest = shown_split frames first second (subst (AreViews frames) (sym same.1) one.5) in
-    record {
-      earlier = f ∷ rest.earlier;
-      later = rest.later;
-      are = ap (λ (fs : List PlacedFrame). f ∷ fs) rest.are;
-      show_first = record {
-        in_order = ap₂ (λ (x : Placed FrameText) (t : List (Placed FrameText)). x ∷ t) (one.3 ∙ ap placed_text (sym same.0)) rest.show_first.in_order;
-        are_whole = All-cons IsWhole w first (subst IsWhole (sym same.0) one.4) rest.show_first.are_whole;
-      };
-      show_second = rest.show_second;
-    }
-
--- the view of a whole frame that is among others
-record ViewOf (frames : List PlacedFrame) (w : Placed WholeFrame) (after : List (Placed WholeFrame)) : Type 0 where
-  earlier : List PlacedFrame
-  frame : PlacedFrame
-  later : List PlacedFrame
-  are : frames ≡ earlier ++ frame ∷ later
-  same : frame ≡ placed_text w
-  whole : IsWhole w
-  show_after : AreViews later after
-
-view_of : (frames : List PlacedFrame) (before : List (Placed WholeFrame)) (w : Placed WholeFrame) (after : List (Placed WholeFrame))
-    → AreViews frames (before ++ w ∷ after) → ViewOf frames w after
-view_of frames before w after show =
-    let apart = shown_split frames before (w ∷ after) show in
-    first_view apart.later apart.earlier apart.are apart.show_second
-  where
-    first_view : (later earlier : List PlacedFrame) → frames ≡ earlier ++ later → AreViews later (w ∷ after) → ViewOf frames w after
-    first_view [] earlier are show = let wrong = ap length show.in_order in absurd (omega (arith, wrong))
-    first_view (f ∷ later) earlier are show =
-        let one = shown_first f later (w ∷ after) show in
-        let same = first_same w one.0 after one.1 one.2 in
-        record {
-          earlier = earlier;
-          frame = f;
-          later = later;
-          are = are;
-          same = one.3 ∙ ap placed_text (sym same.0);
-          whole = subst IsWhole (sym same.0) one.4;
-          show_after = subst (AreViews later) (sym same.1) one.5;
-        }
-
--- ---- the last of the frames that have begun
-
--- the frame that holds the place is the last one that has begun
-last_begun : (earlier : List PlacedFrame) (frame : PlacedFrame) (later : List PlacedFrame) (place count : ℕ) → AllPairs AreApart (earlier ++ frame ∷ later)
-    → Holds place frame → IsSplitAt (earlier ++ frame ∷ later) place count → count ≡ length earlier + 1
-last_begun earlier frame later place count apart holds begun =
-    let frames = earlier ++ frame ∷ later in
-    let from = holds.0 in
-    let to = holds.1 in
-    let bound = begun.within in
-    let long = length-append earlier (frame ∷ later) in
-    let here : get_or frames (length earlier) frame ≡ frame = get_or-append_seam earlier frame later frame in
-    elim (cases_lt count (length earlier + 1)) [
-      | inl few ↦
-          let late = begun.after (length earlier) frame (omega (arith, few)) (omega (arith, long)) in
-          let there = ap (λ (f : PlacedFrame). f.place) here in
-          absurd (omega (arith, from, late, there))
-      | inr enough ↦ elim (cases_lt (length earlier + 1) count) [
-        | inl many ↦
-            let next = length earlier + 1 in
-            let begins = begun.before next frame many in
-            let far = apart (length earlier) next frame (omega arith) (omega (arith, many, bound)) in
-            let far_here = subst (λ (f : PlacedFrame). AreApart f (get_or frames next frame)) here far in
-            absurd (omega (arith, to, begins, far_here))
-        | inr few ↦ omega (arith, enough, few)
-      ]
-    ]
-
--- ---- the first place that is left
-
--- the frame of the first chosen event, the frames before it, which have no chosen event, and those after it
-record FirstChosen (choice : EventRead → Bool) (ahead : List (Placed WholeFrame)) (place : ℕ) : Type 0 where
-  front : List (Placed WholeFrame)
-  whole : Placed WholeFrame
-  after : List (Placed WholeFrame)
-  are : ahead ≡ front ++ whole ∷ after
-  none : filter choice (events_of_wholes front) ≡ []
-  event : EventRead
-  others : List EventRead
-  first : filter choice (events_of_whole whole) ≡ event ∷ others
-  at : event.place ≡ place
-
-chosen_of : (choice : EventRead → Bool) (w : Placed WholeFrame) (wholes : List (Placed WholeFrame))
-    → filter choice (events_of_wholes (w ∷ wholes)) ≡ filter choice (events_of_whole w) ++ filter choice (events_of_wholes wholes)
-chosen_of choice w wholes = ap (filter choice) (flat_map-cons events_of_whole w wholes) ∙ filter-append choice (events_of_whole w) (events_of_wholes wholes)
-
-first_chosen : (choice : EventRead → Bool) (ahead : List (Placed WholeFrame)) (place : ℕ) (rest : List ℕ)
-    → place ∷ rest ≡ places_of (filter choice (events_of_wholes ahead)) → FirstChosen choice ahead place
-first_chosen choice [] place rest left = let wrong : place ∷ rest ≡ [] = left in absurd (cc)
-first_chosen choice (w ∷ ahead) place rest left = by_own (first_chosen choice ahead place rest) (filter choice (events_of_whole w)) refl
-  where
-    by_own : (place ∷ rest ≡ places_of (filter choice (events_of_wholes ahead)) → FirstChosen choice ahead place) → (own : List EventRead)
-        → filter choice (events_of_whole w) ≡ own → FirstChosen choice (w ∷ ahead) place
-    by_own later [] is =
-        let none = chosen_of choice w ahead ∙ ap (λ es. es ++ filter choice (events_of_wholes ahead)) is in
-        let more = later (left ∙ ap places_of none) in
-        record {
-          front = w ∷ more.front;
-          whole = more.whole;
-          after = more.after;
-          are = ap (λ ws. w ∷ ws) more.are;
-          none = chosen_of choice w more.front ∙ ap (λ es. es ++ filter choice (events_of_wholes more.front)) is ∙ more.none;
-          event = more.event;
-          others = more.others;
-          first = more.first;
-          at = more.at;
-        }
-    by_own later (e ∷ others) is =
-        let some = chosen_of choice w ahead ∙ ap (λ es. es ++ filter choice (events_of_wholes ahead)) is in
-        let same : place ∷ rest ≡ e.place ∷ places_of (others ++ filter choice (events_of_wholes ahead)) = left ∙ ap places_of some in
-        record {
-          front = [];
-          whole = w;
-          after = ahead;
-          are = refl;
-          none = refl;
-          event = e;
-          others = others;
-          first = is;
-          at = sym (first_same place e.place rest (places_of (others ++ filter choice (events_of_wholes ahead))) same).0;
-        }
-
--- the view of that frame, which is the last one that has begun
-record NextFrame (frames : List PlacedFrame) (choice : EventRead → Bool) (ahead : List (Placed WholeFrame)) (place : ℕ) : Type 0 where
-  chosen : FirstChosen choice ahead place
-  view : ViewOf frames chosen.whole chosen.after
-  holds : Holds place view.frame
-
-next_frame : (frames : List PlacedFrame) (ahead : List (Placed WholeFrame)) → AreViews frames ahead → (choice : EventRead → Bool) (place : ℕ)
-    (rest : List ℕ) → place ∷ rest ≡ places_of (filter choice (events_of_wholes ahead)) → NextFrame frames choice ahead place
-next_frame frames ahead show choice place rest left =
-    let chosen = first_chosen choice ahead place rest left in
-    let w = chosen.whole in
-    let view = view_of frames chosen.front w chosen.after (subst (AreViews frames) chosen.are show) in
-    let within : IsInSpan w chosen.event =
-    All-head (IsInSpan w) chosen.event chosen.others
-    (subst (All (IsInSpan w)) chosen.first (All-filter choice (IsInSpan w) (events_of_whole w) (whole_within w view.whole))) in
-    let inside = within_span w chosen.event within in
-    let from = inside.0 in
-    let to = inside.1 in
-    let at = chosen.at in
-    let place_is = ap (λ (p : Placed FrameText). p.place) view.same in
-    let commands = ap (λ (p : Placed FrameText). length p.unit.commands) view.same in
-    let attachments = ap (λ (p : Placed FrameText). length p.unit.attachments) view.same in
-    record { chosen = chosen; view = view; holds = (omega (arith, from, at, place_is), omega (arith, to, at, place_is, commands, attachments)) }
-
--- ---- frames that are passed
-
--- the lists of offsets of the entries are no longer than the attachment bytes of the frames that are passed
-pub record HasPassed (frames ahead : List PlacedFrame) (entries : List Entry) : Type 0 where
-  pub passed : List PlacedFrame
-  pub are : frames ≡ passed ++ ahead
-  pub few : list_bytes entries ≤ sum_by attachment_bytes passed
-
-pub passed_at_start : (frames : List PlacedFrame) (entries : List Entry) → entries ≡ [] → HasPassed frames frames entries
-passed_at_start frames entries none = record { passed = []; are = refl; few = let no_bytes = ap list_bytes none in omega (arith, no_bytes) }
 
 attached_within : (frames : List PlacedFrame) → sum_by attachment_bytes frames + 32 * length frames ≤ sum_by span_of frames
 attached_within [] = omega arith
 attached_within (f ∷ frames) =
-    let rest = attached_within frames in
-    let attached = sum_by-cons attachment_bytes f frames in
-    let spans = sum_by-cons span_of f frames in
     let long : length (f ∷ frames) ≡ length frames + 1 = omega arith in
-    omega (arith, rest, attached, spans, long)
-
-module _ (frames ahead : List PlacedFrame) (good : AreGoodFrames frames) (entries : List Entry) (passed : HasPassed frames ahead entries) where
-  pub apart_ahead : AllPairs AreApart ahead
-  apart_ahead = (pairs_halves AreApart passed.passed ahead (subst (AllPairs AreApart) passed.are good.apart)).1
-
-  module _ (count : ℕ) (some : 0 < count) (within : count ≤ length ahead) (d : PlacedFrame) where
-    abbrev frame_there : PlacedFrame
-    frame_there = get_or ahead (count - 1) d
-
-    pub good_there : HasGoodContent frame_there.unit
-    good_there =
-        (all_halves (λ f. HasGoodContent f.unit) passed.passed ahead
-        (subst (All (λ f. HasGoodContent f.unit)) passed.are good.good)).1 (count - 1) d (omega (arith, some, within))
-
-    split_there : ahead ≡ take (count - 1) ahead ++ frame_there ∷ drop count ahead
-    split_there =
-        let one : suc (count - 1) ≡ count = omega (arith, some) in
-        split_at ahead (count - 1) d (omega (arith, some, within))
-        ∙ ap (λ n. take (count - 1) ahead ++ frame_there ∷ drop n ahead) one
-
-    -- the frames up to this one are passed
-    passed_there : frames ≡ (passed.passed ++ (take (count - 1) ahead ++ frame_there ∷ [])) ++ drop count ahead
-    passed_there =
-        passed.are ∙ ap (λ fs. passed.passed ++ fs) (split_there ∙ sym (append_assoc (take (count - 1) ahead) (frame_there ∷ []) (drop count ahead)))
-        ∙ sym (append_assoc passed.passed (take (count - 1) ahead ++ frame_there ∷ []) (drop count ahead))
-
-    attached_there : sum_by attachment_bytes passed.passed + length frame_there.unit.attachments
-        ≤ sum_by attachment_bytes (passed.passed ++ (take (count - 1) ahead ++ frame_there ∷ []))
-    attached_there =
-        let parts = sum_by-append attachment_bytes passed.passed (take (count - 1) ahead ++ frame_there ∷ []) in
-        let more = sum_by-append attachment_bytes (take (count - 1) ahead) (frame_there ∷ []) in
-        let one = sum_by-cons attachment_bytes frame_there [] in
-        omega (arith, parts, more, one)
-
-    pub passed_further : (new : List Entry) → list_bytes new ≤ list_bytes entries + length frame_there.unit.attachments → HasPassed frames (drop count ahead) new
-    passed_further new grows =
-        let attached = attached_there in
-        let few = passed.few in
-        record {
-          passed = passed.passed ++ (take (count - 1) ahead ++ frame_there ∷ []);
-          are = passed_there;
-          few = omega (arith, attached, few, grows);
-        }
-
-  -- the lists of offsets have no more bytes than good frames may have
-  pub few_bytes : list_bytes entries ≤ 2 ^ 32
-  few_bytes =
-      let few = passed.few in
-      let all = attached_within frames in
-      let total = good.few in
-      let parts = ap (sum_by attachment_bytes) passed.are ∙ sum_by-append attachment_bytes passed.passed ahead in
-      omega (arith, few, all, total, parts)
+    omega (arith, attached_within frames, sum_by-cons attachment_bytes f frames, sum_by-cons span_of f frames, long)
 
 -- a list whose first element is known
 pub begins_with : (numbers : List ℕ) (first : ℕ) → Some first ≡ slice_get numbers 0 → (rest : List ℕ) × (numbers ≡ first ∷ rest)
@@ -277,162 +41,175 @@ pub begins_with_none : (numbers : List ℕ) → None ≡ slice_get numbers 0 →
 begins_with_none [] is = refl
 begins_with_none (n ∷ numbers) is = let wrong : None ≡ Some n = is in absurd (cc)
 
+-- ---- the chosen events of frames
+
+-- the chosen ones of the events of these frames
+abbrev pub chosen_in : (EventRead → Bool) → List PlacedFrame → List EventRead
+chosen_in choice frames = filter choice (events_of_frames frames)
+
+chosen-append : (choice : EventRead → Bool) (frames others : List PlacedFrame)
+    → chosen_in choice (frames ++ others) ≡ chosen_in choice frames ++ chosen_in choice others
+chosen-append choice frames others =
+    ap (filter choice) (events-append frames others) ∙ filter-append choice (events_of_frames frames) (events_of_frames others)
+
+chosen-one : (choice : EventRead → Bool) (frame : PlacedFrame) → chosen_in choice (frame ∷ []) ≡ filter choice (events_of frame)
+chosen-one choice frame = ap (filter choice) (append-nil (events_of frame))
+
+no_places : (events : List EventRead) → [] ≡ places_of events → events ≡ []
+no_places [] none = refl
+no_places (e ∷ events) none = let wrong : [] ≡ e.place ∷ places_of events = none in absurd (cc)
+
+-- if the first of all places is this one, no events before it are among them
+none_first : (events others : List EventRead) (place : ℕ) (rest : List ℕ) → place ∷ rest ≡ places_of (events ++ others) → All (λ e. e.place < place) events
+    → events ≡ []
+none_first [] others place rest left below = refl
+none_first (e ∷ events) others place rest left below =
+    let same = (first_same place e.place rest (places_of (events ++ others)) left).0 in
+    let under = All-head (λ (x : EventRead). x.place < place) e events below in
+    absurd (omega (arith, same, under))
+
 -- ---- so far
 
--- the entries show the attachments of the chosen events of the frames that are done; the places of the chosen events of
--- the frames ahead are left
-pub record IsThere (wholes : List (Placed WholeFrame)) (choice : EventRead → Bool) (frames : List PlacedFrame) (left : List ℕ) (entries : List Entry) :
-    Type 0 where
-  pub done : List (Placed WholeFrame)
-  pub ahead : List (Placed WholeFrame)
-  pub are : wholes ≡ done ++ ahead
-  pub show_ahead : AreViews frames ahead
-  pub left_is : left ≡ places_of (filter choice (events_of_wholes ahead))
-  pub shown : ShowAttachments entries (carried_by (filter choice (events_of_wholes done)))
+-- Some frames are passed, and these are ahead. The lists of offsets of the entries are no longer than the attachment
+-- bytes of the passed frames. Whatever events are chosen whose places are the given ones, the entries show the
+-- attachments of those of the passed frames, and the places of the others are left.
+pub record HasRead (frames : List PlacedFrame) (places : List ℕ) (ahead : List PlacedFrame) (left : List ℕ) (entries : List Entry) : Type 0 where
+  pub passed : List PlacedFrame
+  pub are : frames ≡ passed ++ ahead
+  pub few : list_bytes entries ≤ sum_by attachment_bytes passed
+  pub told : (choice : EventRead → Bool) → AreChosen choice (events_of_frames frames) [] places
+      → (left ≡ places_of (chosen_in choice ahead)) × ShowAttachments entries (carried_by (chosen_in choice passed))
 
--- this holds whatever events of these frames are chosen whose places are the given ones
-abbrev pub IsReadAs : List PlacedFrame → List ℕ → List PlacedFrame → List ℕ → List Entry → Type 0
-IsReadAs frames places ahead left entries =
-    (wholes : List (Placed WholeFrame)) (choice : EventRead → Bool) → AreViews frames wholes → AreChosen choice (events_of_wholes wholes) [] places
-    → IsThere wholes choice ahead left entries
-
-pub is_at_start : (frames : List PlacedFrame) (places : List ℕ) (entries : List Entry) → entries ≡ [] → IsReadAs frames places frames places entries
-is_at_start frames places entries none wholes choice show chosen = record {
-  done = [];
-  ahead = wholes;
-  are = refl;
-  show_ahead = show;
-  left_is = chosen ∙ append-nil (places_of (filter choice (events_of_wholes wholes)));
-  shown = ap (map entry_attachment) none;
+pub read_none : (frames ahead : List PlacedFrame) (places : List ℕ) (entries : List Entry) → ahead ≡ frames → entries ≡ []
+    → HasRead frames places ahead places entries
+read_none frames ahead places entries all none = record {
+  passed = [];
+  are = sym all;
+  few = let no_bytes = ap list_bytes none in omega (arith, no_bytes);
+  told = λ choice chosen.
+      (chosen ∙ append-nil (places_of (chosen_in choice frames)) ∙ ap (λ fs. places_of (chosen_in choice fs)) (sym all), ap (map entry_attachment) none);
 }
 
-pub all_at_end : (frames : List PlacedFrame) (places : List ℕ) (ahead : List PlacedFrame) (entries : List Entry) → IsReadAs frames places ahead [] entries
-    → AreEntriesAt frames places entries
-all_at_end frames places ahead entries is_at wholes choice show chosen =
-    let s = is_at wholes choice show chosen in
-    let none = no_places (filter choice (events_of_wholes s.ahead)) s.left_is in
-    let all : filter choice (events_of_wholes s.done) ≡ filter choice (events_of_wholes wholes) =
-    sym (ap (λ ws. filter choice (events_of_wholes ws)) s.are ∙ ap (filter choice) (events-append s.done s.ahead)
-    ∙ filter-append choice (events_of_wholes s.done) (events_of_wholes s.ahead) ∙ ap (λ es. filter choice (events_of_wholes s.done) ++ es) none
-    ∙ append-nil (filter choice (events_of_wholes s.done))) in
-    s.shown ∙ ap carried_by all
-  where
-    no_places : (events : List EventRead) → [] ≡ places_of events → events ≡ []
-    no_places [] none = refl
-    no_places (e ∷ events) none = let wrong : [] ≡ e.place ∷ places_of events = none in absurd (cc)
+module _ (frames : List PlacedFrame) (places : List ℕ) (ahead : List PlacedFrame) (left : List ℕ) (entries : List Entry) (good : AreGoodFrames frames)
+    (read : HasRead frames places ahead left entries) where
+  pub apart_ahead : AllPairs AreApart ahead
+  apart_ahead = (pairs_halves AreApart read.passed ahead (subst (AllPairs AreApart) read.are good.apart)).1
 
--- if the places of events rise, so do those of the first events followed by those of the chosen later ones
-rise_part : (choice : EventRead → Bool) (events later : List EventRead) → Rise (places_of (events ++ later))
-    → Rise (places_of events ++ places_of (filter choice later))
-rise_part choice [] later rise =
-    pairs_map (λ a b. a < b) (λ (e : EventRead). e.place) (filter choice later)
-    (rising_kept (λ (e : EventRead). e.place) choice later (pairs_unmap (λ a b. a < b) (λ (e : EventRead). e.place) later rise))
-rise_part choice (e ∷ events) later rise =
-    let above = pairs_head (λ a b. a < b) e.place (places_of (events ++ later)) rise in
-    let more = rise_part choice events later (pairs_tail (λ a b. a < b) e.place (places_of (events ++ later)) rise) in
-    AllPairs-cons (λ a b. a < b) e.place (places_of events ++ places_of (filter choice later)) (all_part events above) more
-  where
-    all_part : (us : List EventRead) → All (λ p. e.place < p) (places_of (us ++ later)) → All (λ p. e.place < p) (places_of us ++ places_of (filter choice later))
-    all_part [] above =
-        All-map (λ p. e.place < p) (λ (x : EventRead). x.place) (filter choice later)
-        (All-filter choice (λ (x : EventRead). e.place < x.place) later (unmapped later above))
-      where
-        unmapped : (us : List EventRead) → All (λ p. e.place < p) (places_of us) → All (λ (x : EventRead). e.place < x.place) us
-        unmapped [] all = All-nil (λ (x : EventRead). e.place < x.place)
-        unmapped (u ∷ us) all =
-            All-cons (λ (x : EventRead). e.place < x.place) u us (All-head (λ p. e.place < p) u.place (places_of us) all)
-            (unmapped us (All-tail (λ p. e.place < p) u.place (places_of us) all))
-    all_part (u ∷ us) above =
-        All-cons (λ p. e.place < p) u.place (places_of us ++ places_of (filter choice later))
-        (All-head (λ p. e.place < p) u.place (places_of (us ++ later)) above)
-        (all_part us (All-tail (λ p. e.place < p) u.place (places_of (us ++ later)) above))
+  -- the lists of offsets have no more bytes than good frames may have
+  pub few_bytes : list_bytes entries ≤ 2 ^ 32
+  few_bytes =
+      let few = read.few in
+      let all = attached_within frames in
+      let total = good.few in
+      let parts = ap (sum_by attachment_bytes) read.are ∙ sum_by-append attachment_bytes read.passed ahead in
+      omega (arith, few, all, total, parts)
 
-module _ (frames : List PlacedFrame) (good : AreGoodFrames frames) (wholes : List (Placed WholeFrame)) (choice : EventRead → Bool) (show : AreViews frames wholes)
-    (ahead : List PlacedFrame) (apart : AllPairs AreApart ahead) (place : ℕ) (rest : List ℕ) (entries : List Entry)
-    (s : IsThere wholes choice ahead (place ∷ rest) entries) (count : ℕ) (begun : IsSplitAt ahead place count) where
-  next : NextFrame ahead choice s.ahead place
-  next = next_frame ahead s.ahead s.show_ahead choice place rest s.left_is
+  pub all_at_end : left ≡ [] → AreEntriesAt frames places entries
+  all_at_end none choice chosen =
+      let i = read.told choice chosen in
+      let no_more = no_places (chosen_in choice ahead) (sym none ∙ i.0) in
+      i.1 ∙ ap carried_by (sym
+      (ap (chosen_in choice) read.are ∙ chosen-append choice read.passed ahead ∙ ap (λ es. chosen_in choice read.passed ++ es) no_more
+      ∙ append-nil (chosen_in choice read.passed)))
 
-  counted : count ≡ length next.view.earlier + 1
-  counted =
-      last_begun next.view.earlier next.view.frame next.view.later place count (subst (AllPairs AreApart) next.view.are apart) next.holds
-      (subst (λ fs. IsSplitAt fs place count) next.view.are begun)
+  module _ (place : ℕ) (rest : List ℕ) (first : left ≡ place ∷ rest) (count : ℕ) (begun : IsSplitAt ahead place count) where
+    -- the frame of the first place that is left has begun
+    pub some_begun : count ≡ 0 → AreEntriesAt frames places entries
+    some_begun none choice chosen =
+        let later = events_after place ahead
+        (λ i d within. let far = begun.after i d (omega (arith, none)) within in omega (arith, far)) in
+        let all = All-map (λ p. place < p) (λ (e : EventRead). e.place) (chosen_in choice ahead)
+        (All-filter choice (λ (e : EventRead). place < e.place) (events_of_frames ahead) later) in
+        let above = All-head (λ p. place < p) place rest (subst (All (λ p. place < p)) (sym (read.told choice chosen).0 ∙ first) all) in
+        absurd (omega (arith, above))
 
-  -- a frame is there
-  pub some_begun : count ≡ 0 → ⊥
-  some_begun none = let is = counted in absurd (omega (arith, none, is))
+    module _ (found : PlacedFrame) (there : slice_get ahead (count - 1) ≡ Some found) (some : 0 < count) where
+      abbrev front : List PlacedFrame
+      front = take (count - 1) ahead
 
-  the_frame : (d : PlacedFrame) → get_or ahead (count - 1) d ≡ next.view.frame
-  the_frame d =
-      let is = counted in
-      let number : count - 1 ≡ length next.view.earlier = omega (arith, is) in
-      ap (λ n. get_or ahead n d) number ∙ ap (λ fs. get_or fs (length next.view.earlier) d) next.view.are
-      ∙ get_or-append_seam next.view.earlier next.view.frame next.view.later d
+      abbrev after : List PlacedFrame
+      after = drop count ahead
 
-  later_ahead : drop count ahead ≡ next.view.later
-  later_ahead =
-      let is = counted in
-      let frames_there = next.view.earlier ++ next.view.frame ∷ next.view.later in
-      ap (λ n. drop n ahead) is ∙ ap (drop (length next.view.earlier + 1)) next.view.are
-      ∙ drop-append-add next.view.earlier (next.view.frame ∷ next.view.later) 1
+      is_found : get_or ahead (count - 1) found ≡ found
+      is_found = get_or_from_slice_get ahead (count - 1) found found there
 
-  split : wholes ≡ (s.done ++ next.chosen.front) ++ next.chosen.whole ∷ next.chosen.after
-  split = s.are ∙ ap (λ ws. s.done ++ ws) next.chosen.are ∙ sym (append_assoc s.done next.chosen.front (next.chosen.whole ∷ next.chosen.after))
+      within : count - 1 < length ahead
+      within = let bound = begun.within in omega (arith, some, bound)
 
-  abbrev others : List ℕ
-  others = places_of (filter choice (events_of_wholes next.chosen.after))
+      pub good_there : IsGood found
+      good_there = subst IsGood is_found ((all_halves IsGood read.passed ahead (subst (All IsGood) read.are good.good)).1 (count - 1) found within)
 
-  left_here : AreChosen choice (events_of_whole next.chosen.whole) others (place ∷ rest)
-  unfolding next
-  left_here =
-      let w = next.chosen.whole in
-      let after = next.chosen.after in
-      let parts = ap (filter choice) (events-append next.chosen.front (w ∷ after)) ∙ filter-append choice (events_of_wholes next.chosen.front) (events_of_wholes (w ∷ after))
-      ∙ ap (λ es. es ++ filter choice (events_of_wholes (w ∷ after))) next.chosen.none ∙ chosen_of choice w after in
-      s.left_is ∙ ap (λ ws. places_of (filter choice (events_of_wholes ws))) next.chosen.are ∙ ap places_of parts
-      ∙ map-append (λ (e : EventRead). e.place) (filter choice (events_of_whole w)) (filter choice (events_of_wholes after))
+      split : ahead ≡ front ++ found ∷ after
+      split =
+          let one : suc (count - 1) ≡ count = omega (arith, some) in
+          split_at ahead (count - 1) found within ∙ (λ i. front ++ is_found i ∷ drop (one i) ahead)
 
-  rising : Rise (places_of (events_of_whole next.chosen.whole) ++ others)
-  rising =
-      let w = next.chosen.whole in
-      let after = next.chosen.after in
-      let before = s.done ++ next.chosen.front in
-      let all = (few_frames frames wholes good show).1.0.1 in
-      let parts = ap events_of_wholes split ∙ events-append before (w ∷ after) ∙ ap (λ es. events_of_wholes before ++ es) (flat_map-cons events_of_whole w after) in
-      let later = rising_halves (λ (e : EventRead). e.place) (events_of_wholes before) (events_of_whole w ++ events_of_wholes after)
-      (subst (PlacesRise (λ (e : EventRead). e.place)) parts all) in
-      rise_part choice (events_of_whole w) (events_of_wholes after)
-      (pairs_map (λ a b. a < b) (λ (e : EventRead). e.place) (events_of_whole w ++ events_of_wholes after) later.1)
+      apart_here : AllPairs AreApart (front ++ found ∷ after)
+      apart_here = subst (AllPairs AreApart) split apart_ahead
 
-  module _ (frame : PlacedFrame) (d : PlacedFrame) (is : frame ≡ get_or ahead (count - 1) d) where
-    same : frame ≡ placed_text next.chosen.whole
-    same = is ∙ the_frame d ∙ next.view.same
+      begins : found.place ≤ place
+      begins = subst (λ (f : PlacedFrame). f.place ≤ place) is_found (begun.before (count - 1) found (omega (arith, some)))
 
-    events_of_it : AreEventsOfFrame frame (events_of_whole next.chosen.whole)
-    events_of_it =
-        let of = whole_events frame next.chosen.whole same next.view.whole in
-        (of.0, of.1, of.2, of.3, sym (append-nil (events_of_whole next.chosen.whole)) ∙ of.4)
+      module _ (choice : EventRead → Bool) (chosen : AreChosen choice (events_of_frames frames) [] places) where
+        abbrev others : List EventRead
+        others = chosen_in choice after
 
-    -- the frame is done
-    pub is_after : (new : List Entry) (left : List ℕ) → AddsEntries entries frame (place ∷ rest) new left
-        → IsThere wholes choice (drop count ahead) left new
-    is_after new left adds =
-        let w = next.chosen.whole in
-        let before = s.done ++ next.chosen.front in
-        let more = adds (events_of_whole w) choice others events_of_it rising left_here in
-        let chosen_before : filter choice (events_of_wholes s.done) ≡ filter choice (events_of_wholes before) =
-        sym (ap (filter choice) (events-append s.done next.chosen.front) ∙ filter-append choice (events_of_wholes s.done) (events_of_wholes next.chosen.front)
-        ∙ ap (λ es. filter choice (events_of_wholes s.done) ++ es) next.chosen.none ∙ append-nil (filter choice (events_of_wholes s.done))) in
-        let all : filter choice (events_of_wholes before) ++ filter choice (events_of_whole w) ≡ filter choice (events_of_wholes (before ++ w ∷ [])) =
-        sym (ap (filter choice) (events-append before (w ∷ []) ∙ ap (λ es. events_of_wholes before ++ es) (append-nil (events_of_whole w)))
-        ∙ filter-append choice (events_of_wholes before) (events_of_whole w)) in
-        record {
-          done = before ++ w ∷ [];
-          ahead = next.chosen.after;
-          are = split ∙ sym (append_assoc before (w ∷ []) next.chosen.after);
-          show_ahead = subst (λ fs. AreViews fs next.chosen.after) (sym later_ahead) next.view.show_after;
-          left_is = more.0;
-          shown = more.1 ∙ ap (λ us. us ++ carried_by (filter choice (events_of_whole w))) (s.shown ∙ ap carried_by chosen_before)
-              ∙ sym (filter_map-append (λ (e : EventRead). e.entry) (filter choice (events_of_wholes before)) (filter choice (events_of_whole w)))
-              ∙ ap carried_by all;
-        }
+        in_parts : chosen_in choice ahead ≡ chosen_in choice front ++ (filter choice (events_of found) ++ others)
+        in_parts =
+            ap (chosen_in choice) split ∙ chosen-append choice front (found ∷ after)
+            ∙ ap (λ es. chosen_in choice front ++ es)
+            (chosen-append choice (found ∷ []) after ∙ ap (λ es. es ++ others) (chosen-one choice found))
+
+        left_is : place ∷ rest ≡ places_of (chosen_in choice front ++ (filter choice (events_of found) ++ others))
+        left_is = sym first ∙ (read.told choice chosen).0 ∙ ap places_of in_parts
+
+        -- no event of the frames before it is chosen
+        none_before : chosen_in choice front ≡ []
+        none_before =
+            let ends = pairs_before AreApart front found after apart_here in
+            none_first (chosen_in choice front) (filter choice (events_of found) ++ others) place rest left_is
+            (All-filter choice (λ (e : EventRead). e.place < place) (events_of_frames front)
+            (events_before place front
+            (All-weaker (λ f. AreApart f found) (λ f. f.place + span_of f ≤ place) (λ f far. omega (arith, far, begins)) front ends)))
+
+        left_here : AreChosen choice (events_of found) (places_of others) (place ∷ rest)
+        left_here =
+            left_is ∙ ap (λ es. places_of (es ++ (filter choice (events_of found) ++ others))) none_before
+            ∙ map-append (λ (e : EventRead). e.place) (filter choice (events_of found)) others
+
+        far_others : All (λ p. found.place + span_of found ≤ p) (places_of others)
+        far_others =
+            let end = found.place + span_of found in
+            let apart = (pairs_halves AreApart front (found ∷ after) apart_here).1 in
+            All-map (λ p. end ≤ p) (λ (e : EventRead). e.place) others
+            (All-filter choice (λ (e : EventRead). end ≤ e.place) (events_of_frames after)
+            (All-weaker (λ (e : EventRead). end < e.place) (λ (e : EventRead). end ≤ e.place) (λ e far. omega (arith, far)) (events_of_frames after)
+            (events_after end after (pairs_head AreApart found after apart))))
+
+        passed_parts : chosen_in choice (read.passed ++ (front ++ found ∷ [])) ≡ chosen_in choice read.passed ++ filter choice (events_of found)
+        passed_parts =
+            chosen-append choice read.passed (front ++ found ∷ [])
+            ∙ ap (λ es. chosen_in choice read.passed ++ es)
+            (chosen-append choice front (found ∷ []) ∙ ap (λ es. es ++ chosen_in choice (found ∷ [])) none_before ∙ chosen-one choice found)
+
+      -- the frame is passed
+      pub read_frame : (new : List Entry) (left_then : List ℕ) → list_bytes new ≤ list_bytes entries + length found.unit.attachments
+          → AddsEntries entries found (place ∷ rest) new left_then → HasRead frames places after left_then new
+      read_frame new left_then grows adds =
+          let few = read.few in
+          let sums = sum_by-append attachment_bytes read.passed (front ++ found ∷ []) in
+          let more = sum_by-append attachment_bytes front (found ∷ []) in
+          let one = sum_by-cons attachment_bytes found [] in
+          record {
+            passed = read.passed ++ (front ++ found ∷ []);
+            are = read.are ∙ ap (λ fs. read.passed ++ fs) (split ∙ sym (append_assoc front (found ∷ []) after))
+                ∙ sym (append_assoc read.passed (front ++ found ∷ []) after);
+            few = omega (arith, few, grows, sums, more, one);
+            told = λ choice chosen.
+                let adds_these = adds choice (places_of (others choice chosen)) (far_others choice chosen) (left_here choice chosen) in (
+                  adds_these.0,
+                  adds_these.1 ∙ ap (λ us. us ++ carried_by (filter choice (events_of found))) (read.told choice chosen).1
+                      ∙ sym (filter_map-append (λ (e : EventRead). e.entry) (chosen_in choice read.passed) (filter choice (events_of found)))
+                      ∙ ap carried_by (sym (passed_parts choice chosen)),
+                );
+          }

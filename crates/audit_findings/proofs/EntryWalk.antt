@@ -4,55 +4,29 @@ use Rattle.std.specs.Prelude.{filter}
 use Rattle.std.specs.List.{sum_by}
 use Rattle.std.proofs.lemmas.Bool.{cases_Bool}
 use Rattle.std.proofs.lemmas.List.{append-nil, map-append}
-use Rattle.std.proofs.lemmas.List.Elements.{All-head, All-tail, filter-append, filter_map-append}
+use Rattle.std.proofs.lemmas.List.Elements.{All-append, All-filter, All-head, All-map, All-weaker, filter-append, filter_map-append}
 use Rattle.std.proofs.lemmas.List.Sums.{sum_by-append}
 use Rattle.capture_frame.specs.Envelope.{PlacedFrame}
-use Rattle.event_core.specs.Events.{AttachmentText, EventRead}
-use Rattle.event_core.specs.Reading.{Reading, Steps, entry_attachment, event_text}
+use Rattle.capture_frame.specs.Lookup.{span_of}
+use Rattle.event_core.specs.Events.{AttachmentText, EventRead, events_of}
+use Rattle.event_core.specs.Reading.{entry_attachment, event_text}
 use Rattle.event_core.specs.declared.event.Event.{Event}
-use Rattle.event_core.proofs.EventsGiven.{Given, given_all}
-use Rattle.transaction_view.specs.FirstFault.{HasGoodContent}
+use Rattle.event_core.proofs.FrameEvents.{events_rise, events_within, lists_fit}
+use Rattle.summary_law.specs.Fits.{PlacesRise, all_halves, rising_halves}
 use Rattle.transaction_view.specs.declared.entry.Entry.{Entry}
-use Rattle.audit_findings.specs.Entries.{AddsEntries, AreChosen, AreEventsOfFrame, Rise, ShowAttachments, carried_by, entries_in, entry_list, list_bytes}
+use Rattle.audit_findings.specs.Entries.{AddsEntries, AreChosen, ShowAttachments, carried_by, entries_in, entry_list, list_bytes}
 use Rattle.audit_findings.specs.Kept.{places_of}
 use Rattle.audit_findings.specs.Ledgers.{offset_bytes_of}
-use Rattle.audit_findings.proofs.ListSizes.{given_fit}
-use Rattle.audit_findings.proofs.FrameLaws.{first_same}
-use Rattle.audit_findings.proofs.Rising.{pairs_head, pairs_tail}
+use Rattle.audit_findings.proofs.FrameLaws.{IsWithin, first_same}
+use Rattle.capture_frame.proofs.Pairs.{pairs_head}
 
 -- ---- an event that is chosen, and one that is not
 
-pub kept_first : {X : Type 0} (p : X → Bool) (x : X) (xs : List X) → p x ≡ true → filter p (x ∷ xs) ≡ x ∷ filter p xs
+kept_first : {X : Type 0} (p : X → Bool) (x : X) (xs : List X) → p x ≡ true → filter p (x ∷ xs) ≡ x ∷ filter p xs
 kept_first p x xs is = rw is refl
 
-pub left_out : {X : Type 0} (p : X → Bool) (x : X) (xs : List X) → p x ≡ false → filter p (x ∷ xs) ≡ filter p xs
+left_out : {X : Type 0} (p : X → Bool) (x : X) (xs : List X) → p x ≡ false → filter p (x ∷ xs) ≡ filter p xs
 left_out p x xs is = rw is refl
-
--- if all places are above this one, it is not the first of the chosen ones
-not_first : (choice : EventRead → Bool) (place : ℕ) (later : List EventRead) (others rest : List ℕ) → All (λ p. place < p) (places_of later ++ others)
-    → places_of (filter choice later) ++ others ≢ place ∷ rest
-not_first choice place [] others rest above same =
-    let first : place < place = All-head (λ p. place < p) place rest (subst (All (λ p. place < p)) same above) in
-    absurd (omega (arith, first))
-not_first choice place (e ∷ later) others rest above same =
-    let first : place < e.place = All-head (λ p. place < p) e.place (places_of later ++ others) above in
-    let more = All-tail (λ p. place < p) e.place (places_of later ++ others) above in
-    ⊎_elim
-    (λ (yes : choice e ≡ true).
-    let head : e.place ∷ (places_of (filter choice later) ++ others) ≡ place ∷ rest =
-    ap (λ es. places_of es ++ others) (sym (kept_first choice e later yes)) ∙ same in
-    let one = (first_same e.place place (places_of (filter choice later) ++ others) rest head).0 in
-    absurd (omega (arith, first, one)))
-    (λ (no : choice e ≡ false).
-    not_first choice place later others rest more (ap (λ es. places_of es ++ others) (sym (left_out choice e later no)) ∙ same))
-    (cases_Bool (choice e))
-
--- if places rise, all places after one are above it
-rise_after : (before : List EventRead) (e : EventRead) (later : List EventRead) (others : List ℕ) → Rise (places_of (before ++ e ∷ later) ++ others)
-    → All (λ p. e.place < p) (places_of later ++ others)
-rise_after [] e later others rise = pairs_head (λ a b. a < b) e.place (places_of later ++ others) rise
-rise_after (b ∷ before) e later others rise =
-    rise_after before e later others (pairs_tail (λ a b. a < b) b.place (places_of (before ++ e ∷ later) ++ others) rise)
 
 -- ---- the entry of an event
 
@@ -73,109 +47,130 @@ one_carried e (Some entry) is =
 
 -- ---- the events that a reader has given
 
--- the lists of offsets of the entries that are added are no longer than those of the events
-abbrev pub GrowsGiven : List Entry → List Event → List Entry → Type 0
-GrowsGiven old given new = list_bytes new ≤ list_bytes old + sum_by offset_bytes_of (map event_text given)
+-- These events are ahead. The entries of the chosen ones before them are added, and the places of the chosen ones ahead
+-- are left.
+pub record IsRead (old : List Entry) (frame : PlacedFrame) (places : List ℕ) (ahead : List EventRead) (new : List Entry) (left : List ℕ) : Type 0 where
+  pub done : List EventRead
+  pub are : events_of frame ≡ done ++ ahead
+  pub grows : list_bytes new ≤ list_bytes old + sum_by offset_bytes_of done
+  pub told : (choice : EventRead → Bool) (others : List ℕ) → All (λ p. frame.place + span_of frame ≤ p) others → AreChosen choice (events_of frame) others places
+      → (left ≡ places_of (filter choice ahead) ++ others) × ShowAttachments new (map entry_attachment old ++ carried_by (filter choice done))
 
--- the entries of the chosen events that it has given are added, and the places of those that it has not given are left
-abbrev pub AddsGiven : List Entry → PlacedFrame → List ℕ → List Event → List Entry → List ℕ → Type 0
-AddsGiven old frame places given new left =
-    (events : List EventRead) (choice : EventRead → Bool) (others : List ℕ) → AreEventsOfFrame frame events → Rise (places_of events ++ others)
-    → AreChosen choice events others places → (later : List EventRead) → events ≡ map event_text given ++ later
-    → (left ≡ places_of (filter choice later) ++ others)
-    × ShowAttachments new (map entry_attachment old ++ carried_by (filter choice (map event_text given)))
+pub none_read : (entries : List Entry) (frame : PlacedFrame) (places : List ℕ) (ahead : List EventRead) → ahead ≡ events_of frame
+    → IsRead entries frame places ahead entries places
+none_read entries frame places ahead is = record {
+  done = [];
+  are = sym is;
+  grows = omega arith;
+  told = λ choice others after chosen.
+      (chosen ∙ ap (λ es. places_of (filter choice es) ++ others) (sym is), sym (append-nil (map entry_attachment entries)));
+}
 
-pub adds_at_start : (entries : List Entry) (frame : PlacedFrame) (places : List ℕ) → AddsGiven entries frame places [] entries places
-adds_at_start entries frame places events choice others of rise chosen later is =
-    (chosen ∙ ap (λ es. places_of (filter choice es) ++ others) is, sym (append-nil (map entry_attachment entries)))
-
--- what one more event says is added to what the events say
-texts_more : (given : List Event) (found : Event) → map event_text (given ++ found ∷ []) ≡ map event_text given ++ event_text found ∷ []
-texts_more given found = map-append event_text given (found ∷ [])
-
-lists_more : (given : List Event) (found : Event)
-    → sum_by offset_bytes_of (map event_text (given ++ found ∷ [])) ≡ sum_by offset_bytes_of (map event_text given) + offset_bytes_of (event_text found)
-lists_more given found =
-    let split = ap (sum_by offset_bytes_of) (texts_more given found) ∙ sum_by-append offset_bytes_of (map event_text given) (event_text found ∷ []) in
-    omega (arith, split)
-
-pub grows_after_chosen : (old middle new : List Entry) (given : List Event) (found : Event) → GrowsGiven old given middle
-    → new ≡ middle ++ entries_in found → GrowsGiven old (given ++ found ∷ []) new
-grows_after_chosen old middle new given found grows is =
-    let more = lists_more given found in
-    let one = (one_carried found found.entry refl).1 in
-    let split = ap list_bytes is ∙ sum_by-append list_long middle (entries_in found) in
-    omega (arith, grows, more, one, split)
-
-pub grows_after_other : (old new : List Entry) (given : List Event) (found : Event) → GrowsGiven old given new → GrowsGiven old (given ++ found ∷ []) new
-grows_after_other old new given found grows = let more = lists_more given found in omega (arith, grows, more)
-
-pub grows_frame : (old new : List Entry) (frame : PlacedFrame) (reading : Reading) (given : List Event) → HasGoodContent frame.unit
-    → Given frame reading given → GrowsGiven old given new → list_bytes new ≤ list_bytes old + length frame.unit.attachments
-grows_frame old new frame reading given good so_far grows =
-    let fit = given_fit frame reading given good so_far in
-    omega (arith, grows, fit)
-
-module _ (old middle : List Entry) (frame : PlacedFrame) (places left : List ℕ) (given : List Event) (found : Event) (so_far : AddsGiven old frame places given middle left) where
+module _ (old middle : List Entry) (frame : PlacedFrame) (places left : List ℕ) (ahead rest : List EventRead) (found : Event)
+    (is_read : IsRead old frame places ahead middle left) (next : ahead ≡ event_text found ∷ rest) where
   abbrev E : EventRead
   E = event_text found
 
-  ahead : (events later : List EventRead) → events ≡ map event_text (given ++ found ∷ []) ++ later → events ≡ map event_text given ++ E ∷ later
-  ahead events later is = is ∙ ap (λ es. es ++ later) (texts_more given found) ∙ append_assoc (map event_text given) (E ∷ []) later
+  abbrev done : List EventRead
+  done = is_read.done
 
-  above : (events later : List EventRead) (others : List ℕ) → events ≡ map event_text given ++ E ∷ later → Rise (places_of events ++ others)
-      → All (λ p. E.place < p) (places_of later ++ others)
-  above events later others is rise =
-      rise_after (map event_text given) E later others (subst (λ es. Rise (places_of es ++ others)) is rise)
+  here : events_of frame ≡ done ++ E ∷ rest
+  here = is_read.are ∙ ap (λ es. done ++ es) next
 
-  filter_more : (choice : EventRead → Bool)
-      → filter choice (map event_text (given ++ found ∷ [])) ≡ filter choice (map event_text given) ++ filter choice (E ∷ [])
-  filter_more choice = ap (filter choice) (texts_more given found) ∙ filter-append choice (map event_text given) (E ∷ [])
+  are_more : events_of frame ≡ (done ++ E ∷ []) ++ rest
+  are_more = here ∙ sym (append_assoc done (E ∷ []) rest)
+
+  lists_more : sum_by offset_bytes_of (done ++ E ∷ []) ≡ sum_by offset_bytes_of done + offset_bytes_of E
+  lists_more = let split = sum_by-append offset_bytes_of done (E ∷ []) in omega (arith, split)
+
+  -- the places after the event
+  above : (choice : EventRead → Bool) (others : List ℕ) → All (λ p. frame.place + span_of frame ≤ p) others
+      → All (λ p. E.place < p) (places_of (filter choice rest) ++ others)
+  above choice others after =
+      let place : EventRead → ℕ = λ e. e.place in
+      let within = All-head (IsWithin frame) E rest (all_halves (IsWithin frame) done (E ∷ rest) (subst (All (IsWithin frame)) here (events_within frame))).1 in
+      let rise = pairs_head (λ a b. a.place < b.place) E rest (rising_halves place done (E ∷ rest) (subst (PlacesRise place) here (events_rise frame))).1 in
+      let ends = within.1 in
+      All-append (λ p. E.place < p) (places_of (filter choice rest)) others
+      (All-map (λ p. E.place < p) place (filter choice rest) (All-filter choice (λ e. E.place < e.place) rest rise))
+      (All-weaker (λ p. frame.place + span_of frame ≤ p) (λ p. E.place < p) (λ p far. omega (arith, far, ends)) others after)
+
+  filter_more : (choice : EventRead → Bool) → filter choice (done ++ E ∷ []) ≡ filter choice done ++ filter choice (E ∷ [])
+  filter_more choice = filter-append choice done (E ∷ [])
 
   -- the next place is that of the event
-  pub adds_chosen : (new : List Entry) (rest : List ℕ) → left ≡ E.place ∷ rest → new ≡ middle ++ entries_in found
-      → AddsGiven old frame places (given ++ found ∷ []) new rest
-  adds_chosen new rest next added events choice others of rise chosen later is =
-      let is_ahead = ahead events later is in
-      let i = so_far events choice others of rise chosen (E ∷ later) is_ahead in
-      ⊎_elim
-      (λ (yes : choice E ≡ true).
-      let left_is = sym next ∙ i.0 ∙ ap (λ es. places_of es ++ others) (kept_first choice E later yes) in
-      let one = first_same E.place E.place rest (places_of (filter choice later) ++ others) left_is in
-      let before = filter choice (map event_text given) in
-      let kept : filter choice (map event_text (given ++ found ∷ [])) ≡ before ++ E ∷ [] =
-      filter_more choice ∙ ap (λ es. before ++ es) (kept_first choice E [] yes) in (
-        one.1,
-        ap (map entry_attachment) added ∙ map-append entry_attachment middle (entries_in found)
-            ∙ ap₂ (λ (us vs : List AttachmentText). us ++ vs) i.1 (one_carried found found.entry refl).0
-            ∙ append_assoc (map entry_attachment old) (carried_by before) (carried_by (E ∷ []))
-            ∙ ap (λ us. map entry_attachment old ++ us)
-            (sym (filter_map-append (λ (e : EventRead). e.entry) before (E ∷ [])) ∙ ap carried_by (sym kept)),
-      ))
-      (λ (no : choice E ≡ false).
-      let left_is = ap (λ es. places_of es ++ others) (sym (left_out choice E later no)) ∙ sym i.0 ∙ next in
-      absurd (not_first choice E.place later others rest (above events later others is_ahead rise) left_is))
-      (cases_Bool (choice E))
+  pub read_chosen : (new : List Entry) (others_left : List ℕ) → left ≡ E.place ∷ others_left → new ≡ middle ++ entries_in found
+      → IsRead old frame places rest new others_left
+  read_chosen new others_left first added =
+      let one = one_carried found found.entry refl in
+      let grows = is_read.grows in
+      let longer = ap list_bytes added ∙ sum_by-append list_long middle (entries_in found) in
+      record {
+        done = done ++ E ∷ [];
+        are = are_more;
+        grows = omega (arith, grows, lists_more, longer, one.1);
+        told = λ choice others after chosen.
+            let i = is_read.told choice others after chosen in
+            let before = filter choice done in
+            let left_is = sym first ∙ i.0 ∙ ap (λ es. places_of (filter choice es) ++ others) next in
+            ⊎_elim
+            (λ (yes : choice E ≡ true).
+            let same = first_same E.place E.place others_left (places_of (filter choice rest) ++ others)
+            (left_is ∙ ap (λ es. places_of es ++ others) (kept_first choice E rest yes)) in
+            let kept : filter choice (done ++ E ∷ []) ≡ before ++ E ∷ [] = filter_more choice ∙ ap (λ es. before ++ es) (kept_first choice E [] yes) in (
+              same.1,
+              ap (map entry_attachment) added ∙ map-append entry_attachment middle (entries_in found)
+                  ∙ ap₂ (λ (us vs : List AttachmentText). us ++ vs) i.1 one.0
+                  ∙ append_assoc (map entry_attachment old) (carried_by before) (carried_by (E ∷ []))
+                  ∙ ap (λ us. map entry_attachment old ++ us) (sym (filter_map-append (λ (e : EventRead). e.entry) before (E ∷ [])) ∙ ap carried_by (sym kept)),
+            ))
+            (λ (no : choice E ≡ false).
+            let higher = All-head (λ p. E.place < p) E.place others_left
+            (subst (All (λ p. E.place < p)) (sym (left_is ∙ ap (λ es. places_of es ++ others) (left_out choice E rest no))) (above choice others after)) in
+            absurd (omega (arith, higher)))
+            (cases_Bool (choice E));
+      }
 
   -- the next place is not that of the event
-  pub adds_other : ((rest : List ℕ) → left ≢ E.place ∷ rest) → AddsGiven old frame places (given ++ found ∷ []) middle left
-  adds_other never events choice others of rise chosen later is =
-      let is_ahead = ahead events later is in
-      let i = so_far events choice others of rise chosen (E ∷ later) is_ahead in
-      ⊎_elim
-      (λ (yes : choice E ≡ true).
-      absurd (never (places_of (filter choice later) ++ others) (i.0 ∙ ap (λ es. places_of es ++ others) (kept_first choice E later yes))))
-      (λ (no : choice E ≡ false).
-      let before = filter choice (map event_text given) in
-      let kept : filter choice (map event_text (given ++ found ∷ [])) ≡ before =
-      filter_more choice ∙ ap (λ es. before ++ es) (left_out choice E [] no) ∙ append-nil before in
-      (i.0 ∙ ap (λ es. places_of es ++ others) (left_out choice E later no), i.1 ∙ ap (λ es. map entry_attachment old ++ carried_by es) (sym kept)))
-      (cases_Bool (choice E))
+  pub read_other : ((others : List ℕ) → left ≢ E.place ∷ others) → IsRead old frame places rest middle left
+  read_other never =
+      let grows = is_read.grows in
+      record {
+        done = done ++ E ∷ [];
+        are = are_more;
+        grows = omega (arith, grows, lists_more);
+        told = λ choice others after chosen.
+            let i = is_read.told choice others after chosen in
+            let before = filter choice done in
+            let left_is = i.0 ∙ ap (λ es. places_of (filter choice es) ++ others) next in
+            ⊎_elim
+            (λ (yes : choice E ≡ true).
+            absurd (never (places_of (filter choice rest) ++ others) (left_is ∙ ap (λ es. places_of es ++ others) (kept_first choice E rest yes))))
+            (λ (no : choice E ≡ false).
+            let kept : filter choice (done ++ E ∷ []) ≡ before =
+            filter_more choice ∙ ap (λ es. before ++ es) (left_out choice E [] no) ∙ append-nil before in (
+              left_is ∙ ap (λ es. places_of es ++ others) (left_out choice E rest no),
+              i.1 ∙ ap (λ es. map entry_attachment old ++ carried_by es) (sym kept),
+            ))
+            (cases_Bool (choice E));
+      }
 
 -- at the end all events of the frame are given
-pub adds_frame : (old new : List Entry) (frame : PlacedFrame) (places left : List ℕ) (reading ended : Reading) (given : List Event)
-    → Given frame reading given → Steps reading None ended → AddsGiven old frame places given new left → AddsEntries old frame places new left
-adds_frame old new frame places left reading ended given so_far steps adds events choice others of rise chosen =
-    let all = of.4 ∙ given_all frame reading ended given of.0 of.1 of.2 of.3 so_far steps in
-    let i = adds events choice others of rise chosen [] (all ∙ sym (append-nil (map event_text given))) in
-    (i.0, i.1 ∙ ap (λ es. map entry_attachment old ++ carried_by (filter choice es)) (sym all))
+module _ (old new : List Entry) (frame : PlacedFrame) (places left : List ℕ) (ahead : List EventRead) (is_read : IsRead old frame places ahead new left)
+    (none : ahead ≡ []) where
+  all_done : events_of frame ≡ is_read.done
+  all_done = is_read.are ∙ ap (λ es. is_read.done ++ es) none ∙ append-nil is_read.done
+
+  pub grows_frame : list_bytes new ≤ list_bytes old + length frame.unit.attachments
+  grows_frame =
+      let grows = is_read.grows in
+      let fit = lists_fit frame in
+      let all = ap (sum_by offset_bytes_of) all_done in
+      omega (arith, grows, fit, all)
+
+  pub adds_frame : AddsEntries old frame places new left
+  adds_frame choice others after chosen =
+      let i = is_read.told choice others after chosen in (
+        i.0 ∙ ap (λ es. places_of (filter choice es) ++ others) none,
+        i.1 ∙ ap (λ es. map entry_attachment old ++ carried_by (filter choice es)) (sym all_done),
+      )

@@ -11,16 +11,16 @@ use Rattle.std.proofs.lemmas.List.Elements.{All-append, All-head, All-map, All-n
 use Rattle.std.proofs.lemmas.List.Sorted.{IsNonDecreasingBy-from_sort, IsPermutation-map, IsPermutation-sym, IsPermutation-trans}
 use Rattle.capture_frame.proofs.ProcessLaws.{same_process_equiv}
 use Rattle.capture_frame.specs.Process.{same_process}
-use Rattle.capture_frame.specs.Units.{Placed, placed_at}
+use Rattle.capture_frame.specs.Envelope.{PlacedFrame}
 use Rattle.capture_frame.specs.declared.process.Process.{Process}
-use Rattle.transaction_view.specs.Grammar.{WholeFrame}
-use Rattle.event_core.specs.Events.{EventRead, event_of, events_of_whole, events_of_wholes, placed_records, process_of}
+use Rattle.event_core.specs.Events.{EventRead, event_of, events_of, events_of_frames, process_of}
+use Rattle.record_view.specs.Records.{records_of}
 use Rattle.event_core.specs.declared.pending.PendingChange.{PendingChange}
 use Rattle.event_core.specs.declared.pending.PendingChange.TheVariants.{Open, Close}
 use Rattle.event_core.specs.declared.pending.PendingItem.{PendingItem}
 use Rattle.pending_ledger.specs.Pending.{changes_of, closes, is_close, is_left_open, is_open, is_stray}
 use Rattle.process_ledgers.specs.Items.{KeepsPlace}
-use Rattle.process_ledgers.specs.Processes.{process_of_whole, processes_of}
+use Rattle.process_ledgers.specs.Processes.{process_of_placed, processes_of}
 use Rattle.summary_law.specs.Readings.{by_key, chosen, read_all, read_each, with_key}
 use Rattle.summary_law.proofs.GatherLaws.{HasKeyOrNothing, gathered_sorted}
 use Rattle.summary_law.proofs.InOrderLaws.{each_among_firsts, firsts_distinct}
@@ -73,28 +73,26 @@ items_made {I} {J} f read (e ∷ es) =
 -- ---- the processes of events
 
 -- what holds of the processes of frames holds of those of their events
-each_own : (P : Process → Type 0) (wholes : List (Placed WholeFrame)) → All P (map process_of_whole wholes)
-    → All (λ (e : EventRead). P (process_of e)) (events_of_wholes wholes)
+each_own : (P : Process → Type 0) (frames : List PlacedFrame) → All P (map process_of_placed frames)
+    → All (λ (e : EventRead). P (process_of e)) (events_of_frames frames)
 each_own P [] all = All-nil (λ (e : EventRead). P (process_of e))
-each_own P (whole ∷ wholes) all =
+each_own P (f ∷ frames) all =
     let Own = λ (e : EventRead). P (process_of e) in
-    let here : P (process_of_whole whole) = All-head P (process_of_whole whole) (map process_of_whole wholes) all in
-    let frame = placed_at whole.place whole.unit.frame in
-    let mine : All Own (events_of_whole whole)
-    = All-map Own (event_of frame whole.unit.entries) (placed_records frame whole.unit.records) (λ j d within. here) in
-    subst (All Own) (sym (flat_map-cons events_of_whole whole wholes))
-    (All-append Own (events_of_whole whole) (events_of_wholes wholes) mine
-    (each_own P wholes (All-tail P (process_of_whole whole) (map process_of_whole wholes) all)))
+    let here : P (process_of_placed f) = All-head P (process_of_placed f) (map process_of_placed frames) all in
+    let mine : All Own (events_of f) = All-map Own (event_of f) (records_of f).units (λ j d within. here) in
+    subst (All Own) (sym (flat_map-cons events_of f frames))
+    (All-append Own (events_of f) (events_of_frames frames) mine
+    (each_own P frames (All-tail P (process_of_placed f) (map process_of_placed frames) all)))
 
 -- the process of the event is among these
 abbrev pub IsKnown : List Process → EventRead → Type 0
 IsKnown known e = list_any (same_process (process_of e)) known ≡ true
 
 -- the process of each event of these frames is one of theirs
-pub each_known : (wholes : List (Placed WholeFrame)) → All (IsKnown (processes_of wholes)) (events_of_wholes wholes)
-each_known wholes =
-    each_own (λ process. list_any (same_process process) (processes_of wholes) ≡ true) wholes
-    (each_among_firsts same_process_equiv (map process_of_whole wholes))
+pub each_known : (frames : List PlacedFrame) → All (IsKnown (processes_of frames)) (events_of_frames frames)
+each_known frames =
+    each_own (λ process. list_any (same_process process) (processes_of frames) ≡ true) frames
+    (each_among_firsts same_process_equiv (map process_of_placed frames))
 
 -- ---- the events of all processes
 
@@ -109,19 +107,19 @@ listed_rises test events rise =
     (λ b e l y is. ap place_of_event (chosen-is test (beside e b) e (beside e l) y is)) events rise
 
 -- the lists of all processes, gathered and sorted
-pub lists_sorted : (test : EventTest) (wholes : List (Placed WholeFrame)) → RiseInPlace (events_of_wholes wholes) → (lists : List (List ℕ))
-    → lists ≡ map (places_in test (events_of_wholes wholes)) (processes_of wholes) → (places : List ℕ)
-    → IsPermutation (flat_map (λ (own : List ℕ). own) lists) places → IsSorted nat_cmp places → places ≡ places_of (listed test (events_of_wholes wholes))
-lists_sorted test wholes rise lists are places moved sorted =
-    let events = events_of_wholes wholes in
-    let processes = processes_of wholes in
+pub lists_sorted : (test : EventTest) (frames : List PlacedFrame) → RiseInPlace (events_of_frames frames) → (lists : List (List ℕ))
+    → lists ≡ map (places_in test (events_of_frames frames)) (processes_of frames) → (places : List ℕ)
+    → IsPermutation (flat_map (λ (own : List ℕ). own) lists) places → IsSorted nat_cmp places → places ≡ places_of (listed test (events_of_frames frames))
+lists_sorted test frames rise lists are places moved sorted =
+    let events = events_of_frames frames in
+    let processes = processes_of frames in
     let Has = HasKeyOrNothing same_process_equiv process_of (chosen test) processes in
     let flat : flat_map (λ (own : List ℕ). own) lists ≡ flat_map (places_in test events) processes
     = ap (flat_map (λ (own : List ℕ). own)) are ∙ flat_lists (places_in test events) processes in
     gathered_sorted same_process_equiv process_of (chosen test) place_of_event (λ n. n) processes
-    (firsts_distinct same_process_equiv (map process_of_whole wholes)) events
+    (firsts_distinct same_process_equiv (map process_of_placed frames)) events
     (All-weaker (IsKnown processes) Has
-    (λ e known. inl (ap (λ (t : Process → Bool). list_any t processes) (λ i k. same_process_equiv.symm k (process_of e) i) ∙ known)) events (each_known wholes))
+    (λ e known. inl (ap (λ (t : Process → Bool). list_any t processes) (λ i k. same_process_equiv.symm k (process_of e) i) ∙ known)) events (each_known frames))
     (listed_rises test events rise) places
     (subst (λ (t : List ℕ). IsPermutation t places) flat moved) (IsNonDecreasingBy-from_sort (λ n. n) places sorted)
 

@@ -1,161 +1,87 @@
--- Views of frames, and the whole frames that they show.
-use Rattle.std.proofs.Common.{◌≡◌, List, [], ◌∷◌, ◌++◌, length, map, All, Some, None, refl, sym, ap, ap₂, subst, ◌∙◌, append_assoc, arith}
+-- The events of frames, one frame after another.
+use Rattle.std.proofs.Common.{◌≡◌, ℕ, ◌+◌, ◌-◌, ◌*◌, ◌<◌, ◌≤◌, ◌^◌, List, [], ◌∷◌, ◌++◌, length, All, sym, ap, subst, ◌∙◌, length-append, arith, get_or}
+use Rattle.std.specs.Prelude.{AllPairs}
+use Rattle.std.specs.List.{sum_by}
 use Rattle.std.proofs.lemmas.Grind.{flat_map-append}
 use Rattle.std.proofs.lemmas.List.{append-nil}
-use Rattle.std.proofs.lemmas.List.Elements.{All-cons, All-head, All-nil, All-tail}
-use Rattle.capture_frame.specs.Envelope.{FrameText, PlacedFrame}
-use Rattle.capture_frame.specs.Units.{Placed, placed_at}
-use Rattle.transaction_view.specs.FirstFault.{HasGoodContent}
-use Rattle.transaction_view.specs.Grammar.{WholeFrame}
-use Rattle.event_core.specs.Events.{EventRead, events_of, events_of_whole}
-use Rattle.record_view.specs.Records.{RecordText, HasRecords}
-use Rattle.transaction_view.specs.Attachments.{EntryText, HasEntries}
-use Rattle.event_core.specs.declared.event.Event.{Event}
-use Rattle.event_core.specs.Reading.{Reading, Steps, event_text}
-use Rattle.event_core.proofs.EventsGiven.{Given, one_further, given_first, given_all}
-use Rattle.capture_frame.specs.Process.{process_of_frame}
-use Rattle.process_ledgers.specs.Processes.{process_of_whole}
-use Rattle.audit_findings.specs.Ledgers.{AreFewEvents, AreFewFrames}
-use Rattle.audit_findings.proofs.FewLaws.{few_halves}
-use Rattle.audit_findings.specs.Frames.{AreViews, IsWhole}
-use Rattle.event_core.specs.Events.{placed_text}
-use Rattle.event_core.specs.Events.{events_of_wholes}
+use Rattle.std.proofs.lemmas.List.Concat.{flat_map-cons}
+use Rattle.std.proofs.lemmas.List.Elements.{All-append, All-nil, All-weaker}
+use Rattle.std.proofs.lemmas.List.Sums.{sum_by-cons}
+use Rattle.capture_frame.specs.Envelope.{PlacedFrame, commands_place}
+use Rattle.capture_frame.specs.Lookup.{AreApart, span_of}
+use Rattle.event_core.specs.Events.{EventRead, events_of, events_of_frames}
+use Rattle.event_core.proofs.FrameEvents.{events_few, events_rise, events_within, list_length, lists_small}
+use Rattle.audit_findings.specs.Frames.{AreGoodFrames}
+use Rattle.audit_findings.specs.Ledgers.{AreFewFrames, offset_bytes_of}
+use Rattle.audit_findings.specs.Places.{RiseInPlace}
+use Rattle.audit_findings.proofs.Rising.{all_flat, pairs_flat}
 
-pub events-append : (wholes others : List (Placed WholeFrame)) → events_of_wholes (wholes ++ others) ≡ events_of_wholes wholes ++ events_of_wholes others
-events-append wholes others = flat_map-append events_of_whole wholes others
+pub events-append : (frames others : List PlacedFrame) → events_of_frames (frames ++ others) ≡ events_of_frames frames ++ events_of_frames others
+events-append frames others = flat_map-append events_of frames others
 
--- an empty list of views shows an empty list of whole frames
-pub none_shown : AreViews [] []
-none_shown = record { in_order = refl; are_whole = All-nil IsWhole }
-
-pub shown_none : (wholes : List (Placed WholeFrame)) → AreViews [] wholes → wholes ≡ []
-shown_none [] show = refl
-shown_none (w ∷ wholes) show = let wrong = ap length show.in_order in absurd (omega (arith, wrong))
+pub events_with : (frames : List PlacedFrame) (frame : PlacedFrame) → events_of_frames (frames ++ frame ∷ []) ≡ events_of_frames frames ++ events_of frame
+events_with frames frame = events-append frames (frame ∷ []) ∙ ap (λ (es : List EventRead). events_of_frames frames ++ es) (append-nil (events_of frame))
 
 -- if two lists are the same, so are their first elements, and the others
 pub first_same : {A : Type 0} (x y : A) (xs ys : List A) → x ∷ xs ≡ y ∷ ys → (x ≡ y) × (xs ≡ ys)
 first_same x y xs ys same = (cc, cc)
 
--- what the first view shows, and what the others do
-pub shown_first : (frame : PlacedFrame) (frames : List PlacedFrame) (wholes : List (Placed WholeFrame)) → AreViews (frame ∷ frames) wholes
-    → (w : Placed WholeFrame) × (others : List (Placed WholeFrame)) × (wholes ≡ w ∷ others) × (frame ≡ placed_text w) × IsWhole w
-    × AreViews frames others
-shown_first frame frames [] show = let wrong = ap length show.in_order in absurd (omega (arith, wrong))
-shown_first frame frames (w ∷ wholes) show =
-    let same = first_same frame (placed_text w) frames (map placed_text wholes) show.in_order in (
-      w,
-      wholes,
-      refl,
-      same.0,
-      All-head IsWhole w wholes show.are_whole,
-      record { in_order = same.1; are_whole = All-tail IsWhole w wholes show.are_whole },
-    )
+-- the place of the event is among the command bytes of the frame
+abbrev pub IsWithin : PlacedFrame → EventRead → Type 0
+IsWithin frame e = (commands_place frame.place ≤ e.place) × (e.place < commands_place frame.place + length frame.unit.commands)
 
-pub shown_halves : (frames more : List PlacedFrame) (wholes : List (Placed WholeFrame)) → AreViews (frames ++ more) wholes
-    → (first second : List (Placed WholeFrame)) × (wholes ≡ first ++ second) × AreViews frames first × AreViews more second
-shown_halves [] more wholes show = ([], wholes, refl, none_shown, show)
-shown_halves (f ∷ frames) more wholes show =
-    let one = shown_first f (frames ++ more) wholes show in
-    let rest = shown_halves frames more one.1 one.5 in (
-      one.0 ∷ rest.0,
-      rest.1,
-      one.2 ∙ ap (λ (t : List (Placed WholeFrame)). one.0 ∷ t) rest.2,
-      record {
-        in_order = ap₂ (λ (x : Placed FrameText) (t : List (Placed FrameText)). x ∷ t) one.3 rest.3.in_order;
-        are_whole = All-cons IsWhole one.0 rest.0 one.4 rest.3.are_whole;
-      },
-      rest.4,
-    )
+-- what begins at this place or after it has its events after it
+pub events_after : (place : ℕ) (frames : List PlacedFrame) → All (λ f. place ≤ f.place) frames → All (λ e. place < e.place) (events_of_frames frames)
+events_after place frames from =
+    all_flat (λ (e : EventRead). place < e.place) events_of frames
+    (λ i d within k e inside.
+    let first = from i d within in
+    let own = events_within (get_or frames i d) k e inside in
+    let begins = own.0 in
+    omega (arith, first, begins))
 
--- a good frame shows a whole frame
-shown_one : (frame : PlacedFrame) → HasGoodContent frame.unit → (w : Placed WholeFrame) × (frame ≡ placed_text w) × IsWhole w
-shown_one frame good =
-    let w : Placed WholeFrame = placed_at frame.place record { frame = frame.unit; records = good.0.0; entries = good.1.0 } in
-    (w, refl, (good.0.1, good.1.1))
+-- what ends at this place or before it has its events before it
+pub events_before : (place : ℕ) (frames : List PlacedFrame) → All (λ f. f.place + span_of f ≤ place) frames → All (λ e. e.place < place) (events_of_frames frames)
+events_before place frames to =
+    all_flat (λ (e : EventRead). e.place < place) events_of frames
+    (λ i d within k e inside.
+    let last = to i d within in
+    let own = events_within (get_or frames i d) k e inside in
+    let ends = own.1 in
+    omega (arith, last, ends))
 
-pub good_shown : (frames : List PlacedFrame) → All (λ (frame : PlacedFrame). HasGoodContent frame.unit) frames → (wholes : List (Placed WholeFrame)) × AreViews frames wholes
-good_shown [] good = ([], none_shown)
-good_shown (f ∷ frames) good =
-    let IsGood : PlacedFrame → Type 0 = λ frame. HasGoodContent frame.unit in
-    let one = shown_one f (All-head IsGood f frames good) in
-    let rest = good_shown frames (All-tail IsGood f frames good) in (
-      one.0 ∷ rest.0,
-      record {
-        in_order = ap₂ (λ (x : Placed FrameText) (t : List (Placed FrameText)). x ∷ t) one.1 rest.1.in_order;
-        are_whole = All-cons IsWhole one.0 rest.0 one.2 rest.1.are_whole;
-      },
-    )
+-- the events of frames that are apart rise
+pub frames_rise : (frames : List PlacedFrame) → AllPairs AreApart frames → RiseInPlace (events_of_frames frames)
+frames_rise frames apart =
+    pairs_flat (λ (a b : EventRead). a.place < b.place) events_of frames (λ i d within. events_rise (get_or frames i d))
+    (λ i j d below within k e inside l f there.
+    let far = apart i j d below within in
+    let first = events_within (get_or frames i d) k e inside in
+    let second = events_within (get_or frames j d) l f there in
+    let to = first.1 in
+    let from = second.0 in
+    omega (arith, far, to, from))
 
--- ---- the events of one frame
+-- ---- the events of good frames are few
 
--- the frame's events, following those before, are few, however its bytes are read
-abbrev pub AreFewWith : List EventRead → PlacedFrame → Type 0
-AreFewWith before frame =
-    (records : List RecordText) × (entries : List EntryText) × HasRecords frame.unit records × HasEntries frame.unit entries
-    × AreFewEvents (before ++ events_of frame records entries)
+all_short : (frames : List PlacedFrame) → length (events_of_frames frames) + 32 * length frames ≤ sum_by span_of frames
+all_short [] = omega arith
+all_short (f ∷ frames) =
+    let long = ap length (flat_map-cons events_of f frames) ∙ length-append (events_of f) (events_of_frames frames) in
+    let one : length (f ∷ frames) ≡ length frames + 1 = omega arith in
+    omega (arith, all_short frames, events_few f, long, one, sum_by-cons span_of f frames)
 
--- the whole frame that a view shows has its records and its entries
-pub whole_events : (frame : PlacedFrame) (w : Placed WholeFrame) → frame ≡ placed_text w → IsWhole w
-    → (records : List RecordText) × (entries : List EntryText) × HasRecords frame.unit records × HasEntries frame.unit entries
-    × (events_of_wholes (w ∷ []) ≡ events_of frame records entries)
-whole_events frame w same whole =
-    let text : frame.unit ≡ w.unit.frame = ap (λ (p : Placed FrameText). p.unit) same in (
-      w.unit.records,
-      w.unit.entries,
-      subst (λ (t : FrameText). HasRecords t w.unit.records) (sym text) whole.0,
-      subst (λ (t : FrameText). HasEntries t w.unit.entries) (sym text) whole.1,
-      append-nil (events_of_whole w) ∙ ap (λ (p : Placed FrameText). events_of p w.unit.records w.unit.entries) (sym same),
-    )
+all_small : (n : ℕ) (frames : List PlacedFrame) → sum_by span_of frames ≤ n → All (λ e. offset_bytes_of e < n) (events_of_frames frames)
+all_small n [] few = All-nil (λ (e : EventRead). offset_bytes_of e < n)
+all_small n (f ∷ frames) few =
+    let Small : EventRead → Type 0 = λ e. offset_bytes_of e < n in
+    let all = sum_by-cons span_of f frames in
+    let own = All-weaker (λ (e : EventRead). list_length e ≤ length f.unit.attachments - 12) Small (λ e small. omega (arith, small, few, all)) (events_of f) (lists_small f) in
+    subst (All Small) (sym (flat_map-cons events_of f frames))
+    (All-append Small (events_of f) (events_of_frames frames) own (all_small n frames (omega (arith, few, all))))
 
-pub few_with : (before : List EventRead) (frame : PlacedFrame) (wholes others : List (Placed WholeFrame)) → events_of_wholes wholes ≡ before
-    → AreViews (frame ∷ []) others → AreFewFrames (wholes ++ others) → AreFewWith before frame
-few_with before frame wholes others is show few =
-    let one = shown_first frame [] others show in
-    let events = whole_events frame one.0 one.3 one.4 in
-    let alone : others ≡ one.0 ∷ [] = one.2 ∙ ap (λ (t : List (Placed WholeFrame)). one.0 ∷ t) (shown_none one.1 one.5) in
-    let all : events_of_wholes (wholes ++ others) ≡ before ++ events_of frame events.0 events.1 =
-    events-append wholes others
-    ∙ ap₂ (λ (a b : List EventRead). a ++ b) is (ap events_of_wholes alone ∙ events.4) in
-    (events.0, events.1, events.2, events.3, subst AreFewEvents all few.1)
-
--- the events before it and those given so far are few
-pub few_next : (before : List EventRead) (frame : PlacedFrame) → AreFewWith before frame → (reading : Reading) (given : List Event)
-    → Given frame reading given → AreFewEvents (before ++ map event_text given)
-few_next before frame few reading given so_far =
-    let first = given_first frame reading given few.0 few.1 few.2 few.3 so_far in
-    let all : before ++ events_of frame few.0 few.1 ≡ (before ++ map event_text given) ++ first.0 =
-    ap (λ (t : List EventRead). before ++ t) first.1 ∙ sym (append_assoc before (map event_text given) first.0) in
-    (few_halves (before ++ map event_text given) first.0 (subst AreFewEvents all few.4)).0
-
--- at the end they are the events of the whole frame
-pub all_given : (before : List EventRead) (frame : PlacedFrame) (wholes others : List (Placed WholeFrame)) → events_of_wholes wholes ≡ before
-    → AreViews (frame ∷ []) others → (reading new : Reading) (given : List Event) → Given frame reading given → Steps reading None new
-    → before ++ map event_text given ≡ events_of_wholes (wholes ++ others)
-all_given before frame wholes others is show reading new given so_far steps =
-    let one = shown_first frame [] others show in
-    let events = whole_events frame one.0 one.3 one.4 in
-    let alone : others ≡ one.0 ∷ [] = one.2 ∙ ap (λ (t : List (Placed WholeFrame)). one.0 ∷ t) (shown_none one.1 one.5) in
-    let all = given_all frame reading new given events.0 events.1 events.2 events.3 so_far steps in
-    sym (events-append wholes others ∙ ap₂ (λ (a b : List EventRead). a ++ b) is (ap events_of_wholes alone ∙ events.4 ∙ all))
-
-pub given_next : (frame : PlacedFrame) (before reading : Reading) (earlier : List Event) (found : Event) → Given frame before earlier
-    → Steps before (Some found) reading → Given frame reading (earlier ++ found ∷ [])
-given_next frame before reading earlier found so_far steps = one_further before reading earlier (earlier ++ found ∷ []) found so_far steps refl
-
--- the one whole frame that a view shows
-pub shown_alone : (frame : PlacedFrame) (others : List (Placed WholeFrame)) → AreViews (frame ∷ []) others
-    → (w : Placed WholeFrame) × (others ≡ w ∷ []) × (w.unit.frame.sequence ≡ frame.unit.sequence) × (process_of_whole w ≡ process_of_frame frame.unit)
-shown_alone frame others show =
-    let one = shown_first frame [] others show in (
-      one.0,
-      one.2 ∙ ap (λ (t : List (Placed WholeFrame)). one.0 ∷ t) (shown_none one.1 one.5),
-      sym (ap (λ (p : Placed FrameText). p.unit.sequence) one.3),
-      sym (ap (λ (p : Placed FrameText). process_of_frame p.unit) one.3),
-    )
-
--- and its content has no fault
-pub shown_good : (frame : PlacedFrame) (others : List (Placed WholeFrame)) → AreViews (frame ∷ []) others → HasGoodContent frame.unit
-shown_good frame others show =
-    let one = shown_first frame [] others show in
-    let events = whole_events frame one.0 one.3 one.4 in
-    ((events.0, events.2), (events.1, events.3))
+pub few_frames : (frames : List PlacedFrame) → AreGoodFrames frames → AreFewFrames frames
+few_frames frames good =
+    let short = all_short frames in
+    let few = good.few in
+    (omega (arith, short, few), ((omega (arith, short, few), frames_rise frames good.apart), all_small (2 ^ 32) frames few))

@@ -4,16 +4,13 @@ use Rattle.std.specs.Option.{unwrap_or}
 use Rattle.std.proofs.lemmas.List.{length-map, map-append}
 use Rattle.capture_frame.specs.Envelope.{PlacedFrame}
 use Rattle.capture_frame.specs.Process.{same_process}
-use Rattle.capture_frame.specs.Units.{Placed}
 use Rattle.capture_frame.specs.declared.process.Process.{Process}
-use Rattle.transaction_view.specs.Grammar.{WholeFrame}
-use Rattle.event_core.proofs.EventsGiven.{Given}
-use Rattle.event_core.specs.Events.{events_of_wholes, process_of}
-use Rattle.event_core.specs.Reading.{Reading, event_text}
+use Rattle.event_core.specs.Events.{EventRead, events_of, events_of_frames, process_of}
+use Rattle.event_core.specs.Reading.{event_text}
 use Rattle.event_core.specs.declared.event.Event.{Event}
 use Rattle.summary_law.proofs.ReadLaws.{items_rise}
-use Rattle.process_ledgers.specs.EachProcess.{SumsOrder}
-use Rattle.process_ledgers.specs.Processes.{process_of_whole}
+use Rattle.process_ledgers.specs.EachProcess.{SumsOrder, order_item}
+use Rattle.process_ledgers.specs.Processes.{process_of_placed}
 use Rattle.summary_law.specs.InOrder.{SumsInOrder}
 use Rattle.summary_law.specs.declared.nothing.Nothing.{Nothing}
 use Rattle.std.specs.Prelude.{⊤}
@@ -25,7 +22,8 @@ use Rattle.summary_law.proofs.ReadLaws.{length-read, rising_read}
 use Rattle.summary_law.specs.ByKey.{EachFits, under}
 use Rattle.summary_law.specs.Fits.{PlacesRise}
 use Rattle.audit_findings.specs.Ledgers.{AreFewEvents, AreFewGiven}
-use Rattle.audit_findings.proofs.FrameLaws.{AreFewWith, events-append, few_next}
+use Rattle.audit_findings.proofs.FewLaws.{few_halves}
+use Rattle.audit_findings.proofs.FrameLaws.{events-append, events_with}
 use Rattle.audit_findings.proofs.Rising.{pairs_unmap}
 
 concerned_there : (event : Event) (found : Process × Event) → concerned event ≡ Some found → found.1.place ≡ event.place
@@ -53,37 +51,52 @@ each_placed events few q =
     let rise : PlacesRise event_place events = pairs_unmap (λ a b. a.place < b.place) event_text events few.0.1 in
     (omega (arith, fewer, some, long, short), items_rise same_process q event_place fed (rising_read concerned (λ e. e.1.place) event_place concerned_there events rise))
 
--- the events that are given so far are few
-pub few_given : (before : List Event) (frame : PlacedFrame) → AreFewWith (map event_text before) frame → (reading : Reading) (given : List Event)
-    → Given frame reading given → AreFewGiven (before ++ given)
-few_given before frame few reading given so_far =
-    subst AreFewEvents (sym (map-append event_text before given)) (few_next (map event_text before) frame few reading given so_far)
+-- ---- the events of one frame
 
--- and they are still few with the one that is given next
-pub few_one_more : (before : List Event) (frame : PlacedFrame) → AreFewWith (map event_text before) frame → (reading : Reading) (given : List Event) (found : Event)
-    → Given frame reading (given ++ found ∷ []) → AreFewGiven ((before ++ given) ++ found ∷ [])
-few_one_more before frame few reading given found so_far =
-    subst AreFewGiven (sym (append_assoc before given (found ∷ []))) (few_given before frame few reading (given ++ found ∷ []) so_far)
+-- the reader has given these events of the frame, and those are ahead
+abbrev pub AreGiven : PlacedFrame → List Event → List EventRead → Type 0
+AreGiven frame given ahead = events_of frame ≡ map event_text given ++ ahead
+
+pub given_next : (frame : PlacedFrame) (given : List Event) (found : Event) (ahead rest : List EventRead) → AreGiven frame given ahead
+    → ahead ≡ event_text found ∷ rest → AreGiven frame (given ++ found ∷ []) rest
+given_next frame given found ahead rest so_far next =
+    so_far ∙ ap (λ (es : List EventRead). map event_text given ++ es) next ∙ sym (append_assoc (map event_text given) (event_text found ∷ []) rest)
+    ∙ ap (λ (es : List EventRead). es ++ rest) (sym (map-append event_text given (found ∷ [])))
+
+-- if the events before the frame and those of the frame are few, so are those before it and those given
+pub few_given : (before : List Event) (frame : PlacedFrame) (given : List Event) (ahead : List EventRead)
+    → AreFewEvents (map event_text before ++ events_of frame) → AreGiven frame given ahead → AreFewGiven (before ++ given)
+few_given before frame given ahead few so_far =
+    let texts = map event_text before in
+    let all = ap (λ (es : List EventRead). texts ++ es) so_far ∙ sym (append_assoc texts (map event_text given) ahead) in
+    subst AreFewEvents (sym (map-append event_text before given)) (few_halves (texts ++ map event_text given) ahead (subst AreFewEvents all few)).0
+
+-- the same with the events of the frames before
+pub few_with : (before : List Event) (frames : List PlacedFrame) (frame : PlacedFrame) → map event_text before ≡ events_of_frames frames
+    → AreFewEvents (events_of_frames (frames ++ frame ∷ [])) → AreFewEvents (map event_text before ++ events_of frame)
+few_with before frames frame are few =
+    subst AreFewEvents (events_with frames frame ∙ ap (λ (es : List EventRead). es ++ events_of frame) (sym are)) few
+
+-- ---- the processes of frames
 
 -- the order of processes of some frames and of those after them
-pub order_both : (entries : List (Process × Nothing)) (first second : List (Placed WholeFrame))
-    → SumsInOrder same_process (λ (v : Nothing) (items : List ⊤). ⊤) entries
-    (map (λ w. (process_of_whole w, tt)) first ++ map (λ w. (process_of_whole w, tt)) second)
+pub order_both : (entries : List (Process × Nothing)) (first second : List PlacedFrame)
+    → SumsInOrder same_process (λ (v : Nothing) (items : List ⊤). ⊤) entries (map order_item first ++ map order_item second)
     → SumsOrder entries (first ++ second)
 order_both entries first second sums =
-    subst (SumsInOrder same_process (λ (v : Nothing) (items : List ⊤). ⊤) entries) (sym (map-append (λ w. (process_of_whole w, tt)) first second)) sums
+    subst (SumsInOrder same_process (λ (v : Nothing) (items : List ⊤). ⊤) entries) (sym (map-append order_item first second)) sums
 
 -- and with one more frame
-pub order_next : (entries : List (Process × Nothing)) (wholes : List (Placed WholeFrame)) (next : Placed WholeFrame) (process : Process)
-    → process ≡ process_of_whole next
-    → SumsInOrder same_process (λ (v : Nothing) (items : List ⊤). ⊤) entries (map (λ w. (process_of_whole w, tt)) wholes ++ (process, tt) ∷ [])
-    → SumsOrder entries (wholes ++ next ∷ [])
-order_next entries wholes next process is sums =
-    order_both entries wholes (next ∷ [])
-    (subst (λ (p : Process). SumsInOrder same_process (λ (v : Nothing) (items : List ⊤). ⊤) entries (map (λ w. (process_of_whole w, tt)) wholes ++ (p, tt) ∷ [])) is sums)
+pub order_next : (entries : List (Process × Nothing)) (frames : List PlacedFrame) (next : PlacedFrame) (process : Process)
+    → process ≡ process_of_placed next
+    → SumsInOrder same_process (λ (v : Nothing) (items : List ⊤). ⊤) entries (map order_item frames ++ (process, tt) ∷ [])
+    → SumsOrder entries (frames ++ next ∷ [])
+order_next entries frames next process is sums =
+    order_both entries frames (next ∷ [])
+    (subst (λ (p : Process). SumsInOrder same_process (λ (v : Nothing) (items : List ⊤). ⊤) entries (map order_item frames ++ (p, tt) ∷ [])) is sums)
 
 -- the events of some frames followed by those of others are the events of all
-pub both_given : (first second : List (Placed WholeFrame)) (given others : List Event) → map event_text given ≡ events_of_wholes first
-    → map event_text others ≡ events_of_wholes second → map event_text (given ++ others) ≡ events_of_wholes (first ++ second)
+pub both_given : (first second : List PlacedFrame) (given others : List Event) → map event_text given ≡ events_of_frames first
+    → map event_text others ≡ events_of_frames second → map event_text (given ++ others) ≡ events_of_frames (first ++ second)
 both_given first second given others is are =
     map-append event_text given others ∙ (λ j. is j ++ are j) ∙ sym (events-append first second)

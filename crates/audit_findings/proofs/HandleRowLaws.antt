@@ -6,9 +6,9 @@ use Rattle.std.proofs.lemmas.Bool.{eq-eqb, eqb-true}
 use Rattle.std.proofs.lemmas.Cmp.{nat_cmp_total}
 use Rattle.std.proofs.lemmas.List.Sums.{sum_by-append}
 use Rattle.std.proofs.lemmas.Map.Lookups.{exact_unsigned}
-use Rattle.capture_frame.specs.Units.{Placed}
+use Rattle.capture_frame.specs.Envelope.{PlacedFrame}
 use Rattle.capture_frame.specs.declared.process.Process.{Process}
-use Rattle.event_core.specs.Events.{EventRead, events_of_wholes}
+use Rattle.event_core.specs.Events.{EventRead, events_of_frames}
 use Rattle.event_core.specs.declared.handle.HandleItem.{HandleItem}
 use Rattle.event_core.specs.declared.strength.Strength.{Strength}
 use Rattle.event_core.specs.declared.strength.Strength.TheVariants.{Strong, Weak}
@@ -18,7 +18,6 @@ use Rattle.handle_ledger.specs.declared.held_row.HeldRow.{HeldRow}
 use Rattle.process_ledgers.specs.Items.{handle_item_of}
 use Rattle.process_ledgers.specs.Processes.{items_of_process, processes_of}
 use Rattle.summary_law.proofs.Members.{In}
-use Rattle.transaction_view.specs.Grammar.{WholeFrame}
 use Rattle.audit_findings.specs.EventCounts.{HasValue, times_in}
 use Rattle.audit_findings.specs.HandleRows.{IsHandleRow, changes_handle, gives_back, handle_value, names_handle, takes}
 use Rattle.audit_findings.specs.Handles.{handle_references, handles_in}
@@ -85,11 +84,11 @@ module _ (events : List EventRead) (rise : RiseInPlace events) (process : Proces
         λ i. record { taken = record { handle = handle; strong = strong i; weak = weak i }; held_strong = held_strong i; held_weak = held_weak i },
       )
 
-pub handle_rows_are : (wholes : List (Placed WholeFrame)) → RiseInPlace (events_of_wholes wholes)
-    → AreRowsInTurn nat_cmp (λ (row : HeldRow). row.taken.handle) (IsHandleRow (events_of_wholes wholes)) (processes_of wholes)
-    (handle_references wholes).rows
-handle_rows_are wholes rise =
-    let events = events_of_wholes wholes in
+pub handle_rows_are : (frames : List PlacedFrame) → RiseInPlace (events_of_frames frames)
+    → AreRowsInTurn nat_cmp (λ (row : HeldRow). row.taken.handle) (IsHandleRow (events_of_frames frames)) (processes_of frames)
+    (handle_references frames).rows
+handle_rows_are frames rise =
+    let events = events_of_frames frames in
     let row_of : Process → ℕ → HeldRow = λ process. held_row (items events rise process) (held events rise process) in
     let handles : Process → List ℕ = λ process. handles_of (items events rise process) (held events rise process) in
     record {

@@ -9,7 +9,7 @@ use Rattle.std.proofs.lemmas.Grind.{flat_map-append}
 use Rattle.std.proofs.lemmas.List.{append-nil, map-append}
 use Rattle.capture_frame.specs.Process.{same_process}
 use Rattle.capture_frame.specs.declared.process.Process.{Process}
-use Rattle.capture_frame.specs.Units.{Placed}
+use Rattle.capture_frame.specs.Envelope.{PlacedFrame}
 use Rattle.event_core.specs.Events.{EventRead, process_of}
 use Rattle.handle_ledger.specs.declared.held_row.HeldRow.{HeldRow}
 use Rattle.process_ledgers.specs.declared.processes.Processes.{Processes}
@@ -20,7 +20,6 @@ use Rattle.summary_law.specs.declared.nothing.Nothing.{Nothing}
 use Rattle.summary_law.proofs.GatherLaws.{in_any}
 use Rattle.summary_law.proofs.Members.{In, Rises, in_middle, rises_from_pairs, same_lists}
 use Rattle.summary_law.proofs.ReadingLaws.{chosen-is, read-at, read-rises}
-use Rattle.transaction_view.specs.Grammar.{WholeFrame}
 use Rattle.audit_findings.specs.declared.in_turn.ProcessRow.{ProcessRow}
 use Rattle.audit_findings.specs.Entries.{AreChosen}
 use Rattle.audit_findings.specs.Places.{EventTest, RiseInPlace, listed_in, places_in}
@@ -94,10 +93,10 @@ key_is key (y ∷ xs) zero x d is = ap (λ o. key (unwrap_or o y)) is
 key_is key (y ∷ xs) (suc n) x d is = key_is key xs n x d is
 
 -- the entry with this number is that of the process with this number
-pub entry_at : (processes : Processes) (wholes : List (Placed WholeFrame)) (number : ℕ) (e : Process × Nothing)
-    → SumsEach processes wholes → slice_get processes.order.now.entries.entries number ≡ Some e
-    → (d : Process) → slice_index_or (processes_of wholes) number d ≡ e.0
-entry_at processes wholes number e of is d =
+pub entry_at : (processes : Processes) (frames : List PlacedFrame) (number : ℕ) (e : Process × Nothing)
+    → SumsEach processes frames → slice_get processes.order.now.entries.entries number ≡ Some e
+    → (d : Process) → slice_index_or (processes_of frames) number d ≡ e.0
+entry_at processes frames number e of is d =
     ap (λ (ps : List Process). slice_index_or ps number d) (sym of.order) ∙ key_is (λ (x : Process × Nothing). x.0) processes.order.now.entries.entries number e d is
 
 -- ---- lists, one after another

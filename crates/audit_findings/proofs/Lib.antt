@@ -8,11 +8,8 @@ mod CodeCountLaws
 pub mod CodeLaws
 pub mod FrameLaws
 pub mod HeldLaws
-pub mod ListSizes
 pub mod EntryWalk
 pub mod EntriesAhead
-pub mod EventSizes
-pub mod PieceLaws
 pub mod RecordsThere
 pub mod Rising
 pub mod PlacesRise

@@ -1,6 +1,6 @@
 -- An event that is neither a transaction nor a reply changes neither the counts of `oneway` nor the places of `flags`.
 use Rattle.std.proofs.Common.{◌≡◌, ℕ, Bool, true, false, cond, List, [], ◌∷◌, ◌++◌, Option, None, map, refl, ap, sym, ◌∙◌}
-use Rattle.std.specs.Prelude.{◌↔◌, filter, count_by, not}
+use Rattle.std.specs.Prelude.{◌↔◌, count_by, not}
 use Rattle.std.specs.List.{filter_map, cons_option}
 use Rattle.std.proofs.lemmas.List.{append-nil}
 use Rattle.std.proofs.lemmas.List.Elements.{filter-append, filter_map-append}

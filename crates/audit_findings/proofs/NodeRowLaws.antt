@@ -4,9 +4,9 @@ use Rattle.std.specs.Ordering.{eq_by_cmp}
 use Rattle.std.specs.Prelude.{count_by}
 use Rattle.std.proofs.lemmas.Cmp.{eq_by_cmp_equiv}
 use Rattle.std.proofs.lemmas.Map.Views.{tells_apart}
-use Rattle.capture_frame.specs.Units.{Placed}
+use Rattle.capture_frame.specs.Envelope.{PlacedFrame}
 use Rattle.capture_frame.specs.declared.process.Process.{Process}
-use Rattle.event_core.specs.Events.{EventRead, events_of_wholes}
+use Rattle.event_core.specs.Events.{EventRead, events_of_frames}
 use Rattle.event_core.specs.declared.node.NodeItem.{NodeItem}
 use Rattle.event_core.specs.declared.node.NodeKey.{NodeKey}
 use Rattle.event_core.specs.declared.strength.Strength.{Strength}
@@ -17,7 +17,6 @@ use Rattle.handle_ledger.specs.declared.node_row.NodeRow.{NodeRow}
 use Rattle.process_ledgers.specs.Items.{node_item_of}
 use Rattle.process_ledgers.specs.Processes.{items_of_process, processes_of}
 use Rattle.summary_law.proofs.Members.{In}
-use Rattle.transaction_view.specs.Grammar.{WholeFrame}
 use Rattle.audit_findings.specs.EventCounts.{HasValue, times_in}
 use Rattle.audit_findings.specs.NodeRows.{IsNodeRow, acknowledges, asks, changes_node, lets_go, names_node, node_due, node_value}
 use Rattle.audit_findings.specs.Nodes.{node_references, nodes_in}
@@ -68,10 +67,10 @@ module _ (events : List EventRead) (process : Process) where
         λ i. record { key = key; strong = strong i; weak = weak i; strong_due = strong_due i; weak_due = weak_due i },
       )
 
-pub node_rows_are : (wholes : List (Placed WholeFrame))
-    → AreRowsInTurn node_cmp (λ (row : NodeRow). row.key) (IsNodeRow (events_of_wholes wholes)) (processes_of wholes) (node_references wholes).rows
-node_rows_are wholes =
-    let events = events_of_wholes wholes in
+pub node_rows_are : (frames : List PlacedFrame)
+    → AreRowsInTurn node_cmp (λ (row : NodeRow). row.key) (IsNodeRow (events_of_frames frames)) (processes_of frames) (node_references frames).rows
+node_rows_are frames =
+    let events = events_of_frames frames in
     record {
       own = nodes_in events;
       rows_are = refl;

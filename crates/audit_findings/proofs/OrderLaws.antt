@@ -8,10 +8,9 @@ use Rattle.std.specs.Map.{lookup, keys_of}
 use Rattle.std.specs.Prelude.{⊤}
 use Rattle.capture_frame.proofs.ProcessLaws.{same_process_equiv}
 use Rattle.capture_frame.specs.Process.{same_process}
-use Rattle.capture_frame.specs.Units.{Placed}
+use Rattle.capture_frame.specs.Envelope.{PlacedFrame}
 use Rattle.capture_frame.specs.declared.process.Process.{Process}
-use Rattle.transaction_view.specs.Grammar.{WholeFrame}
-use Rattle.event_core.specs.Events.{events_of_wholes, process_of}
+use Rattle.event_core.specs.Events.{events_of_frames, process_of}
 use Rattle.event_core.specs.Reading.{event_text}
 use Rattle.event_core.specs.declared.event.Event.{Event}
 use Rattle.summary_law.proofs.InOrderLaws.{same_keys}
@@ -20,9 +19,9 @@ use Rattle.summary_law.specs.Fed.{SumsPicked}
 use Rattle.summary_law.specs.InOrder.{SumsInOrder, firsts}
 use Rattle.summary_law.specs.declared.nothing.Nothing.{Nothing}
 use Rattle.process_ledgers.specs.Concerns.{concerned, concerns}
-use Rattle.process_ledgers.specs.EachProcess.{SumsOrder}
+use Rattle.process_ledgers.specs.EachProcess.{SumsOrder, order_item}
 use Rattle.process_ledgers.specs.ProcessLedgers.{SumsProcess}
-use Rattle.process_ledgers.specs.Processes.{process_of_whole, processes_of}
+use Rattle.process_ledgers.specs.Processes.{process_of_placed, processes_of}
 use Rattle.process_ledgers.specs.declared.process_ledgers.ProcessLedgers.{ProcessLedgers}
 use Rattle.audit_findings.proofs.GivenLaws.{order_next}
 use Rattle.audit_findings.proofs.EventLists.{IsKnown, each_known}
@@ -63,27 +62,27 @@ has_items Sums None items own is = absurd (true≢false (sym is))
 has_items Sums (Some part) items own is = own.0
 
 -- a process with ledgers of the events of these frames is one of theirs
-among_frames : (own : List (Process × ProcessLedgers)) (wholes : List (Placed WholeFrame)) (events : List Event) (process : Process)
-    → map event_text events ≡ events_of_wholes wholes → SumsPicked concerned (SumsInOrder same_process SumsProcess) own events
-    → is_some (lookup (same_process process) own) ≡ true → list_any (same_process process) (processes_of wholes) ≡ true
-among_frames own wholes events process are sums has =
-    let known = processes_of wholes in
+among_frames : (own : List (Process × ProcessLedgers)) (frames : List PlacedFrame) (events : List Event) (process : Process)
+    → map event_text events ≡ events_of_frames frames → SumsPicked concerned (SumsInOrder same_process SumsProcess) own events
+    → is_some (lookup (same_process process) own) ≡ true → list_any (same_process process) (processes_of frames) ≡ true
+among_frames own frames events process are sums has =
+    let known = processes_of frames in
     ⊎_elim
     (λ (there : list_any (same_process process) known ≡ true). there)
     (λ (unknown : list_any (same_process process) known ≡ false).
-    let all = subst (All (IsKnown known)) (sym are) (each_known wholes) in
+    let all = subst (All (IsKnown known)) (sym are) (each_known frames) in
     absurd
     (has_items SumsProcess (lookup (same_process process) own) (items_of same_process process (filter_map concerned events)) (sums.parts process) has
     (none_fed known process unknown events all)))
     (cases_Bool (list_any (same_process process) known))
 
 -- with one more frame of a process that has ledgers, the order stays the same
-pub order_there : (entries : List (Process × Nothing)) (own : List (Process × ProcessLedgers)) (wholes : List (Placed WholeFrame)) (events : List Event)
-    → map event_text events ≡ events_of_wholes wholes → SumsOrder entries wholes
-    → SumsPicked concerned (SumsInOrder same_process SumsProcess) own events → (next : Placed WholeFrame) (process : Process)
-    → process ≡ process_of_whole next → is_some (lookup (same_process process) own) ≡ true → SumsOrder entries (wholes ++ next ∷ [])
-order_there entries own wholes events are order sums next process is has =
-    let keys : keys_of entries ≡ processes_of wholes
-    = order.order ∙ ap (firsts same_process) (map-map (λ (e : Process × ⊤). e.0) (λ w. (process_of_whole w, tt)) wholes) in
-    let there = ap (list_any (same_process process)) keys ∙ among_frames own wholes events process are sums has in
-    order_next entries wholes next process is (same_keys same_process_equiv entries (map (λ w. (process_of_whole w, tt)) wholes) process tt order there)
+pub order_there : (entries : List (Process × Nothing)) (own : List (Process × ProcessLedgers)) (frames : List PlacedFrame) (events : List Event)
+    → map event_text events ≡ events_of_frames frames → SumsOrder entries frames
+    → SumsPicked concerned (SumsInOrder same_process SumsProcess) own events → (next : PlacedFrame) (process : Process)
+    → process ≡ process_of_placed next → is_some (lookup (same_process process) own) ≡ true → SumsOrder entries (frames ++ next ∷ [])
+order_there entries own frames events are order sums next process is has =
+    let keys : keys_of entries ≡ processes_of frames
+    = order.order ∙ ap (firsts same_process) (map-map (λ (e : Process × ⊤). e.0) order_item frames) in
+    let there = ap (list_any (same_process process)) keys ∙ among_frames own frames events process are sums has in
+    order_next entries frames next process is (same_keys same_process_equiv entries (map order_item frames) process tt order there)

@@ -1,42 +1,24 @@
 -- Lists whose places rise: what is read from them, what is kept of them, and such lists joined.
-use Rattle.std.proofs.Common.{◌≡◌, ℕ, suc, ◌+◌, ◌<◌, Bool, List, [], ◌∷◌, ◌++◌, length, map, Option, Some, sym, subst, get_or, arith}
+use Rattle.std.proofs.Common.{◌≡◌, ℕ, ◌+◌, ◌<◌, Bool, List, [], ◌∷◌, ◌++◌, length, map, Option, Some, sym, subst, get_or, arith}
 use Rattle.std.specs.Prelude.{All, AllPairs, filter}
 use Rattle.std.specs.List.{flat_map, filter_map}
 use Rattle.std.specs.List.Sorted.{IsStrictlyIncreasing}
 use Rattle.std.proofs.lemmas.List.{get_or-map, length-map}
 use Rattle.std.proofs.lemmas.List.Concat.{flat_map-cons}
-use Rattle.std.proofs.lemmas.List.Elements.{All-append, All-head, All-map, All-nil, All-tail}
-use Rattle.std.proofs.lemmas.List.Kept.{AllPairs-cons, AllPairs-filter}
-use Rattle.summary_law.specs.Fits.{IsPlaced, PlacesRise}
+use Rattle.std.proofs.lemmas.List.Elements.{All-append, All-cons, All-head, All-nil, All-tail}
+use Rattle.std.proofs.lemmas.List.Kept.{AllPairs-filter}
+use Rattle.capture_frame.proofs.Pairs.{pairs_append, pairs_head, pairs_map, pairs_nil, pairs_tail}
+use Rattle.summary_law.specs.Fits.{IsPlaced, PlacesRise, all_halves}
 use Rattle.summary_law.proofs.ReadLaws.{length-read, rising_read}
 
 -- ---- each element, and every later one
 
-module _ {X : Type 0} (R : X → X → Type 0) where
-  -- the empty list has none
-  pub pairs_nil : AllPairs R []
-  pairs_nil i j d below within = absurd (omega (arith, within))
-
-  -- the first element, and every later one
-  pub pairs_head : (x : X) (xs : List X) → AllPairs R (x ∷ xs) → All (R x) xs
-  pairs_head x xs all j d within = all 0 (suc j) d (omega arith) (omega (arith, within))
-
-  pub pairs_tail : (x : X) (xs : List X) → AllPairs R (x ∷ xs) → AllPairs R xs
-  pairs_tail x xs all i j d below within = all (suc i) (suc j) d (omega (arith, below)) (omega (arith, within))
-
-  -- one list followed by another
-  pub pairs_append : (xs ys : List X) → AllPairs R xs → AllPairs R ys → All (λ x. All (R x) ys) xs → AllPairs R (xs ++ ys)
-  pairs_append [] ys first second between = second
-  pairs_append (x ∷ xs) ys first second between =
-      AllPairs-cons R x (xs ++ ys) (All-append (R x) xs ys (pairs_head x xs first) (All-head (λ a. All (R a) ys) x xs between))
-      (pairs_append xs ys (pairs_tail x xs first) second (All-tail (λ a. All (R a) ys) x xs between))
-
--- what is made of each element
-pub pairs_map : {X Y : Type 0} (R : Y → Y → Type 0) (f : X → Y) (xs : List X) → AllPairs (λ a b. R (f a) (f b)) xs → AllPairs R (map f xs)
-pairs_map R f [] all = pairs_nil R
-pairs_map R f (x ∷ xs) all =
-    AllPairs-cons R (f x) (map f xs) (All-map (R (f x)) f xs (pairs_head (λ a b. R (f a) (f b)) x xs all))
-    (pairs_map R f xs (pairs_tail (λ a b. R (f a) (f b)) x xs all))
+-- an element, and each one before it
+pub pairs_before : {X : Type 0} (R : X → X → Type 0) (xs : List X) (y : X) (ys : List X) → AllPairs R (xs ++ y ∷ ys) → All (λ x. R x y) xs
+pairs_before R [] y ys all = All-nil (λ x. R x y)
+pairs_before R (x ∷ xs) y ys all =
+    All-cons (λ a. R a y) x xs (All-head (R x) y ys (all_halves (R x) xs (y ∷ ys) (pairs_head R x (xs ++ y ∷ ys) all)).1)
+    (pairs_before R xs y ys (pairs_tail R x (xs ++ y ∷ ys) all))
 
 pub pairs_unmap : {X Y : Type 0} (R : Y → Y → Type 0) (f : X → Y) (xs : List X) → AllPairs R (map f xs) → AllPairs (λ a b. R (f a) (f b)) xs
 pairs_unmap {X} {Y} R f xs all i j d below within =

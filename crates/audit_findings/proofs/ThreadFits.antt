@@ -15,7 +15,8 @@ use Rattle.summary_law.specs.InOrder.{SumsInOrder}
 use Rattle.audit_findings.specs.Ledgers.{AreFewEvents}
 use Rattle.capture_frame.specs.Process.{same_thread}
 use Rattle.audit_findings.specs.ThreadLedger.{fed_call, fed_calls, leaves_mark}
-use Rattle.audit_findings.proofs.Rising.{pairs_map, rising_kept}
+use Rattle.capture_frame.proofs.Pairs.{pairs_map}
+use Rattle.audit_findings.proofs.Rising.{rising_kept}
 
 -- what is fed under each thread can be summed
 abbrev pub FitThreads : List (Thread × CallEvent) → Type 0

@@ -50,7 +50,8 @@ use Rattle.audit_findings.specs.Threads.{events_in_thread, in_threads}
 use Rattle.audit_findings.specs.declared.thread_rows.ThreadRows.{ThreadRows}
 use Rattle.audit_findings.proofs.CallEvents.{Reading, opener_event, send_event, send_read, stray_event, told_if}
 use Rattle.audit_findings.proofs.Kept.{kept_count, kept_in, kept_map, kept_swap}
-use Rattle.audit_findings.proofs.Rising.{pairs_map, rising_kept}
+use Rattle.capture_frame.proofs.Pairs.{pairs_map}
+use Rattle.audit_findings.proofs.Rising.{rising_kept}
 use Rattle.audit_findings.proofs.ThreadFits.{filter_short}
 
 abbrev Entry : Type 0

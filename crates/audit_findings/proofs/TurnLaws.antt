@@ -6,9 +6,8 @@ use Rattle.std.proofs.lemmas.Grind.{flat_map-append}
 use Rattle.std.proofs.lemmas.List.Concat.{flat_map-cons}
 use Rattle.std.proofs.lemmas.List.{append-nil, map-append}
 use Rattle.capture_frame.specs.declared.process.Process.{Process}
-use Rattle.capture_frame.specs.Units.{Placed}
-use Rattle.transaction_view.specs.Grammar.{WholeFrame}
-use Rattle.event_core.specs.Events.{EventRead, events_of_wholes}
+use Rattle.capture_frame.specs.Envelope.{PlacedFrame}
+use Rattle.event_core.specs.Events.{EventRead, events_of_frames}
 use Rattle.process_ledgers.specs.declared.processes.Processes.{Processes}
 use Rattle.summary_law.specs.declared.nothing.Nothing.{Nothing}
 use Rattle.process_ledgers.specs.EachProcess.{AreLedgersOf, SumsEach, ledgers_in}
@@ -22,7 +21,7 @@ pub record Listing {R : Type 0} (of : List EventRead → Process → List R) (pr
   pub done : List (Process × Nothing)
   pub whole : done ++ rest ≡ processes.order.now.entries.entries
   pub count : length lists ≡ length done
-  pub are : (wholes : List (Placed WholeFrame)) → SumsEach processes wholes → lists ≡ map (of (events_of_wholes wholes)) (keys_of done)
+  pub are : (frames : List PlacedFrame) → SumsEach processes frames → lists ≡ map (of (events_of_frames frames)) (keys_of done)
 
 module _ {R : Type 0} (of : List EventRead → Process → List R) (processes : Processes) where
   abbrev entries : List (Process × Nothing)
@@ -33,7 +32,7 @@ module _ {R : Type 0} (of : List EventRead → Process → List R) (processes : 
     done = [];
     whole = all;
     count = ap length none;
-    are = λ wholes sums. none;
+    are = λ frames sums. none;
   }
 
   -- the list of the process that an entry names
@@ -48,9 +47,9 @@ module _ {R : Type 0} (of : List EventRead → Process → List R) (processes : 
         done = done ++ e ∷ [];
         whole = append_assoc done (e ∷ []) rest ∙ listing.whole;
         count = ap length pushed ∙ length-append lists (own ∷ []) ∙ ap (λ n. n + 1) listing.count ∙ sym (length-append done (e ∷ []));
-        are = λ wholes sums.
-            let events = events_of_wholes wholes in
-            pushed ∙ ap₂ (λ (a b : List (List R)). a ++ b) (listing.are wholes sums) (ap (λ (l : List R). l ∷ []) (gives events (sums.each e.0)))
+        are = λ frames sums.
+            let events = events_of_frames frames in
+            pushed ∙ ap₂ (λ (a b : List (List R)). a ++ b) (listing.are frames sums) (ap (λ (l : List R). l ∷ []) (gives events (sums.each e.0)))
             ∙ sym (map-append (of events) (keys_of done) (e.0 ∷ [])) ∙ ap (map (of events)) (sym (map-append (λ (x : Process × Nothing). x.0) done (e ∷ [])));
       }
 
@@ -63,10 +62,10 @@ module _ {R : Type 0} (of : List EventRead → Process → List R) (processes : 
     listing_long = listing.count ∙ ap length all_done
 
     -- and they are those of all processes
-    pub all_listed : (wholes : List (Placed WholeFrame)) → SumsEach processes wholes → lists ≡ map (of (events_of_wholes wholes)) (processes_of wholes)
-    all_listed wholes sums =
-        listing.are wholes sums ∙ ap (λ (es : List (Process × Nothing)). map (of (events_of_wholes wholes)) (keys_of es)) all_done
-        ∙ ap (map (of (events_of_wholes wholes))) sums.order
+    pub all_listed : (frames : List PlacedFrame) → SumsEach processes frames → lists ≡ map (of (events_of_frames frames)) (processes_of frames)
+    all_listed frames sums =
+        listing.are frames sums ∙ ap (λ (es : List (Process × Nothing)). map (of (events_of_frames frames)) (keys_of es)) all_done
+        ∙ ap (map (of (events_of_frames frames))) sums.order
 
 -- ---- lists, one after another
 
@@ -97,8 +96,8 @@ module _ {R : Type 0} (of : List EventRead → Process → List R) (processes : 
       )
 
   pub all_turned : (rest : List (Process × Nothing)) → rest ≡ [] → (rows : List (ProcessRow R)) → Turning of processes rest rows
-      → (wholes : List (Placed WholeFrame)) → SumsEach processes wholes → rows ≡ in_turn (of (events_of_wholes wholes)) (processes_of wholes)
-  all_turned rest none rows turning wholes sums =
+      → (frames : List PlacedFrame) → SumsEach processes frames → rows ≡ in_turn (of (events_of_frames frames)) (processes_of frames)
+  all_turned rest none rows turning frames sums =
       turning.2
-      ∙ ap (flat_map (λ (own : List (ProcessRow R)). own)) (all_listed (λ events. rows_in (of events)) processes rest none turning.0 turning.1 wholes sums)
-      ∙ flat_lists (rows_in (of (events_of_wholes wholes))) (processes_of wholes)
+      ∙ ap (flat_map (λ (own : List (ProcessRow R)). own)) (all_listed (λ events. rows_in (of events)) processes rest none turning.0 turning.1 frames sums)
+      ∙ flat_lists (rows_in (of (events_of_frames frames))) (processes_of frames)

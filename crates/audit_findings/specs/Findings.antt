@@ -1,9 +1,8 @@
 -- What the report says of a capture in the grammar (docs/REPORT.md).
 use Rattle.std.specs.Prelude.{ℕ, ◌-◌, List, [], ◌∷◌, length, count_by}
-use Rattle.capture_frame.specs.Units.{Placed}
-use Rattle.event_core.specs.Events.{EventRead, events_of_wholes}
+use Rattle.capture_frame.specs.Envelope.{PlacedFrame}
+use Rattle.event_core.specs.Events.{EventRead, events_of_frames}
 use Rattle.process_ledgers.specs.Processes.{processes_of}
-use Rattle.transaction_view.specs.Grammar.{WholeFrame}
 use Rattle.audit_findings.specs.Buffers.{leaked, stray_frees}
 use Rattle.audit_findings.specs.Calls.{call_sections}
 use Rattle.audit_findings.specs.Clears.{clear_findings}
@@ -22,14 +21,14 @@ use Rattle.audit_findings.specs.declared.findings.Sections.{Sections}
 use Rattle.audit_findings.specs.declared.process_sections.ProcessSections.{ProcessSections}
 
 -- the sequence of the last of these frames
-abbrev pub last_sequence : Placed WholeFrame → List (Placed WholeFrame) → ℕ
-last_sequence first [] = first.unit.frame.sequence
+abbrev pub last_sequence : PlacedFrame → List PlacedFrame → ℕ
+last_sequence first [] = first.unit.sequence
 last_sequence first (next ∷ others) = last_sequence next others
 
 -- the missing frames: (last sequence - first sequence) - (frames - 1), and 0 where there is no frame
-abbrev pub missing_count : List (Placed WholeFrame) → ℕ
+abbrev pub missing_count : List PlacedFrame → ℕ
 missing_count [] = 0
-missing_count (first ∷ others) = (last_sequence first others - first.unit.frame.sequence) - length others
+missing_count (first ∷ others) = (last_sequence first others - first.unit.sequence) - length others
 
 -- what the report counts and lists over all events, whatever their process and thread
 abbrev pub event_sections : List EventRead → EventSections EventRead
@@ -45,26 +44,26 @@ event_sections events = record {
 }
 
 -- what the report says of each process: the sections from `handles` to `clears`, and the rows of `oneway`
-abbrev pub process_sections : List (Placed WholeFrame) → ProcessSections EventRead
-process_sections wholes =
-    let events = events_of_wholes wholes in
+abbrev pub process_sections : List PlacedFrame → ProcessSections EventRead
+process_sections frames =
+    let events = events_of_frames frames in
     record {
-      handles = handle_references wholes;
-      nodes = node_references wholes;
+      handles = handle_references frames;
+      nodes = node_references frames;
       leaked = leaked events;
       stray_frees = stray_frees events;
       standing = standing_requests events;
       deaths = death_findings events;
       clears = clear_findings events;
-      oneway = in_turn (oneway_of events) (processes_of wholes);
+      oneway = in_turn (oneway_of events) (processes_of frames);
     }
 
 -- The findings: what the report says of these frames. A listed event is the event itself.
-abbrev pub findings_of : List (Placed WholeFrame) → Sections EventRead
-findings_of wholes = record {
-  frames = length wholes;
-  missing = missing_count wholes;
-  events = event_sections (events_of_wholes wholes);
-  calls = call_sections (events_of_wholes wholes);
-  processes = process_sections wholes;
+abbrev pub findings_of : List PlacedFrame → Sections EventRead
+findings_of frames = record {
+  frames = length frames;
+  missing = missing_count frames;
+  events = event_sections (events_of_frames frames);
+  calls = call_sections (events_of_frames frames);
+  processes = process_sections frames;
 }

@@ -1,42 +1,27 @@
--- Views of frames, and the whole frames that they show.
-use Rattle.std.specs.Prelude.{◌≡◌, ◌≤◌, ◌^◌, List, map, All, AllPairs}
+-- Frames that can be summed.
+use Rattle.std.specs.Prelude.{◌≤◌, ◌^◌, List, All, AllPairs}
 use Rattle.std.specs.List.{sum_by}
-use Rattle.capture_frame.specs.Units.{Placed}
 use Rattle.capture_frame.specs.Envelope.{placed_frame, PlacedFrame}
 use Rattle.capture_frame.specs.Cut.{shown_by}
 use Rattle.capture_frame.specs.Lookup.{span_of, AreApart}
-use Rattle.record_view.specs.Records.{HasRecords}
-use Rattle.transaction_view.specs.Attachments.{HasEntries}
-use Rattle.transaction_view.specs.FirstFault.{HasGoodContent}
-use Rattle.transaction_view.specs.Grammar.{WholeFrame}
-use Rattle.event_core.specs.Events.{placed_text}
+use Rattle.transaction_view.specs.Grammar.{IsGood}
 use Rattle.summary_law.specs.Fits.{all_halves, pairs_halves}
 use Rattle.summary_law.specs.Summary.{FitsInHalves}
 use Rattle.std.proofs.Common.{arith, subst}
 use Rattle.std.proofs.lemmas.List.{map-append}
 use Rattle.std.proofs.lemmas.List.Sums.{sum_by-append}
 
--- the records and the entries of a whole frame are those of its bytes
-abbrev pub IsWhole : Placed WholeFrame → Type 0
-IsWhole there = HasRecords there.unit.frame there.unit.records × HasEntries there.unit.frame there.unit.entries
-
--- the views show these whole frames, in order: each has the place, the numbers and the bytes of its whole frame, whose
--- records and entries are those of these bytes
-pub record AreViews (frames : List PlacedFrame) (wholes : List (Placed WholeFrame)) : Type 0 where
-  pub in_order : frames ≡ map placed_text wholes
-  pub are_whole : All IsWhole wholes
-
 -- good frames: their records and entries have no fault, each frame ends before every later one begins, and together
 -- they have at most 2^32 bytes
 pub record AreGoodFrames (frames : List PlacedFrame) : Type 0 where
   pub few : sum_by span_of frames ≤ 2 ^ 32
-  pub good : All (λ frame. HasGoodContent frame.unit) frames
+  pub good : All IsGood frames
   pub apart : AllPairs AreApart frames
 
 -- both halves of a list of good frames are good
 pub good_frames_halves : FitsInHalves AreGoodFrames
 good_frames_halves first second fit =
-    let good = all_halves (λ (frame : PlacedFrame). HasGoodContent frame.unit) first second fit.good in
+    let good = all_halves IsGood first second fit.good in
     let apart = pairs_halves AreApart first second fit.apart in
     let parts = sum_by-append span_of first second in
     let few = fit.few in (

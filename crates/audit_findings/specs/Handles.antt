@@ -1,14 +1,13 @@
 -- The section `handles`: the references that each process has by handle, which are those that it took and those that
 -- its deliveries hold (docs/REPORT.md).
 use Rattle.std.specs.Prelude.{◌||◌, Bool, List}
-use Rattle.capture_frame.specs.Units.{Placed}
+use Rattle.capture_frame.specs.Envelope.{PlacedFrame}
 use Rattle.capture_frame.specs.declared.process.Process.{Process}
-use Rattle.event_core.specs.Events.{EventRead, events_of_wholes}
+use Rattle.event_core.specs.Events.{EventRead, events_of_frames}
 use Rattle.handle_ledger.specs.Held.{held_rows}
 use Rattle.handle_ledger.specs.declared.held_row.HeldRow.{HeldRow}
 use Rattle.process_ledgers.specs.Items.{handle_item_of}
 use Rattle.process_ledgers.specs.Processes.{items_of_process, processes_of}
-use Rattle.transaction_view.specs.Grammar.{WholeFrame}
 use Rattle.audit_findings.specs.Held.{held_of_process, unweighed}
 use Rattle.audit_findings.specs.InTurn.{in_turn}
 use Rattle.audit_findings.specs.References.{is_not_zero, references}
@@ -25,6 +24,6 @@ abbrev pub is_unbalanced_handle : HeldRow → Bool
 is_unbalanced_handle row = is_not_zero row.taken.strong.sum || is_not_zero row.taken.weak.sum
 
 -- the section: the rows of each process in turn, and how many are unbalanced
-abbrev pub handle_references : List (Placed WholeFrame) → References HeldRow
-handle_references wholes =
-    references is_unbalanced_handle (in_turn (handles_in (events_of_wholes wholes)) (processes_of wholes))
+abbrev pub handle_references : List PlacedFrame → References HeldRow
+handle_references frames =
+    references is_unbalanced_handle (in_turn (handles_in (events_of_frames frames)) (processes_of frames))

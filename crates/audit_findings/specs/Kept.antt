@@ -1,11 +1,11 @@
 -- The findings as the code keeps them: of each listed event it keeps the place.
-use Rattle.std.specs.Prelude.{◌≡◌, ℕ, List, map}
-use Rattle.capture_frame.specs.Envelope.{PlacedFrame}
-use Rattle.event_core.specs.Events.{EventRead, wholes_of}
-use Rattle.transaction_view.specs.Grammar.{WholeFrame}
+use Rattle.std.specs.Prelude.{◌≡◌, ℕ, List, map, All}
+use Rattle.capture_frame.specs.Envelope.{FrameText, PlacedFrame}
+use Rattle.capture_frame.specs.Parts.{joined_frames}
+use Rattle.transaction_view.specs.Grammar.{IsGood}
+use Rattle.event_core.specs.Events.{EventRead}
 use Rattle.call_stacks.specs.declared.opener.Opener.{Opener}
 use Rattle.audit_findings.specs.Findings.{findings_of}
-use Rattle.audit_findings.specs.Frames.{AreViews}
 use Rattle.audit_findings.specs.declared.call_sections.CallSections.{CallSections}
 use Rattle.audit_findings.specs.declared.calls.Calls.{Calls}
 use Rattle.audit_findings.specs.declared.refused.Refused.{Refused}
@@ -101,10 +101,16 @@ at_places s = record {
   processes = processes_at_places s.processes;
 }
 
--- the frames show these whole frames of a capture, and the sections keep their findings
-pub record AreSectionsOf (wholes : List WholeFrame) (frames : List PlacedFrame) (sections : Sections ℕ) : Type 0 where
-  pub show : AreViews frames (wholes_of wholes)
-  pub are : sections ≡ at_places (findings_of (wholes_of wholes))
+-- the sections keep the findings of these frames
+abbrev pub AreSectionsOf : List PlacedFrame → Sections ℕ → Type 0
+AreSectionsOf frames sections = sections ≡ at_places (findings_of frames)
+
+-- the frames are good, they follow one another after a file header, and the sections keep their findings
+pub record AreOfFrames (frames : List PlacedFrame) (sections : Sections ℕ) : Type 0 where
+  pub texts : List FrameText
+  pub in_order : frames ≡ joined_frames texts
+  pub good : All IsGood frames
+  pub are : AreSectionsOf frames sections
 
 -- findings as the code keeps them: the frames, and the sections
 pub record KeptFindings : Type 0 where
@@ -114,7 +120,3 @@ pub record KeptFindings : Type 0 where
 -- these frames and these sections, as findings
 abbrev pub kept_findings : List PlacedFrame → Sections ℕ → KeptFindings
 kept_findings frames sections = record { frames = frames; sections = sections }
-
--- the frames show some whole frames of a capture, and the sections keep their findings
-abbrev pub AreOfFrames : List PlacedFrame → Sections ℕ → Type 0
-AreOfFrames frames sections = (wholes : List WholeFrame) × AreSectionsOf wholes frames sections

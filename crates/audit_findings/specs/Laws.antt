@@ -1,22 +1,22 @@
 -- Laws of the definitions.
-use Rattle.std.specs.Prelude.{◌≡◌, ℕ, ◌+◌, List, length, map}
+use Rattle.std.specs.Prelude.{◌≡◌, ℕ, ◌+◌, List, length, map, Ok}
 use Rattle.std.specs.List.Sorted.{IsStrictlyIncreasing}
-use Rattle.capture_frame.specs.Units.{Placed}
-use Rattle.event_core.specs.Events.{EventRead, wholes_of}
-use Rattle.transaction_view.specs.Grammar.{WholeFrame, IsInGrammar}
+use Rattle.capture_frame.specs.Envelope.{PlacedFrame}
+use Rattle.event_core.specs.Events.{EventRead}
+use Rattle.transaction_view.specs.Grammar.{frames_of_parts}
 use Rattle.audit_findings.specs.Findings.{findings_of}
 use Rattle.audit_findings.specs.declared.calls.Calls.{Calls}
 use Rattle.audit_findings.specs.declared.served.Served.{Served}
 
 -- in a capture in the grammar, the records of the bad objects rise strictly in place
 abbrev pub BadObjectsRise : Type 0
-BadObjectsRise = (capture : List ℕ) (wholes : List WholeFrame) → IsInGrammar capture wholes
-    → IsStrictlyIncreasing (map (λ row. row.owner.place) (findings_of (wholes_of wholes)).events.bad_objects)
+BadObjectsRise = (parts : List (List ℕ)) (frames : List PlacedFrame) → frames_of_parts parts ≡ Ok frames
+    → IsStrictlyIncreasing (map (λ row. row.owner.place) (findings_of frames).events.bad_objects)
 
 -- in a capture in the grammar, the records with unknown flags rise strictly in place
 abbrev pub FlagsRise : Type 0
-FlagsRise = (capture : List ℕ) (wholes : List WholeFrame) → IsInGrammar capture wholes
-    → IsStrictlyIncreasing (map (λ e. e.place) (findings_of (wholes_of wholes)).events.flags)
+FlagsRise = (parts : List (List ℕ)) (frames : List PlacedFrame) → frames_of_parts parts ≡ Ok frames
+    → IsStrictlyIncreasing (map (λ e. e.place) (findings_of frames).events.flags)
 
 -- each call that threads make is counted once, as answered, failed or unanswered, and is listed unless it is answered
 pub record AllMadeTold (calls : Calls EventRead) : Type 0 where
@@ -30,5 +30,5 @@ pub record AllServedTold (served : Served EventRead) : Type 0 where
 
 -- the findings of any frames leave out no call
 abbrev pub LeaveOutNoCall : Type 0
-LeaveOutNoCall = (wholes : List (Placed WholeFrame))
-    → AllMadeTold (findings_of wholes).calls.calls × AllServedTold (findings_of wholes).calls.served
+LeaveOutNoCall = (frames : List PlacedFrame)
+    → AllMadeTold (findings_of frames).calls.calls × AllServedTold (findings_of frames).calls.served

@@ -1,11 +1,9 @@
 -- The ledgers of events and of frames while they are made: what each keeps of the list that it sums.
-use Rattle.capture_frame.specs.Envelope.{PlacedFrame}
 use Rattle.std.specs.Prelude.{◌≡◌, ℕ, ◌+◌, ◌<◌, ◌^◌, List, [], ◌∷◌, ◌++◌, length, map, count_by, All}
+use Rattle.capture_frame.specs.Envelope.{PlacedFrame}
 use Rattle.std.proofs.Common.{subst}
 use Rattle.std.proofs.lemmas.List.{map-append}
 use Rattle.std.specs.Option.{option_map_or}
-use Rattle.capture_frame.specs.Units.{Placed}
-use Rattle.transaction_view.specs.Grammar.{WholeFrame}
 use Rattle.event_core.specs.Events.{AttachmentText, EventRead}
 use Rattle.summary_law.specs.Fits.{IsShort, IsPlaced, all_halves, placed_halves}
 use Rattle.audit_findings.specs.declared.event_ledgers.EventLedgers.{EventLedgers}
@@ -18,13 +16,12 @@ use Rattle.audit_findings.specs.CodeCounts.{CountWords}
 use Rattle.audit_findings.specs.Codes.{code_words, is_opaque}
 use Rattle.audit_findings.specs.Findings.{findings_of, last_sequence}
 use Rattle.audit_findings.specs.Flags.{flagged}
-use Rattle.audit_findings.specs.Frames.{AreViews}
 use Rattle.audit_findings.specs.Buffers.{is_leaked}
 use Rattle.audit_findings.specs.Handles.{handles_in}
 use Rattle.audit_findings.specs.InTurn.{rows_in}
 use Rattle.audit_findings.specs.declared.in_turn.ProcessRow.{ProcessRow}
 use Rattle.handle_ledger.specs.declared.held_row.HeldRow.{HeldRow}
-use Rattle.event_core.specs.Events.{events_of_wholes}
+use Rattle.event_core.specs.Events.{events_of_frames}
 use Rattle.audit_findings.specs.Kept.{at_places, bad_at_place}
 use Rattle.audit_findings.specs.Objects.{bad_objects, count_of, good_objects, times_of}
 use Rattle.audit_findings.specs.Oneway.{oneway_counts}
@@ -34,7 +31,7 @@ use Rattle.event_core.specs.Reading.{event_text}
 use Rattle.event_core.specs.declared.event.Event.{Event}
 use Rattle.process_ledgers.specs.Concerns.{concerned}
 use Rattle.process_ledgers.specs.EachProcess.{AreLedgersOf, SumsEach, SumsOrder}
-use Rattle.process_ledgers.specs.Processes.{process_of_whole, processes_of}
+use Rattle.process_ledgers.specs.Processes.{process_of_placed, processes_of}
 use Rattle.capture_frame.specs.declared.process.Process.{Process}
 use Rattle.process_ledgers.specs.ProcessLedgers.{SumsProcess}
 use Rattle.process_ledgers.specs.declared.process_ledgers.ProcessLedgers.{ProcessLedgers}
@@ -73,10 +70,10 @@ pub record SumsEvents (ledgers : EventLedgers) (events : List EventRead) : Type 
   pub flags : ListsFlagged ledgers.flags events
 
 -- the value has the number of these frames, and the sequences of the first and of the last
-abbrev pub SumsFrames : Sequences → List (Placed WholeFrame) → Type 0
+abbrev pub SumsFrames : Sequences → List PlacedFrame → Type 0
 SumsFrames sequences [] = sequences.frames ≡ 0
 SumsFrames sequences (first ∷ others) =
-    (sequences.frames ≡ length others + 1) × (sequences.first ≡ first.unit.frame.sequence)
+    (sequences.frames ≡ length others + 1) × (sequences.first ≡ first.unit.sequence)
     × (sequences.last ≡ last_sequence first others)
 
 -- these events are few, as they are read
@@ -98,71 +95,58 @@ pub record SumsGiven (sums : EventSums) (events : List Event) : Type 0 where
   pub processes : SumsPicked concerned (SumsInOrder same_process SumsProcess) sums.processes.entries.entries events
 
 -- the ledgers are the sums of these frames: of their sequences, of their processes in order, and of all their events
-pub record SumsLedgers (ledgers : FrameLedgers) (wholes : List (Placed WholeFrame)) : Type 0 where
-  pub sequences : SumsFrames ledgers.sequences wholes
-  pub order : SumsOrder ledgers.order.entries.entries wholes
+pub record SumsLedgers (ledgers : FrameLedgers) (frames : List PlacedFrame) : Type 0 where
+  pub sequences : SumsFrames ledgers.sequences frames
+  pub order : SumsOrder ledgers.order.entries.entries frames
   pub given : List Event
-  pub are_all : map event_text given ≡ events_of_wholes wholes
+  pub are_all : map event_text given ≡ events_of_frames frames
   pub sums : SumsGiven ledgers.of_events given
 
 -- the ledgers are the sums of some frames
 abbrev pub SumsSome : FrameLedgers → Type 0
-SumsSome ledgers = (wholes : List (Placed WholeFrame)) × SumsLedgers ledgers wholes
+SumsSome ledgers = (frames : List PlacedFrame) × SumsLedgers ledgers frames
 
 -- the new ledgers are the old ones, except that the order has the process of the next frame too
 pub record NamesProcess (old : FrameLedgers) (process : Process) (new : FrameLedgers) : Type 0 where
   pub sequences : new.sequences ≡ old.sequences
-  pub order : (wholes : List (Placed WholeFrame)) (next : Placed WholeFrame) → SumsLedgers old wholes
-      → process ≡ process_of_whole next → SumsOrder new.order.entries.entries (wholes ++ next ∷ [])
+  pub order : (frames : List PlacedFrame) (next : PlacedFrame) → SumsLedgers old frames
+      → process ≡ process_of_placed next → SumsOrder new.order.entries.entries (frames ++ next ∷ [])
   pub sums : (events : List Event) → SumsGiven old.of_events events → SumsGiven new.of_events events
 
 -- few frames, with few events
-abbrev pub AreFewFrames : List (Placed WholeFrame) → Type 0
-AreFewFrames wholes = IsShort wholes × AreFewEvents (events_of_wholes wholes)
-
--- the ledgers are the sums of some frames, and these followed by the frames given are few
-abbrev pub CanTake : FrameLedgers → List PlacedFrame → Type 0
-CanTake ledgers frames =
-    (wholes others : List (Placed WholeFrame)) × SumsLedgers ledgers wholes × AreViews frames others
-    × AreFewFrames (wholes ++ others)
-
--- whatever frames the old ledgers are the sums of, the new ones are the sums of those followed by these, if all are few
-abbrev pub TakesFrames : FrameLedgers → List PlacedFrame → FrameLedgers → Type 0
-TakesFrames old frames new =
-    (wholes others : List (Placed WholeFrame)) → SumsLedgers old wholes → AreViews frames others
-    → AreFewFrames (wholes ++ others) → SumsLedgers new (wholes ++ others)
+abbrev pub AreFewFrames : List PlacedFrame → Type 0
+AreFewFrames frames = IsShort frames × AreFewEvents (events_of_frames frames)
 
 -- the ledgers are the sums of some frames that are few
 abbrev pub AreOfFew : FrameLedgers → Type 0
-AreOfFew ledgers = (wholes : List (Placed WholeFrame)) × SumsLedgers ledgers wholes × AreFewFrames wholes
+AreOfFew ledgers = (frames : List PlacedFrame) × SumsLedgers ledgers frames × AreFewFrames frames
 
 -- a list for each process of these frames, in order: the places of its leaked deliveries
-abbrev pub AreUnfreed : List (Placed WholeFrame) → List (List ℕ) → Type 0
-AreUnfreed wholes lists = lists ≡ map (places_in is_leaked (events_of_wholes wholes)) (processes_of wholes)
+abbrev pub AreUnfreed : List PlacedFrame → List (List ℕ) → Type 0
+AreUnfreed frames lists = lists ≡ map (places_in is_leaked (events_of_frames frames)) (processes_of frames)
 
 -- a list for each process of these frames, in order: its rows of `handles`
-abbrev pub AreListedHandles : List (Placed WholeFrame) → List (List (ProcessRow HeldRow)) → Type 0
-AreListedHandles wholes lists =
-    lists ≡ map (rows_in (handles_in (events_of_wholes wholes))) (processes_of wholes)
+abbrev pub AreListedHandles : List PlacedFrame → List (List (ProcessRow HeldRow)) → Type 0
+AreListedHandles frames lists =
+    lists ≡ map (rows_in (handles_in (events_of_frames frames))) (processes_of frames)
 
 -- whatever process of these frames the ledgers are those of: if the places are those of its leaked deliveries, the
 -- rows are its rows of `handles`
 abbrev pub GivesHandles : ProcessLedgers → List PlacedFrame → List ℕ → List HeldRow → Type 0
 GivesHandles ledgers frames unfreed rows =
-    (wholes : List (Placed WholeFrame)) (process : Process) → AreViews frames wholes
-    → AreLedgersOf ledgers (events_of_wholes wholes) process
-    → unfreed ≡ places_in is_leaked (events_of_wholes wholes) process
-    → rows ≡ handles_in (events_of_wholes wholes) process
+    (process : Process) → AreLedgersOf ledgers (events_of_frames frames) process
+    → unfreed ≡ places_in is_leaked (events_of_frames frames) process
+    → rows ≡ handles_in (events_of_frames frames) process
 
 -- whatever few frames the ledgers are the sums of: if their processes have these leaked deliveries and these rows of
 -- `handles`, the sections keep the findings of the frames
 abbrev pub GiveSections : FrameLedgers → List (List ℕ) → List (List (ProcessRow HeldRow)) → Sections ℕ → Type 0
 GiveSections ledgers unfreed handles sections =
-    (wholes : List (Placed WholeFrame)) → SumsLedgers ledgers wholes → AreFewFrames wholes
-    → AreUnfreed wholes unfreed → AreListedHandles wholes handles → sections ≡ at_places (findings_of wholes)
+    (frames : List PlacedFrame) → SumsLedgers ledgers frames → AreFewFrames frames → AreUnfreed frames unfreed
+    → AreListedHandles frames handles → sections ≡ at_places (findings_of frames)
 
 -- whatever frames the ledgers are the sums of, these are their processes, each with its ledgers; a process without an
 -- item has the ledgers `none`, which are sums of nothing
 abbrev pub GivesProcesses : FrameLedgers → ProcessLedgers → Processes → Type 0
 GivesProcesses ledgers none processes =
-    (wholes : List (Placed WholeFrame)) → SumsLedgers ledgers wholes → SumsProcess none [] → SumsEach processes wholes
+    (frames : List PlacedFrame) → SumsLedgers ledgers frames → SumsProcess none [] → SumsEach processes frames

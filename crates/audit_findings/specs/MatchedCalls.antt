@@ -1,14 +1,15 @@
 -- The calls of a capture, by the closer of their thread that matches each opener (docs/REPORT.md). By a law, the
 -- findings say the same.
-use Rattle.std.specs.Prelude.{◌≡◌, ℕ, List, filter, slice_get, Some}
+use Rattle.std.specs.Prelude.{◌≡◌, ℕ, List, filter, slice_get, Some, Ok}
 use Rattle.call_stacks.specs.Calls.{Bracketed, bracketed_of, is_oneway_mark, opener_place}
 use Rattle.call_stacks.specs.Matched.{IsOpener, IsStrayEvent}
 use Rattle.call_stacks.specs.declared.findings.RefusedSend.{RefusedSend}
 use Rattle.call_stacks.specs.declared.opener.Opener.{Opener}
-use Rattle.event_core.specs.Events.{EventRead, events_of_wholes, thread_of, wholes_of}
+use Rattle.capture_frame.specs.Envelope.{PlacedFrame}
+use Rattle.event_core.specs.Events.{EventRead, events_of_frames, thread_of}
 use Rattle.event_core.specs.declared.marks.Bracket.TheVariants.{Refused}
 use Rattle.summary_law.specs.Ranked.{ListsInOrder}
-use Rattle.transaction_view.specs.Grammar.{IsInGrammar, WholeFrame}
+use Rattle.transaction_view.specs.Grammar.{frames_of_parts}
 use Rattle.audit_findings.specs.Calls.{calls_of, is_made, is_served, refused_of, served_of}
 use Rattle.audit_findings.specs.Findings.{findings_of}
 use Rattle.audit_findings.specs.Places.{RiseInPlace}
@@ -52,10 +53,10 @@ pub record AreMatchedCalls (events : List EventRead) (sections : CallSections Ev
 
 -- in a capture in the grammar, the events rise strictly in place
 abbrev pub EventsRise : Type 0
-EventsRise = (capture : List ℕ) (wholes : List WholeFrame) → IsInGrammar capture wholes
-    → RiseInPlace (events_of_wholes (wholes_of wholes))
+EventsRise = (parts : List (List ℕ)) (frames : List PlacedFrame) → frames_of_parts parts ≡ Ok frames
+    → RiseInPlace (events_of_frames frames)
 
 -- in a capture in the grammar, what the findings say of the calls of all threads is what matching says
 abbrev pub HaveMatchedCalls : Type 0
-HaveMatchedCalls = (capture : List ℕ) (wholes : List WholeFrame) → IsInGrammar capture wholes
-    → AreMatchedCalls (events_of_wholes (wholes_of wholes)) (findings_of (wholes_of wholes)).calls
+HaveMatchedCalls = (parts : List (List ℕ)) (frames : List PlacedFrame) → frames_of_parts parts ≡ Ok frames
+    → AreMatchedCalls (events_of_frames frames) (findings_of frames).calls

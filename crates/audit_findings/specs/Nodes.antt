@@ -1,9 +1,8 @@
 -- The section `nodes`: the references that the driver asks each process to hold to its nodes (docs/REPORT.md).
 use Rattle.std.specs.Prelude.{◌||◌, Bool, List}
 use Rattle.capture_frame.specs.declared.process.Process.{Process}
-use Rattle.capture_frame.specs.Units.{Placed}
-use Rattle.transaction_view.specs.Grammar.{WholeFrame}
-use Rattle.event_core.specs.Events.{EventRead, events_of_wholes}
+use Rattle.capture_frame.specs.Envelope.{PlacedFrame}
+use Rattle.event_core.specs.Events.{EventRead, events_of_frames}
 use Rattle.handle_ledger.specs.Nodes.{node_rows}
 use Rattle.handle_ledger.specs.declared.node_row.NodeRow.{NodeRow}
 use Rattle.process_ledgers.specs.Items.{node_item_of}
@@ -23,5 +22,6 @@ is_unbalanced_node row =
     is_not_zero row.strong.sum || is_not_zero row.weak.sum || is_not_zero row.strong_due || is_not_zero row.weak_due
 
 -- the section: the rows of each process in turn, and how many are unbalanced
-abbrev pub node_references : List (Placed WholeFrame) → References NodeRow
-node_references wholes = references is_unbalanced_node (in_turn (nodes_in (events_of_wholes wholes)) (processes_of wholes))
+abbrev pub node_references : List PlacedFrame → References NodeRow
+node_references frames =
+    references is_unbalanced_node (in_turn (nodes_in (events_of_frames frames)) (processes_of frames))

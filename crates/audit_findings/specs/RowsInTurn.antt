@@ -1,13 +1,14 @@
 -- The rows of `handles` and `nodes`, by what is a row of a process (docs/REPORT.md).
-use Rattle.std.specs.Prelude.{◌≡◌, ◌↔◌, ℕ, List, map, Contains}
+use Rattle.std.specs.Prelude.{◌≡◌, ◌↔◌, ℕ, List, map, Contains, Ok}
 use Rattle.std.specs.List.Sorted.{IsStrictlySortedBy}
 use Rattle.std.specs.Ordering.{nat_cmp}
 use Rattle.std.specs.declared.cmp.Ordering.{Ordering}
+use Rattle.capture_frame.specs.Envelope.{PlacedFrame}
 use Rattle.capture_frame.specs.declared.process.Process.{Process}
-use Rattle.event_core.specs.Events.{events_of_wholes, wholes_of}
+use Rattle.event_core.specs.Events.{events_of_frames}
 use Rattle.handle_ledger.specs.Nodes.{node_cmp}
 use Rattle.process_ledgers.specs.Processes.{processes_of}
-use Rattle.transaction_view.specs.Grammar.{IsInGrammar, WholeFrame}
+use Rattle.transaction_view.specs.Grammar.{frames_of_parts}
 use Rattle.audit_findings.specs.Findings.{findings_of}
 use Rattle.audit_findings.specs.HandleRows.{IsHandleRow}
 use Rattle.audit_findings.specs.InTurn.{in_turn}
@@ -25,12 +26,12 @@ pub record AreRowsInTurn {K R : Type 0} (cmp : K → K → Ordering) (key : R �
 
 -- in a capture in the grammar, the rows of `handles` are those of each process in turn, handles rising
 abbrev pub HaveHandleRows : Type 0
-HaveHandleRows = (capture : List ℕ) (wholes : List WholeFrame) → IsInGrammar capture wholes
-    → AreRowsInTurn nat_cmp (λ row. row.taken.handle) (IsHandleRow (events_of_wholes (wholes_of wholes)))
-    (processes_of (wholes_of wholes)) (findings_of (wholes_of wholes)).processes.handles.rows
+HaveHandleRows = (parts : List (List ℕ)) (frames : List PlacedFrame) → frames_of_parts parts ≡ Ok frames
+    → AreRowsInTurn nat_cmp (λ row. row.taken.handle) (IsHandleRow (events_of_frames frames))
+    (processes_of frames) (findings_of frames).processes.handles.rows
 
 -- the rows of `nodes` are those of each process in turn, by rising ptr and then by rising cookie
 abbrev pub HaveNodeRows : Type 0
-HaveNodeRows = (wholes : List WholeFrame)
-    → AreRowsInTurn node_cmp (λ row. row.key) (IsNodeRow (events_of_wholes (wholes_of wholes)))
-    (processes_of (wholes_of wholes)) (findings_of (wholes_of wholes)).processes.nodes.rows
+HaveNodeRows = (frames : List PlacedFrame)
+    → AreRowsInTurn node_cmp (λ row. row.key) (IsNodeRow (events_of_frames frames))
+    (processes_of frames) (findings_of frames).processes.nodes.rows

@@ -1,8 +1,8 @@
 //! The attachments of events that are found by their places.
 
 ghost use Rattle.std.specs.Prelude.{◌≡◌, ◌≢◌, ◌≤◌, ◌+◌, ◌^◌, ◌∷◌, ◌++◌, ℕ, List, drop, length, IfOk, IfSome, IfNone, OnOk};
-ghost use Rattle.capture_frame.specs.Envelope.{frame_text, placed_frame};
-ghost use Rattle.transaction_view.specs.FirstFault.{HasGoodContent};
+ghost use Rattle.capture_frame.specs.Envelope.{placed_frame};
+ghost use Rattle.transaction_view.specs.Grammar.{IsGood};
 ghost use Rattle.audit_findings.specs.Entries.{AddsEntries, AreEntriesAt, entries_in, list_bytes};
 ghost use Rattle.audit_findings.specs.Frames.{AreGoodFrames};
 
@@ -45,7 +45,7 @@ fn add_frame<'c, 'p>(
     frame: Frame<'c>,
     places: &'p [u64],
 ) -> Result<&'p [u64], AllocError>
-    requires { HasGoodContent (frame_text frame) }
+    requires { IsGood (placed_frame frame) }
     ensures few { OnOk result (list_bytes entries.new.items
         ≤ list_bytes entries.old.items + length frame.entry.attachments.now) }
     ensures entries { IfOk result (λ rest. AddsEntries entries.old.items (placed_frame frame.entry)

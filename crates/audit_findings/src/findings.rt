@@ -40,7 +40,7 @@ impl<'c> Model for Findings<'c> {
 
     ghost view = { λ f. kept_findings f.frames f.sections };
 
-    // They are the findings of some whole frames of a capture, which the views show.
+    // The frames are good and follow one another, and the sections keep their findings.
     ghost invariant = { λ f. AreOfFrames f.frames f.sections };
 }
 

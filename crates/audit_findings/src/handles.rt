@@ -1,8 +1,7 @@
 //! The section `handles`.
 
 ghost use Rattle.std.specs.Prelude.{◌≡◌, List, map, IfOk};
-ghost use Rattle.capture_frame.specs.Units.{Placed};
-ghost use Rattle.transaction_view.specs.Grammar.{WholeFrame};
+ghost use Rattle.capture_frame.specs.Envelope.{PlacedFrame};
 ghost use Rattle.handle_ledger.specs.declared.held_row.HeldRow.{HeldRow};
 ghost use Rattle.audit_findings.specs.Frames.{AreGoodFrames};
 ghost use Rattle.audit_findings.specs.Handles.{handle_references};
@@ -59,9 +58,9 @@ pub(crate) fn handles_of(
     alloc: Global,
     lists: &[Vec<ProcessRow<HeldRow>>],
 ) -> Result<References<HeldRow>, AllocError>
-    ensures { IfOk result (λ found. (wholes : List (Placed WholeFrame)) →
-        AreListedHandles wholes (map (λ list. list.items) lists.now) →
-        found ≡ handle_references wholes) }
+    ensures { IfOk result (λ found. (frames : List PlacedFrame) →
+        AreListedHandles frames (map (λ list. list.items) lists.now) →
+        found ≡ handle_references frames) }
 {
     let mut rows = Vec::new(alloc);
     for list in lists {

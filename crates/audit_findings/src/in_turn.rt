@@ -1,9 +1,8 @@
 //! Rows of each process in turn.
 
 ghost use Rattle.std.specs.Prelude.{◌≡◌, ◌++◌, List, map, IfOk, OnOk};
-ghost use Rattle.capture_frame.specs.Units.{Placed};
-ghost use Rattle.transaction_view.specs.Grammar.{WholeFrame};
-ghost use Rattle.event_core.specs.Events.{EventRead, events_of_wholes};
+ghost use Rattle.capture_frame.specs.Envelope.{PlacedFrame};
+ghost use Rattle.event_core.specs.Events.{EventRead, events_of_frames};
 ghost use Rattle.process_ledgers.specs.EachProcess.{AreLedgersOf, SumsEach};
 ghost use Rattle.process_ledgers.specs.Processes.{processes_of};
 ghost use Rattle.audit_findings.specs.InTurn.{in_turn, process_row};
@@ -42,9 +41,9 @@ pub(crate) fn rows_in_turn<S: ByProcess>(
     alloc: Global,
     processes: Processes<'_, '_>,
 ) -> Result<Vec<ProcessRow<S::Row>>, AllocError>
-    ensures { IfOk result (λ rows. (wholes : List (Placed WholeFrame)) →
-        SumsEach processes.entry wholes →
-        rows.items ≡ in_turn (S.rows_of (events_of_wholes wholes)) (processes_of wholes)) }
+    ensures { IfOk result (λ rows. (frames : List PlacedFrame) →
+        SumsEach processes.entry frames →
+        rows.items ≡ in_turn (S.rows_of (events_of_frames frames)) (processes_of frames)) }
 {
     let mut rows = Vec::new(alloc);
     let mut guess = 0;

@@ -1,9 +1,10 @@
 //! The ledgers of frames.
 
-ghost use Rattle.std.specs.Prelude.{◌≡◌, [], ◌∷◌, map, IfOk, OnOk};
+ghost use Rattle.std.specs.Prelude.{◌≡◌, [], map, IfOk, OnOk};
 ghost use Rattle.capture_frame.specs.Envelope.{placed_frame};
-ghost use Rattle.summary_law.specs.Summary.{CanJoin, Joins};
-ghost use Rattle.audit_findings.specs.Ledgers.{SumsLedgers, SumsSome, NamesProcess, AreFewFrames, CanTake, TakesFrames, AreOfFew, GiveSections, GivesProcesses};
+ghost use Rattle.summary_law.specs.Summary.{CanAdd, Adds, CanJoin, Joins};
+ghost use Rattle.transaction_view.specs.Grammar.{IsGood};
+ghost use Rattle.audit_findings.specs.Ledgers.{SumsLedgers, SumsSome, NamesProcess, AreFewFrames, AreOfFew, GiveSections, GivesProcesses};
 
 use crate::both::both;
 use crate::call_sections::CallSections;
@@ -45,8 +46,10 @@ impl<'c> FrameLedgers<'c> {
 
     /// Adds a frame without a fault. After an error the ledgers may only be dropped.
     pub fn add(&mut self, frame: Frame<'c>) -> Result<(), AllocError>
-        requires { CanTake self.old (placed_frame frame ∷ []) }
-        ensures { OnOk result (TakesFrames self.old (placed_frame frame.entry ∷ []) self.new) }
+        requires good { IsGood (placed_frame frame) }
+        requires few { CanAdd SumsLedgers AreFewFrames self.old (placed_frame frame) }
+        ensures { OnOk result
+            (Adds SumsLedgers AreFewFrames self.old (placed_frame frame.entry) self.new) }
     {
         let thread = Thread {
             process: frame.of_process(),
@@ -59,8 +62,10 @@ impl<'c> FrameLedgers<'c> {
 
     // Adds a frame, after the sums of events were told where to look first.
     fn take(&mut self, frame: Frame<'c>) -> Result<(), AllocError>
-        requires { CanTake self.old (placed_frame frame ∷ []) }
-        ensures { OnOk result (TakesFrames self.old (placed_frame frame.entry ∷ []) self.new) }
+        requires good { IsGood (placed_frame frame) }
+        requires few { CanAdd SumsLedgers AreFewFrames self.old (placed_frame frame) }
+        ensures { OnOk result
+            (Adds SumsLedgers AreFewFrames self.old (placed_frame frame.entry) self.new) }
     {
         self.name_process(frame.of_process())?;
         self.sequences = self.sequences.with(frame.sequence);

@@ -1,8 +1,7 @@
 //! The section `nodes`.
 
 ghost use Rattle.std.specs.Prelude.{◌≡◌, List, IfOk};
-ghost use Rattle.capture_frame.specs.Units.{Placed};
-ghost use Rattle.transaction_view.specs.Grammar.{WholeFrame};
+ghost use Rattle.capture_frame.specs.Envelope.{PlacedFrame};
 ghost use Rattle.process_ledgers.specs.EachProcess.{SumsEach};
 ghost use Rattle.audit_findings.specs.Nodes.{node_references};
 
@@ -32,8 +31,8 @@ pub(crate) fn nodes_of(
     alloc: Global,
     processes: Processes<'_, '_>,
 ) -> Result<References<NodeRow>, AllocError>
-    ensures { IfOk result (λ found. (wholes : List (Placed WholeFrame)) →
-        SumsEach processes.entry wholes → found ≡ node_references wholes) }
+    ensures { IfOk result (λ found. (frames : List PlacedFrame) →
+        SumsEach processes.entry frames → found ≡ node_references frames) }
 {
     let rows = rows_in_turn::<Nodes>(alloc, processes)?;
     Ok(references_of(rows))

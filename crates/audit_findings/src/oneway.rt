@@ -1,10 +1,9 @@
 //! The rows of the section `oneway`.
 
 ghost use Rattle.std.specs.Prelude.{◌≡◌, List, IfOk};
-ghost use Rattle.capture_frame.specs.Units.{Placed};
-ghost use Rattle.transaction_view.specs.Grammar.{WholeFrame};
+ghost use Rattle.capture_frame.specs.Envelope.{PlacedFrame};
 ghost use Rattle.process_ledgers.specs.EachProcess.{SumsEach};
-ghost use Rattle.event_core.specs.Events.{events_of_wholes};
+ghost use Rattle.event_core.specs.Events.{events_of_frames};
 ghost use Rattle.process_ledgers.specs.Processes.{processes_of};
 ghost use Rattle.audit_findings.specs.InTurn.{in_turn};
 ghost use Rattle.audit_findings.specs.Oneway.{oneway_of};
@@ -39,9 +38,9 @@ pub(crate) fn oneway_rows(
     alloc: Global,
     processes: Processes<'_, '_>,
 ) -> Result<Rows<ProcessRow<OnewayRow>>, AllocError>
-    ensures { IfOk result (λ rows. (wholes : List (Placed WholeFrame)) →
-        SumsEach processes.entry wholes →
-        rows ≡ in_turn (oneway_of (events_of_wholes wholes)) (processes_of wholes)) }
+    ensures { IfOk result (λ rows. (frames : List PlacedFrame) →
+        SumsEach processes.entry frames →
+        rows ≡ in_turn (oneway_of (events_of_frames frames)) (processes_of frames)) }
 {
     Ok(Rows::of(rows_in_turn::<Oneway>(alloc, processes)?))
 }

@@ -1,9 +1,8 @@
 //! Opens and closes that the ledgers of processes pair by key, and those without a partner.
 
 ghost use Rattle.std.specs.Prelude.{◌≡◌, List, IfOk};
-ghost use Rattle.capture_frame.specs.Units.{Placed};
-ghost use Rattle.transaction_view.specs.Grammar.{WholeFrame};
-ghost use Rattle.event_core.specs.Events.{events_of_wholes};
+ghost use Rattle.capture_frame.specs.Envelope.{PlacedFrame};
+ghost use Rattle.event_core.specs.Events.{events_of_frames};
 ghost use Rattle.process_ledgers.specs.EachProcess.{SumsEach};
 ghost use Rattle.audit_findings.specs.Kept.{pairs_at_places};
 ghost use Rattle.audit_findings.specs.Places.{RiseInPlace, open_and_stray};
@@ -77,10 +76,10 @@ pub(crate) fn open_and_stray_of<P: OpensAndCloses>(
     alloc: Global,
     processes: Processes<'_, '_>,
 ) -> Result<OpenAndStray<u64>, AllocError>
-    ensures { IfOk result (λ found. (wholes : List (Placed WholeFrame)) →
-        SumsEach processes.entry wholes →
-        RiseInPlace (events_of_wholes wholes) →
-        found ≡ pairs_at_places (open_and_stray P.read (events_of_wholes wholes))) }
+    ensures { IfOk result (λ found. (frames : List PlacedFrame) →
+        SumsEach processes.entry frames →
+        RiseInPlace (events_of_frames frames) →
+        found ≡ pairs_at_places (open_and_stray P.read (events_of_frames frames))) }
 {
     let mut places = places_of::<Unclosed<P>>(alloc, processes)?;
     let closes = places_of::<Strays<P>>(alloc, processes)?;

@@ -1,9 +1,8 @@
 //! Places that the ledgers of all processes list, rising.
 
 ghost use Rattle.std.specs.Prelude.{◌≡◌, List, length, map, IfOk};
-ghost use Rattle.capture_frame.specs.Units.{Placed};
-ghost use Rattle.transaction_view.specs.Grammar.{WholeFrame};
-ghost use Rattle.event_core.specs.Events.{events_of_wholes};
+ghost use Rattle.capture_frame.specs.Envelope.{PlacedFrame};
+ghost use Rattle.event_core.specs.Events.{events_of_frames};
 ghost use Rattle.process_ledgers.specs.EachProcess.{SumsEach};
 ghost use Rattle.process_ledgers.specs.Processes.{processes_of};
 ghost use Rattle.audit_findings.specs.Kept.{places_of};
@@ -37,10 +36,10 @@ pub(crate) fn lists_of<L: ListsPlaces>(
 ) -> Result<Vec<Vec<u64>>, AllocError>
     ensures count { IfOk result (λ lists.
         length lists.items ≡ length processes.entry.order.now.entries.entries) }
-    ensures lists { IfOk result (λ lists. (wholes : List (Placed WholeFrame)) →
-        SumsEach processes.entry wholes →
+    ensures lists { IfOk result (λ lists. (frames : List PlacedFrame) →
+        SumsEach processes.entry frames →
         map (λ list. list.items) lists.items
-        ≡ map (places_in L.test (events_of_wholes wholes)) (processes_of wholes)) }
+        ≡ map (places_in L.test (events_of_frames frames)) (processes_of frames)) }
 {
     let mut lists = Vec::new(alloc);
     let mut guess = 0;
@@ -56,11 +55,11 @@ pub(crate) fn gathered<L: ListsPlaces>(
     alloc: Global,
     lists: &[Vec<u64>],
 ) -> Result<Vec<u64>, AllocError>
-    ensures { IfOk result (λ places. (wholes : List (Placed WholeFrame)) →
-        RiseInPlace (events_of_wholes wholes) →
+    ensures { IfOk result (λ places. (frames : List PlacedFrame) →
+        RiseInPlace (events_of_frames frames) →
         map (λ list. list.items) lists.now
-        ≡ map (places_in L.test (events_of_wholes wholes)) (processes_of wholes) →
-        places.items ≡ places_of (listed L.test (events_of_wholes wholes))) }
+        ≡ map (places_in L.test (events_of_frames frames)) (processes_of frames) →
+        places.items ≡ places_of (listed L.test (events_of_frames frames))) }
 {
     let mut places = Vec::new(alloc);
     for list in lists {
@@ -75,9 +74,9 @@ pub(crate) fn places_of<L: ListsPlaces>(
     alloc: Global,
     processes: Processes<'_, '_>,
 ) -> Result<Vec<u64>, AllocError>
-    ensures { IfOk result (λ places. (wholes : List (Placed WholeFrame)) →
-        SumsEach processes.entry wholes → RiseInPlace (events_of_wholes wholes) →
-        places.items ≡ places_of (listed L.test (events_of_wholes wholes))) }
+    ensures { IfOk result (λ places. (frames : List PlacedFrame) →
+        SumsEach processes.entry frames → RiseInPlace (events_of_frames frames) →
+        places.items ≡ places_of (listed L.test (events_of_frames frames))) }
 {
     let lists = lists_of::<L>(alloc, processes)?;
     gathered::<L>(alloc, lists.as_slice())

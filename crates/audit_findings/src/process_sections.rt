@@ -1,9 +1,8 @@
 //! What the report says of each process.
 
 ghost use Rattle.std.specs.Prelude.{◌≡◌, List, map, IfOk};
-ghost use Rattle.capture_frame.specs.Units.{Placed};
-ghost use Rattle.transaction_view.specs.Grammar.{WholeFrame};
-ghost use Rattle.event_core.specs.Events.{events_of_wholes};
+ghost use Rattle.capture_frame.specs.Envelope.{PlacedFrame};
+ghost use Rattle.event_core.specs.Events.{events_of_frames};
 ghost use Rattle.process_ledgers.specs.EachProcess.{SumsEach};
 ghost use Rattle.audit_findings.specs.Findings.{process_sections};
 ghost use Rattle.audit_findings.specs.Kept.{processes_at_places};
@@ -60,12 +59,12 @@ impl ProcessSections<u64> {
         unfreed: &[Vec<u64>],
         handles: &[Vec<ProcessRow<HeldRow>>],
     ) -> Result<Self, AllocError>
-        ensures { IfOk result (λ kept. (wholes : List (Placed WholeFrame)) →
-            SumsEach processes.entry wholes →
-            AreUnfreed wholes (map (λ list. list.items) unfreed.now) →
-            AreListedHandles wholes (map (λ list. list.items) handles.now) →
-            RiseInPlace (events_of_wholes wholes) →
-            kept ≡ processes_at_places (process_sections wholes)) }
+        ensures { IfOk result (λ kept. (frames : List PlacedFrame) →
+            SumsEach processes.entry frames →
+            AreUnfreed frames (map (λ list. list.items) unfreed.now) →
+            AreListedHandles frames (map (λ list. list.items) handles.now) →
+            RiseInPlace (events_of_frames frames) →
+            kept ≡ processes_at_places (process_sections frames)) }
     {
         let references = both(handles_of(alloc, handles), nodes_of(alloc, processes));
         let buffers = both(

@@ -1,8 +1,7 @@
 //! The sequences of the frames.
 
 ghost use Rattle.std.specs.Prelude.{◌≡◌, ◌+◌, ◌<◌, ◌^◌, List, ◌∷◌, ◌++◌, []};
-ghost use Rattle.capture_frame.specs.Units.{Placed};
-ghost use Rattle.transaction_view.specs.Grammar.{WholeFrame};
+ghost use Rattle.capture_frame.specs.Envelope.{PlacedFrame};
 ghost use Rattle.audit_findings.specs.Findings.{missing_count};
 ghost use Rattle.audit_findings.specs.Ledgers.{SumsFrames};
 
@@ -24,9 +23,9 @@ impl Sequences {
     /// The sequences of these frames and of one more, which has this sequence.
     pub fn with(self, sequence: u64) -> Self
         requires { self.frames + 1 < 2 ^ 64 }
-        ensures { (wholes : List (Placed WholeFrame)) (next : Placed WholeFrame) →
-            SumsFrames self wholes → next.unit.frame.sequence ≡ sequence →
-            SumsFrames result (wholes ++ next ∷ []) }
+        ensures { (frames : List PlacedFrame) (next : PlacedFrame) →
+            SumsFrames self frames → next.unit.sequence ≡ sequence →
+            SumsFrames result (frames ++ next ∷ []) }
     {
         let first = if self.frames == 0 {
             sequence
@@ -43,9 +42,9 @@ impl Sequences {
     /// The sequences of these frames and of the later ones.
     pub fn then(self, later: Self) -> Self
         requires { self.frames + later.frames < 2 ^ 64 }
-        ensures { (wholes others : List (Placed WholeFrame)) →
-            SumsFrames self wholes → SumsFrames later others →
-            SumsFrames result (wholes ++ others) }
+        ensures { (frames others : List PlacedFrame) →
+            SumsFrames self frames → SumsFrames later others →
+            SumsFrames result (frames ++ others) }
     {
         if later.frames == 0 {
             return self;
@@ -62,8 +61,8 @@ impl Sequences {
 
     /// How many sequences from the first to the last have no frame.
     pub fn missing(self) -> u64
-        ensures { (wholes : List (Placed WholeFrame)) → SumsFrames self wholes →
-            result ≡ missing_count wholes }
+        ensures { (frames : List PlacedFrame) → SumsFrames self frames →
+            result ≡ missing_count frames }
     {
         if self.frames == 0 {
             return 0;

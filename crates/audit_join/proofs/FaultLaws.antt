@@ -1,132 +1,94 @@
--- Frames have only one first fault.
-use Rattle.std.proofs.Common.{◌≡◌, ℕ, ◌+◌, ◌<◌, List, [], ◌∷◌, ◌++◌, length, take, drop, get_or, Option, Some, None, refl, sym, ap, ◌∙◌, subst, length-append, append_assoc, arith}
-use Rattle.std.specs.Prelude.{Contains, IsSome, slice_get}
-use Rattle.std.proofs.lemmas.List.{take-append-drop, take_more}
+-- The first fault of the content of frames: which frame has it, and where it is.
+use Rattle.std.proofs.Common.{◌≡◌, ℕ, suc, ◌+◌, ◌<◌, ◌≤◌, List, [], ◌∷◌, ◌++◌, length, take, drop, Option, Some, None, refl, sym, ap, ap₂, subst, ◌∙◌, append_assoc, arith}
+use Rattle.std.proofs.lemmas.List.{take_more, take-append-drop}
 use Rattle.std.proofs.lemmas.Option.{get_or_from_slice_get, slice_get_within}
-use Rattle.std.proofs.lemmas.List.Elements.{All-append, All-cons, All-head, All-nil, All-tail}
+use Rattle.std.specs.Prelude.{All, Contains, IfSome, IsSome, slice_get}
+use Rattle.std.specs.Option.{option_map}
+use Rattle.std.proofs.lemmas.List.Elements.{All-cons, All-head, All-nil, All-tail}
 use Rattle.capture_frame.specs.declared.fault.Fault.{Fault}
 use Rattle.capture_frame.specs.declared.frame.Frame.{Frame}
-use Rattle.capture_frame.specs.Envelope.{FrameText, PlacedFrame, placed_frame}
-use Rattle.capture_frame.specs.Units.{Format, FirstFailure, state_after, spelling_of}
-use Rattle.capture_frame.specs.declared.fault.FaultKind.{FaultKind}
-use Rattle.capture_frame.proofs.UnitLaws.{IsDecided}
-use Rattle.record_view.specs.Records.{format_of, protocol_of}
-use Rattle.record_view.proofs.RecordLaws.{records_decided}
-use Rattle.transaction_view.specs.Attachments.{entry_format}
-use Rattle.transaction_view.proofs.EntryLaws.{entries_decided}
-use Rattle.transaction_view.specs.FirstFault.{HasGoodContent, HasContentFault, ContentFails, in_records, in_entries}
+use Rattle.capture_frame.specs.Envelope.{PlacedFrame, placed_frame}
 use Rattle.capture_frame.specs.Lookup.{Holds, IsFrameAt}
-use Rattle.transaction_view.proofs.OneAnswer.{content_one_of}
-use Rattle.audit_findings.proofs.FrameLaws.{first_same}
 use Rattle.capture_frame.proofs.LookupLaws.{one_held, some_held}
-use Rattle.audit_join.specs.Jobs.{AreSound, IsFirstIn, HasFirstAt, IsFaultOf}
+use Rattle.transaction_view.specs.Grammar.{content_fault, first_content_fault, first_of, IsGood}
+use Rattle.transaction_view.proofs.WholeLaws.{fault_held}
+use Rattle.audit_join.specs.Jobs.{AreSound, first_place}
 
-abbrev IsGood : PlacedFrame → Type 0
-IsGood frame = HasGoodContent frame.unit
+first_again : (a b c : Option Fault) → first_of a (first_of b c) ≡ first_of (first_of a b) c
+first_again None b c = refl
+first_again (Some x) b c = refl
 
--- no good frame has a fault
-pub good_or_bad : (frame found : PlacedFrame) (fault : Fault) → frame ≡ found → IsGood frame → HasContentFault found fault → ⊥
-good_or_bad frame found fault same good fails = (content_one_of found).never_both fault (subst IsGood same good) fails
+pub first_append : (frames more : List PlacedFrame)
+    → first_content_fault (frames ++ more) ≡ first_of (first_content_fault frames) (first_content_fault more)
+first_append [] more = refl
+first_append (f ∷ frames) more =
+    ap (first_of (content_fault f)) (first_append frames more)
+    ∙ first_again (content_fault f) (first_content_fault frames) (first_content_fault more)
 
--- two first faults of one list of frames are the same
-one_first : (front back : List PlacedFrame) (f g : PlacedFrame) (rest others : List PlacedFrame) (a b : Fault) → front ++ f ∷ rest ≡ back ++ g ∷ others → AreSound front
-    → AreSound back → HasContentFault f a → HasContentFault g b → a ≡ b
-one_first [] [] f g rest others a b same sound sound_too fails fails_too =
-    let one = first_same f g rest others same in
-    (content_one_of g).one_fault a b (subst (λ (x : PlacedFrame). HasContentFault x a) one.0 fails) fails_too
-one_first [] (y ∷ back) f g rest others a b same sound sound_too fails fails_too =
-    let one = first_same f y rest (back ++ g ∷ others) same in
-    absurd (good_or_bad y f a (sym one.0) (All-head IsGood y back sound_too) fails)
-one_first (x ∷ front) [] f g rest others a b same sound sound_too fails fails_too =
-    let one = first_same x g (front ++ f ∷ rest) others same in
-    absurd (good_or_bad x g b one.0 (All-head IsGood x front sound) fails_too)
-one_first (x ∷ front) (y ∷ back) f g rest others a b same sound sound_too fails fails_too =
-    let one = first_same x y (front ++ f ∷ rest) (back ++ g ∷ others) same in
-    one_first front back f g rest others a b one.1 (All-tail IsGood x front sound) (All-tail IsGood y back sound_too) fails fails_too
+pub first_none : (a b : Option Fault) → first_of a b ≡ None → (a ≡ None) × (b ≡ None)
+first_none None b none = (refl, none)
+first_none (Some x) b none = let wrong : Some x ≡ None = none in absurd (cc)
 
--- sound frames have no fault
-sound_at : (before : List PlacedFrame) (frame : PlacedFrame) (after : List PlacedFrame) → AreSound (before ++ frame ∷ after) → IsGood frame
-sound_at [] frame after sound = All-head IsGood frame after sound
-sound_at (f ∷ before) frame after sound = sound_at before frame after (All-tail IsGood f (before ++ frame ∷ after) sound)
+-- frames are sound if there is no first fault, and only then
+pub sound_of : (frames : List PlacedFrame) → first_content_fault frames ≡ None → AreSound frames
+sound_of [] none = All-nil IsGood
+sound_of (f ∷ frames) none =
+    let both = first_none (content_fault f) (first_content_fault frames) none in
+    All-cons IsGood f frames both.0 (sound_of frames both.1)
 
-none_first : (frames : List PlacedFrame) (fault : Fault) → AreSound frames → IsFirstIn frames fault → ⊥
-none_first frames fault sound first =
-    good_or_bad first.frame first.frame fault refl (sound_at first.before first.frame first.after (subst AreSound first.are sound)) first.fails
+pub none_of : (frames : List PlacedFrame) → AreSound frames → first_content_fault frames ≡ None
+none_of [] sound = refl
+none_of (f ∷ frames) sound =
+    ap₂ first_of (All-head IsGood f frames sound) (none_of frames (All-tail IsGood f frames sound))
 
--- if frames have a first fault, the place is that of this fault
-pub place_found : (frames : List PlacedFrame) (place : Option ℕ) (fault : Fault) → IsFaultOf frames place → IsFirstIn frames fault → place ≡ Some fault.place
-place_found frames None fault sound first = absurd (none_first frames fault sound first)
-place_found frames (Some place) fault (other, is, at) first =
-    let same = one_first is.before first.before is.frame first.frame is.after first.after other fault (sym is.are ∙ first.are) is.sound first.sound
-    is.fails first.fails in
-    ap Some (at ∙ ap (λ (f : Fault). f.place) same)
+first_or_later : (P : ℕ → Type 0) (f : PlacedFrame) (frames : List PlacedFrame) (here : Option Fault) → content_fault f ≡ here
+    → ((x : ℕ) → Holds x f → P x) → IfSome (first_place frames) P
+    → IfSome (option_map (λ (fault : Fault). fault.place) (first_of here (first_content_fault frames))) P
+first_or_later P f frames None is one others = others
+first_or_later P f frames (Some fault) is one others =
+    let held = fault_held f fault is in
+    let least = held.0 in
+    let most = held.1 in
+    one fault.place (omega (arith, least), omega (arith, most))
 
--- and if they are sound, there is no place
-pub none_found : (frames : List PlacedFrame) (place : Option ℕ) → IsFaultOf frames place → AreSound frames → place ≡ None
-none_found frames None is sound = refl
-none_found frames (Some place) (fault, first, at) sound = absurd (none_first frames fault sound first)
+-- what holds of each place in these frames holds of that of the first fault
+pub first_by : (P : ℕ → Type 0) (frames : List PlacedFrame) → All (λ (f : PlacedFrame). (x : ℕ) → Holds x f → P x) frames → IfSome (first_place frames) P
+first_by P [] all = tt
+first_by P (f ∷ frames) all =
+    let Here : PlacedFrame → Type 0 = λ f. (x : ℕ) → Holds x f → P x in
+    first_or_later P f frames (content_fault f) refl (All-head Here f frames all) (first_by P frames (All-tail Here f frames all))
 
--- ---- where a fault is
+-- the frame that has the first fault
+pub record HasFirst (frames : List PlacedFrame) (fault : Fault) : Type 0 where
+  pub frame : PlacedFrame
+  pub there : Contains frames frame
+  pub fails : content_fault frame ≡ Some fault
 
--- where reading fails there is at least one byte
-some_left : {S U K : Type 0} (format : Format S U K) → IsDecided format → (state : S) (rest : List ℕ) (kind : K) (within : ℕ)
-    → format.Fails state rest kind within → 0 < length rest
-some_left format decided state [] kind within fails = absurd (decided.end_is_good state kind within fails)
-some_left format decided state (b ∷ rest) kind within fails = omega arith
+frame_or_later : (f : PlacedFrame) (frames : List PlacedFrame) (fault : Fault) (here : Option Fault) → content_fault f ≡ here
+    → (first_content_fault frames ≡ Some fault → HasFirst frames fault) → first_of here (first_content_fault frames) ≡ Some fault
+    → HasFirst (f ∷ frames) fault
+frame_or_later f frames fault None here others is =
+    let later = others is in
+    let there = later.there in
+    let inside = there.1 in
+    record { frame = later.frame; there = (suc there.0, omega (arith, inside), there.2); fails = later.fails }
+frame_or_later f frames fault (Some x) here others is = record { frame = f; there = (0, omega arith, refl); fails = here ∙ is }
 
--- a first failure is within the bytes
-fails_within : {S U K : Type 0} (format : Format S U K) → IsDecided format → (state : S) (bytes : List ℕ) (kind : K) (distance : ℕ)
-    → (fails : FirstFailure format state bytes kind distance) → fails.within ≡ 0 → distance < length bytes
-fails_within format decided state bytes kind distance fails at_start =
-    let some = some_left format decided (state_after format state fails.before) fails.rest kind fails.within fails.fails in
-    let whole = ap length fails.splits.joined ∙ length-append (spelling_of format fails.before) fails.rest in
-    let is_at = fails.is_at in
-    omega (arith, some, whole, is_at, at_start)
+pub first_frame : (frames : List PlacedFrame) (fault : Fault) → first_content_fault frames ≡ Some fault → HasFirst frames fault
+first_frame [] fault is = let wrong : None ≡ Some fault = is in absurd (cc)
+first_frame (f ∷ frames) fault is = frame_or_later f frames fault (content_fault f) refl (first_frame frames fault) is
 
-content_within : (frame : FrameText) (kind : FaultKind) (within : ℕ) → ContentFails frame kind within
-    → within < 32 + length frame.commands + length frame.attachments
-content_within frame kind within (in_records distance fails is) =
-    let inside = fails_within (format_of frame) (records_decided (protocol_of frame.direction)) tt frame.commands kind distance fails fails.fails.1 in
-    omega (arith, inside, is)
-content_within frame kind within (in_entries distance readable fails is) =
-    let inside = fails_within (entry_format frame) (entries_decided frame readable.0 readable.1) None frame.attachments kind distance fails fails.fails.1 in
-    omega (arith, inside, is)
+-- it holds the place of the fault
+pub holds_first : (frames : List PlacedFrame) (fault : Fault) (first : HasFirst frames fault) → Holds fault.place first.frame
+holds_first frames fault first =
+    let held = fault_held first.frame fault first.fails in
+    let least = held.0 in
+    let most = held.1 in
+    (omega (arith, least), omega (arith, most))
 
--- the frame holds its fault's place
-pub fault_held : (frame : PlacedFrame) (fault : Fault) → HasContentFault frame fault → Holds fault.place frame
-fault_held frame fault (within, fails, is) =
-    let inside = content_within frame.unit fault.kind within fails in
-    (omega (arith, is), omega (arith, is, inside))
+-- ---- frame by frame
 
-in_middle : (before : List PlacedFrame) (frame : PlacedFrame) (after : List PlacedFrame) → get_or (before ++ frame ∷ after) (length before) frame ≡ frame
-in_middle [] frame after = refl
-in_middle (f ∷ before) frame after = in_middle before frame after
-
--- the frame with the first fault is one of the frames
-pub faulty_there : (frames : List PlacedFrame) (fault : Fault) (first : IsFirstIn frames fault) → Contains frames first.frame
-faulty_there frames fault first =
-    let long = ap length first.are ∙ length-append first.before (first.frame ∷ first.after) in (
-      length first.before,
-      omega (arith, long),
-      ap (λ (t : List PlacedFrame). get_or t (length first.before) first.frame) first.are ∙ in_middle first.before first.frame first.after,
-    )
-
--- some frame holds the place of the first fault, and this is the frame that has the fault
-pub some_holds : (frames : List PlacedFrame) (place : ℕ) (result : Option Frame) → IsFrameAt frames place result → HasFirstAt frames place → IsSome result
-some_holds frames place result is (fault, first, at) =
-    some_held frames place result first.frame is (faulty_there frames fault first)
-    (subst (λ (n : ℕ). Holds n first.frame) (sym at) (fault_held first.frame fault first.fails))
-
-pub fails_there : (frames : List PlacedFrame) (place : ℕ) (found : Frame) → IsFrameAt frames place (Some found) → (there : HasFirstAt frames place)
-    → HasContentFault (placed_frame found) there.0
-fails_there frames place found is (fault, first, at) =
-    subst (λ (f : PlacedFrame). HasContentFault f fault)
-    (one_held frames place found first.frame is (faulty_there frames fault first)
-    (subst (λ (n : ℕ). Holds n first.frame) (sym at) (fault_held first.frame fault first.fails)))
-    first.fails
-
--- ---- a list around one of its elements
-
+-- a list around one of its elements
 pub one_after : (frames : List PlacedFrame) (i : ℕ) (f : PlacedFrame) → take (i + 1) frames ≡ take i frames ++ f ∷ []
     → frames ≡ take i frames ++ f ∷ drop (i + 1) frames
 one_after frames i f more = sym (take-append-drop (i + 1) frames) ∙ ap (λ (t : List PlacedFrame). t ++ drop (i + 1) frames) more
@@ -138,8 +100,40 @@ first_more frames i found is =
     take_more frames i found (slice_get_within frames i found is)
     ∙ ap (λ (x : PlacedFrame). take i frames ++ x ∷ []) (get_or_from_slice_get frames i found found is)
 
-pub sound_more : (frames : List PlacedFrame) (i : ℕ) (found : PlacedFrame) → slice_get frames i ≡ Some found → AreSound (take i frames) → IsGood found
-    → AreSound (take (i + 1) frames)
-sound_more frames i found is sound good =
-    subst AreSound (sym (first_more frames i found is))
-    (All-append IsGood (take i frames) (found ∷ []) sound (All-cons IsGood found [] good (All-nil IsGood)))
+-- one more frame without a fault
+pub none_more : (frames : List PlacedFrame) (i : ℕ) (found : PlacedFrame) → slice_get frames i ≡ Some found → first_content_fault (take i frames) ≡ None
+    → content_fault found ≡ None → first_content_fault (take (i + 1) frames) ≡ None
+none_more frames i found there none good =
+    ap first_content_fault (first_more frames i found there) ∙ first_append (take i frames) (found ∷ [])
+    ∙ ap₂ first_of none (ap (λ (o : Option Fault). first_of o None) good)
+
+-- the first frame with a fault
+pub first_at : (frames : List PlacedFrame) (i : ℕ) (found : PlacedFrame) (fault : Fault) → slice_get frames i ≡ Some found
+    → first_content_fault (take i frames) ≡ None → content_fault found ≡ Some fault → first_content_fault frames ≡ Some fault
+first_at frames i found fault there none bad =
+    let others = drop (i + 1) frames in
+    ap first_content_fault (one_after frames i found (first_more frames i found there)) ∙ first_append (take i frames) (found ∷ others)
+    ∙ ap₂ first_of none (ap (λ (o : Option Fault). first_of o (first_content_fault others)) bad)
+
+-- ---- the frame at the place of the first fault
+
+pub some_holds : (frames : List PlacedFrame) (place : ℕ) (result : Option Frame) (found : Option Fault) → first_content_fault frames ≡ found
+    → option_map (λ (fault : Fault). fault.place) found ≡ Some place → IsFrameAt frames place result → IsSome result
+some_holds frames place result None is at there = let wrong : None ≡ Some place = at in absurd (cc)
+some_holds frames place result (Some fault) is at there =
+    let first = first_frame frames fault is in
+    let same : fault.place ≡ place = cc in
+    some_held frames place result first.frame there first.there (subst (λ (n : ℕ). Holds n first.frame) same (holds_first frames fault first))
+
+pub fails_there : (frames : List PlacedFrame) (place : ℕ) (result : Frame) (found : Option Fault) → first_content_fault frames ≡ found
+    → option_map (λ (fault : Fault). fault.place) found ≡ Some place → IsFrameAt frames place (Some result) → content_fault (placed_frame result) ≡ found
+fails_there frames place result None is at there = let wrong : None ≡ Some place = at in absurd (cc)
+fails_there frames place result (Some fault) is at there =
+    let first = first_frame frames fault is in
+    let same : fault.place ≡ place = cc in
+    ap content_fault (sym (one_held frames place result first.frame there first.there (subst (λ (n : ℕ). Holds n first.frame) same (holds_first frames fault first))))
+    ∙ first.fails
+
+pub some_first : (found : Option Fault) (place : ℕ) → option_map (λ (fault : Fault). fault.place) found ≡ Some place → IsSome found
+some_first None place at = let wrong : None ≡ Some place = at in absurd (cc)
+some_first (Some fault) place at = refl

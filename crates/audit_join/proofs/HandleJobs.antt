@@ -3,32 +3,28 @@ use Rattle.std.proofs.Common.{◌≡◌, ℕ, zero, suc, ◌+◌, ◌^◌, ◌<�
 use Rattle.std.specs.Option.{unwrap_or}
 use Rattle.std.specs.Prelude.{All, IfSome, slice_get, slice_index_or}
 use Rattle.std.specs.List.{range_with_len}
-use Rattle.std.proofs.Math.Logic.{∥∥₁_elim, ∥∥₁_map}
-use Rattle.std.specs.Coded.{le_prop}
 use Rattle.std.proofs.lemmas.List.{length-map}
 use Rattle.std.proofs.lemmas.List.Elements.{All-cons, All-nil}
 use Rattle.std.proofs.lemmas.List.FromFn.{get_or-map-range_with_len, length-map-range_with_len}
 use Rattle.std.proofs.lemmas.List.Sums.{count_by-le-length, length-filter}
 use Rattle.capture_frame.specs.Process.{same_process}
-use Rattle.capture_frame.specs.Units.{Placed}
 use Rattle.capture_frame.specs.declared.process.Process.{Process}
 use Rattle.claim_board.specs.Board.{AreJobs}
 use Rattle.claim_board.specs.Orders.{IsLeastFault}
 use Rattle.claim_board.specs.Results.{AreInOrder}
 use Rattle.claim_board.specs.Running.{AreWorkJobs, job_at, no_place}
 use Rattle.claim_board.specs.declared.job.Job.{Job}
-use Rattle.event_core.specs.Events.{events_of_wholes}
+use Rattle.event_core.specs.Events.{events_of_frames}
 use Rattle.std.proofs.lemmas.Simd.{map-map}
 use Rattle.std.specs.Prelude.{⊤}
-use Rattle.process_ledgers.specs.Processes.{process_of_whole, processes_of}
+use Rattle.process_ledgers.specs.Processes.{process_of_placed, processes_of}
+use Rattle.process_ledgers.specs.EachProcess.{order_item}
 use Rattle.summary_law.specs.declared.nothing.Nothing.{Nothing}
 use Rattle.summary_law.specs.InOrder.{firsts}
-use Rattle.transaction_view.specs.Grammar.{WholeFrame}
-use Rattle.audit_findings.proofs.EventSizes.{few_frames}
-use Rattle.audit_findings.proofs.FrameLaws.{first_same, good_shown}
+use Rattle.audit_findings.proofs.FrameLaws.{few_frames}
 use Rattle.audit_findings.proofs.HandleRows.{ListOfRows, lists_of}
 use Rattle.audit_findings.specs.Buffers.{is_leaked}
-use Rattle.audit_findings.specs.Frames.{AreGoodFrames, AreViews}
+use Rattle.audit_findings.specs.Frames.{AreGoodFrames}
 use Rattle.audit_findings.specs.Handles.{handles_in}
 use Rattle.audit_findings.specs.InTurn.{rows_in}
 use Rattle.audit_findings.specs.Ledgers.{AreListedHandles, AreUnfreed}
@@ -36,10 +32,6 @@ use Rattle.audit_findings.specs.Places.{places_in}
 use Rattle.audit_findings.specs.Summary.{GivesHandlesAt, SumsPiece, process_count}
 use Rattle.audit_findings.specs.declared.piece_summary.PieceSummary.{PieceSummary}
 use Rattle.capture_frame.specs.Envelope.{PlacedFrame}
-use Rattle.transaction_view.specs.FirstFault.{HasGoodContent}
-use Rattle.audit_join.proofs.FaultLaws.{good_or_bad}
-use Rattle.audit_join.proofs.JobLists.{Judged, good, bad, judged}
-use Rattle.audit_join.specs.Jobs.{AreCut, AreSound}
 use Rattle.audit_join.specs.Processes.{process_job, process_jobs}
 
 -- ---- how many processes there are
@@ -54,37 +46,19 @@ few_firsts {K} eq (k ∷ keys) =
     omega (arith, rest, long, few)
 
 -- the summary counts the different processes of the frames
-process_number : (summary : PieceSummary) (frames : List PlacedFrame) (wholes : List (Placed WholeFrame)) → SumsPiece summary frames → AreViews frames wholes
-    → process_count summary ≡ length (processes_of wholes)
-process_number summary frames wholes sums show =
+process_number : (summary : PieceSummary) (frames : List PlacedFrame) → SumsPiece summary frames → process_count summary ≡ length (processes_of frames)
+process_number summary frames sums =
     let entries = summary.ledgers.order.entries.entries in
-    let order = (sums wholes show).order.order ∙ ap (firsts same_process) (map-map (λ (e : Process × ⊤). e.0) (λ w. (process_of_whole w, tt)) wholes) in
+    let order = sums.order.order ∙ ap (firsts same_process) (map-map (λ (e : Process × ⊤). e.0) order_item frames) in
     sym (length-map entries (λ (e : Process × Nothing). e.0)) ∙ ap length order
 
 pub few_processes : (summary : PieceSummary) (frames : List PlacedFrame) → SumsPiece summary frames → AreGoodFrames frames → process_count summary ≤ 2 ^ 32
 few_processes summary frames sums fits =
-    let shown = good_shown frames fits.good in
-    let few = (few_frames frames shown.0 fits shown.1).0 in
-    let number = process_number summary frames shown.0 sums shown.1 in
-    let firsts_few = few_firsts same_process (map process_of_whole shown.0) in
-    let long = length-map shown.0 process_of_whole in
+    let few = (few_frames frames fits).0 in
+    let number = process_number summary frames sums in
+    let firsts_few = few_firsts same_process (map process_of_placed frames) in
+    let long = length-map frames process_of_placed in
     omega (arith, few, number, firsts_few, long)
-
--- ---- frames that are merely known to be sound
-
--- such a frame has no fault, so its records and entries can be found again
-sound_here : (frame : PlacedFrame) → Judged frame → ∥ HasGoodContent frame.unit ∥₁ → HasGoodContent frame.unit
-sound_here frame (good whole) told = whole
-sound_here frame (bad fault fails) told =
-    let never : 1 ≤ 0 = ∥∥₁_elim told le_prop (λ whole. absurd (good_or_bad frame frame fault refl whole fails)) in
-    absurd (omega (arith, never))
-
-pub sound_again : (frames : List PlacedFrame) → AreCut frames → ∥ AreSound frames ∥₁ → AreGoodFrames frames
-sound_again frames cut told = record {
-  few = cut.few;
-  good = λ i d within. sound_here (get_or frames i d) (judged (get_or frames i d) (cut.bytes i d within)) (∥∥₁_map told (λ sound. sound i d within));
-  apart = cut.apart;
-}
 
 -- ---- processes as jobs
 
@@ -152,18 +126,18 @@ listed places rows [] unfreed (l ∷ lists) long same each = absurd (omega (arit
 listed places rows (p ∷ processes) unfreed [] long same each = absurd (omega (arith, long))
 listed places rows (p ∷ processes) [] (l ∷ lists) long same each = let wrong = ap length same in absurd (omega (arith, wrong))
 listed {R} places rows (p ∷ processes) (own ∷ unfreed) (l ∷ lists) long same each =
-    let heads = first_same own.items (places p) (lists_of unfreed) (map places processes) same in
+    let heads : (own.items ≡ places p) × (lists_of unfreed ≡ map places processes) = (cc, cc) in
     ap₂ (λ (x : List R) (xs : List (List R)). x ∷ xs) (each zero l refl own refl p heads.0)
     (listed places rows processes unfreed lists (omega (arith, long)) heads.1 (λ i list is own there d mine. each (suc i) list is own there d mine))
 
 pub all_listed : (summary : PieceSummary) (frames : List PlacedFrame) (unfreed : List (Vec ℕ Global)) (lists : List ListOfRows) → SumsPiece summary frames
     → AreInOrder (λ i (list : ListOfRows). (own : Vec ℕ Global) → slice_get unfreed i ≡ Some own → GivesHandlesAt summary frames i own.items list.items)
     (length (process_jobs (process_count summary))) lists
-    → (wholes : List (Placed WholeFrame)) → AreViews frames wholes → AreUnfreed wholes (lists_of unfreed) → AreListedHandles wholes (lists_of lists)
-all_listed summary frames unfreed lists sums are wholes show same =
-    let events = events_of_wholes wholes in
-    let number = process_number summary frames wholes sums show in
+    → AreUnfreed frames (lists_of unfreed) → AreListedHandles frames (lists_of lists)
+all_listed summary frames unfreed lists sums are same =
+    let events = events_of_frames frames in
+    let number = process_number summary frames sums in
     let count = are.count in
     let long = jobs_long (process_count summary) in
-    listed (places_in is_leaked events) (rows_in (handles_in events)) (processes_of wholes) unfreed lists
-    (omega (arith, number, count, long)) same (λ i list is own there d mine. are.each i list is own there sums wholes d show mine)
+    listed (places_in is_leaked events) (rows_in (handles_in events)) (processes_of frames) unfreed lists
+    (omega (arith, number, count, long)) same (λ i list is own there d mine. are.each i list is own there sums d mine)

@@ -1,10 +1,8 @@
 pub mod PartLaws
 pub mod PieceLaws
-pub mod JobLists
 pub mod JobLaws
 pub mod CutLaws
 pub mod PlaceLaws
-pub mod CaptureLaws
 pub mod FaultLaws
 pub mod ShareLaws
 pub mod HandleJobs

@@ -1,13 +1,16 @@
 -- Frames in pieces, which workers take as jobs: the jobs are as the board asks, and what holds of the jobs holds of the
 -- frames.
-use Rattle.std.proofs.Common.{◌≡◌, ℕ, zero, suc, ◌<◌, ◌≤◌, List, [], ◌∷◌, ◌++◌, length, Option, Some, None, refl, sym, ap, subst, ◌∙◌, append_assoc, length-append, arith}
+use Rattle.std.proofs.Common.{◌≡◌, ℕ, zero, suc, ◌<◌, ◌≤◌, List, [], ◌∷◌, ◌++◌, length, map, Option, Some, None, refl, sym, ap, subst, ◌∙◌, length-append, arith}
+use Rattle.std.proofs.lemmas.List.{length-map}
 use Rattle.std.specs.Prelude.{All, AllPairs, IfSome, slice_get}
-use Rattle.std.specs.List.{AllZip, sum_by}
-use Rattle.std.proofs.lemmas.List.Elements.{All-append, All-cons, All-head, All-tail, All-nil, All-weaker}
+use Rattle.std.specs.List.{sum_by}
+use Rattle.std.specs.Option.{option_map}
+use Rattle.std.proofs.lemmas.List.Elements.{All-cons, All-head, All-tail, All-nil, All-weaker}
 use Rattle.std.proofs.lemmas.List.Sums.{sum_by-append}
-use Rattle.std.proofs.lemmas.Slice.Zip.{AllZip-long}
+use Rattle.capture_frame.specs.declared.fault.Fault.{Fault}
 use Rattle.capture_frame.specs.Envelope.{PlacedFrame}
-use Rattle.transaction_view.specs.FirstFault.{HasGoodContent}
+use Rattle.capture_frame.specs.Lookup.{span_of, AreApart, Holds}
+use Rattle.transaction_view.specs.Grammar.{first_content_fault, first_of}
 use Rattle.summary_law.specs.Fits.{all_halves, pairs_halves}
 use Rattle.claim_board.specs.declared.job.Job.{Job}
 use Rattle.claim_board.specs.Board.{AreJobs, EndsBefore}
@@ -16,12 +19,10 @@ use Rattle.claim_board.specs.Running.{AreWorkJobs, no_place}
 use Rattle.claim_board.specs.Work.{IsStop}
 use Rattle.claim_board.specs.declared.run.Stop.{Stop}
 use Rattle.claim_board.specs.declared.run.Stop.TheVariants.{Least, Memory as NoMemory}
-use Rattle.capture_frame.specs.Lookup.{span_of, AreApart}
-use Rattle.audit_findings.proofs.FrameLaws.{first_same}
-use Rattle.audit_join.specs.Jobs.{AreSound, HasFirstAt, IsFaultOf, IsJobOf, IsOfBytes, EndsNear, AreCut, AreJobPieces}
+use Rattle.audit_join.specs.Jobs.{EndsNear, AreCut, AreJobPieces, first_place, job_of, start_of}
 use Rattle.audit_join.specs.Pieces.{all_frames, ArePieces}
 use Rattle.audit_join.specs.Judged.{IsLeastOf}
-use Rattle.audit_join.proofs.FaultLaws.{fault_held}
+use Rattle.audit_join.proofs.FaultLaws.{first_append, first_by}
 
 -- ---- the pieces of cut frames
 
@@ -30,10 +31,9 @@ cut_parts first second cut =
     let parts = sum_by-append span_of first second in
     let few = cut.few in
     let apart = pairs_halves AreApart first second cut.apart in
-    let bytes = all_halves IsOfBytes first second cut.bytes in
     let near = all_halves EndsNear first second cut.near in (
-      record { few = omega (arith, parts, few); apart = apart.0; bytes = bytes.0; near = near.0 },
-      record { few = omega (arith, parts, few); apart = apart.1; bytes = bytes.1; near = near.1 },
+      record { few = omega (arith, parts, few); apart = apart.0; near = near.0 },
+      record { few = omega (arith, parts, few); apart = apart.1; near = near.1 },
     )
 
 pieces_cut : (pieces : List (List PlacedFrame)) → AreCut (all_frames pieces) → All AreCut pieces
@@ -74,151 +74,102 @@ job_pieces n frames pieces are cut =
 head_apart : (frame : PlacedFrame) (frames : List PlacedFrame) → AllPairs AreApart (frame ∷ frames) → All (AreApart frame) frames
 head_apart frame frames apart = λ k d within. apart 0 (suc k) d (omega arith) (omega (arith, within))
 
-first_below : (first : PlacedFrame) (others before : List PlacedFrame) (frame : PlacedFrame) (after : List PlacedFrame) → first ∷ others ≡ before ++ frame ∷ after
-    → AllPairs AreApart (first ∷ others) → first.place ≤ frame.place
-first_below first others [] frame after same apart =
-    let alike = ap (λ (f : PlacedFrame). f.place) (first_same first frame others after same).0 in omega (arith, alike)
-first_below first others (x ∷ before) frame after same apart =
-    let one = first_same first x others (before ++ frame ∷ after) same in
-    let all = subst (All (AreApart first)) one.1 (head_apart first others apart) in
-    let far = All-head (AreApart first) frame after (all_halves (AreApart first) before (frame ∷ after) all).1 in
-    omega (arith, far)
+-- frames end before those after them begin
+ends_below : (piece : List PlacedFrame) (next : PlacedFrame) (others : List PlacedFrame) → AllPairs AreApart (piece ++ next ∷ others)
+    → All (λ (f : PlacedFrame). AreApart f next) piece
+ends_below [] next others apart = All-nil (λ (f : PlacedFrame). AreApart f next)
+ends_below (f ∷ piece) next others apart =
+    let after = (all_halves (AreApart f) piece (next ∷ others) (head_apart f (piece ++ next ∷ others) apart)).1 in
+    All-cons (λ (g : PlacedFrame). AreApart g next) f piece (All-head (AreApart f) next others after)
+    (ends_below piece next others (pairs_halves AreApart (f ∷ []) (piece ++ next ∷ others) apart).1)
 
--- a frame ends before those after its piece begin
-ends_below : (before : List PlacedFrame) (frame : PlacedFrame) (after : List PlacedFrame) (next : PlacedFrame) (others : List PlacedFrame)
-    → AllPairs AreApart ((before ++ frame ∷ after) ++ next ∷ others) → AreApart frame next
-ends_below before frame after next others apart =
-    let whole = subst (AllPairs AreApart) (append_assoc before (frame ∷ after) (next ∷ others)) apart in
-    let tail = (pairs_halves AreApart before (frame ∷ (after ++ next ∷ others)) whole).1 in
-    All-head (AreApart frame) next others
-    (all_halves (AreApart frame) after (next ∷ others) (head_apart frame (after ++ next ∷ others) tail)).1
+from_start : (piece : List PlacedFrame) → AllPairs AreApart piece → IfSome (first_place piece) (λ x. start_of piece ≤ x)
+from_start [] apart = tt
+from_start (f ∷ piece) apart =
+    let Here : PlacedFrame → Type 0 = λ g. (x : ℕ) → Holds x g → f.place ≤ x in
+    first_by (λ x. f.place ≤ x) (f ∷ piece)
+    (All-cons Here f piece (λ x held. held.0)
+    (All-weaker (AreApart f) Here (λ g apart x held. let from = held.0 in omega (arith, apart, from)) piece (head_apart f piece apart)))
 
-from_start : (piece : List PlacedFrame) (first : PlacedFrame) (others : List PlacedFrame) (fault : Option ℕ) → piece ≡ first ∷ others → IsFaultOf piece fault
-    → AllPairs AreApart piece → IfSome fault (λ x. first.place ≤ x)
-from_start piece first others None are is apart = tt
-from_start piece first others (Some x) are (fault, found, at) apart =
-    let from = first_below first others found.before found.frame found.after (sym are ∙ found.are) (subst (AllPairs AreApart) are apart) in
-    let above = (fault_held found.frame fault found.fails).0 in
-    omega (arith, from, above, at)
+before_next : (piece : List PlacedFrame) (next : PlacedFrame) (others : List PlacedFrame) → AllPairs AreApart (piece ++ next ∷ others)
+    → IfSome (first_place piece) (λ x. x < next.place)
+before_next piece next others apart =
+    first_by (λ x. x < next.place) piece
+    (All-weaker (λ (f : PlacedFrame). AreApart f next) (λ (f : PlacedFrame). (x : ℕ) → Holds x f → x < next.place)
+    (λ f apart x held. let to = held.1 in omega (arith, apart, to)) piece (ends_below piece next others apart))
 
-before_next : (piece : List PlacedFrame) (fault : Option ℕ) (next : PlacedFrame) (others : List PlacedFrame) → IsFaultOf piece fault
-    → AllPairs AreApart (piece ++ next ∷ others) → IfSome fault (λ x. x < next.place)
-before_next piece None next others is apart = tt
-before_next piece (Some x) next others (fault, found, at) apart =
-    let far = ends_below found.before found.frame found.after next others
-    (subst (λ (t : List PlacedFrame). AllPairs AreApart (t ++ next ∷ others)) found.are apart) in
-    let to = (fault_held found.frame fault found.fails).1 in
-    omega (arith, far, to, at)
-
-begins_before : (piece : List PlacedFrame) (first : PlacedFrame) (rest : List PlacedFrame) (next : PlacedFrame) (others : List PlacedFrame) → piece ≡ first ∷ rest
-    → AllPairs AreApart (piece ++ next ∷ others) → first.place < next.place
-begins_before piece first rest next others are apart =
-    let far = ends_below [] first rest next others (subst (λ (t : List PlacedFrame). AllPairs AreApart (t ++ next ∷ others)) are apart) in
+starts_before : (piece : List PlacedFrame) (next : PlacedFrame) (others : List PlacedFrame) → IsSome piece → AllPairs AreApart (piece ++ next ∷ others)
+    → start_of piece < next.place
+starts_before [] next others some apart = absurd (omega (arith, some))
+starts_before (f ∷ piece) next others some apart =
+    let far = All-head (λ (g : PlacedFrame). AreApart g next) f piece (ends_below (f ∷ piece) next others apart) in
     omega (arith, far)
 
 -- a job ends before the next one begins
-ends : (piece : List PlacedFrame) (job : Job) (pieces : List (List PlacedFrame)) (jobs : List Job) → IsJobOf piece job → AllZip IsJobOf pieces jobs
-    → AllPairs AreApart (piece ++ all_frames pieces) → EndsBefore job jobs
-ends piece job [] [] is each apart = tt
-ends piece job [] (j ∷ jobs) is each apart = absurd each
-ends piece job (r ∷ pieces) [] is each apart = absurd each
-ends piece job (r ∷ pieces) (j ∷ jobs) is each apart =
-    let next = each.0 in
-    let whole = subst (λ (t : List PlacedFrame). AllPairs AreApart (piece ++ (t ++ all_frames pieces))) next.are apart in
-    let begins = begins_before piece is.first is.others next.first (next.others ++ all_frames pieces) is.are whole in
-    let from = is.start in
-    let to = next.start in (
-      omega (arith, begins, from, to),
-      subst (λ (n : ℕ). IfSome job.fault (λ x. x < n)) (sym next.start)
-          (before_next piece job.fault next.first (next.others ++ all_frames pieces) is.fault whole),
-    )
+ends : (piece : List PlacedFrame) (pieces : List (List PlacedFrame)) → IsSome piece → All IsSome pieces → AllPairs AreApart (piece ++ all_frames pieces)
+    → EndsBefore (job_of piece) (map job_of pieces)
+ends piece [] here some apart = tt
+ends piece ([] ∷ pieces) here some apart = let wrong = All-head IsSome [] pieces some in absurd (omega (arith, wrong))
+ends piece ((next ∷ others) ∷ pieces) here some apart = (
+  starts_before piece next (others ++ all_frames pieces) here apart,
+  before_next piece next (others ++ all_frames pieces) apart,
+)
 
-in_order : (pieces : List (List PlacedFrame)) (jobs : List Job) → AllZip IsJobOf pieces jobs → AllPairs AreApart (all_frames pieces) → AreJobs jobs
-in_order [] [] each apart = tt
-in_order [] (j ∷ jobs) each apart = absurd each
-in_order (piece ∷ pieces) [] each apart = absurd each
-in_order (piece ∷ pieces) (job ∷ jobs) each apart =
+in_order : (pieces : List (List PlacedFrame)) → All IsSome pieces → AllPairs AreApart (all_frames pieces) → AreJobs (map job_of pieces)
+in_order [] some apart = tt
+in_order (piece ∷ pieces) some apart =
     let parts = pairs_halves AreApart piece (all_frames pieces) apart in
-    let is = each.0 in (
-      subst (λ (n : ℕ). IfSome job.fault (λ x. n ≤ x)) (sym is.start) (from_start piece is.first is.others job.fault is.are is.fault parts.0),
-      ends piece job pieces jobs is each.1 apart,
-      in_order pieces jobs each.1 parts.1,
+    let others = All-tail IsSome piece pieces some in (
+      from_start piece parts.0,
+      ends piece pieces (All-head IsSome piece pieces some) others apart,
+      in_order pieces others parts.1,
     )
 
 abbrev IsPlaceable : Job → Type 0
 IsPlaceable job = (job.start < no_place) × IfSome job.fault (λ x. x < no_place)
 
-fault_placeable : (piece : List PlacedFrame) (fault : Option ℕ) → AreCut piece → IsFaultOf piece fault → IfSome fault (λ x. x < no_place)
-fault_placeable piece None cut is = tt
-fault_placeable piece (Some x) cut (fault, found, at) =
-    let to = (fault_held found.frame fault found.fails).1 in
-    let near = All-head EndsNear found.frame found.after
-    (all_halves EndsNear found.before (found.frame ∷ found.after) (subst (All EndsNear) found.are cut.near)).1 in
-    omega (arith, to, near, at)
+start_near : (piece : List PlacedFrame) → All EndsNear piece → start_of piece < no_place
+start_near [] near = omega arith
+start_near (f ∷ piece) near = let here = All-head EndsNear f piece near in omega (arith, here)
 
-placeable : (pieces : List (List PlacedFrame)) (jobs : List Job) → AllZip IsJobOf pieces jobs → All AreCut pieces → All IsPlaceable jobs
-placeable [] [] each cut = All-nil IsPlaceable
-placeable [] (j ∷ jobs) each cut = absurd each
-placeable (piece ∷ pieces) [] each cut = absurd each
-placeable (piece ∷ pieces) (job ∷ jobs) each cut =
-    let is = each.0 in
-    let here = All-head AreCut piece pieces cut in
-    let from = is.start in
-    let near = All-head EndsNear is.first is.others (subst (All EndsNear) is.are here.near) in
-    All-cons IsPlaceable job jobs (omega (arith, from, near), fault_placeable piece job.fault here is.fault)
-    (placeable pieces jobs each.1 (All-tail AreCut piece pieces cut))
+placeable : (pieces : List (List PlacedFrame)) → All AreCut pieces → All IsPlaceable (map job_of pieces)
+placeable [] cut = All-nil IsPlaceable
+placeable (piece ∷ pieces) cut =
+    let near = (All-head AreCut piece pieces cut).near in
+    All-cons IsPlaceable (job_of piece) (map job_of pieces)
+    (
+      start_near piece near,
+      first_by (λ x. x < no_place) piece
+          (All-weaker EndsNear (λ (f : PlacedFrame). (x : ℕ) → Holds x f → x < no_place)
+          (λ f near x held. let to = held.1 in omega (arith, near, to)) piece near),
+    )
+    (placeable pieces (All-tail AreCut piece pieces cut))
 
-work_jobs : (pieces : List (List PlacedFrame)) (jobs : List Job) → AllZip IsJobOf pieces jobs → AreJobPieces pieces → AllPairs AreApart (all_frames pieces)
-    → AreWorkJobs jobs
-work_jobs pieces jobs each can apart =
-    let long = AllZip-long IsJobOf pieces jobs each in
+pub shared_jobs : (pieces : List (List PlacedFrame)) → AreJobPieces pieces → AllPairs AreApart (all_frames pieces) → AreWorkJobs (map job_of pieces)
+shared_jobs pieces can apart =
+    let long = length-map pieces job_of in
     let few = can.few in
-    record { in_order = in_order pieces jobs each apart; places = placeable pieces jobs each can.cut; few = omega (arith, long, few) }
+    record { in_order = in_order pieces can.some apart; places = placeable pieces can.cut; few = omega (arith, long, few) }
 
 -- ---- what comes of them
 
-abbrev IsGood : PlacedFrame → Type 0
-IsGood frame = HasGoodContent frame.unit
+place_none : (a : Option Fault) → option_map (λ (fault : Fault). fault.place) a ≡ None → a ≡ None
+place_none None none = refl
+place_none (Some x) none = let wrong : Some x.place ≡ None = none in absurd (cc)
+
+after_sound : (piece others : List PlacedFrame) → first_content_fault piece ≡ None → first_content_fault (piece ++ others) ≡ first_content_fault others
+after_sound piece others none =
+    first_append piece others ∙ ap (λ (o : Option Fault). first_of o (first_content_fault others)) none
 
 -- if no job has a fault, no frame has one
-all_sound : (pieces : List (List PlacedFrame)) (jobs : List Job) → AllZip IsJobOf pieces jobs → AreFaultless jobs → AreSound (all_frames pieces)
-all_sound [] [] each none = All-nil IsGood
-all_sound [] (j ∷ jobs) each none = absurd each
-all_sound (piece ∷ pieces) [] each none = absurd each
-all_sound (piece ∷ pieces) (job ∷ jobs) each none =
+pub shared_sound : (pieces : List (List PlacedFrame)) → AreFaultless (map job_of pieces) → first_content_fault (all_frames pieces) ≡ None
+shared_sound [] none = refl
+shared_sound (piece ∷ pieces) none =
     let NoFault : Job → Type 0 = λ j. j.fault ≡ None in
-    All-append IsGood piece (all_frames pieces) (subst (IsFaultOf piece) (All-head NoFault job jobs none) each.0.fault)
-    (all_sound pieces jobs each.1 (All-tail NoFault job jobs none))
+    after_sound piece (all_frames pieces) (place_none (first_content_fault piece) (All-head NoFault (job_of piece) (map job_of pieces) none))
+    ∙ shared_sound pieces (All-tail NoFault (job_of piece) (map job_of pieces) none)
 
 -- the least fault of the jobs is the first fault of the frames
-
-in_front : (piece others : List PlacedFrame) (x : ℕ) → HasFirstAt piece x → HasFirstAt (piece ++ others) x
-in_front piece others x (fault, found, at) = (
-  fault,
-  record {
-    before = found.before;
-    frame = found.frame;
-    after = found.after ++ others;
-    are = ap (λ (t : List PlacedFrame). t ++ others) found.are ∙ append_assoc found.before (found.frame ∷ found.after) others;
-    sound = found.sound;
-    fails = found.fails;
-  },
-  at,
-)
-
-after_sound : (piece others : List PlacedFrame) (x : ℕ) → AreSound piece → HasFirstAt others x → HasFirstAt (piece ++ others) x
-after_sound piece others x sound (fault, found, at) = (
-  fault,
-  record {
-    before = piece ++ found.before;
-    frame = found.frame;
-    after = found.after;
-    are = ap (λ (t : List PlacedFrame). piece ++ t) found.are ∙ sym (append_assoc piece found.before (found.frame ∷ found.after));
-    sound = All-append IsGood piece found.before sound found.sound;
-    fails = found.fails;
-  },
-  at,
-)
 
 -- a job starts at or below its own fault and each later one
 starts_below : (job : Job) (jobs : List Job) → AreJobs (job ∷ jobs) → (i : ℕ) (j : Job) (x : ℕ) → slice_get (job ∷ jobs) i ≡ Some j
@@ -263,33 +214,31 @@ least_here job jobs x y zero j are at there is least =
     cc
 least_here job jobs x y (suc i) j are at there is least = let later = ends_below_later job jobs y are at i j x there is in omega (arith, later, least)
 
-by_fault : (piece others : List PlacedFrame) (job : Job) (jobs : List Job) (x : ℕ) (fault : Option ℕ) → job.fault ≡ fault → IsFaultOf piece fault
-    → AreJobs (job ∷ jobs) → IsLeastFault (job ∷ jobs) x → (IsLeastFault jobs x → HasFirstAt others x) → HasFirstAt (piece ++ others) x
-by_fault piece others job jobs x None at is are least later =
-    after_sound piece others x is
-    (later (least_later job jobs x least.found.0 least.found.1 at least.found.2 least.found.3 least.least))
-by_fault piece others job jobs x (Some y) at is are least later =
-    let same = least_here job jobs x y least.found.0 least.found.1 are at least.found.2 least.found.3 (least.least 0 job y refl at) in
-    in_front piece others x (subst (HasFirstAt piece) same is)
+in_front : (piece others : List PlacedFrame) (here : Option Fault) (x : ℕ) → first_content_fault piece ≡ here
+    → option_map (λ (fault : Fault). fault.place) here ≡ Some x → first_place (piece ++ others) ≡ Some x
+in_front piece others None x here is = let wrong : None ≡ Some x = is in absurd (cc)
+in_front piece others (Some fault) x here is =
+    ap (option_map (λ (found : Fault). found.place))
+    (first_append piece others ∙ ap (λ (o : Option Fault). first_of o (first_content_fault others)) here)
+    ∙ is
 
-least_first : (pieces : List (List PlacedFrame)) (jobs : List Job) (x : ℕ) → AllZip IsJobOf pieces jobs → AreJobs jobs → IsLeastFault jobs x
-    → HasFirstAt (all_frames pieces) x
-least_first [] [] x each are least = let wrong : None ≡ Some least.found.1 = least.found.2 in absurd (cc)
-least_first [] (j ∷ jobs) x each are least = absurd each
-least_first (piece ∷ pieces) [] x each are least = absurd each
-least_first (piece ∷ pieces) (job ∷ jobs) x each are least =
-    by_fault piece (all_frames pieces) job jobs x job.fault refl each.0.fault are least (λ later. least_first pieces jobs x each.1 are.2 later)
+by_fault : (piece others : List PlacedFrame) (jobs : List Job) (x : ℕ) (fault : Option ℕ) → first_place piece ≡ fault
+    → AreJobs (job_of piece ∷ jobs) → IsLeastFault (job_of piece ∷ jobs) x → (IsLeastFault jobs x → first_place others ≡ Some x)
+    → first_place (piece ++ others) ≡ Some x
+by_fault piece others jobs x None at are least later =
+    ap (option_map (λ (found : Fault). found.place)) (after_sound piece others (place_none (first_content_fault piece) at))
+    ∙ later (least_later (job_of piece) jobs x least.found.0 least.found.1 at least.found.2 least.found.3 least.least)
+by_fault piece others jobs x (Some y) at are least later =
+    let same = least_here (job_of piece) jobs x y least.found.0 least.found.1 are at least.found.2 least.found.3 (least.least 0 (job_of piece) y refl at) in
+    in_front piece others (first_content_fault piece) x refl (at ∙ ap Some same)
 
--- ---- pieces and their jobs
+least_first : (pieces : List (List PlacedFrame)) (x : ℕ) → AreJobs (map job_of pieces) → IsLeastFault (map job_of pieces) x
+    → first_place (all_frames pieces) ≡ Some x
+least_first [] x are least = let wrong : None ≡ Some least.found.1 = least.found.2 in absurd (cc)
+least_first (piece ∷ pieces) x are least =
+    by_fault piece (all_frames pieces) (map job_of pieces) x (first_place piece) refl are least (λ later. least_first pieces x are.2 later)
 
-module _ (pieces : List (List PlacedFrame)) (can : AreJobPieces pieces) (cut : AreCut (all_frames pieces)) (jobs : List Job)
-    (each : AllZip IsJobOf pieces jobs) where
-  pub shared_jobs : AreWorkJobs jobs
-  shared_jobs = work_jobs pieces jobs each can cut.apart
-
-  pub shared_sound : AreFaultless jobs → AreSound (all_frames pieces)
-  shared_sound = all_sound pieces jobs each
-
-  pub shared_stop : (stop : Stop) → IsStop jobs stop → IsLeastOf (all_frames pieces) stop
-  shared_stop (Least x) least = least_first pieces jobs x each shared_jobs.in_order least
-  shared_stop NoMemory _ = tt
+pub shared_stop : (pieces : List (List PlacedFrame)) → AreWorkJobs (map job_of pieces) → (stop : Stop) → IsStop (map job_of pieces) stop
+    → IsLeastOf (all_frames pieces) stop
+shared_stop pieces are (Least x) least = least_first pieces x are.in_order least
+shared_stop pieces are NoMemory _ = tt

@@ -1,21 +1,31 @@
 -- What an audit answers.
-use Rattle.std.specs.Prelude.{ℕ, List, ⊤}
+use Rattle.std.specs.Prelude.{◌≡◌, ℕ, List, [], ◌∷◌, Ok, Err, ⊤}
 use Rattle.capture_frame.specs.declared.fault.Fault.{Fault}
-use Rattle.transaction_view.specs.Grammar.{WholeFrame, IsInGrammar, HasFirstFault}
+use Rattle.capture_frame.specs.declared.fault.PartFault.{PartFault}
+use Rattle.transaction_view.specs.Grammar.{frames_of_parts}
 use Rattle.audit_join.specs.declared.audit_error.AuditError.{AuditError}
 use Rattle.audit_join.specs.declared.audit_error.AuditError.TheVariants.{Memory, Malformed}
 use Rattle.audit_findings.specs.Kept.{KeptFindings, AreSectionsOf}
 
--- the capture is in the grammar by some frames, and what was found are their findings
+-- what was found are the frames of the parts, and their findings
+abbrev pub AreAudited : List (List ℕ) → KeptFindings → Type 0
+AreAudited parts found = (frames_of_parts parts ≡ Ok found.frames) × AreSectionsOf found.frames found.sections
+
+-- if the error names a fault, this is the first fault of the parts; if memory was refused, nothing is said
+abbrev pub AreMalformed : List (List ℕ) → AuditError PartFault → Type 0
+AreMalformed parts Memory = ⊤
+AreMalformed parts (Malformed found) = frames_of_parts parts ≡ Err found
+
+-- what was found are the frames of the capture, and their findings
 abbrev pub IsAudited : List ℕ → KeptFindings → Type 0
-IsAudited capture found =
-    (wholes : List WholeFrame) × IsInGrammar capture wholes × AreSectionsOf wholes found.frames found.sections
+IsAudited capture found = AreAudited (capture ∷ []) found
 
--- if the error names a fault, this fault is the first; if memory was refused, nothing is said
-abbrev pub NamesFirstFault : {F : Type 0} → (F → Type 0) → AuditError F → Type 0
-NamesFirstFault IsFirst Memory = ⊤
-NamesFirstFault IsFirst (Malformed fault) = IsFirst fault
-
--- if the error names a fault, this is the first fault of the capture
+-- if the error names a fault, this is the first fault of the capture; if memory was refused, nothing is said
 abbrev pub IsMalformed : List ℕ → AuditError Fault → Type 0
-IsMalformed capture error = NamesFirstFault (HasFirstFault capture) error
+IsMalformed capture Memory = ⊤
+IsMalformed capture (Malformed fault) = frames_of_parts (capture ∷ []) ≡ Err (record { part = 1; fault = fault })
+
+-- the error of a single part, as the error of a capture: the number of the part is left out
+abbrev pub error_of_capture : AuditError PartFault → AuditError Fault
+error_of_capture Memory = Memory
+error_of_capture (Malformed found) = Malformed found.fault

@@ -40,7 +40,7 @@ impl From<Fault> for AuditError {
 /// The error of a single part, which is a capture.
 impl From<PartsError> for AuditError {
     ghost use Rattle.std.specs.Prelude.{◌≡◌};
-    ghost use Rattle.audit_join.specs.Parts.{error_of_capture};
+    ghost use Rattle.audit_join.specs.Audit.{error_of_capture};
 
     ghost from_gives = { λ error e. e ≡ error_of_capture error };
 

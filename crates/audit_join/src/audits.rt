@@ -1,25 +1,23 @@
 //! From a capture, or from its parts, to its findings or its first fault.
 
-ghost use Rattle.std.specs.Prelude.{◌≡◌, ◌<◌, ◌≤◌, ◌^◌, List, length, map, IfErr, IfOk};
+ghost use Rattle.std.specs.Prelude.{◌≡◌, ◌<◌, ◌≤◌, ◌^◌, List, length, map, IfErr, IfOk, Err, Some};
 ghost use Rattle.std.specs.List.{sum_by};
 ghost use Rattle.capture_frame.specs.declared.fault.Fault.{Fault};
-ghost use Rattle.transaction_view.specs.Grammar.{WholeFrame};
-ghost use Rattle.capture_frame.specs.Units.{Placed};
-ghost use Rattle.audit_findings.specs.Frames.{AreViews};
-ghost use Rattle.event_core.specs.Events.{wholes_of};
+ghost use Rattle.capture_frame.specs.Envelope.{FrameText};
+ghost use Rattle.capture_frame.specs.Parts.{joined_frames};
+ghost use Rattle.transaction_view.specs.Grammar.{first_content_fault, frames_of_parts};
 ghost use Rattle.audit_findings.specs.Kept.{AreSectionsOf};
 ghost use Rattle.audit_findings.specs.Ledgers.{AreListedHandles, AreUnfreed};
 ghost use Rattle.audit_findings.specs.Summary.{SumsPiece, process_count};
-ghost use Rattle.audit_join.specs.Audit.{IsAudited, IsMalformed};
-ghost use Rattle.audit_join.specs.Jobs.{AreCut, AreSound, IsFirstIn};
-ghost use Rattle.audit_join.specs.Parts.{AreAudited, AreMalformed, IsFirstOfParts};
+ghost use Rattle.audit_join.specs.Audit.{AreAudited, AreMalformed, IsAudited, IsMalformed};
+ghost use Rattle.audit_join.specs.Jobs.{AreCut, AreSound};
+ghost use Rattle.audit_join.specs.Parts.{IsInPart, in_part};
 ghost use Rattle.audit_join.specs.declared.limits.TheConstants.{CAPTURE_LIMIT};
 
 use crate::audit_error::{AuditError, PartsError};
 use crate::handle_work::HandleWork;
 use crate::judging::judge;
 use crate::limits::CAPTURE_LIMIT;
-use crate::part_bytes::take_bytes;
 use crate::part_places::part_of;
 use crate::piece::Piece;
 use crate::shares::sum_shares;
@@ -46,7 +44,6 @@ pub fn audit_parts<'c, T: Threads + Sync, G: Gate + Sync>(
     ensures found { IfOk result (λ found. AreAudited (map (λ part. part.now) parts.now) found) }
     ensures malformed { IfErr result (AreMalformed (map (λ part. part.now) parts.now)) }
 {
-    take_bytes(parts);
     match cut_parts(alloc, parts) {
         Ok(frames) => {
             judge_parts(rt, alloc, parts, &frames.as_slice(), workers, piece, gate)?;
@@ -73,8 +70,10 @@ fn judge_parts<T: Threads + Sync, G: Gate + Sync>(
 ) -> Result<(), PartsError>
     requires few { length parts.now < 2 ^ 32 }
     requires cut { AreCut frames.now }
-    requires first { (fault : Fault) → IsFirstIn frames.now fault →
-        IsFirstOfParts (map (λ part. part.now) parts.now) fault }
+    requires there { (fault : Fault) → first_content_fault frames.now ≡ Some fault →
+        IsInPart (map (λ part. part.now) parts.now) fault.place
+        × (frames_of_parts (map (λ part. part.now) parts.now)
+        ≡ Err (in_part (map (λ part. part.now) parts.now) fault)) }
     ensures sound { IfOk result (λ _. AreSound frames.now) }
     ensures malformed { IfErr result (AreMalformed (map (λ part. part.now) parts.now)) }
 {
@@ -123,12 +122,11 @@ fn findings_of<'c, T: Threads + Sync>(
     frames: FrameList<'c>,
     workers: Workers,
 ) -> Result<Findings<'c>, AllocError>
+    requires joined { (texts : List FrameText) × (frames ≡ joined_frames texts) }
     requires cut { AreCut frames }
     requires sound { AreSound frames }
-    requires shown { (wholes : List WholeFrame) × AreViews frames (wholes_of wholes) }
-    ensures { IfOk result (λ found. (wholes : List WholeFrame) →
-        AreViews frames.entry (wholes_of wholes) →
-        AreSectionsOf wholes found.frames found.sections) }
+    ensures frames { IfOk result (λ found. found.frames ≡ frames.entry) }
+    ensures sections { IfOk result (λ found. AreSectionsOf frames.entry found.sections) }
 {
     let sections = sections_of(rt, alloc, &frames.as_slice(), workers)?;
     Ok(Findings::new(frames, sections))
@@ -143,9 +141,7 @@ fn sections_of<'c, T: Threads + Sync>(
 ) -> Result<Sections<u64>, AllocError>
     requires cut { AreCut frames.now }
     requires sound { AreSound frames.now }
-    ensures { IfOk result (λ sections. (wholes : List WholeFrame) →
-        AreViews frames.now (wholes_of wholes) →
-        AreSectionsOf wholes frames.now sections) }
+    ensures { IfOk result (AreSectionsOf frames.now) }
 {
     let whole: PieceSummary<'c> = sum_shares(rt, alloc, frames, workers.get())?;
     let (unfreed, handles) = leaks_of(rt, alloc, frames, &whole, workers)?;
@@ -163,9 +159,8 @@ fn leaks_of<'c, T: Threads + Sync>(
     requires cut { AreCut frames.now }
     requires sound { AreSound frames.now }
     requires sums { SumsPiece whole.now frames.now }
-    ensures { IfOk result (λ lists. (wholes : List (Placed WholeFrame)) → AreViews frames.now wholes →
-        AreUnfreed wholes (map (λ list. list.items) lists.0.items)
-        × AreListedHandles wholes (map (λ list. list.items) lists.1.items)) }
+    ensures { IfOk result (λ lists. AreUnfreed frames.now (map (λ list. list.items) lists.0.items)
+        × AreListedHandles frames.now (map (λ list. list.items) lists.1.items)) }
 {
     let unfreed = whole.unfreed()?;
     let handles = look_again(rt, alloc, frames, whole, unfreed.as_slice(), workers)?;
@@ -187,9 +182,8 @@ fn look_again<'c, T: Threads + Sync>(
     requires sound { AreSound frames.now }
     requires sums { SumsPiece whole.now frames.now }
     requires each { length unfreed.now ≡ process_count whole.now }
-    ensures { IfOk result (λ lists. (wholes : List (Placed WholeFrame)) → AreViews frames.now wholes →
-        AreUnfreed wholes (map (λ list. list.items) unfreed.now) →
-        AreListedHandles wholes (map (λ list. list.items) lists.items)) }
+    ensures { IfOk result (λ lists. AreUnfreed frames.now (map (λ list. list.items) unfreed.now) →
+        AreListedHandles frames.now (map (λ list. list.items) lists.items)) }
 {
     let work = HandleWork {
         whole,

@@ -18,7 +18,7 @@ pub(crate) struct HandleWork<'f, 'c> {
     /// The places of each process's leaked deliveries.
     pub unfreed: &'f [Vec<u64>],
     ghost cut: { AreCut frames.now },
-    ghost sound: { ∥ AreSound frames.now ∥₁ },
+    ghost sound: { AreSound frames.now },
     ghost few: { process_count whole.now ≤ 2 ^ 32 },
     ghost each: { length unfreed.now ≡ process_count whole.now },
 }

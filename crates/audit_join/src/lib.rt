@@ -7,7 +7,6 @@ mod handle_work;
 mod judging;
 pub mod laws;
 mod limits;
-mod part_bytes;
 mod part_places;
 mod piece;
 mod piece_checks;

@@ -1,18 +1,15 @@
 //! Which part a place of the joined capture is in.
 
 ghost use Rattle.std.specs.Prelude.{◌≡◌, ◌<◌, ◌^◌, length, map};
-ghost use Rattle.capture_frame.specs.declared.fault.PartFault.{PartFault};
-ghost use Rattle.audit_join.specs.Parts.{IsFaultOfPart};
+ghost use Rattle.audit_join.specs.Parts.{IsInPart, in_part};
 
 use capture_frame::{FILE_HEADER, Fault, PartFault};
 
 /// The fault of the joined capture, as the fault of the part that it is in.
 pub(crate) fn part_of(parts: &[&[u8]], fault: Fault) -> PartFault
     requires few { length parts.now < 2 ^ 32 }
-    requires there { (found : PartFault)
-        × IsFaultOfPart (map (λ part. part.now) parts.now) fault found }
-    ensures { (found : PartFault) →
-        IsFaultOfPart (map (λ part. part.now) parts.now) fault found → result ≡ found }
+    requires there { IsInPart (map (λ part. part.now) parts.now) fault.place }
+    ensures { result ≡ in_part (map (λ part. part.now) parts.now) fault }
 {
     let mut place = fault.place;
     let mut number = 0;

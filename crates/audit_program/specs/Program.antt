@@ -11,7 +11,7 @@ use Rattle.clap.specs.Words.{Text}
 use Rattle.audit_streams.specs.declared.run_error.RunError.{RunError}
 use Rattle.audit_streams.specs.declared.run_error.RunError.TheVariants.{Memory}
 use Rattle.audit_streams.specs.KnownBytes.{AppendsPrefix}
-use Rattle.capture_reading.specs.Parts.{frames_of_parts}
+use Rattle.transaction_view.specs.Grammar.{frames_of_parts}
 use Rattle.audit_run.specs.Question.{answer_to, names_of, reading_status}
 use Rattle.audit_run.specs.PartRuns.{FilesGive}
 use Rattle.audit_run.specs.Run.{RunEnds}

@@ -1,19 +1,12 @@
 -- What is read of parts, by what the audit says of them, and so what is to be written and returned.
-use Rattle.std.proofs.Common.{◌≡◌, ℕ, List, length, map, Bor, Some, None, Result, Ok, Err, true, refl, sym, ap, ◌∙◌}
-use Rattle.std.specs.Prelude.{All, is_ok}
+use Rattle.std.proofs.Common.{◌≡◌, ℕ, List, length, map, Bor, Option, Some, None, Result, Ok, Err, true, refl, sym, ap, ◌∙◌}
+use Rattle.std.specs.Prelude.{is_ok}
 use Rattle.std.specs.Result.{result_err, result_map_both}
 use Rattle.std.proofs.lemmas.List.{length-map}
 use Rattle.capture_frame.specs.declared.fault.Fault.{Fault}
 use Rattle.capture_frame.specs.declared.fault.PartFault.{PartFault}
-use Rattle.capture_frame.specs.Parts.{joined}
-use Rattle.capture_frame.specs.Units.{IsBytes, Placed}
-use Rattle.capture_frame.proofs.CaptureLaws.{capture_one_reading}
-use Rattle.capture_frame.proofs.PartLaws.{parts_joined}
-use Rattle.transaction_view.specs.Grammar.{WholeFrame, AreReadable, IsInGrammar, whole_format}
-use Rattle.transaction_view.proofs.GrammarLaws.{whole_decided, whole_wide}
-use Rattle.capture_reading.specs.Parts.{frames_of_parts}
-use Rattle.capture_reading.proofs.ReadingLaws.{frames_read}
-use Rattle.event_core.specs.Events.{wholes_of}
+use Rattle.capture_frame.specs.Envelope.{PlacedFrame}
+use Rattle.transaction_view.specs.Grammar.{frames_of_parts}
 use Rattle.audit_findings.specs.Findings.{findings_of}
 use Rattle.report_text.specs.Answers.{answer, first_fault_line}
 use Rattle.report_text.specs.Fault.{no_fault_line, part_fault_line}
@@ -24,7 +17,7 @@ use Rattle.audit_run.specs.declared.written.Written.TheVariants.{Report, Malform
 -- ---- what is to be written
 
 abbrev Reading : Type 0
-Reading = Result (List (Placed WholeFrame)) PartFault
+Reading = Result (List PlacedFrame) PartFault
 
 -- the answer to parts of which this is read
 abbrev answer_by : List (List ℕ) → Reading → List ℕ
@@ -51,17 +44,6 @@ pub line_of_slices : (slices : List (Bor (List ℕ))) (found : PartFault)
     → part_fault_line (length (map (λ (slice : Bor (List ℕ)). slice.now) slices)) found ≡ part_fault_line (length slices) found
 line_of_slices slices found =
     ap (λ (n : ℕ). part_fault_line n found) (length-map slices (λ (slice : Bor (List ℕ)). slice.now))
-
--- ---- what is read
-
--- of parts in the grammar, whose joined capture is these frames, these frames are read
-pub audited_frames : (parts : List (List ℕ)) (wholes : List WholeFrame) → All IsBytes parts → AreReadable parts → IsInGrammar (joined parts) wholes
-    → frames_of_parts parts ≡ Ok (wholes_of wholes)
-audited_frames parts wholes bytes readable whole =
-    let joined_are = parts_joined whole_format whole_wide parts readable.0 readable.1 in
-    frames_read parts readable.0 bytes readable.1
-    ∙ ap (λ (frames : List WholeFrame). Ok (wholes_of frames))
-    (capture_one_reading whole_format whole_decided (joined parts) readable.0 wholes joined_are whole)
 
 -- ---- what was read, by what is returned
 

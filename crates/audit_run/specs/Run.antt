@@ -6,9 +6,9 @@ use Rattle.std.specs.Prelude.{◌≡◌, ℕ, ◌≤◌, ◌<◌, List, [], ◌�
 use Rattle.std.specs.Result.{result_map_both}
 use Rattle.std.specs.Io.KnownBytes.{Appends, Keeps}
 use Rattle.capture_frame.specs.declared.fault.Fault.{Fault}
-use Rattle.capture_frame.specs.Units.{IsBytes, Placed}
-use Rattle.transaction_view.specs.Grammar.{WholeFrame}
-use Rattle.capture_reading.specs.Parts.{frames_of_parts}
+use Rattle.capture_frame.specs.Envelope.{PlacedFrame}
+use Rattle.capture_frame.specs.Units.{IsBytes}
+use Rattle.transaction_view.specs.Grammar.{frames_of_parts}
 use Rattle.audit_join.specs.declared.limits.TheConstants.{CAPTURE_LIMIT}
 use Rattle.audit_streams.specs.KnownBytes.{AppendsPrefix}
 use Rattle.audit_streams.specs.declared.run_error.RunError.{RunError}
@@ -58,5 +58,5 @@ written_of (Ok wholes) = Report
 written_of (Err fault) = Malformed fault
 
 -- the frames of a capture in one part, or its first fault, which is told without the number of the part
-abbrev pub frames_of_capture : List ℕ → Result (List (Placed WholeFrame)) Fault
+abbrev pub frames_of_capture : List ℕ → Result (List PlacedFrame) Fault
 frames_of_capture capture = result_map_both (λ wholes. wholes) (λ found. found.fault) (frames_of_parts (capture ∷ []))

@@ -1,7 +1,7 @@
 //! Answers a question about a capture whose parts come from readers or from files.
 ghost use Rattle.std.specs.Prelude.{◌<◌, ◌^◌, length, map, vec_len, IfErr, IfOk, IsOkUnless};
 ghost use Rattle.std.specs.List.{AllZip};
-ghost use Rattle.capture_reading.specs.Parts.{frames_of_parts};
+ghost use Rattle.transaction_view.specs.Grammar.{frames_of_parts};
 ghost use Rattle.audit_run.specs.PartRuns.{FilesGive, IsOpeningError, ReadersGive};
 ghost use Rattle.audit_run.specs.Question.{answer_to, names_of, reading_status};
 ghost use Rattle.audit_run.specs.Run.{RunEnds};

@@ -4,8 +4,8 @@ ghost use Rattle.std.specs.Prelude.{◌≡◌, ◌<◌, ◌≤◌, ◌^◌, List
 ghost use Rattle.std.specs.Io.KnownBytes.{Appends};
 ghost use Rattle.std.specs.Result.{result_err};
 ghost use Rattle.capture_frame.specs.Units.{IsBytes};
-ghost use Rattle.capture_reading.specs.Parts.{frames_of_parts};
-ghost use Rattle.audit_join.specs.Parts.{AreMalformed};
+ghost use Rattle.transaction_view.specs.Grammar.{frames_of_parts};
+ghost use Rattle.audit_join.specs.Audit.{AreMalformed};
 ghost use Rattle.audit_join.specs.declared.limits.TheConstants.{CAPTURE_LIMIT};
 ghost use Rattle.report_text.specs.Fault.{part_fault_line};
 ghost use Rattle.report_text.specs.Answers.{answer, first_fault_line};
@@ -129,7 +129,6 @@ pub(crate) fn write_parts<T: Threads + Sync, W: Write, G: Gate + Sync>(
 ) -> Result<PartsWritten, RunError>
     requires few { length parts.now < 2 ^ 32 }
     requires limit { bytes_of (map (λ part. part.now) parts.now) ≤ CAPTURE_LIMIT }
-    requires bytes { All IsBytes (map (λ part. part.now) parts.now) }
     ensures { Writes answer (λ parts. written_of (frames_of_parts parts))
         (map (λ part. part.now) parts.now)
         (W.contents writer.old) (W.contents writer.new) result }
@@ -160,7 +159,6 @@ fn report_on<T: Threads + Sync, G: Gate + Sync>(
 ) -> Result<String, PartsError>
     requires few { length parts.now < 2 ^ 32 }
     requires limit { bytes_of (map (λ part. part.now) parts.now) ≤ CAPTURE_LIMIT }
-    requires bytes { All IsBytes (map (λ part. part.now) parts.now) }
     ensures read { OnOk result (IsOk (frames_of_parts (map (λ part. part.now) parts.now))) }
     ensures report { IfOk result (λ text.
         string_bytes text ≡ answer (map (λ part. part.now) parts.now)) }
@@ -188,8 +186,7 @@ pub(crate) fn write_first_fault_parts<W: Write>(
     parts: &[&[u8]],
     writer: &mut W,
 ) -> Result<Option<PartFault>, RunError>
-    requires few { length parts.now < 2 ^ 32 }
-    requires bytes { All IsBytes (map (λ part. part.now) parts.now) }
+    requires { length parts.now < 2 ^ 32 }
     ensures written { Writes first_fault_line (λ parts. result_err (frames_of_parts parts))
         (map (λ part. part.now) parts.now)
         (W.contents writer.old) (W.contents writer.new) result }

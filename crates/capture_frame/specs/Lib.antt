@@ -1,11 +1,12 @@
 pub mod Units
 pub mod Envelope
-pub mod FirstFault
+pub mod Tests
+pub mod ReadOn
+pub mod Frames
+pub mod Parts
 pub mod Calls
 pub mod Readers
-pub mod Reading
 pub mod State
-pub mod Parts
 pub mod Cut
 pub mod Process
 pub mod Lookup

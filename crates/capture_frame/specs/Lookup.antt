@@ -1,11 +1,11 @@
 -- Which frame of a capture a byte belongs to.
 use Rattle.std.specs.Prelude.{◌≡◌, ℕ, ◌+◌, ◌<◌, ◌≤◌, List, length, slice_index_or, All, Contains, Option, Some, None}
 use Rattle.capture_frame.specs.declared.frame.Frame.{Frame}
-use Rattle.capture_frame.specs.Envelope.{PlacedFrame, frame_header_length, placed_frame}
+use Rattle.capture_frame.specs.Envelope.{PlacedFrame, frame_width, placed_frame}
 
 -- how many bytes of the capture a frame takes: its header, its command bytes and its attachment bytes
 abbrev pub span_of : PlacedFrame → ℕ
-span_of frame = frame_header_length + length frame.unit.commands + length frame.unit.attachments
+span_of frame = frame_width frame.unit
 
 -- the earlier frame ends before the later one begins
 abbrev pub AreApart : PlacedFrame → PlacedFrame → Type 0

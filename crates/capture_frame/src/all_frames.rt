@@ -1,9 +1,9 @@
 //! All frames of a capture at once.
 
-ghost use Rattle.std.specs.Prelude.{◌≡◌, ◌+◌, ◌<◌, ◌^◌, length, map, MatchResult};
+ghost use Rattle.std.specs.Prelude.{◌≡◌, ◌+◌, ◌<◌, ◌^◌, [], ◌∷◌, length, map, None, MatchResult};
 ghost use Rattle.std.specs.List.{sum_by};
 ghost use Rattle.capture_frame.specs.FrameList.{AreKept, bodies};
-ghost use Rattle.capture_frame.specs.Cut.{AreFrames, IsCutOff, ArePartFrames, IsPartCutOff, IsPushed, IsStopped, kept, shown_by};
+ghost use Rattle.capture_frame.specs.Cut.{CutsTo, IsCutOff, IsPartCutOff, IsPushed, IsStopped, kept, shown_by};
 
 use crate::cut_off::{Cut, PartCut, Stopped};
 use crate::fault::{Fault, PartFault};
@@ -19,7 +19,7 @@ use std::alloc::Global;
 /// memory.
 pub fn cut<'c>(alloc: Global, capture: &'c [u8]) -> Result<Vec<Frame<'c>>, Cut<'c>>
     ensures { MatchResult result
-        (λ frames. AreFrames capture.now (shown_by frames.items))
+        (λ frames. CutsTo (capture.now ∷ []) (shown_by frames.items) None)
         (IsCutOff capture.now) }
 {
     match cut_parts(alloc, &[capture]) {
@@ -46,7 +46,7 @@ pub fn cut_parts<'c>(alloc: Global, parts: &[&'c [u8]]) -> Result<FrameList<'c>,
     requires few { length parts.now < 2 ^ 32 }
     requires fits { sum_by length (map (λ part. part.now) parts.now) < 2 ^ 64 }
     ensures { MatchResult result
-        (ArePartFrames (map (λ part. part.now) parts.now))
+        (λ frames. CutsTo (map (λ part. part.now) parts.now) frames None)
         (IsPartCutOff (map (λ part. part.now) parts.now)) }
 {
     let mut row = Vec::new(alloc);

@@ -1,11 +1,11 @@
 //! The reader of a capture's frames.
 
-ghost use Rattle.std.specs.Prelude.{◌≡◌, ◌<◌, ◌≤◌, ◌+◌, ◌^◌, ◌↔◌, length, take, IsTrue, MatchResult, IfOk, IfErr};
+ghost use Rattle.std.specs.Prelude.{◌≡◌, ◌<◌, ◌≤◌, ◌+◌, ◌==◌, ◌&&◌, ◌^◌, length, IsTrue, None, Ok, Err, MatchResult};
 ghost use Rattle.capture_frame.specs.declared.version.Version.{Version};
-ghost use Rattle.capture_frame.specs.Envelope.{file_header, in_version, placed_frame, frame_header_length, command_length, attachment_length, IsAbove, AreZero};
-ghost use Rattle.capture_frame.specs.FirstFault.{HeaderFails, FrameFails};
-ghost use Rattle.capture_frame.specs.FrameList.{frame_at_start};
-ghost use Rattle.capture_frame.specs.Reading.{BeginsWithFrame};
+ghost use Rattle.capture_frame.specs.Envelope.{in_version, frame_text, placed_frame, number_at, device_at};
+ghost use Rattle.capture_frame.specs.Frames.{frame_at, frame_at_start, has_whole_frame, is_device_in};
+ghost use Rattle.capture_frame.specs.Parts.{header_at};
+ghost use Rattle.capture_frame.specs.Tests.{is_above};
 ghost use Rattle.capture_frame.specs.Units.{placed_at};
 
 use crate::direction::Direction;
@@ -41,27 +41,28 @@ pub struct Frames<'c> {
 }
 
 impl<'c> Model for Frames<'c> {
-    ghost use Rattle.capture_frame.specs.Reading.{Reading};
+    ghost use Rattle.capture_frame.specs.Envelope.{FrameText};
+    ghost use Rattle.capture_frame.specs.ReadOn.{Parsed};
 
-    ghost Value = { Reading };
+    ghost Value = { Parsed FrameText };
 
-    ghost use Rattle.capture_frame.specs.State.{reading_of, IsWithin};
+    ghost use Rattle.capture_frame.specs.State.{ahead_of, IsWithin};
 
-    ghost view = { λ r. reading_of r.version r.bytes.now r.start r.state };
+    ghost view = { λ r. ahead_of r.version r.bytes.now r.start r.state };
 
     ghost invariant = { λ r. IsWithin r.bytes.now r.start r.state };
 }
 
 impl<'c> Frames<'c> {
-    ghost use Rattle.capture_frame.specs.Reading.{Steps, frames_start, frames_after};
+    ghost use Rattle.capture_frame.specs.State.{Steps, frames_after};
 
     /// A reader of the capture's frames, if its file header is good, of either version. Otherwise
     /// the header's fault, by the first kind that applies.
     pub fn new(capture: &'c [u8]) -> Result<Frames<'c>, Fault>
         ensures { MatchResult result
-            (λ reader. (version : Version) × (take 16 capture.now ≡ file_header version)
-            × (reader ≡ frames_start version capture.now))
-            (λ fault. HeaderFails capture.now fault.kind fault.place) }
+            (λ reader. (version : Version) × (header_at capture.now ≡ Ok version)
+            × (reader ≡ frames_after version capture.now 0 None))
+            (λ fault. header_at capture.now ≡ Err fault) }
     {
         Frames::after(capture, 0, None)
     }
@@ -73,9 +74,9 @@ impl<'c> Frames<'c> {
     pub fn after(part: &'c [u8], base: u64, before: Option<u64>) -> Result<Frames<'c>, Fault>
         requires fits { base + length part.now < 2 ^ 64 }
         ensures { MatchResult result
-            (λ reader. (version : Version) × (take 16 part.now ≡ file_header version)
+            (λ reader. (version : Version) × (header_at part.now ≡ Ok version)
             × (reader ≡ frames_after version part.now base before))
-            (λ fault. HeaderFails part.now fault.kind fault.place) }
+            (λ fault. header_at part.now ≡ Err fault) }
     {
         let version = header::check_header(part)?;
         Ok(Frames {
@@ -123,7 +124,7 @@ impl<'c> Frames<'c> {
 
 /// Whether the sequence is above that of the frame before, if there is one.
 fn is_above(sequence: u64, before: Option<u64>) -> bool
-    ensures { IsTrue result ↔ IsAbove before sequence }
+    ensures { result ≡ is_above before sequence }
 {
     match before {
         Some(last) => last < sequence,
@@ -134,7 +135,7 @@ fn is_above(sequence: u64, before: Option<u64>) -> bool
 /// Whether the reserved fields of a frame header are 0.
 fn are_zero(bytes: &[u8], version: Version) -> bool
     requires { 32 ≤ length bytes.now }
-    ensures { IsTrue result ↔ AreZero version bytes.now }
+    ensures { result ≡ (number_at 3 17 bytes.now == 0 && is_device_in version (device_at bytes.now)) }
 {
     let zeros = u24_at(bytes, 17) == 0;
     match version {
@@ -154,9 +155,9 @@ pub(crate) fn read_frame(
 ) -> Result<Frame<'_>, FaultKind>
     requires fits { place + length bytes.now < 2 ^ 64 }
     requires some { 0 < length bytes.now }
-    ensures found { IfOk result (λ frame.
-        BeginsWithFrame bytes.now place (in_version version last) frame) }
-    ensures fails { IfErr result (λ kind. FrameFails (in_version version last) bytes.now kind) }
+    ensures { MatchResult result
+        (λ frame. (frame_at (in_version version last) bytes.now ≡ Ok (frame_text frame)) × (frame.place ≡ place))
+        (λ kind. frame_at (in_version version last) bytes.now ≡ Err kind) }
 {
     if bytes.len() < FRAME_HEADER {
         return Err(FaultKind::FrameShort);
@@ -182,8 +183,7 @@ pub(crate) fn read_frame(
 #[inline(always)]
 pub(crate) fn frame_of(bytes: &[u8], place: u64) -> Frame<'_>
     requires fits { place + length bytes.now < 2 ^ 64 }
-    requires whole { frame_header_length
-        + (command_length bytes.now + attachment_length bytes.now) ≤ length bytes.now }
+    requires whole { IsTrue (has_whole_frame bytes.now) }
     ensures { placed_frame result ≡ placed_at place (frame_at_start bytes.now) }
 {
     let command_length = u32_at(bytes, 20);

@@ -1,5 +1,5 @@
 //! The file header and the frames of a capture, or of several parts that are read as one. It also
-//! has the shape that all readers of units share (`specs/Units.antt`, `specs/Readers.antt`).
+//! has the shape that all readers of units share (`specs/ReadOn.antt`, `specs/Readers.antt`).
 #![tactic(auto)]
 
 mod all_frames;

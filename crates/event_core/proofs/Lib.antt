@@ -1,7 +1,5 @@
 pub mod Sizes
-pub mod EntryPlaces
-pub mod EventWalk
-pub mod EventCalls
-pub mod EventPlaces
+pub mod SideBySide
+pub mod EventSteps
+pub mod FrameEvents
 pub mod RecordAt
-pub mod EventsGiven

@@ -1,9 +1,9 @@
 //! The reader of a frame's events.
 
 ghost use Rattle.std.specs.Prelude.{◌≡◌};
-ghost use Rattle.capture_frame.specs.Envelope.{frame_text};
-ghost use Rattle.transaction_view.specs.FirstFault.{HasGoodContent};
-ghost use Rattle.event_core.specs.State.{TakesAt};
+ghost use Rattle.std.specs.Option.{ForSome, option_map};
+ghost use Rattle.transaction_view.specs.State.{placed_entry};
+ghost use Rattle.event_core.specs.State.{entries_left, entry_taken, entries_after};
 
 use crate::event::Event;
 use crate::record_event::event_of;
@@ -25,27 +25,29 @@ pub struct Events<'c> {
 }
 
 impl<'c> Model for Events<'c> {
-    ghost use Rattle.std.specs.Prelude.{◌≡◌};
-    ghost use Rattle.event_core.specs.Reading.{Reading};
+    ghost use Rattle.std.specs.Prelude.{List};
+    ghost use Rattle.event_core.specs.Events.{EventRead};
 
-    ghost Value = { Reading };
+    ghost Value = { List EventRead };
 
-    ghost use Rattle.event_core.specs.State.{reading_of, IsWithin};
+    ghost use Rattle.capture_frame.specs.Envelope.{frame_text};
+    ghost use Rattle.event_core.specs.State.{events_beside, entries_left};
 
-    ghost view = { λ r. reading_of r.frame r.records };
-
-    ghost invariant = { λ r. IsWithin r.frame r.records r.attachments r.ahead };
+    ghost view = { λ r. events_beside (frame_text r.frame) r.records.units
+        (entries_left r.ahead r.attachments) };
 }
 
 impl<'c> Events<'c> {
     ghost use Rattle.capture_frame.specs.Envelope.{placed_frame};
-    ghost use Rattle.event_core.specs.Reading.{Steps, events_start};
+    ghost use Rattle.event_core.specs.Events.{events_of};
+    ghost use Rattle.event_core.specs.Reading.{Steps};
+    ghost use Rattle.transaction_view.specs.Grammar.{IsGood};
 
     /// A reader before the first event of a frame whose records and entries have no fault, which
     /// `check_frame` says.
     pub fn of(frame: Frame<'c>) -> Events<'c>
-        requires { HasGoodContent (frame_text frame) }
-        ensures { result ≡ events_start (placed_frame frame.entry) }
+        requires { IsGood (placed_frame frame) }
+        ensures { result ≡ events_of (placed_frame frame.entry) }
     {
         let mut attachments = GoodEntries::of(frame);
         let ahead = attachments.next_entry();
@@ -79,7 +81,11 @@ fn take_at<'c>(
     attachments: &mut GoodEntries<'c>,
     place: u64,
 ) -> Option<Entry<'c>>
-    ensures { TakesAt place ahead.old attachments.old result ahead.new attachments.new }
+    ensures gives { option_map placed_entry result
+        ≡ entry_taken place (entries_left ahead.old attachments.old) }
+    ensures leaves { entries_left ahead.new attachments.new
+        ≡ entries_after place (entries_left ahead.old attachments.old) }
+    ensures owned { ForSome result (λ found. found.owner ≡ place) }
 {
     let Some(entry) = *ahead else {
         return None;

@@ -4,7 +4,7 @@ ghost use Rattle.std.specs.Prelude.{◌≡◌, ◌≤◌, ◌+◌, ◌↔◌, le
 ghost use Rattle.capture_frame.specs.Units.{placed_at};
 ghost use Rattle.capture_frame.specs.Envelope.{frame_text, placed_frame, commands_place};
 ghost use Rattle.record_view.specs.Records.{RecordText};
-ghost use Rattle.transaction_view.specs.FirstFault.{HasGoodContent};
+ghost use Rattle.transaction_view.specs.Grammar.{IsGood};
 ghost use Rattle.event_core.specs.Events.{bare_event, RecordIsAtPlace, HasRecordAt};
 ghost use Rattle.event_core.specs.Reading.{event_text, IsEventAt};
 ghost use Rattle.event_core.specs.Lookup.{IsCutAt};
@@ -18,7 +18,7 @@ use record_view::Records;
 /// The event of a frame at a place of the capture; None if no record of the frame begins there. The
 /// frame's records and entries must have no fault. The program does not use this call.
 pub fn event_at<'c>(frame: Frame<'c>, place: u64) -> Option<Event<'c>>
-    requires { HasGoodContent (frame_text frame) }
+    requires { IsGood (placed_frame frame) }
     ensures exact { IsEventAt (placed_frame frame.entry) place result }
     ensures there { IsSome result ↔ HasRecordAt (placed_frame frame.entry) place }
 {

@@ -1,8 +1,11 @@
 //! The event of a record, with its attachment.
 
 ghost use Rattle.std.specs.Prelude.{◌≡◌};
-ghost use Rattle.std.specs.Option.{ForSome};
-ghost use Rattle.event_core.specs.Reading.{event_text, text_of_event};
+ghost use Rattle.std.specs.Option.{ForSome, option_map};
+ghost use Rattle.capture_frame.specs.Envelope.{frame_text};
+ghost use Rattle.record_view.specs.State.{placed_record};
+ghost use Rattle.event_core.specs.Events.{event_with};
+ghost use Rattle.event_core.specs.Reading.{event_text, entry_attachment};
 
 use crate::event::Event;
 use capture_frame::Frame;
@@ -17,7 +20,8 @@ pub(crate) fn event_of<'c>(
     attachment: Option<Entry<'c>>,
 ) -> Event<'c>
     requires { ForSome attachment (λ found. found.owner ≡ carrier.place) }
-    ensures { event_text result ≡ text_of_event frame.entry carrier.entry attachment.entry }
+    ensures { event_text result ≡ event_with (frame_text frame.entry)
+        (placed_record carrier.entry) (option_map entry_attachment attachment.entry) }
 {
     Event {
         place: carrier.place,

@@ -4,15 +4,14 @@ use Rattle.std.specs.List.{filter_map, cons_option}
 use Rattle.std.specs.Map.{lookup}
 use Rattle.std.specs.Option.{unwrap_or}
 use Rattle.std.proofs.lemmas.Simd.{map-map}
-use Rattle.capture_frame.specs.Units.{Placed}
-use Rattle.transaction_view.specs.Grammar.{WholeFrame}
+use Rattle.capture_frame.specs.Envelope.{PlacedFrame}
 use Rattle.std.specs.Ordering.{nat_cmp}
 use Rattle.std.specs.Prelude.{⊤}
 use Rattle.binder_code.specs.declared.record_kind.Kind.{Kind}
 use Rattle.binder_code.specs.declared.record_kind.Kind.TheVariants.{BcTransaction, BcTransactionSg, BcFreeBuffer, BcIncrefs, BcAcquire, BcRelease, BcDecrefs, BcIncrefsDone, BcAcquireDone, BcRequestDeathNotification, BcClearDeathNotification, BcDeadBinderDone, BrTransaction, BrTransactionSecCtx, BrReply, BrIncrefs, BrAcquire, BrRelease, BrDecrefs, BrDeadBinder, BrClearDeathNotificationDone}
 use Rattle.capture_frame.specs.Process.{same_process}
 use Rattle.capture_frame.specs.declared.process.Process.{Process}
-use Rattle.event_core.specs.Events.{EventRead, process_of, events_of_wholes}
+use Rattle.event_core.specs.Events.{EventRead, process_of, events_of_frames}
 use Rattle.event_core.specs.Reading.{event_text}
 use Rattle.event_core.specs.declared.event.Event.{Event}
 use Rattle.handle_ledger.specs.Handles.{HandleLedgerSums}
@@ -25,10 +24,10 @@ use Rattle.process_ledgers.specs.declared.processes.Processes.{Processes}
 use Rattle.process_ledgers.specs.declared.process_ledgers.ProcessLedgers.{ProcessLedgers}
 use Rattle.process_ledgers.specs.Concerns.{concerns, concerned}
 use Rattle.process_ledgers.specs.Items.{buffer_item_of, clear_item_of, death_item_of, handle_item_of, node_item_of, oneway_item_of, request_item_of}
-use Rattle.process_ledgers.specs.EachProcess.{AreLedgersOf, SumsEach, SumsOrder, ledgers_in}
+use Rattle.process_ledgers.specs.EachProcess.{AreLedgersOf, SumsEach, SumsOrder, ledgers_in, order_item}
 use Rattle.process_ledgers.specs.OnewayLedger.{OnewayLedgerSums}
 use Rattle.process_ledgers.specs.ProcessLedgers.{SumsProcess, picked_by}
-use Rattle.process_ledgers.specs.Processes.{events_in, items_of_process, process_of_whole}
+use Rattle.process_ledgers.specs.Processes.{events_in, items_of_process}
 
 -- no ledger picks an item from the event
 record PickNone (e : EventRead) : Type 0 where
@@ -117,11 +116,11 @@ part_sums Sums none (Some part) items sums is = is.1
 
 -- if the order is that of the processes of these frames, and the ledgers are those of their events, these are the
 -- processes of the frames
-pub sums_each : (processes : Processes) (wholes : List (Placed WholeFrame)) (events : List Event) → map event_text events ≡ events_of_wholes wholes
-    → SumsOrder processes.order.now.entries.entries wholes → SumsPicked concerned (SumsInOrder same_process SumsProcess) processes.own.now.entries.entries events
-    → SumsProcess processes.none.now [] → SumsEach processes wholes
-sums_each processes wholes events is order own none = record {
-  order = order.order ∙ ap (firsts same_process) (map-map (λ (e : Process × ⊤). e.0) (λ w. (process_of_whole w, tt)) wholes);
+pub sums_each : (processes : Processes) (frames : List PlacedFrame) (events : List Event) → map event_text events ≡ events_of_frames frames
+    → SumsOrder processes.order.now.entries.entries frames → SumsPicked concerned (SumsInOrder same_process SumsProcess) processes.own.now.entries.entries events
+    → SumsProcess processes.none.now [] → SumsEach processes frames
+sums_each processes frames events is order own none = record {
+  order = order.order ∙ ap (firsts same_process) (map-map (λ (e : Process × ⊤). e.0) order_item frames);
   each = λ q.
       subst (λ texts. AreLedgersOf (ledgers_in processes q) texts q) is
       (own_ledgers (ledgers_in processes q) q events

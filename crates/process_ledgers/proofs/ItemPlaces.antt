@@ -14,7 +14,7 @@ use Rattle.pending_ledger.specs.Pending.{place_of}
 use Rattle.pending_ledger.specs.Requests.{request_place}
 use Rattle.process_ledgers.specs.Items.{KeepsPlace, buffer_item_of, buffer_pending_of, clear_item_of, death_item_of, request_item_of}
 
-made_there : {A I : Type 0} (place : I → ℕ) (make : A → I) (at : ℕ) → ((a : A) → place (make a) ≡ at) → (o : Option A) (i : I) → option_map make o ≡ Some i
+pub made_there : {A I : Type 0} (place : I → ℕ) (make : A → I) (at : ℕ) → ((a : A) → place (make a) ≡ at) → (o : Option A) (i : I) → option_map make o ≡ Some i
     → place i ≡ at
 made_there place make at there None i is = let no : ⊥ = cc in absurd no
 made_there place make at there (Some a) i is = sym (ap (λ o. place (unwrap_or o i)) is) ∙ there a

@@ -2,22 +2,21 @@
 use Rattle.std.specs.Prelude.{◌≡◌, List, map, ⊤}
 use Rattle.std.specs.Map.{lookup, keys_of}
 use Rattle.std.specs.Option.{unwrap_or}
+use Rattle.capture_frame.specs.Envelope.{PlacedFrame}
 use Rattle.capture_frame.specs.Process.{same_process}
-use Rattle.capture_frame.specs.Units.{Placed}
-use Rattle.transaction_view.specs.Grammar.{WholeFrame}
 use Rattle.summary_law.specs.InOrder.{SumsInOrder}
 use Rattle.summary_law.specs.declared.nothing.Nothing.{Nothing}
 use Rattle.process_ledgers.specs.declared.processes.Processes.{Processes}
 use Rattle.std.specs.Ordering.{nat_cmp}
 use Rattle.capture_frame.specs.declared.process.Process.{Process}
-use Rattle.event_core.specs.Events.{EventRead, events_of_wholes}
+use Rattle.event_core.specs.Events.{EventRead, events_of_frames}
 use Rattle.handle_ledger.specs.Handles.{HandleLedgerSums}
 use Rattle.handle_ledger.specs.Nodes.{NodeLedgerSums}
 use Rattle.pending_ledger.specs.Sums.{BuffersSums, PendingSums, RequestsSums}
 use Rattle.process_ledgers.specs.declared.process_ledgers.ProcessLedgers.{ProcessLedgers}
 use Rattle.process_ledgers.specs.Items.{buffer_item_of, clear_item_of, death_item_of, handle_item_of, node_item_of, oneway_item_of, request_item_of}
 use Rattle.process_ledgers.specs.OnewayLedger.{OnewayLedgerSums}
-use Rattle.process_ledgers.specs.Processes.{items_of_process, process_of_whole, processes_of}
+use Rattle.process_ledgers.specs.Processes.{items_of_process, process_of_placed, processes_of}
 
 -- the ledgers are those of this process among these events: each sums the items that it reads from the events of the
 -- process
@@ -34,11 +33,16 @@ pub record AreLedgersOf (ledgers : ProcessLedgers) (events : List EventRead) (pr
 abbrev pub ledgers_in : Processes → Process → ProcessLedgers
 ledgers_in processes process = unwrap_or (lookup (same_process process) processes.own.now.entries.entries) processes.none.now
 
+-- the process of a frame, as an item of the order
+abbrev pub order_item : PlacedFrame → Process × ⊤
+order_item frame = (process_of_placed frame, tt)
+
 -- the keys are the processes of these frames, in the order of their first frames
-abbrev pub SumsOrder : List (Process × Nothing) → List (Placed WholeFrame) → Type 0
-SumsOrder entries wholes = SumsInOrder same_process (λ (v : Nothing) (items : List ⊤). ⊤) entries (map (λ w. (process_of_whole w, tt)) wholes)
+abbrev pub SumsOrder : List (Process × Nothing) → List PlacedFrame → Type 0
+SumsOrder entries frames =
+    SumsInOrder same_process (λ (v : Nothing) (items : List ⊤). ⊤) entries (map order_item frames)
 
 -- these are the processes of these frames, in the order of their first frames, each with its ledgers
-pub record SumsEach (processes : Processes) (wholes : List (Placed WholeFrame)) : Type 0 where
-  pub order : keys_of processes.order.now.entries.entries ≡ processes_of wholes
-  pub each : (process : Process) → AreLedgersOf (ledgers_in processes process) (events_of_wholes wholes) process
+pub record SumsEach (processes : Processes) (frames : List PlacedFrame) : Type 0 where
+  pub order : keys_of processes.order.now.entries.entries ≡ processes_of frames
+  pub each : (process : Process) → AreLedgersOf (ledgers_in processes process) (events_of_frames frames) process

@@ -3,19 +3,18 @@ use Rattle.std.specs.Prelude.{List, map, Option}
 use Rattle.std.specs.List.{filter_map}
 use Rattle.capture_frame.specs.declared.process.Process.{Process}
 use Rattle.capture_frame.specs.Process.{same_process, process_of_frame}
-use Rattle.capture_frame.specs.Units.{Placed}
-use Rattle.transaction_view.specs.Grammar.{WholeFrame}
+use Rattle.capture_frame.specs.Envelope.{PlacedFrame}
 use Rattle.event_core.specs.Events.{EventRead, process_of}
 use Rattle.summary_law.specs.InOrder.{firsts}
 use Rattle.summary_law.specs.Readings.{with_key}
 
--- the process of a whole frame
-abbrev pub process_of_whole : Placed WholeFrame → Process
-process_of_whole there = process_of_frame there.unit.frame
+-- the process of a frame that has its place
+abbrev pub process_of_placed : PlacedFrame → Process
+process_of_placed frame = process_of_frame frame.unit
 
 -- the processes of these frames, each once, in the order of their first frames
-abbrev pub processes_of : List (Placed WholeFrame) → List Process
-processes_of wholes = firsts same_process (map process_of_whole wholes)
+abbrev pub processes_of : List PlacedFrame → List Process
+processes_of frames = firsts same_process (map process_of_placed frames)
 
 -- the events of this process, in their order
 abbrev pub events_in : Process → List EventRead → List EventRead

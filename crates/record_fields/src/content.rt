@@ -1,8 +1,8 @@
 //! The records of a frame, each with its attachment.
 
-ghost use Rattle.std.specs.Prelude.{OnOk};
-ghost use Rattle.capture_frame.specs.Envelope.{frame_text};
-ghost use Rattle.record_view.specs.Records.{HasReadableRecords};
+ghost use Rattle.std.specs.Prelude.{◌≡◌, None, OnOk};
+ghost use Rattle.capture_frame.specs.Envelope.{placed_frame};
+ghost use Rattle.record_view.specs.Records.{records_of};
 
 use capture_frame::{Fault, Frame};
 use record_view::{Record, Records};
@@ -41,11 +41,11 @@ impl<'c> Content<'c> {
 
 impl<'c> Iterator for Content<'c> {
     ghost use Rattle.std.specs.Iterator.{at_most};
-    ghost use Rattle.record_fields.specs.Walk.{left_of};
+    ghost use Rattle.std.specs.Prelude.{length};
 
     type Item = Item<'c>;
 
-    ghost remaining = { λ s. at_most (left_of s.records) };
+    ghost remaining = { λ s. at_most (length s.records.units) };
 
     fn next(&mut self) -> Option<Item<'c>> {
         match self.records.next_record() {
@@ -95,7 +95,7 @@ fn entries_of<'c>(frame: Frame<'c>) -> Option<Attachments<'c>> {
 
 /// Checks the records of one frame.
 fn check_records(frame: Frame<'_>) -> Result<(), Fault>
-    ensures { OnOk result (HasReadableRecords (frame_text frame.entry)) }
+    ensures { OnOk result ((records_of (placed_frame frame.entry)).fault ≡ None) }
 {
     let mut records = Records::of(frame);
     while let Some(_) = records.next_record()? {}

@@ -1,3 +1,3 @@
+pub mod UnitLaws
 pub mod RecordLaws
-pub mod ReadLaws
 pub mod Vectors

@@ -1,8 +1,8 @@
 //! The reader of a frame's records.
 
-ghost use Rattle.std.specs.Prelude.{◌≡◌, ◌<◌, ◌+◌, ◌^◌, length, IfOk, IfErr};
-ghost use Rattle.record_view.specs.Reading.{BeginsWithRecord};
-ghost use Rattle.record_view.specs.Records.{RecordFails};
+ghost use Rattle.std.specs.Prelude.{◌≡◌, ◌<◌, ◌+◌, ◌^◌, length, Ok, Err, MatchResult};
+ghost use Rattle.record_view.specs.Records.{record_at};
+ghost use Rattle.record_view.specs.State.{record_text};
 
 use crate::protocol::protocol;
 use crate::record::Record;
@@ -30,24 +30,26 @@ pub struct Records<'c> {
 }
 
 impl<'c> Model for Records<'c> {
-    ghost use Rattle.record_view.specs.Reading.{Reading};
+    ghost use Rattle.capture_frame.specs.ReadOn.{Parsed};
+    ghost use Rattle.record_view.specs.Records.{RecordText};
 
-    ghost Value = { Reading };
+    ghost Value = { Parsed RecordText };
 
-    ghost use Rattle.record_view.specs.State.{reading_of, IsWithin};
+    ghost use Rattle.record_view.specs.State.{ahead_of, IsWithin};
 
-    ghost view = { λ r. reading_of r.frame r.state };
+    ghost view = { λ r. ahead_of r.frame r.state };
 
     ghost invariant = { λ r. IsWithin r.frame r.state };
 }
 
 impl<'c> Records<'c> {
     ghost use Rattle.capture_frame.specs.Envelope.{placed_frame};
-    ghost use Rattle.record_view.specs.Reading.{Steps, records_start};
+    ghost use Rattle.record_view.specs.Records.{records_of};
+    ghost use Rattle.record_view.specs.State.{Steps};
 
     /// A reader before the frame's first record.
     pub fn of(frame: Frame<'c>) -> Records<'c>
-        ensures { result ≡ records_start (placed_frame frame.entry) }
+        ensures { result ≡ records_of (placed_frame frame.entry) }
     {
         Records {
             frame,
@@ -91,8 +93,9 @@ impl<'c> Records<'c> {
 fn record_at(bytes: &[u8], place: u64, protocol: Protocol) -> Result<Record<'_>, FaultKind>
     requires fits { place + length bytes.now < 2 ^ 64 }
     requires some { 0 < length bytes.now }
-    ensures found { IfOk result (λ found. BeginsWithRecord protocol bytes.now place found) }
-    ensures fails { IfErr result (λ kind. RecordFails protocol bytes.now kind) }
+    ensures { MatchResult result
+        (λ found. (record_at protocol bytes.now ≡ Ok (record_text found)) × (found.place ≡ place))
+        (λ kind. record_at protocol bytes.now ≡ Err kind) }
 {
     if bytes.len() < CODE {
         return Err(FaultKind::RecordShort);

@@ -1,8 +1,8 @@
 //! The frames of a capture in pieces, and their summaries.
 
-ghost use Rattle.std.specs.Prelude.{◌≡◌, ◌∷◌, [], List, length, IfOk, OnOk};
+ghost use Rattle.std.specs.Prelude.{◌≡◌, ◌∷◌, [], List, length, None, IfOk, OnOk};
 ghost use Rattle.capture_frame.specs.Envelope.{PlacedFrame};
-ghost use Rattle.capture_frame.specs.Cut.{ArePartFrames};
+ghost use Rattle.capture_frame.specs.Cut.{CutsTo};
 ghost use Rattle.audit_findings.specs.Frames.{AreGoodFrames};
 ghost use Rattle.audit_findings.specs.Summary.{SumsPiece, process_count};
 ghost use Rattle.audit_join.specs.Jobs.{AreSound};
@@ -31,7 +31,7 @@ pub(crate) fn plan<W: Write>(alloc: Global, capture: &[u8], out: &mut W) -> Prin
 
 /// The frames of a capture whose headers are good, kept by their places.
 fn kept_frames<'c>(alloc: Global, capture: &'c [u8]) -> Result<FrameList<'c>, NoAnswer>
-    ensures { IfOk result (ArePartFrames (capture.now ∷ [])) }
+    ensures { IfOk result (λ frames. CutsTo (capture.now ∷ []) frames None) }
 {
     match cut_parts(alloc, &[capture]) {
         Ok(frames) => Ok(frames),

@@ -1,8 +1,7 @@
 -- Lines that are pushed one after another.
 use Rattle.std.proofs.Common.{◌≡◌, ℕ, List, [], ◌∷◌, ◌++◌, map, refl, sym, ap, ap₂, subst}
 use Rattle.std.specs.List.{AllZip, FoldsTo}
-use Rattle.transaction_view.specs.Grammar.{WholeFrame}
-use Rattle.event_core.specs.Events.{EventRead, wholes_of}
+use Rattle.event_core.specs.Events.{EventRead}
 use Rattle.audit_findings.specs.Findings.{findings_of}
 use Rattle.audit_findings.specs.declared.findings.Sections.{Sections}
 use Rattle.audit_findings.specs.Kept.{KeptFindings, AreSectionsOf}
@@ -25,18 +24,17 @@ AllZip-mapped R f (x ∷ xs) (y ∷ ys) all = (all.0, AllZip-mapped R f xs ys al
 -- one line that is pushed
 pub one_pushed : {L : Type 0} {takes : L → List ℕ → L → Type 0} {kept : KeptFindings} {old new : L} (line : List ℕ) (line_of : Sections EventRead → List ℕ)
     → takes old line new
-    → ((wholes : List WholeFrame) → AreSectionsOf wholes kept.frames kept.sections
-    → line ≡ line_of (findings_of (wholes_of wholes)))
+    → (AreSectionsOf kept.frames kept.sections → line ≡ line_of (findings_of kept.frames))
     → TakesLines takes (λ found. line_of found ∷ []) kept old new
 one_pushed {new = new} line line_of takes told = record {
   lines = line ∷ [];
   taken = (new, takes, refl);
-  told = λ wholes are. ap (λ (l : List ℕ). l ∷ []) (told wholes are);
+  told = λ are. ap (λ (l : List ℕ). l ∷ []) (told are);
 }
 
 -- no line that is pushed
 pub none_pushed : {L : Type 0} {takes : L → List ℕ → L → Type 0} {kept : KeptFindings} {at : L} → TakesLines takes (λ found. []) kept at at
-none_pushed = record { lines = []; taken = refl; told = λ wholes are. refl }
+none_pushed = record { lines = []; taken = refl; told = λ are. refl }
 
 infixr 20 ◌⨾◌
 -- lines that are pushed, followed by others
@@ -45,5 +43,5 @@ pub ◌⨾◌ : {L : Type 0} {takes : L → List ℕ → L → Type 0} {kept : K
 ◌⨾◌ {takes = takes} {a = a} {b = b} {c = c} first others = record {
   lines = first.lines ++ others.lines;
   taken = FoldsTo-append takes a b c first.lines others.lines first.taken others.taken;
-  told = λ wholes are. ap₂ (λ (x y : List (List ℕ)). x ++ y) (first.told wholes are) (others.told wholes are);
+  told = λ are. ap₂ (λ (x y : List (List ℕ)). x ++ y) (first.told are) (others.told are);
 }

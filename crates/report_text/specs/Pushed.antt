@@ -2,12 +2,9 @@
 use Rattle.capture_frame.specs.Envelope.{PlacedFrame}
 use Rattle.std.specs.Prelude.{◌≡◌, ℕ, Bool, IsTrue, List, All, Contains, map}
 use Rattle.std.specs.List.{AllZip, FoldsTo}
-use Rattle.capture_frame.specs.Units.{Placed}
 use Rattle.binder_code.specs.declared.record_kind.Kind.{Kind}
-use Rattle.transaction_view.specs.Grammar.{WholeFrame}
-use Rattle.event_core.specs.Events.{EventRead, events_of_wholes}
+use Rattle.event_core.specs.Events.{EventRead, events_of_frames}
 use Rattle.audit_findings.specs.Findings.{findings_of}
-use Rattle.audit_findings.specs.Frames.{AreViews}
 use Rattle.audit_findings.specs.Kept.{KeptFindings, at_places}
 use Rattle.audit_findings.specs.Lookup.{HasRecordIn}
 use Rattle.audit_findings.specs.declared.findings.Sections.{Sections}
@@ -16,8 +13,7 @@ use Rattle.report_text.specs.Section.{AreLinesOf, SectionText}
 -- the line is what `line_of` makes of the event at this place of the frames
 abbrev pub ShowsEvent : (EventRead → List ℕ) → List PlacedFrame → ℕ → List ℕ → Type 0
 ShowsEvent line_of frames place line =
-    (wholes : List (Placed WholeFrame)) (e : EventRead) → AreViews frames wholes → Contains (events_of_wholes wholes) e
-    → e.place ≡ place → line ≡ line_of e
+    (e : EventRead) → Contains (events_of_frames frames) e → e.place ≡ place → line ≡ line_of e
 
 -- lines were taken, one after another, that show the rows of which this is kept
 abbrev pub TakesRows : {L K : Type 0} → (L → List ℕ → L → Type 0) → (K → List ℕ → Type 0) → List K → L → L → Type 0
@@ -37,12 +33,10 @@ pub record Keeps {R K : Type 0} (section : SectionText R) (keep : R → K) (head
   pub head : (found : Sections EventRead) (rows : ℕ) → head_of (at_places found) rows ≡ section.head found rows
   pub rows : (found : Sections EventRead) → rows_of (at_places found) ≡ map keep (section.rows found)
 
--- an event of some whole frames that the frames show is at this place, and its record is of one of these kinds
+-- an event of the frames is at this place, and its record is of one of these kinds
 pub record HasRowAt (kinds : Kind → Bool) (frames : List PlacedFrame) (place : ℕ) : Type 0 where
-  pub wholes : List (Placed WholeFrame)
-  pub views : AreViews frames wholes
   pub event : EventRead
-  pub inside : Contains (events_of_wholes wholes) event
+  pub inside : Contains (events_of_frames frames) event
   pub there : event.place ≡ place
   pub kind : IsTrue (kinds event.kind)
 
@@ -53,10 +47,10 @@ IsRowAt kinds frames place = HasRecordIn frames place × HasRowAt kinds frames p
 -- the record of each row of the section is of one of these kinds
 abbrev pub AreOfKinds : {R : Type 0} → SectionText R → (R → EventRead) → (Kind → Bool) → Type 0
 AreOfKinds section owner kinds =
-    (wholes : List (Placed WholeFrame))
-    → All (λ row. IsTrue (kinds (owner row).kind)) (section.rows (findings_of wholes))
+    (frames : List PlacedFrame) → All (λ row. IsTrue (kinds (owner row).kind)) (section.rows (findings_of frames))
 
 -- the owner of each row of the section is an event of the frames
 abbrev pub HaveEvents : {R : Type 0} → SectionText R → (R → EventRead) → Type 0
 HaveEvents section owner =
-    (wholes : List (Placed WholeFrame)) → All (λ row. Contains (events_of_wholes wholes) (owner row)) (section.rows (findings_of wholes))
+    (frames : List PlacedFrame)
+    → All (λ row. Contains (events_of_frames frames) (owner row)) (section.rows (findings_of frames))

@@ -2,8 +2,7 @@
 use Rattle.std.specs.Prelude.{◌≡◌, ℕ, List, [], ◌∷◌, ◌++◌, codes}
 use Rattle.std.specs.List.{flat_map}
 use Rattle.std.specs.Fmt.{decimal}
-use Rattle.transaction_view.specs.Grammar.{WholeFrame}
-use Rattle.event_core.specs.Events.{EventRead, wholes_of}
+use Rattle.event_core.specs.Events.{EventRead}
 use Rattle.audit_findings.specs.Findings.{findings_of}
 use Rattle.audit_findings.specs.Kept.{AreSectionsOf, KeptFindings}
 use Rattle.audit_findings.specs.declared.findings.Sections.{Sections}
@@ -59,8 +58,7 @@ report_lines found = flat_map (λ lines. lines found) lines_in_order
 unfoldable pub report_text : Sections EventRead → List ℕ
 report_text found = flat_map ended (report_lines found)
 
--- whatever frames the kept findings are of, the text is the report on those findings
+-- if the kept findings are those of their frames, the text is the report on them
 abbrev pub IsReportOf : KeptFindings → List ℕ → Type 0
 IsReportOf kept text =
-    (wholes : List WholeFrame) → AreSectionsOf wholes kept.frames kept.sections
-    → text ≡ report_text (findings_of (wholes_of wholes))
+    AreSectionsOf kept.frames kept.sections → text ≡ report_text (findings_of kept.frames)

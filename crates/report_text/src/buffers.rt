@@ -11,7 +11,7 @@ pub(crate) struct Buffers;
 
 impl EventSection for Buffers {
     ghost use Rattle.std.specs.Prelude.{refl};
-    ghost use Rattle.event_core.specs.Events.{events_of_wholes};
+    ghost use Rattle.event_core.specs.Events.{events_of_frames};
     ghost use Rattle.audit_findings.specs.Buffers.{is_leaked};
     ghost use Rattle.transaction_view.specs.Transaction.{has_transaction_data};
     ghost use Rattle.audit_findings.proofs.RowKinds.{leaked_kinds};
@@ -26,11 +26,11 @@ impl EventSection for Buffers {
 
     ghost keeps = { record { head = λ found rows. refl; rows = λ found. refl } };
 
-    ghost events = { λ wholes. listed_there is_leaked (events_of_wholes wholes) };
+    ghost events = { λ frames. listed_there is_leaked (events_of_frames frames) };
 
     ghost kinds = { has_transaction_data };
 
-    ghost of_kinds = { λ wholes. leaked_kinds (events_of_wholes wholes) };
+    ghost of_kinds = { λ frames. leaked_kinds (events_of_frames frames) };
 
     ghost bare = { λ e. refl };
 

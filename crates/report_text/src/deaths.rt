@@ -14,7 +14,7 @@ pub(crate) struct Deaths;
 
 impl EventSection for Deaths {
     ghost use Rattle.std.specs.Prelude.{refl};
-    ghost use Rattle.event_core.specs.Events.{events_of_wholes};
+    ghost use Rattle.event_core.specs.Events.{events_of_frames};
     ghost use Rattle.process_ledgers.specs.Items.{death_item_of};
     ghost use Rattle.audit_findings.proofs.RowKinds.{death_kinds, is_of_death};
     ghost use Rattle.audit_findings.proofs.RowsThere.{both_there};
@@ -30,11 +30,11 @@ impl EventSection for Deaths {
 
     ghost keeps = { record { head = λ found rows. refl; rows = λ found. refl } };
 
-    ghost events = { λ wholes. both_there death_item_of (events_of_wholes wholes) };
+    ghost events = { λ frames. both_there death_item_of (events_of_frames frames) };
 
     ghost kinds = { is_of_death };
 
-    ghost of_kinds = { λ wholes. death_kinds (events_of_wholes wholes) };
+    ghost of_kinds = { λ frames. death_kinds (events_of_frames frames) };
 
     ghost bare = { λ e. refl };
 

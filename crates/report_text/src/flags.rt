@@ -16,7 +16,7 @@ pub(crate) struct Flags;
 
 impl EventSection for Flags {
     ghost use Rattle.std.specs.Prelude.{refl, true};
-    ghost use Rattle.event_core.specs.Events.{events_of_wholes};
+    ghost use Rattle.event_core.specs.Events.{events_of_frames};
     ghost use Rattle.audit_findings.proofs.RowsThere.{flagged_there};
     ghost use Rattle.report_text.specs.Flags.{flags_head, flags_section};
 
@@ -28,7 +28,7 @@ impl EventSection for Flags {
 
     ghost keeps = { record { head = λ found rows. refl; rows = λ found. refl } };
 
-    ghost events = { λ wholes. flagged_there (events_of_wholes wholes) };
+    ghost events = { λ frames. flagged_there (events_of_frames frames) };
 
     ghost kinds = { λ _. true };
 

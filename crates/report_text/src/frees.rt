@@ -12,7 +12,7 @@ pub(crate) struct Frees;
 
 impl EventSection for Frees {
     ghost use Rattle.std.specs.Prelude.{refl};
-    ghost use Rattle.event_core.specs.Events.{events_of_wholes};
+    ghost use Rattle.event_core.specs.Events.{events_of_frames};
     ghost use Rattle.audit_findings.specs.Places.{is_stray_close};
     ghost use Rattle.process_ledgers.specs.Items.{buffer_pending_of};
     ghost use Rattle.audit_findings.proofs.RowKinds.{free_kinds, is_free};
@@ -27,11 +27,11 @@ impl EventSection for Frees {
 
     ghost keeps = { record { head = λ found rows. refl; rows = λ found. refl } };
 
-    ghost events = { λ wholes. listed_there (is_stray_close buffer_pending_of) (events_of_wholes wholes) };
+    ghost events = { λ frames. listed_there (is_stray_close buffer_pending_of) (events_of_frames frames) };
 
     ghost kinds = { is_free };
 
-    ghost of_kinds = { λ wholes. free_kinds (events_of_wholes wholes) };
+    ghost of_kinds = { λ frames. free_kinds (events_of_frames frames) };
 
     ghost bare = { λ e. refl };
 

@@ -12,7 +12,7 @@ pub(crate) struct Requests;
 
 impl EventSection for Requests {
     ghost use Rattle.std.specs.Prelude.{refl};
-    ghost use Rattle.event_core.specs.Events.{events_of_wholes};
+    ghost use Rattle.event_core.specs.Events.{events_of_frames};
     ghost use Rattle.audit_findings.specs.Requests.{is_standing_request};
     ghost use Rattle.audit_findings.proofs.RowKinds.{is_request, request_kinds};
     ghost use Rattle.audit_findings.proofs.RowsThere.{listed_there};
@@ -26,11 +26,11 @@ impl EventSection for Requests {
 
     ghost keeps = { record { head = λ found rows. refl; rows = λ found. refl } };
 
-    ghost events = { λ wholes. listed_there is_standing_request (events_of_wholes wholes) };
+    ghost events = { λ frames. listed_there is_standing_request (events_of_frames frames) };
 
     ghost kinds = { is_request };
 
-    ghost of_kinds = { λ wholes. request_kinds (events_of_wholes wholes) };
+    ghost of_kinds = { λ frames. request_kinds (events_of_frames frames) };
 
     ghost bare = { λ e. refl };
 

@@ -21,7 +21,7 @@ pub(crate) trait Section {
     ghost use Rattle.capture_frame.specs.Envelope.{PlacedFrame};
     ghost use Rattle.audit_findings.specs.declared.findings.Sections.{Sections};
     ghost use Rattle.event_core.specs.Events.{EventRead};
-    ghost use Rattle.audit_findings.specs.Kept.{AreOfFrames};
+    ghost use Rattle.audit_findings.specs.Kept.{AreSectionsOf};
     ghost use Rattle.report_text.specs.Section.{AreLinesOf};
 
     /// What the findings keep of a row.
@@ -45,7 +45,7 @@ pub(crate) trait Section {
 
     /// What is kept of the rows.
     fn rows<'f>(&self, found: &'f Findings<'_>) -> &'f [Self::Kept]
-        ensures readable { AreOfFrames found.now.frames found.now.sections
+        ensures readable { AreSectionsOf found.now.frames found.now.sections
             → All (can_show found.now.frames) result.now }
         ensures told { (shown : List (List ℕ)) → AllZip (shows found.now.frames) result.now shown
             → AreLinesOf lines found.now

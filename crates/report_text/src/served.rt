@@ -12,7 +12,7 @@ pub(crate) struct Served;
 
 impl CallSection for Served {
     ghost use Rattle.std.specs.Prelude.{refl};
-    ghost use Rattle.event_core.specs.Events.{events_of_wholes};
+    ghost use Rattle.event_core.specs.Events.{events_of_frames};
     ghost use Rattle.audit_findings.specs.Calls.{is_served};
     ghost use Rattle.audit_findings.proofs.RowKinds.{lacking_kinds};
     ghost use Rattle.audit_findings.proofs.RowsThere.{lacking_there};
@@ -28,9 +28,9 @@ impl CallSection for Served {
 
     ghost keeps = { record { head = λ found rows. refl; rows = λ found. refl } };
 
-    ghost events = { λ wholes. lacking_there is_served (events_of_wholes wholes) };
+    ghost events = { λ frames. lacking_there is_served (events_of_frames frames) };
 
-    ghost of_kinds = { λ wholes. lacking_kinds is_served (events_of_wholes wholes) };
+    ghost of_kinds = { λ frames. lacking_kinds is_served (events_of_frames frames) };
 
     ghost field = { sender_field };
 

@@ -11,7 +11,7 @@ pub(crate) struct Strays;
 
 impl EventSection for Strays {
     ghost use Rattle.std.specs.Prelude.{refl, true};
-    ghost use Rattle.event_core.specs.Events.{events_of_wholes};
+    ghost use Rattle.event_core.specs.Events.{events_of_frames};
     ghost use Rattle.audit_findings.proofs.RowsThere.{strays_there};
     ghost use Rattle.report_text.specs.Strays.{strays_head, strays_section};
 
@@ -23,7 +23,7 @@ impl EventSection for Strays {
 
     ghost keeps = { record { head = λ found rows. refl; rows = λ found. refl } };
 
-    ghost events = { λ wholes. strays_there (events_of_wholes wholes) };
+    ghost events = { λ frames. strays_there (events_of_frames frames) };
 
     ghost kinds = { λ _. true };
 

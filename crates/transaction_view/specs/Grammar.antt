@@ -1,59 +1,56 @@
--- The grammar of a whole capture, and its first fault: its frames, judged with their records and entries
--- (docs/ENVELOPE.md).
-use Rattle.std.specs.Prelude.{ℕ, List, Some, None}
+-- The frames of a capture's parts, judged with their records and entries, or the first fault (docs/ENVELOPE.md).
+use Rattle.std.specs.Prelude.{◌≡◌, ℕ, List, [], ◌∷◌, Option, Some, None, Result, Ok, Err}
 use Rattle.capture_frame.specs.declared.fault.Fault.{Fault}
 use Rattle.capture_frame.specs.declared.fault.PartFault.{PartFault}
-use Rattle.capture_frame.specs.declared.fault.FaultKind.{FaultKind}
-use Rattle.capture_frame.specs.Units.{Format}
-use Rattle.capture_frame.specs.Envelope.{FrameText, Before, in_version, frame_bytes, MayCome}
-use Rattle.capture_frame.specs.FirstFault.{IsCapture, IsFirstFault}
-use Rattle.capture_frame.specs.Parts.{AreParts, IsFirstPartFault}
-use Rattle.record_view.specs.Records.{RecordText, HasRecords}
-use Rattle.transaction_view.specs.Attachments.{EntryText, HasEntries}
-use Rattle.transaction_view.specs.FirstFault.{WholeFrameFails}
+use Rattle.capture_frame.specs.Envelope.{FrameText, PlacedFrame, Before}
+use Rattle.capture_frame.specs.Frames.{frame_at, frame_parser}
+use Rattle.capture_frame.specs.Parts.{ParsedParts, parts_read, joined_frames}
+use Rattle.capture_frame.specs.ReadOn.{Parser}
+use Rattle.capture_frame.specs.Tests.{at_place}
+use Rattle.capture_frame.specs.Units.{placed_at}
+use Rattle.record_view.specs.Records.{records_of}
+use Rattle.transaction_view.specs.Attachments.{entries_of}
 
--- a frame with its records and its entries
-pub record WholeFrame : Type 0 where
-  pub frame : FrameText
-  pub records : List RecordText
-  pub entries : List EntryText
+-- the first of two faults, either of which may be missing
+abbrev pub first_of : Option Fault → Option Fault → Option Fault
+first_of (Some fault) later = Some fault
+first_of None later = later
 
--- a whole frame may come next if its header may, its command bytes are its records, and its attachment bytes are its
--- entries
-pub record MayComeWhole (before : Before) (whole : WholeFrame) : Type 0 where
-  pub header : MayCome before whole.frame
-  pub has_records : HasRecords whole.frame whole.records
-  pub has_entries : HasEntries whole.frame whole.entries
+-- the first fault of a frame's content: that of its records, or, if these are good, that of its entries
+abbrev pub content_fault : PlacedFrame → Option Fault
+content_fault frame = first_of (records_of frame).fault (entries_of frame).fault
 
--- the format of whole frames: frames that are judged with their records and entries
-abbrev pub whole_format : Format Before WholeFrame FaultKind
-whole_format = record {
-  spelling = λ whole. frame_bytes whole.frame;
-  MayCome = MayComeWhole;
-  after = λ before whole. in_version before.version (Some whole.frame.sequence);
-  Fails = WholeFrameFails;
+-- the records and entries of the frame have no fault
+abbrev pub IsGood : PlacedFrame → Type 0
+IsGood frame = content_fault frame ≡ None
+
+-- the first fault of the content of these frames
+abbrev pub first_content_fault : List PlacedFrame → Option Fault
+first_content_fault [] = None
+first_content_fault (frame ∷ frames) = first_of (content_fault frame) (first_content_fault frames)
+
+-- this unit, if there is no fault
+abbrev pub unless : {U F : Type 0} → Option F → U → Result U F
+unless (Some fault) unit = Err fault
+unless None unit = Ok unit
+
+-- the same frame, judged with its content
+abbrev pub with_content : ℕ → Result FrameText Fault → Result FrameText Fault
+with_content place (Ok frame) = unless (content_fault (placed_at place frame)) frame
+with_content place (Err fault) = Err fault
+
+-- how frames are read that are judged with their content
+abbrev pub whole_parser : Parser Before FrameText
+whole_parser = record {
+  first = λ before place bytes. with_content place (at_place place (frame_at before bytes));
+  width = frame_parser.width;
+  after = frame_parser.after;
 }
 
--- the capture is in the grammar, as these frames: a file header and then these whole frames
-abbrev pub IsInGrammar : List ℕ → List WholeFrame → Type 0
-IsInGrammar capture frames = IsCapture whole_format capture frames
+-- what these parts come to
+abbrev pub wholes_of : List (List ℕ) → ParsedParts
+wholes_of parts = parts_read whole_parser None parts
 
--- the capture is in the grammar
-abbrev pub IsReadable : List ℕ → Type 0
-IsReadable capture = (frames : List WholeFrame) × IsInGrammar capture frames
-
--- this is the first fault of the capture: of its file header, of a frame header, of a record or of an entry
-abbrev pub HasFirstFault : List ℕ → Fault → Type 0
-HasFirstFault capture fault = IsFirstFault whole_format capture fault
-
--- the parts of a capture are in the grammar, as these frames
-abbrev pub AreInGrammar : List (List ℕ) → List WholeFrame → Type 0
-AreInGrammar parts frames = AreParts whole_format None parts frames
-
--- the parts are in the grammar
-abbrev pub AreReadable : List (List ℕ) → Type 0
-AreReadable parts = (frames : List WholeFrame) × AreInGrammar parts frames
-
--- this is the first fault of the parts, in the part that it names
-abbrev pub HasFirstPartFault : List (List ℕ) → PartFault → Type 0
-HasFirstPartFault parts found = IsFirstPartFault whole_format None parts found
+-- the frames of the parts of a capture, each at its place in the joined capture, or the first fault
+abbrev pub frames_of_parts : List (List ℕ) → Result (List PlacedFrame) PartFault
+frames_of_parts parts = unless (wholes_of parts).fault (joined_frames (wholes_of parts).frames)

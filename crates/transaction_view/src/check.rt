@@ -1,15 +1,13 @@
 //! The first fault of a frame's content, and of a whole capture. No call here takes memory.
 
-ghost use Rattle.std.specs.Prelude.{◌≡◌, ◌<◌, ◌^◌, List, length, map, Some, IsNone, MatchOption, MatchResult};
-ghost use Rattle.capture_frame.specs.declared.fault.Fault.{Fault};
-ghost use Rattle.capture_frame.specs.declared.fault.PartFault.{PartFault};
-ghost use Rattle.capture_frame.specs.Parts.{last_after};
-ghost use Rattle.capture_frame.specs.Envelope.{frame_text, placed_frame};
-ghost use Rattle.capture_frame.specs.FirstFault.{IsPart, IsFirstFaultIn};
-ghost use Rattle.record_view.specs.Records.{HasReadableRecords};
-ghost use Rattle.transaction_view.specs.Attachments.{HasReadableEntries};
-ghost use Rattle.transaction_view.specs.FirstFault.{HasGoodContent, HasContentFault};
-ghost use Rattle.transaction_view.specs.Grammar.{WholeFrame, whole_format, IsReadable, HasFirstFault, AreReadable, HasFirstPartFault};
+ghost use Rattle.std.specs.Prelude.{◌≡◌, ◌<◌, ◌^◌, [], ◌∷◌, length, map, None, Some, MatchResult};
+ghost use Rattle.std.specs.Option.{option_map};
+ghost use Rattle.capture_frame.specs.Envelope.{placed_frame};
+ghost use Rattle.capture_frame.specs.Parts.{frames_of_part, last_of};
+ghost use Rattle.capture_frame.specs.Units.{units_of};
+ghost use Rattle.record_view.specs.Records.{records_of};
+ghost use Rattle.transaction_view.specs.Attachments.{entries_of};
+ghost use Rattle.transaction_view.specs.Grammar.{content_fault, whole_parser, wholes_of};
 
 use crate::attachments::Attachments;
 use capture_frame::{Fault, Frame, Frames, PartFault};
@@ -17,11 +15,7 @@ use record_view::Records;
 
 /// The first fault of a capture; None if the capture is in the grammar.
 pub fn first_fault(capture: &[u8]) -> Option<Fault>
-    ensures first { MatchOption result (IsReadable capture.now) (HasFirstFault capture.now) }
-
-    // There is no other answer.
-    ensures good { IsReadable capture.now → IsNone result }
-    ensures fault { (fault : Fault) → HasFirstFault capture.now fault → result ≡ Some fault }
+    ensures { result ≡ option_map (λ found. found.fault) (wholes_of (capture.now ∷ [])).fault }
 {
     check_part(capture, None).err()
 }
@@ -30,14 +24,7 @@ pub fn first_fault(capture: &[u8]) -> Option<Fault>
 /// that part; None if the parts are in the grammar. There must be fewer than 2^32 parts.
 pub fn first_fault_parts(parts: &[&[u8]]) -> Option<PartFault>
     requires { length parts.now < 2 ^ 32 }
-    ensures first { MatchOption result
-        (AreReadable (map (λ part. part.now) parts.now))
-        (HasFirstPartFault (map (λ part. part.now) parts.now)) }
-
-    // There is no other answer.
-    ensures good { AreReadable (map (λ part. part.now) parts.now) → IsNone result }
-    ensures fault { (found : PartFault) →
-        HasFirstPartFault (map (λ part. part.now) parts.now) found → result ≡ Some found }
+    ensures { result ≡ (wholes_of (map (λ part. part.now) parts.now)).fault }
 {
     check_parts(parts).err()
 }
@@ -45,12 +32,7 @@ pub fn first_fault_parts(parts: &[&[u8]]) -> Option<PartFault>
 /// The first fault of a frame's records, or, if these are good, of its entries; None if both are
 /// good.
 pub fn check_frame(frame: Frame<'_>) -> Option<Fault>
-    ensures first { MatchOption result
-        (HasGoodContent (frame_text frame.entry)) (HasContentFault (placed_frame frame.entry)) }
-
-    // There is no other answer.
-    ensures good { HasGoodContent (frame_text frame.entry) → IsNone result }
-    ensures fault { (fault : Fault) → HasContentFault (placed_frame frame.entry) fault → result ≡ Some fault }
+    ensures { result ≡ content_fault (placed_frame frame.entry) }
 {
     check_content(frame).err()
 }
@@ -58,8 +40,8 @@ pub fn check_frame(frame: Frame<'_>) -> Option<Fault>
 fn check_parts(parts: &[&[u8]]) -> Result<(), PartFault>
     requires { length parts.now < 2 ^ 32 }
     ensures { MatchResult result
-        (λ _. AreReadable (map (λ part. part.now) parts.now))
-        (HasFirstPartFault (map (λ part. part.now) parts.now)) }
+        (λ _. (wholes_of (map (λ part. part.now) parts.now)).fault ≡ None)
+        (λ found. (wholes_of (map (λ part. part.now) parts.now)).fault ≡ Some found) }
 {
     let mut before = None;
     let mut number = 0;
@@ -82,9 +64,9 @@ fn check_parts(parts: &[&[u8]]) -> Result<(), PartFault>
 /// the last sequence so far.
 fn check_part(part: &[u8], before: Option<u64>) -> Result<Option<u64>, Fault>
     ensures { MatchResult result
-        (λ last. (frames : List WholeFrame) × IsPart whole_format before part.now frames
-        × (last ≡ last_after whole_format before frames))
-        (IsFirstFaultIn whole_format before part.now) }
+        (λ last. ((frames_of_part whole_parser before part.now).fault ≡ None)
+        × (last ≡ last_of before (units_of (frames_of_part whole_parser before part.now).units)))
+        (λ fault. (frames_of_part whole_parser before part.now).fault ≡ Some fault) }
 {
     let mut frames = Frames::after(part, 0, before)?;
     let mut last = before;
@@ -97,7 +79,8 @@ fn check_part(part: &[u8], before: Option<u64>) -> Result<Option<u64>, Fault>
 
 fn check_content(frame: Frame<'_>) -> Result<(), Fault>
     ensures { MatchResult result
-        (λ _. HasGoodContent (frame_text frame.entry)) (HasContentFault (placed_frame frame.entry)) }
+        (λ _. content_fault (placed_frame frame.entry) ≡ None)
+        (λ fault. content_fault (placed_frame frame.entry) ≡ Some fault) }
 {
     check_records(frame)?;
     check_entries(frame)
@@ -106,7 +89,8 @@ fn check_content(frame: Frame<'_>) -> Result<(), Fault>
 /// Checks the records of one frame.
 fn check_records(frame: Frame<'_>) -> Result<(), Fault>
     ensures { MatchResult result
-        (λ _. HasReadableRecords (frame_text frame.entry)) (HasContentFault (placed_frame frame.entry)) }
+        (λ _. (records_of (placed_frame frame.entry)).fault ≡ None)
+        (λ fault. (records_of (placed_frame frame.entry)).fault ≡ Some fault) }
 {
     let mut records = Records::of(frame);
     while let Some(_) = records.next_record()? {}
@@ -115,9 +99,10 @@ fn check_records(frame: Frame<'_>) -> Result<(), Fault>
 
 /// Checks the entries of one frame, whose records have no fault.
 fn check_entries(frame: Frame<'_>) -> Result<(), Fault>
-    requires { HasReadableRecords (frame_text frame) }
+    requires { (records_of (placed_frame frame)).fault ≡ None }
     ensures { MatchResult result
-        (λ _. HasReadableEntries (frame_text frame.entry)) (HasContentFault (placed_frame frame.entry)) }
+        (λ _. (entries_of (placed_frame frame.entry)).fault ≡ None)
+        (λ fault. (entries_of (placed_frame frame.entry)).fault ≡ Some fault) }
 {
     let mut attachments = Attachments::of(frame);
     while let Some(_) = attachments.next_entry()? {}

@@ -1,7 +1,5 @@
 //! The reader of the attachment entries of a frame that was judged.
 
-ghost use Rattle.capture_frame.specs.Envelope.{frame_text};
-
 use crate::attachments::{ENTRY_HEADER, entry_fields};
 use crate::entry::Entry;
 use capture_frame::Frame;
@@ -19,28 +17,28 @@ pub struct GoodEntries<'c> {
 }
 
 impl<'c> Model for GoodEntries<'c> {
-    ghost use Rattle.capture_frame.specs.Envelope.{frame_text, placed_frame};
-    ghost use Rattle.capture_frame.specs.Readers.{at};
-    ghost use Rattle.transaction_view.specs.Reading.{Reading};
-    ghost use Rattle.transaction_view.specs.State.{AreEntriesAhead};
+    ghost use Rattle.std.specs.Prelude.{List};
+    ghost use Rattle.capture_frame.specs.Units.{Placed};
+    ghost use Rattle.transaction_view.specs.Attachments.{EntryText};
+    ghost use Rattle.transaction_view.specs.State.{entries_ahead, AreGoodAhead};
 
-    ghost Value = { Reading };
+    ghost Value = { List (Placed EntryText) };
 
-    ghost view = { λ r. at (placed_frame r.frame) r.distance r.before };
+    ghost view = { λ r. (entries_ahead r.frame r.distance r.before).units };
 
-    ghost invariant = { λ r. AreEntriesAhead (frame_text r.frame) r.distance r.before };
+    ghost invariant = { λ r. AreGoodAhead r.frame r.distance r.before };
 }
 
 impl<'c> GoodEntries<'c> {
-    ghost use Rattle.std.specs.Prelude.{◌≡◌, Ok};
+    ghost use Rattle.std.specs.Prelude.{◌≡◌, None};
     ghost use Rattle.capture_frame.specs.Envelope.{placed_frame};
-    ghost use Rattle.transaction_view.specs.Attachments.{HasReadableEntries};
-    ghost use Rattle.transaction_view.specs.Reading.{Steps, entries_start};
+    ghost use Rattle.transaction_view.specs.Attachments.{entries_of};
+    ghost use Rattle.transaction_view.specs.State.{StepsGood};
 
     /// A reader before the first entry of a frame whose entries have no fault.
     pub fn of(frame: Frame<'c>) -> GoodEntries<'c>
-        requires { HasReadableEntries (frame_text frame) }
-        ensures { result ≡ entries_start (placed_frame frame.entry) }
+        requires { (entries_of (placed_frame frame)).fault ≡ None }
+        ensures { result ≡ (entries_of (placed_frame frame.entry)).units }
     {
         GoodEntries {
             frame,
@@ -51,7 +49,7 @@ impl<'c> GoodEntries<'c> {
 
     /// The next entry, or `None` at the end.
     pub fn next_entry(&mut self) -> Option<Entry<'c>>
-        ensures { Steps self.old (Ok result) self.new }
+        ensures { StepsGood self.old result self.new }
     {
         let rest = &self.frame.attachments[self.distance..];
         let Some(parts) = entry_fields(rest) else {

@@ -1,83 +1,50 @@
 //! Laws of the definitions, as contracts of functions that do nothing.
 
-ghost use Rattle.std.specs.Prelude.{◌≡◌, ◌⊎◌, ◌+◌, ◌↔◌, ℕ, List, [], ◌∷◌, All, Option, None, Result, Ok, Err};
+ghost use Rattle.std.specs.Prelude.{◌≡◌, ◌+◌, ◌-◌, ◌≤◌, ℕ, List, [], ◌∷◌, All, Option, None, Ok, Result, length, drop};
+ghost use Rattle.std.specs.List.{flat_map};
 ghost use Rattle.capture_frame.specs.declared.fault.Fault.{Fault};
-ghost use Rattle.capture_frame.specs.declared.fault.PartFault.{PartFault};
+ghost use Rattle.capture_frame.specs.Calls.{Calls, GiveInOrder};
+ghost use Rattle.capture_frame.specs.Envelope.{FrameText, PlacedFrame, attachments_place, commands_place, frame_bytes};
 ghost use Rattle.capture_frame.specs.Parts.{joined};
-ghost use Rattle.capture_frame.specs.Units.{Placed, IsBytes, ReadsOrFails, ReadsInOneWay, FailsInOneWay, NeverBoth};
-ghost use Rattle.capture_frame.specs.Calls.{Calls};
-ghost use Rattle.capture_frame.specs.Envelope.{FrameText, attachments_place};
-ghost use Rattle.record_view.specs.Records.{HasReadableRecords};
+ghost use Rattle.capture_frame.specs.ReadOn.{Parsed};
+ghost use Rattle.capture_frame.specs.Readers.{GivesUnit, last_result};
+ghost use Rattle.capture_frame.specs.Units.{IsBytes, units_of};
 ghost use Rattle.transaction_view.specs.declared.entry.Entry.{Entry};
-ghost use Rattle.transaction_view.specs.Attachments.{EntryText, entry_format, HasEntries, EntriesFail};
-ghost use Rattle.transaction_view.specs.Reading.{Reading, Steps, entries_start, GiveEntries};
-ghost use Rattle.transaction_view.specs.Grammar.{WholeFrame, IsInGrammar, IsReadable, HasFirstFault, AreInGrammar, AreReadable, HasFirstPartFault};
+ghost use Rattle.transaction_view.specs.Attachments.{EntryText, entries_of, entry_at_start, entry_bytes, entry_width};
+ghost use Rattle.transaction_view.specs.Grammar.{frames_of_parts, wholes_of};
+ghost use Rattle.transaction_view.specs.State.{IsEntryView, Steps};
 
-/// Every list of bytes is a capture in the grammar, in one way, or has exactly one first fault, and
-/// never both.
-pub fn one_reading()
-    ensures one_of { (capture : List ℕ) → IsBytes capture →
-        IsReadable capture ⊎ ((fault : Fault) × HasFirstFault capture fault) }
-    ensures one_reading { (capture : List ℕ) (frames others : List WholeFrame) →
-        IsInGrammar capture frames → IsInGrammar capture others → frames ≡ others }
-    ensures one_fault { (capture : List ℕ) (fault other : Fault) →
-        HasFirstFault capture fault → HasFirstFault capture other → fault ≡ other }
-    ensures never_both { (capture : List ℕ) (fault : Fault) →
-        IsReadable capture → HasFirstFault capture fault → ⊥ }
+/// Each entry of a frame is what the attachment bytes at its place begin with, and all of it is
+/// there.
+pub fn entries_there()
+    ensures { (frame : PlacedFrame) → All
+        (λ there. (attachments_place frame.unit frame.place ≤ there.place)
+        × (there.place + entry_width there.unit
+        ≤ attachments_place frame.unit frame.place + length frame.unit.attachments)
+        × (there.unit ≡ entry_at_start frame
+        (drop (there.place - attachments_place frame.unit frame.place) frame.unit.attachments)))
+        (entries_of frame).units }
 {}
 
-/// Every list of parts is in the grammar, in one way, or has exactly one first fault, and never
-/// both. Parts in the grammar are, frame by frame, their joined capture, which is of version 2. One
-/// part is read as a capture, and its first fault is the capture's.
-pub fn one_reading_of_parts()
-    ensures one_of { (parts : List (List ℕ)) → All IsBytes parts →
-        AreReadable parts ⊎ ((found : PartFault) × HasFirstPartFault parts found) }
-    ensures one_reading { (parts : List (List ℕ)) (frames others : List WholeFrame) →
-        AreInGrammar parts frames → AreInGrammar parts others → frames ≡ others }
-    ensures one_fault { (parts : List (List ℕ)) (found other : PartFault) →
-        HasFirstPartFault parts found → HasFirstPartFault parts other → found ≡ other }
-    ensures never_both { (parts : List (List ℕ)) (found : PartFault) →
-        AreReadable parts → HasFirstPartFault parts found → ⊥ }
-    ensures joined { (parts : List (List ℕ)) (frames : List WholeFrame) →
-        AreInGrammar parts frames → IsInGrammar (joined parts) frames }
-    ensures one_part { (capture : List ℕ) (frames : List WholeFrame) →
-        AreInGrammar (capture ∷ []) frames ↔ IsInGrammar capture frames }
-    ensures fault_of_one_part { (capture : List ℕ) (found : PartFault) →
-        HasFirstPartFault (capture ∷ []) found ↔
-        ((found.part ≡ 1) × HasFirstFault capture found.fault) }
+/// Nothing is skipped: attachment bytes without a fault are the bytes of their entries, one after
+/// another.
+pub fn printed()
+    ensures { (frame : PlacedFrame) → IsBytes frame.unit.attachments →
+        (entries_of frame).fault ≡ None → frame.unit.attachments
+        ≡ flat_map (entry_bytes (commands_place frame.place)) (units_of (entries_of frame).units) }
 {}
 
-/// The attachment bytes of every frame whose records have no fault are entries, in one way, or fail
-/// first in exactly one way, and never both.
-pub fn one_reading_of_entries()
-    ensures one_of { (frame : FrameText) → HasReadableRecords frame → IsBytes frame.attachments →
-        ReadsOrFails (entry_format frame) None frame.attachments }
-    ensures one_reading { (frame : FrameText) → HasReadableRecords frame →
-        ReadsInOneWay (entry_format frame) None frame.attachments }
-    ensures one_fault { (frame : FrameText) → HasReadableRecords frame →
-        FailsInOneWay (entry_format frame) None frame.attachments }
-    ensures never_both { (frame : FrameText) → HasReadableRecords frame →
-        NeverBoth (entry_format frame) None frame.attachments }
+/// Parts without a fault are, frame by frame, their joined capture.
+pub fn joined_parts()
+    ensures { (parts : List (List ℕ)) → (wholes_of parts).fault ≡ None →
+        frames_of_parts parts ≡ frames_of_parts (joined parts ∷ []) }
 {}
 
-/// Take a reader of a frame whose records have no fault and call it again and again. It gives the
-/// frame's entries in order, each with its place, and then `None` at every later call. If an entry
-/// has a fault, it gives the entries before it, and then the fault at every later call. Any reader
-/// that has failed gives its fault for ever, and any that has ended gives `None` for ever.
+/// Call a reader again and again. It gives the entries ahead in order, each with its place, and
+/// then the fault, or `None` if there is no fault, at every later call.
 pub fn all_calls()
-    ensures whole { (frame : Placed FrameText) (entries : List EntryText) →
-        HasReadableRecords frame.unit → HasEntries frame.unit entries →
-        (results : List (Result (Option Entry) Fault)) → Calls Steps (entries_start frame) results →
-        GiveEntries frame entries (Ok None) results }
-    ensures faulty { (frame : Placed FrameText) (fault : Fault) (distance : ℕ) →
-        HasReadableRecords frame.unit → (fails : EntriesFail frame.unit fault.kind distance) →
-        fault.place ≡ attachments_place frame.unit frame.place + distance →
-        (results : List (Result (Option Entry) Fault)) → Calls Steps (entries_start frame) results →
-        GiveEntries frame fails.before (Err fault) results }
-    ensures failed { (reader next : Reading) (fault : Fault) → Steps reader (Err fault) next →
-        (results : List (Result (Option Entry) Fault)) → Calls Steps next results →
-        All (λ result. result ≡ Err fault) results }
-    ensures ended { (reader next : Reading) → Steps reader (Ok None) next →
-        (results : List (Result (Option Entry) Fault)) → Calls Steps next results →
-        All (λ result. result ≡ Ok None) results }
+    ensures { (ahead : Parsed EntryText) (results : List (Result (Option Entry) Fault)) →
+        Calls Steps ahead results →
+        GiveInOrder (GivesUnit IsEntryView) (last_result ahead.fault) (last_result ahead.fault)
+        ahead.units results }
 {}

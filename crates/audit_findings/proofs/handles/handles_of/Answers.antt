@@ -1,7 +1,7 @@
 use Rattle.std.proofs.Common.{List, ◌++◌, map, sym, ap, ◌∙◌, arith}
 use Rattle.std.specs.List.{flat_map}
 use Rattle.std.proofs.lemmas.List.{take_all}
-use Rattle.event_core.specs.Events.{events_of_wholes}
+use Rattle.event_core.specs.Events.{events_of_frames}
 use Rattle.handle_ledger.specs.declared.held_row.HeldRow.{HeldRow}
 use Rattle.process_ledgers.specs.Processes.{processes_of}
 use Rattle.audit_findings.specs.Handles.{handles_in, is_unbalanced_handle}
@@ -22,7 +22,7 @@ loop-list-preserved c =
     ∙ sym (joined_next c.args.lists.now c.loop-list.list-index _ c.loop-list-test.true)
 
 pub returns : goal.returns
-returns c wholes listed =
+returns c frames listed =
     let lists = c.args.lists.now in
     let items = λ (list : ListOfRows). list.items in
     let whole = take_all c.loop-list.list-index lists (omega arith) in
@@ -30,4 +30,4 @@ returns c wholes listed =
     ∙ ap (references is_unbalanced_handle)
     (c.loop-list.invariant ∙ ap (λ ls. flat_map (λ list. list) (map items ls)) whole
     ∙ ap (λ (ls : List (List (ProcessRow HeldRow))). flat_map (λ list. list) ls) listed
-    ∙ flat_lists (rows_in (handles_in (events_of_wholes wholes))) (processes_of wholes))
+    ∙ flat_lists (rows_in (handles_in (events_of_frames frames))) (processes_of frames))

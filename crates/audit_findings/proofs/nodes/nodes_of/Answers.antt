@@ -4,4 +4,4 @@ use Rattle.audit_findings.specs.References.{references}
 use Rattle.audit_findings.proofs.nodes.nodes_of.Goals as goal
 
 pub returns : goal.returns
-returns c wholes of = c.references_of.ensures ∙ ap (references is_unbalanced_node) (c.in_ok-rows.ensures wholes of)
+returns c frames of = c.references_of.ensures ∙ ap (references is_unbalanced_node) (c.in_ok-rows.ensures frames of)

@@ -2,4 +2,4 @@ use Rattle.std.proofs.Common.{◌∙◌}
 use Rattle.audit_findings.proofs.oneway.oneway_rows.Goals as goal
 
 pub returns : goal.returns
-returns c wholes of = c.of.ensures ∙ c.in_ok-rows_in_turn.ensures wholes of
+returns c frames of = c.of.ensures ∙ c.in_ok-rows_in_turn.ensures frames of

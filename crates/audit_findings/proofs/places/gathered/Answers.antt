@@ -15,11 +15,11 @@ loop-list-preserved g c =
     ∙ sym (joined_next c.args.lists.now c.loop-list.list-index _ c.loop-list-test.true)
 
 pub returns : goal.returns
-returns g c = λ wholes rise are.
+returns g c = λ frames rise are.
     let lists = c.args.lists.now in
     let sorted = c.sort_unstable.new.self.items in
     let whole = take_all c.loop-list.list-index lists (omega arith) in
     let gathered : c.loop-list.places.items ≡ flat_map (λ own. own) (lists_of lists) =
     c.loop-list.invariant ∙ ap (λ (ls : List (Vec ℕ Global)). flat_map (λ own. own) (lists_of ls)) whole in
-    lists_sorted g.L.ListsPlaces.test wholes rise (lists_of lists) are sorted
+    lists_sorted g.L.ListsPlaces.test frames rise (lists_of lists) are sorted
     (subst (λ (ps : List ℕ). IsPermutation ps sorted) gathered c.sort_unstable.ensures.permutation) c.sort_unstable.ensures.sorted

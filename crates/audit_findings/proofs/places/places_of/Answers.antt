@@ -6,6 +6,6 @@ use Rattle.audit_findings.proofs.places.places_of.Goals as goal
 pub returns : goal.returns
 returns g c =
     IfOk-weaker c.gathered.result _ _
-    (λ places gives wholes of rise.
-    gives wholes rise (ap lists_of c.as_slice.ensures.value ∙ c.in_ok-lists.ensures.lists wholes of))
+    (λ places gives frames of rise.
+    gives frames rise (ap lists_of c.as_slice.ensures.value ∙ c.in_ok-lists.ensures.lists frames of))
     c.gathered.ensures

@@ -7,9 +7,9 @@ pub look_again-requires-clause-each : goal.look_again-requires-clause-each
 look_again-requires-clause-each g c κs within = ap length c.as_slice.ensures.value ∙ c.in_ok-unfreed.ensures.count
 
 pub returns : goal.returns
-returns g c wholes show =
-    let unfreed = c.in_ok-unfreed.ensures.places c.args.frames.now wholes c.requires.sums show in (
+returns g c =
+    let unfreed = c.in_ok-unfreed.ensures.places c.args.frames.now c.requires.sums in (
       unfreed,
-      c.in_ok-handles.ensures wholes show
-          (subst (λ (lists : List (Vec ℕ Global)). AreUnfreed wholes (lists_of lists)) (sym c.as_slice.ensures.value) unfreed),
+      c.in_ok-handles.ensures
+          (subst (λ (lists : List (Vec ℕ Global)). AreUnfreed c.args.frames.now (lists_of lists)) (sym c.as_slice.ensures.value) unfreed),
     )

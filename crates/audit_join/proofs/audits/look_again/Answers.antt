@@ -8,7 +8,7 @@ invariant_of-work g c =
     let frames = c.args.frames.now in
     record {
       cut = c.requires.cut;
-      sound = ∣ c.requires.sound ∣₁;
+      sound = c.requires.sound;
       few = few_processes c.args.whole.now frames c.requires.sums (good_cut frames c.requires.cut c.requires.sound);
       each = c.requires.each;
     }
@@ -20,8 +20,8 @@ run_all-requires-after_bounds g c κs within =
     (few_processes c.args.whole.now frames c.requires.sums (good_cut frames c.requires.cut c.requires.sound))
 
 pub returns-in-Ok : goal.returns-in-Ok
-returns-in-Ok g c wholes show unfreed =
-    all_listed c.args.whole.now c.args.frames.now c.args.unfreed.now c.in-Ok.lists.items c.requires.sums c.in-Ok.ensures.results wholes show unfreed
+returns-in-Ok g c unfreed =
+    all_listed c.args.whole.now c.args.frames.now c.args.unfreed.now c.in-Ok.lists.items c.requires.sums c.in-Ok.ensures.results unfreed
 
 pub unreachable-requires : goal.unreachable-requires
 unreachable-requires g c =

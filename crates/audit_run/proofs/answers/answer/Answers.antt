@@ -2,7 +2,7 @@ use Rattle.std.proofs.Common.{ℕ, List, Option, sym, ap}
 use Rattle.std.specs.Result.{result_err}
 use Rattle.std.proofs.lemmas.Result.{err_from_is_err_and}
 use Rattle.capture_frame.specs.declared.fault.PartFault.{PartFault}
-use Rattle.capture_reading.specs.Parts.{frames_of_parts}
+use Rattle.transaction_view.specs.Grammar.{frames_of_parts}
 use Rattle.report_text.specs.Answers.{answer, first_fault_line}
 use Rattle.audit_run.specs.Question.{reading_status}
 use Rattle.audit_run.specs.Run.{written_of}

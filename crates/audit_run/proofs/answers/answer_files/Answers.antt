@@ -1,6 +1,6 @@
 use Rattle.std.proofs.KnownBytes.{Keeps-refl}
 use Rattle.std.proofs.lemmas.Result.{err_from_is_err_and}
-use Rattle.capture_reading.specs.Parts.{frames_of_parts}
+use Rattle.transaction_view.specs.Grammar.{frames_of_parts}
 use Rattle.audit_run.specs.Question.{answer_to, reading_status}
 use Rattle.audit_run.specs.Run.{none_given}
 use Rattle.audit_run.proofs.RunLaws.{opening_gives, run_on_files}

@@ -21,8 +21,8 @@ slices_of-slices-requires-clause-room g c =
     let many = a_part_each g.R.Read.remaining c.args.readers.items c.in_ok-parts.parts.items c.in_ok-parts.ensures.parts.0 in
     omega (arith, many, c.as_slice.ensures.len, c.len.ensures, c.in_ok-room.ensures.room, c.in_ok-parts.parts.ok.0, c.args.readers.ok.0)
 
-pub write_first_fault_parts-requires-clause-few : goal.write_first_fault_parts-requires-clause-few
-write_first_fault_parts-requires-clause-few g c =
+pub write_first_fault_parts-requires : goal.write_first_fault_parts-requires
+write_first_fault_parts-requires g c =
     let slices : map (λ slice. slice.now) c.as_slice-2.result.now ≡ map (λ part. part.items) c.in_ok-parts.parts.items = search rules in
     let few : length c.args.readers.items < 2 ^ 32 = (let many = c.args.readers.ok in let fits = c.requires in omega (arith, many.0, fits)) in
     few_slices g.R.Read.remaining c.args.readers.items _ c.as_slice-2.result.now _ c.in_ok-parts.ensures.parts.0 slices few

@@ -1,8 +1,7 @@
 use Rattle.std.proofs.Common.{ℕ, List, map, sym, ap, ◌∙◌}
 use Rattle.std.proofs.lemmas.Result.{err_from_is_err_and}
 use Rattle.capture_frame.specs.declared.fault.PartFault.{PartFault}
-use Rattle.capture_reading.specs.Parts.{frames_of_parts}
-use Rattle.capture_reading.proofs.ReadingLaws.{fault_read}
+use Rattle.transaction_view.specs.Grammar.{frames_of_parts}
 use Rattle.report_text.specs.Answers.{answer}
 use Rattle.audit_run.specs.Run.{written_of}
 use Rattle.audit_run.specs.declared.written.Written.{Written}
@@ -31,12 +30,12 @@ returns-in_err-write_fault-in-Malformed g c =
     let parts = map (λ part. part.now) c.args.parts.now in
     let error = err_from_is_err_and c.from_residual-in_err-write_fault-in-Malformed.result c.from_residual-in_err-write_fault-in-Malformed.ensures.1 in
     let unwritten = c.in_err-write_fault-in-Malformed.ensures in
-    let read = fault_read parts c.in-Malformed.found c.requires.bytes (rw c.in-Malformed.is at c.in-Err.ensures.malformed) in
+    let read = rw c.in-Malformed.is at c.in-Err.ensures.malformed in
     rw (error.1, error.2) (line_begun answer value parts _ _ _ _ (answer_of parts _ read ∙ line_of_slices c.args.parts.now c.in-Malformed.found) unwritten.fault unwritten.err)
 
 pub returns-in_ok-write_fault-in-Malformed : goal.returns-in_ok-write_fault-in-Malformed
 returns-in_ok-write_fault-in-Malformed g c =
     let parts = map (λ part. part.now) c.args.parts.now in
-    let read = fault_read parts c.in-Malformed.found c.requires.bytes (rw c.in-Malformed.is at c.in-Err.ensures.malformed) in
+    let read = rw c.in-Malformed.is at c.in-Err.ensures.malformed in
     line_written answer value parts _ _ _ _ (answer_of parts _ read ∙ line_of_slices c.args.parts.now c.in-Malformed.found) (sym (ap written_of read))
     c.in_ok-write_fault-in-Malformed.ensures.ok

@@ -2,16 +2,12 @@ use Rattle.std.proofs.Common.{[], ◌∷◌, refl, arith}
 use Rattle.std.specs.Result.{result_err}
 use Rattle.std.proofs.lemmas.List.Elements.{All-cons, All-nil}
 use Rattle.std.proofs.lemmas.Result.{err_from_is_err_and}
-use Rattle.capture_frame.specs.Units.{IsBytes}
-use Rattle.capture_reading.specs.Parts.{frames_of_parts}
+use Rattle.transaction_view.specs.Grammar.{frames_of_parts}
 use Rattle.report_text.specs.Answers.{first_fault_line}
 use Rattle.audit_run.specs.Run.{frames_of_capture}
 use Rattle.audit_run.proofs.AnswerLaws.{none_alone, some_alone}
 use Rattle.audit_run.proofs.RunLaws.{broken_by}
 use Rattle.audit_run.proofs.runs.write_first_fault.Goals as goal
-
-pub write_first_fault_parts-requires-clause-bytes : goal.write_first_fault_parts-requires-clause-bytes
-write_first_fault_parts-requires-clause-bytes g c = All-cons IsBytes c.args.capture.now [] (λ i. omega (arith, c.type_inv.capture i)) (All-nil IsBytes)
 
 pub returns-in_err-found-clause-written : goal.returns-in_err-found-clause-written
 returns-in_err-found-clause-written g c =

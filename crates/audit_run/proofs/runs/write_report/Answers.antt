@@ -1,16 +1,11 @@
-use Rattle.std.proofs.Common.{[], ◌∷◌, refl, arith}
-use Rattle.std.proofs.lemmas.List.Elements.{All-cons, All-nil}
+use Rattle.std.proofs.Common.{[], ◌∷◌, refl}
 use Rattle.std.proofs.lemmas.Result.{err_from_is_err_and}
-use Rattle.capture_frame.specs.Units.{IsBytes}
-use Rattle.capture_reading.specs.Parts.{frames_of_parts}
+use Rattle.transaction_view.specs.Grammar.{frames_of_parts}
 use Rattle.report_text.specs.Answers.{answer}
 use Rattle.audit_run.specs.Run.{frames_of_capture, written_of}
 use Rattle.audit_run.proofs.AnswerLaws.{malformed_alone, report_alone}
 use Rattle.audit_run.proofs.RunLaws.{broken_by}
 use Rattle.audit_run.proofs.runs.write_report.Goals as goal
-
-pub write_parts-requires-clause-bytes : goal.write_parts-requires-clause-bytes
-write_parts-requires-clause-bytes g c κs within = All-cons IsBytes c.args.capture.now [] (λ i. omega (arith, c.type_inv.capture i)) (All-nil IsBytes)
 
 pub returns-in_err-write_parts : goal.returns-in_err-write_parts
 returns-in_err-write_parts g c =

@@ -1,32 +1,34 @@
-use Rattle.event_core.proofs.EventPlaces.{looks_at_start, looks_on, looks_found, looks_ended, found_there, ended_elsewhere, some_there, none_there, step_falls}
+use Rattle.std.proofs.Common.{◌≡◌, ◌<◌, List, ◌∷◌, length, Some, None, refl, sym, ap, ◌∙◌, arith}
+use Rattle.std.proofs.lemmas.Bool.{eq-eqb, ne_eqb}
+use Rattle.capture_frame.specs.Envelope.{placed_frame}
+use Rattle.event_core.specs.Events.{EventRead, event_at_place}
+use Rattle.event_core.specs.Reading.{event_text}
+use Rattle.event_core.proofs.RecordAt.{there_exactly}
 use Rattle.event_core.proofs.lookup.event_at.Goals as goal
 
 pub loop-event-init : goal.loop-event-init
-loop-event-init c = looks_at_start c.args.frame c.args.place c.of-events.result c.requires c.of-events.ensures
+loop-event-init c = ap (event_at_place c.args.place) (sym c.of-events.ensures)
 
 pub loop-event-smaller : goal.loop-event-smaller
-loop-event-smaller c = step_falls c.loop-event.events c.in-Some.event c.next_event.new.self (rw c.in-Some.is at c.next_event.ensures)
+loop-event-smaller c =
+    let steps = rw c.in-Some.is at c.next_event.ensures in
+    omega (arith, ap length steps)
 
 pub loop-event-preserved : goal.loop-event-preserved
 loop-event-preserved c =
-    looks_on c.args.frame c.args.place c.loop-event.events c.loop-event.invariant c.in-Some.event c.next_event.new.self
-    (rw c.in-Some.is at c.next_event.ensures) c.if-event-place.false
+    let steps = rw c.in-Some.is at c.next_event.ensures in
+    c.loop-event.invariant ∙ ap (event_at_place c.args.place) steps ∙ rw (ne_eqb c.in-Some.event.place c.args.place c.if-event-place.false) refl
 
 pub returns-then-event-place : goal.returns-then-event-place
 returns-then-event-place c =
     let steps = rw c.in-Some.is at c.next_event.ensures in
-    let looks = c.loop-event.invariant in
-    record {
-      exact = looks_found c.args.frame c.args.place c.loop-event.events looks c.in-Some.event c.next_event.new.self steps c.if-event-place.true;
-      there = some_there _ c.in-Some.event (found_there c.args.frame c.args.place c.loop-event.events looks c.in-Some.event c.next_event.new.self steps
-          c.if-event-place.true);
-    }
+    let found : Some (event_text c.in-Some.event) ≡ event_at_place c.args.place (event_text c.in-Some.event ∷ c.next_event.new.self) =
+    rw (eq-eqb c.in-Some.event.place c.args.place c.if-event-place.true) refl in
+    let exact = found ∙ sym (c.loop-event.invariant ∙ ap (event_at_place c.args.place) steps) in
+    record { exact = exact; there = there_exactly (placed_frame c.args.frame) c.args.place (Some c.in-Some.event) exact }
 
 pub returns : goal.returns
 returns c =
     let steps = rw c.in_default.is at c.next_event.ensures in
-    let looks = c.loop-event.invariant in
-    record {
-      exact = looks_ended c.args.frame c.args.place c.loop-event.events looks c.next_event.new.self steps;
-      there = none_there _ (ended_elsewhere c.args.frame c.args.place c.loop-event.events looks c.next_event.new.self steps);
-    }
+    let exact = sym (c.loop-event.invariant ∙ ap (event_at_place c.args.place) steps.0) in
+    record { exact = exact; there = there_exactly (placed_frame c.args.frame) c.args.place None exact }

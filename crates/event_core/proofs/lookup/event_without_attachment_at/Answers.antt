@@ -1,33 +1,35 @@
-use Rattle.std.proofs.Common.{◌∙◌, ap, Ok, arith}
-use Rattle.capture_frame.specs.Envelope.{frame_text}
-use Rattle.event_core.proofs.RecordAt.{is_in, found_at, found_ok, found_some, bare_found}
+use Rattle.std.proofs.Common.{◌≡◌, Some, Ok, refl, sym, ap, ◌∙◌, arith}
+use Rattle.capture_frame.specs.Envelope.{frame_text, placed_frame}
+use Rattle.capture_frame.specs.Units.{placed_at}
+use Rattle.record_view.proofs.RecordLaws.{records_there}
+use Rattle.record_view.specs.State.{placed_record}
+use Rattle.event_core.specs.Events.{bare_event}
+use Rattle.event_core.proofs.RecordAt.{first_given}
 use Rattle.event_core.proofs.lookup.event_without_attachment_at.Goals as goal
 
 pub from_place-requires : goal.from_place-requires
 from_place-requires c =
-    let has = c.requires in
-    let at = has.1.2 in
-    let within = is_in (frame_text c.args.frame) has.1.0 has.0 has.1.1 in
-    record { from = omega (arith, at); to = omega (arith, at, within) }
+    let at = c.requires.1 in
+    let within = rw at.2 at (records_there (placed_frame c.args.frame) at.0 (placed_at c.args.place c.requires.0) at.1) in
+    record { from = within.0; to = omega (arith, within.1) }
 
 pub unwrap-requires : goal.unwrap-requires
 unwrap-requires c =
-    let has = c.requires in
-    found_ok c.args.frame c.args.place has.0 c.next_record.result
-    (found_at c.args.frame c.from_place.result c.args.place has.0 has.1 c.from_place.ensures c.next_record.result c.next_record.new.self
-    (rw c.of-records.ensures at c.next_record.ensures))
+    let first = first_given c.args.frame c.from_place.result c.args.place c.requires.0 c.requires.1 c.from_place.ensures c.next_record.result
+    c.next_record.new.self (rw c.of-records.ensures at c.next_record.ensures) in
+    rw first.1 refl
 
 pub unwrap-record-requires : goal.unwrap-record-requires
 unwrap-record-requires c =
-    let has = c.requires in
-    found_some c.args.frame c.args.place has.0 c.next_record.result c.unwrap.result
-    (found_at c.args.frame c.from_place.result c.args.place has.0 has.1 c.from_place.ensures c.next_record.result c.next_record.new.self
-    (rw c.of-records.ensures at c.next_record.ensures))
-    c.unwrap.ensures
+    let first = first_given c.args.frame c.from_place.result c.args.place c.requires.0 c.requires.1 c.from_place.ensures c.next_record.result
+    c.next_record.new.self (rw c.of-records.ensures at c.next_record.ensures) in
+    let same : Some first.0 ≡ c.unwrap.result = let both : Ok (Some first.0) ≡ Ok c.unwrap.result = sym first.1 ∙ c.unwrap.ensures in cc in
+    rw (← same) refl
 
 pub returns : goal.returns
-returns c = λ found is_at.
-    bare_found c.args.frame c.args.place found c.next_record.result c.unwrap-record.result
-    (found_at c.args.frame c.from_place.result c.args.place found is_at c.from_place.ensures c.next_record.result c.next_record.new.self
-    (rw c.of-records.ensures at c.next_record.ensures))
-    (c.unwrap.ensures ∙ ap Ok c.unwrap-record.ensures) c.event_of.result c.event_of.ensures
+returns c found is_at =
+    let first = first_given c.args.frame c.from_place.result c.args.place found is_at c.from_place.ensures c.next_record.result
+    c.next_record.new.self (rw c.of-records.ensures at c.next_record.ensures) in
+    let same : first.0 ≡ c.unwrap-record.result =
+    let both : Ok (Some first.0) ≡ Ok (Some c.unwrap-record.result) = sym first.1 ∙ c.unwrap.ensures ∙ ap Ok c.unwrap-record.ensures in cc in
+    c.event_of.ensures ∙ ap (bare_event (frame_text c.args.frame)) (ap placed_record (sym same) ∙ first.2)

@@ -1,14 +1,18 @@
-use Rattle.std.proofs.Common.{◌++◌, ◌∷◌, []}
-use Rattle.record_view.specs.Reading.{record_text}
-use Rattle.transaction_view.proofs.RecordWalk.{has_given_next, step_falls}
+use Rattle.std.proofs.Common.{sym, ap, ◌∙◌}
+use Rattle.capture_frame.specs.ReadOn.{Parsed}
+use Rattle.capture_frame.proofs.ReadOnLaws.{fewer}
+use Rattle.record_view.specs.Records.{RecordText}
+use Rattle.record_view.specs.State.{IsRecordView}
 use Rattle.record_fields.proofs.content.check_records.Goals as goal
 
+pub loop-init : goal.loop-init
+loop-init c = ap (λ (p : Parsed RecordText). p.fault) (sym c.of-records.ensures)
+
 pub loop-smaller : goal.loop-smaller
-loop-smaller c = step_falls c.loop.records c.in-Some.field-0 c.next_record.new.self (rw c.in-Some.is at c.in_ok-next_record.ensures)
+loop-smaller c =
+    fewer IsRecordView c.loop.records c.next_record.new.self c.in-Some.field-0 (rw c.in-Some.is at c.in_ok-next_record.ensures)
 
 pub loop-preserved : goal.loop-preserved
-loop-preserved c = (
-  c.loop.invariant.0 ++ record_text c.in-Some.field-0 ∷ [],
-  has_given_next c.args.frame c.loop.records c.loop.invariant.0 c.loop.invariant.1 c.in-Some.field-0 c.next_record.new.self
-      (rw c.in-Some.is at c.in_ok-next_record.ensures),
-)
+loop-preserved c =
+    let steps = rw c.in-Some.is at c.in_ok-next_record.ensures in
+    c.loop.invariant ∙ ap (λ (p : Parsed RecordText). p.fault) steps.2

@@ -1,15 +1,16 @@
-use Rattle.std.proofs.Common.{subst, arith}
+use Rattle.std.proofs.Common.{◌≡◌, None, sym, subst, arith}
 use Rattle.std.proofs.lemmas.List.{take_all}
-use Rattle.audit_join.specs.Jobs.{AreSound}
-use Rattle.audit_join.proofs.FaultLaws.{sound_more}
+use Rattle.transaction_view.specs.Grammar.{first_content_fault}
+use Rattle.audit_join.proofs.FaultLaws.{none_more, sound_of}
 use Rattle.refusal_cases.proofs.pieces.check_all.Goals as goal
 
 pub loop-number-preserved : goal.loop-number-preserved
 loop-number-preserved c =
-    sound_more c.args.frames.now c.loop-number.number _ c.get.ensures c.loop-number.invariant c.in_default.ensures.first
+    none_more c.args.frames.now c.loop-number.number _ c.get.ensures c.loop-number.invariant (sym c.in_default.ensures)
 
 pub returns : goal.returns
 returns c =
     let end = c.loop-number-test.false in
     let long = c.len-number-end.ensures in
-    subst AreSound (take_all c.loop-number.number c.args.frames.now (omega (arith, end, long))) c.loop-number.invariant
+    sound_of c.args.frames.now
+    (subst (λ fs. first_content_fault fs ≡ None) (take_all c.loop-number.number c.args.frames.now (omega (arith, end, long))) c.loop-number.invariant)

@@ -1,11 +1,11 @@
-use Rattle.std.proofs.Common.{subst, arith}
-use Rattle.capture_frame.specs.Units.{IsBytes}
-use Rattle.audit_join.specs.Jobs.{AreSound}
-use Rattle.audit_join.proofs.CutLaws.{good_frames}
+use Rattle.std.proofs.Common.{◌≤◌, ◌^◌, [], ◌∷◌, length, sym, subst, arith}
+use Rattle.std.specs.List.{sum_by}
+use Rattle.audit_join.specs.Jobs.{AreCut, AreSound}
+use Rattle.audit_join.proofs.CutLaws.{are_cut, good_cut}
 use Rattle.refusal_cases.proofs.pieces.good_frames.Goals as goal
 
 pub returns : goal.returns
 returns c =
-    let bytes : IsBytes c.args.capture.now = λ i. omega (arith, c.type_inv.capture i) in
-    good_frames c.args.capture.now c.in_ok-frames.frames c.in_ok-frames.ensures (omega arith) bytes
+    let short : sum_by length (c.args.capture.now ∷ []) ≤ 2 ^ 30 = omega arith in
+    good_cut c.in_ok-frames.frames (subst AreCut (sym c.in_ok-frames.ensures.0) (are_cut (c.args.capture.now ∷ []) short))
     (subst AreSound c.as_slice.ensures c.in_ok-check_all.ensures)

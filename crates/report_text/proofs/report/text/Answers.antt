@@ -8,7 +8,7 @@ use Rattle.report_text.proofs.report.text.Goals as goal
 
 pub returns : goal.returns
 unfolding report_text
-returns g c = λ wholes are.
+returns g c = λ are.
     let pushed = c.in_ok-push_report.ensures in
     taken _ (λ (text : _). string_bytes text) ended (λ old new line takes. takes) c.new-text.result c.push_report.new.lines pushed.lines pushed.taken
-    ∙ ap (λ (t : List ℕ). t ++ flat_map ended pushed.lines) c.new-text.ensures.bytes ∙ ap (flat_map ended) (pushed.told wholes are)
+    ∙ ap (λ (t : List ℕ). t ++ flat_map ended pushed.lines) c.new-text.ensures.bytes ∙ ap (flat_map ended) (pushed.told are)

@@ -4,7 +4,7 @@ use Rattle.audit_findings.specs.declared.findings.Sections.{Sections}
 use Rattle.report_text.proofs.section.push_section.Goals as goal
 
 pub push_rows-requires-after_bounds : goal.push_rows-requires-after_bounds
-push_rows-requires-after_bounds g c κs within = c.rows-rows.ensures.readable c.sections.ensures.told
+push_rows-requires-after_bounds g c κs within = c.rows-rows.ensures.readable c.sections.ensures.told.are
 
 pub returns : goal.returns
 returns g c =
@@ -14,6 +14,6 @@ returns g c =
     (λ pushed. record {
       lines = c.head.result.bytes ∷ pushed.0;
       taken = (c.push_line.new.self, c.in_ok-push_line.ensures, pushed.2);
-      told = λ wholes are. ap (λ (line : List ℕ). line ∷ pushed.0) head ∙ c.rows-rows.ensures.told pushed.0 pushed.1 wholes are;
+      told = λ are. ap (λ (line : List ℕ). line ∷ pushed.0) head ∙ c.rows-rows.ensures.told pushed.0 pushed.1 are;
     })
     c.push_rows.ensures

@@ -2,11 +2,11 @@ use Rattle.std.proofs.Common.{List, ap, subst, sym, ◌∙◌}
 use Rattle.std.specs.Prelude.{AllPairs}
 use Rattle.capture_frame.specs.Envelope.{PlacedFrame}
 use Rattle.capture_frame.specs.Lookup.{AreApart, IsFrameAt}
-use Rattle.audit_findings.proofs.PlacesRise.{frames_apart}
+use Rattle.audit_findings.proofs.PlacesRise.{joined_apart}
 use Rattle.audit_findings.proofs.findings.Findings.frame_at.Goals as goal
 
 pub frame_at-requires : goal.frame_at-requires
-frame_at-requires c = subst (AllPairs AreApart) (sym c.as_slice.ensures) (frames_apart _ c.self.invariant.0 c.self.invariant.1.show)
+frame_at-requires c = subst (AllPairs AreApart) (sym (c.as_slice.ensures ∙ c.self.invariant.in_order)) (joined_apart c.self.invariant.texts)
 
 -- these frames are the findings' own
 pub returns : goal.returns

@@ -1,9 +1,9 @@
 use Rattle.std.proofs.Common.{sym, ap, subst, ◌∙◌}
+use Rattle.std.specs.Prelude.{None}
 use Rattle.std.proofs.lemmas.List.Elements.{All-contains}
-use Rattle.capture_frame.specs.Envelope.{PlacedFrame, placed_frame}
+use Rattle.capture_frame.specs.Envelope.{PlacedFrame}
 use Rattle.capture_frame.specs.Units.{placed_at}
-use Rattle.event_core.specs.Events.{RecordIsAtPlace, HasRecordAt, bare_event}
-use Rattle.event_core.specs.Events.{events_of_wholes}
+use Rattle.event_core.specs.Events.{EventRead, HasRecordAt, RecordIsAtPlace, bare_event, events_of_frames}
 use Rattle.capture_frame.specs.Lookup.{IsFrameAt}
 use Rattle.capture_frame.proofs.LookupLaws.{one_held, some_held}
 use Rattle.audit_findings.proofs.RecordsThere.{IsEventIn, events_in, record_held}
@@ -22,16 +22,14 @@ event_without_attachment_at-requires c =
     subst (λ (f : PlacedFrame). HasRecordAt f c.args.place) same c.requires.2
 
 pub returns : goal.returns
-returns c wholes show e there is =
+returns c e there is =
     let at = subst (IsFrameAt c.args.self.now.frames c.args.place) c.unwrap-frame.ensures c.frame_at.ensures in
-    let in_frames = All-contains (IsEventIn c.args.self.now.frames) (events_of_wholes wholes) e (events_in c.args.self.now.frames wholes show) there in
-    let event = in_frames.event in
-    let has : HasRecordAt in_frames.frame c.args.place =
-    subst (λ n. HasRecordAt in_frames.frame n) is (event.found, event.is_at) in
-    let same = one_held c.args.self.now.frames c.args.place c.unwrap-frame.result in_frames.frame at in_frames.there (record_held in_frames.frame c.args.place has) in
-    let is_at : RecordIsAtPlace (placed_frame c.unwrap-frame.result) c.args.place event.found =
-    subst (λ (f : PlacedFrame). RecordIsAtPlace f c.args.place event.found) same
-    (subst (λ n. RecordIsAtPlace in_frames.frame n event.found) is event.is_at) in
-    c.event_without_attachment_at.ensures event.found is_at
-    ∙ ap (λ (f : PlacedFrame). bare_event f.unit (placed_at c.args.place event.found)) (sym same)
-    ∙ ap (λ n. bare_event in_frames.frame.unit (placed_at n event.found)) (sym is) ∙ event.bare
+    let event = All-contains (IsEventIn c.args.self.now.frames) (events_of_frames c.args.self.now.frames) e (events_in c.args.self.now.frames) there in
+    let here = sym (ap (λ (x : EventRead). x.place) event.is) ∙ is in
+    let is_at = subst (λ n. RecordIsAtPlace event.frame n event.found.unit) here event.inside in
+    let same = one_held c.args.self.now.frames c.args.place c.unwrap-frame.result event.frame at event.there
+    (record_held event.frame c.args.place (event.found.unit, is_at)) in
+    c.event_without_attachment_at.ensures event.found.unit (subst (λ (f : PlacedFrame). RecordIsAtPlace f c.args.place event.found.unit) same is_at)
+    ∙ ap (λ (f : PlacedFrame). bare_event f.unit (placed_at c.args.place event.found.unit)) (sym same)
+    ∙ ap (λ n. bare_event event.frame.unit (placed_at n event.found.unit)) (sym here)
+    ∙ ap (λ (x : EventRead). record x { entry = None }) (sym event.is)

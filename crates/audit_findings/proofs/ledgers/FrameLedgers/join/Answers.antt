@@ -1,6 +1,6 @@
 use Rattle.std.proofs.Common.{◌++◌, map, sym, subst, length-append, arith}
 use Rattle.audit_findings.proofs.SequenceLaws.{frame_count}
-use Rattle.process_ledgers.specs.Processes.{process_of_whole}
+use Rattle.process_ledgers.specs.EachProcess.{order_item}
 use Rattle.audit_findings.specs.Ledgers.{AreFewEvents}
 use Rattle.audit_findings.proofs.GivenLaws.{both_given, order_both}
 use Rattle.audit_findings.proofs.ledgers.FrameLedgers.join.Goals as goal
@@ -17,7 +17,7 @@ then-requires c =
 
 pub join-order-requires : goal.join-order-requires
 join-order-requires c =
-    (map (λ w. (process_of_whole w, tt)) c.requires.0, map (λ w. (process_of_whole w, tt)) c.requires.1, c.requires.2.order, c.requires.3.order, λ key. tt)
+    (map order_item c.requires.0, map order_item c.requires.1, c.requires.2.order, c.requires.3.order, λ key. tt)
 
 pub join-of_events-requires : goal.join-of_events-requires
 join-of_events-requires c =
@@ -32,7 +32,7 @@ returns c first second sums others fits =
     record {
       sequences = c.then.ensures first second sums.sequences others.sequences;
       order = order_both _ first second
-          (c.in_ok-order.ensures (map (λ w. (process_of_whole w, tt)) first) (map (λ w. (process_of_whole w, tt)) second) sums.order others.order (λ key. tt));
+          (c.in_ok-order.ensures (map order_item first) (map order_item second) sums.order others.order (λ key. tt));
       given = sums.given ++ others.given;
       are_all = both;
       sums = c.in_ok-of_events.ensures sums.given others.given sums.sums others.sums (subst AreFewEvents (sym both) fits.1);

@@ -5,7 +5,7 @@ use Rattle.capture_frame.specs.declared.process.Process.{Process}
 use Rattle.event_core.specs.declared.event.Event.{Event}
 use Rattle.process_ledgers.specs.Concerns.{concerned}
 use Rattle.process_ledgers.specs.ProcessLedgers.{SumsProcess}
-use Rattle.process_ledgers.specs.Processes.{process_of_whole}
+use Rattle.process_ledgers.specs.EachProcess.{order_item}
 use Rattle.process_ledgers.specs.declared.process_ledgers.ProcessLedgers.{ProcessLedgers}
 use Rattle.summary_law.specs.Fed.{SumsPicked}
 use Rattle.summary_law.specs.InOrder.{SumsInOrder}
@@ -17,7 +17,7 @@ use Rattle.audit_findings.proofs.OrderLaws.{order_there}
 use Rattle.audit_findings.proofs.ledgers.FrameLedgers.name_process.Goals as goal
 
 pub add-requires : goal.add-requires
-add-requires c = (map (λ w. (process_of_whole w, tt)) c.requires.0, c.requires.1.order, λ key. tt)
+add-requires c = (map order_item c.requires.0, c.requires.1.order, λ key. tt)
 
 -- the sums of events, if the entries of the processes are the same
 same_entries : (sums : EventSums) (processes : InOrder Process ProcessLedgers Event) → processes.entries ≡ sums.processes.entries
@@ -31,8 +31,8 @@ same_entries sums processes same events given = record {
 pub returns-then-has : goal.returns-then-has
 returns-then-has c = record {
   sequences = refl;
-  order = λ wholes next sums is.
-      order_there c.args.self.now.order.entries.entries c.args.self.now.of_events.processes.entries.entries wholes sums.given sums.are_all sums.order
+  order = λ frames next sums is.
+      order_there c.args.self.now.order.entries.entries c.args.self.now.of_events.processes.entries.entries frames sums.given sums.are_all sums.order
       sums.sums.processes next c.args.process is (sym c.has.ensures.has ∙ c.if-has.true);
   sums = same_entries c.args.self.now.of_events c.has.new.self c.has.ensures.same;
 }
@@ -42,9 +42,9 @@ returns c =
     on_ok_weaker c.add.result
     (λ adds. record {
       sequences = refl;
-      order = λ wholes next sums is.
-          order_next c.add.new.self.entries.entries wholes next c.args.process is
-          (adds (map (λ w. (process_of_whole w, tt)) wholes) sums.order (λ key. tt));
+      order = λ frames next sums is.
+          order_next c.add.new.self.entries.entries frames next c.args.process is
+          (adds (map order_item frames) sums.order (λ key. tt));
       sums = same_entries c.args.self.now.of_events c.has.new.self c.has.ensures.same;
     })
     c.add.ensures

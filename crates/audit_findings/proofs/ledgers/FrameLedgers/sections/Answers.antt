@@ -2,19 +2,19 @@ use Rattle.std.proofs.Common.{subst}
 use Rattle.std.proofs.lemmas.Result.{IfOk-at_ok}
 use Rattle.audit_findings.specs.Ledgers.{SumsEvents}
 use Rattle.audit_findings.specs.ThreadLedger.{SumsThreadCalls}
-use Rattle.event_core.specs.Events.{events_of_wholes}
+use Rattle.event_core.specs.Events.{events_of_frames}
 use Rattle.audit_findings.proofs.SequenceLaws.{frame_count}
 use Rattle.audit_findings.proofs.ledgers.FrameLedgers.sections.Goals as goal
 
 pub returns : goal.returns
-returns c wholes sums few unfreed listed =
-    let all = events_of_wholes wholes in
+returns c frames sums few unfreed listed =
+    let all = events_of_frames frames in
     let rise = few.1.0.1 in
     let whole = c.in_ok-events.ensures in
     let half = IfOk-at_ok _ whole.0 c.both.ensures in
-    let frames = frame_count c.args.self.sequences wholes sums.sequences in
-    let missing = c.missing-missing.ensures wholes sums.sequences in
+    let count = frame_count c.args.self.sequences frames sums.sequences in
+    let missing = c.missing-missing.ensures frames sums.sequences in
     let calls = IfOk-at_ok _ half.1 c.of-calls.ensures all (subst (SumsThreadCalls c.args.self.of_events.threads) sums.are_all sums.sums.threads) rise in
     let events = IfOk-at_ok _ half.0 c.of-events.ensures all (subst (SumsEvents c.args.self.of_events.all) sums.are_all sums.sums.all) in
-    let processes = IfOk-at_ok _ whole.1 c.of-processes.ensures wholes (c.processes.ensures.gives wholes sums c.empty-none.ensures) unfreed listed rise in
-    λ i. record { frames = frames i; missing = missing i; events = events i; calls = calls i; processes = processes i }
+    let processes = IfOk-at_ok _ whole.1 c.of-processes.ensures frames (c.processes.ensures.gives frames sums c.empty-none.ensures) unfreed listed rise in
+    λ i. record { frames = count i; missing = missing i; events = events i; calls = calls i; processes = processes i }

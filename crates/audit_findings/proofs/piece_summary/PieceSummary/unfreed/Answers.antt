@@ -9,4 +9,4 @@ returns-clause-count c =
 pub returns-clause-places : goal.returns-clause-places
 returns-clause-places c =
     IfOk-weaker c.lists_of.result _ _
-    (λ lists gives frames wholes sums show. gives wholes (c.processes.ensures.gives wholes (sums wholes show) c.empty-none.ensures)) c.lists_of.ensures.lists
+    (λ lists gives frames sums. gives frames (c.processes.ensures.gives frames sums c.empty-none.ensures)) c.lists_of.ensures.lists

@@ -1,11 +1,12 @@
 use Rattle.std.proofs.Common.{ℕ, Vec, Global, ap, subst, ◌∙◌, arith}
 use Rattle.claim_board.specs.declared.job.Job.{Job}
 use Rattle.audit_findings.specs.Summary.{GivesHandlesAt, process_count}
-use Rattle.audit_join.proofs.HandleJobs.{got, job_is, sound_again, within_count}
+use Rattle.audit_join.proofs.HandleJobs.{got, job_is, within_count}
+use Rattle.audit_join.proofs.CutLaws.{good_cut}
 use Rattle.audit_join.proofs.handle_work.HandleWorkWork.run.Goals as goal
 
 pub handles-requires-clause-good : goal.handles-requires-clause-good
-handles-requires-clause-good c = sound_again c.args.self.now.frames.now c.args.self.now.cut c.args.self.now.sound
+handles-requires-clause-good c = good_cut c.args.self.now.frames.now c.args.self.now.cut c.args.self.now.sound
 
 pub handles-requires-clause-within : goal.handles-requires-clause-within
 handles-requires-clause-within c = within_count (process_count c.args.self.now.whole.now) c.args.i c.requires

@@ -1,7 +1,7 @@
-use Rattle.std.proofs.Math.Logic.{∥∥₁_elim}
-use Rattle.std.specs.Coded.{Coded-set, coded_ℕ}
-use Rattle.audit_join.proofs.JobLaws.{number_of_jobs}
+use Rattle.std.proofs.Common.{sym}
+use Rattle.std.proofs.lemmas.List.{length-map}
+use Rattle.audit_join.specs.Jobs.{job_of}
 use Rattle.audit_join.proofs.piece_work.PieceWorkWork.jobs.Goals as goal
 
 pub returns : goal.returns
-returns g c = ∥∥₁_elim c.args.self.now.are_jobs (Coded-set coded_ℕ _ _) (number_of_jobs c.args.self.now.pieces.now _)
+returns c = sym (length-map c.args.self.now.pieces.now job_of)

@@ -1,27 +1,24 @@
-use Rattle.std.proofs.Common.{sym, arith, ◌∙◌}
-use Rattle.std.proofs.Math.Logic.{∥∥₁_elim}
-use Rattle.std.specs.Coded.{Coded-set, coded_ℕ}
-use Rattle.audit_join.proofs.JobLaws.{number_fits, within_pieces, job_here, some_here}
+use Rattle.std.proofs.Common.{sym, ap, arith, ◌∙◌}
+use Rattle.claim_board.specs.declared.job.Job.{Job}
+use Rattle.audit_join.proofs.JobLaws.{number_fits, within_pieces, job_here}
 use Rattle.audit_join.proofs.piece_work.PieceWorkWork.start.Goals as goal
 
 pub offset_bounds-self-i : goal.offset_bounds-self-i
-offset_bounds-self-i g c =
+offset_bounds-self-i c =
     let work = c.args.self.now in
-    let within = within_pieces work.pieces.now _ work.are_jobs c.args.i c.requires in
-    let fits = number_fits work.pieces.now work.can_judge c.args.i within in
+    let fits = number_fits work.pieces.now work.can_judge c.args.i (within_pieces work.pieces.now c.args.i c.requires) in
     omega (arith, fits)
 
 pub bounds-self-i : goal.bounds-self-i
-bounds-self-i g c = within_pieces c.args.self.now.pieces.now _ c.args.self.now.are_jobs c.args.i c.requires
+bounds-self-i c = within_pieces c.args.self.now.pieces.now c.args.i c.requires
 
 pub start_of-requires : goal.start_of-requires
-start_of-requires g c =
+start_of-requires c =
     let work = c.args.self.now in
-    let within = within_pieces work.pieces.now _ work.are_jobs c.args.i c.requires in
-    (some_here work.pieces.now work.can_judge c.args.i c.index-self-i.result within).0
+    work.can_judge.some c.args.i c.index-self-i.result (within_pieces work.pieces.now c.args.i c.requires)
 
 pub returns : goal.returns
-returns g c =
-    ∥∥₁_elim c.args.self.now.are_jobs (Coded-set coded_ℕ _ _) (λ each.
-    let job = job_here c.args.self.now.pieces.now _ each c.args.i c.index-self-i.result c.requires in
-    c.start_of.ensures job.first job.others job.are ∙ sym job.start)
+returns c =
+    let pieces = c.args.self.now.pieces.now in
+    c.start_of.ensures
+    ∙ sym (ap (λ (job : Job). job.start) (job_here pieces c.args.i c.index-self-i.result (within_pieces pieces c.args.i c.requires)))

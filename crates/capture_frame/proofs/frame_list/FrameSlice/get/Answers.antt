@@ -1,8 +1,5 @@
-use Rattle.capture_frame.proofs.FrameListLaws.{read_at, whole_there}
+use Rattle.capture_frame.proofs.FrameListLaws.{read_at}
 use Rattle.capture_frame.proofs.frame_list.FrameSlice.get.Goals as goal
-
-pub frame_of-requires-clause-whole : goal.frame_of-requires-clause-whole
-frame_of-requires-clause-whole c = whole_there c.bytes_from-bytes.result.now c.bytes_from-bytes.ensures.begins
 
 pub returns : goal.returns
 returns c =

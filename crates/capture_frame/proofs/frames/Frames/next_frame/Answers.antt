@@ -1,37 +1,37 @@
-use Rattle.std.proofs.Common.{◌≡◌, ℕ, ◌+◌, length, Some, Ok, refl, sym, ap, subst, ◌∙◌, arith, rules}
-use Rattle.capture_frame.specs.State.{reading_of}
+use Rattle.std.proofs.Common.{ap, sym, ◌∙◌, ◌+◌, ℕ, rules}
+use Rattle.std.proofs.lemmas.List.{take_rest}
+use Rattle.capture_frame.specs.Envelope.{in_version, frame_text}
+use Rattle.capture_frame.specs.Frames.{frame_parser}
+use Rattle.capture_frame.specs.State.{ahead_of, IsFrameView}
+use Rattle.capture_frame.specs.Tests.{at_place, fault_at}
 use Rattle.capture_frame.specs.Units.{placed_at}
-use Rattle.capture_frame.specs.Envelope.{in_version, frame_text, frame_bytes}
-use Rattle.capture_frame.specs.FirstFault.{frame_format}
-use Rattle.capture_frame.specs.Readers.{at}
-use Rattle.capture_frame.specs.Reading.{frame_source, Steps}
-use Rattle.capture_frame.proofs.FrameLaws.{length-frame_bytes}
-use Rattle.capture_frame.proofs.ReaderLaws.{begins_within, steps_over, steps_fail}
+use Rattle.capture_frame.proofs.FrameLaws.{frame_widths}
+use Rattle.capture_frame.proofs.ReadOnLaws.{gives_unit, gives_fault, stays_within}
 use Rattle.capture_frame.proofs.frames.Frames.next_frame.Goals as goal
 
 pub invariant_of-self : goal.invariant_of-self
 invariant_of-self c =
-    let frame = c.in-Ok.frame in
-    let within = begins_within frame_format (in_version c.self.inside.version c.in-At.last) c.self.inside.bytes.now c.in-At.offset (frame_text frame) _ (search rules) c.in-Ok.ensures.found in
-    (omega (arith, within, length-frame_bytes (frame_text frame)), search rules)
+    let self = c.self.inside in
+    let offset = c.in-At.offset in (
+      stays_within frame_parser frame_widths IsFrameView (in_version self.version c.in-At.last) self.start offset self.bytes.now _
+          (take_rest self.bytes.now offset) (frame_text c.in-Ok.frame) (search rules) (ap (at_place (self.start + offset)) c.in-Ok.ensures.0),
+      search rules,
+    )
 
 pub returns-in-Ok : goal.returns-in-Ok
 returns-in-Ok c =
+    let self = c.self.inside in
+    let offset = c.in-At.offset in
     let frame = c.in-Ok.frame in
-    let bytes = c.self.inside.bytes.now in
-    let text = placed_at c.self.inside.start bytes in
-    let version = c.self.inside.version in
-    let is = sym c.self.view_is ∙ ap (reading_of version bytes c.self.inside.start) c.in-At.is in
-    let width : c.in-At.offset + length (frame_bytes (frame_text frame)) ≡ c.in-At.offset +
-    (32 + length frame.commands.now + length frame.attachments.now) = omega (arith, length-frame_bytes (frame_text frame)) in
-    subst (λ (n : ℕ). Steps c.args.self.now (Ok (Some frame)) (at text n (in_version version (Some frame.sequence)))) width
-    (steps_over frame_source c.args.self.now text c.in-At.offset (in_version version c.in-At.last) frame is c.in-Ok.ensures.found)
+    let gives = gives_unit frame_parser frame_widths IsFrameView (in_version self.version c.in-At.last) self.start offset self.bytes.now _
+    (take_rest self.bytes.now offset) (frame_text frame) frame (search rules) (ap (at_place (self.start + offset)) c.in-Ok.ensures.0)
+    (ap (λ (p : ℕ). placed_at p (frame_text frame)) c.in-Ok.ensures.1) in
+    (gives.0, gives.1, sym c.self.view_is ∙ ap (ahead_of self.version self.bytes.now self.start) c.in-At.is ∙ gives.2)
 
 pub returns-in-Err : goal.returns-in-Err
 returns-in-Err c =
-    let bytes = c.self.inside.bytes.now in
-    let text = placed_at c.self.inside.start bytes in
-    let version = c.self.inside.version in
-    steps_fail frame_source c.args.self.now text c.in-At.offset (in_version version c.in-At.last) _
-    (sym c.self.view_is ∙ ap (reading_of version bytes c.self.inside.start) c.in-At.is)
-    (c.in-Err.ensures.fails, refl) refl
+    let self = c.self.inside in
+    let offset = c.in-At.offset in
+    let gives = gives_fault frame_parser frame_widths IsFrameView (in_version self.version c.in-At.last) self.start offset self.bytes.now _
+    (take_rest self.bytes.now offset) (fault_at c.in-Err.kind (self.start + offset)) (search rules) (ap (at_place (self.start + offset)) c.in-Err.ensures) in
+    (sym c.self.view_is ∙ ap (ahead_of self.version self.bytes.now self.start) c.in-At.is ∙ gives.0, gives.1)

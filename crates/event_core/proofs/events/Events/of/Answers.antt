@@ -1,7 +1,21 @@
-use Rattle.event_core.proofs.EventWalk.{starts}
+use Rattle.std.proofs.Common.{◌≡◌, Option, Some, None, ap, ◌∙◌}
+use Rattle.capture_frame.specs.declared.fault.Fault.{Fault}
+use Rattle.capture_frame.specs.Envelope.{frame_text, placed_frame}
+use Rattle.record_view.specs.Records.{records_of}
+use Rattle.transaction_view.specs.Grammar.{first_of}
+use Rattle.event_core.specs.State.{events_beside}
+use Rattle.event_core.proofs.EventSteps.{left_is}
+use Rattle.event_core.proofs.SideBySide.{side_by_side}
 use Rattle.event_core.proofs.events.Events.of.Goals as goal
 
-pub invariant_of-result : goal.invariant_of-result
-invariant_of-result c =
-    starts c.args.frame c.of.result c.of-attachments.result c.next_entry-ahead.new.self c.next_entry-ahead.result c.requires c.of.ensures
-    c.of-attachments.ensures c.next_entry-ahead.ensures
+second_none : (first second : Option Fault) → first_of first second ≡ None → second ≡ None
+second_none None second none = none
+second_none (Some fault) second none = absurd cc
+
+pub of-attachments-requires : goal.of-attachments-requires
+of-attachments-requires c = second_none _ _ c.requires
+
+pub returns : goal.returns
+returns c =
+    let left = left_is c.of-attachments.result c.next_entry-ahead.new.self c.next_entry-ahead.result c.next_entry-ahead.ensures ∙ c.of-attachments.ensures in
+    rw (c.of.ensures, left) (side_by_side (placed_frame c.args.frame))

@@ -9,5 +9,5 @@ call_row-requires g c =
     row_kind has_transaction_data c.args.found.now.frames c.args.kept.now.event c.record_at.result c.requires c.record_at.ensures
 
 pub returns : goal.returns
-returns g c = λ wholes e show there is.
-    c.call_row.ensures ∙ ap (row_of_kept g.S.CallSection.field c.args.kept.now) (c.record_at.ensures wholes show e there is)
+returns g c = λ e there is.
+    c.call_row.ensures ∙ ap (row_of_kept g.S.CallSection.field c.args.kept.now) (c.record_at.ensures e there is)

@@ -6,5 +6,5 @@ pub line-requires : goal.line-requires
 line-requires g c = row_kind g.S.EventSection.kinds c.args.found.now.frames c.args.kept.now c.record_at.result c.requires c.record_at.ensures
 
 pub returns : goal.returns
-returns g c = λ wholes e show there is.
-    c.line.ensures ∙ ap g.S.EventSection.section.line (c.record_at.ensures wholes show e there is) ∙ g.S.EventSection.bare e
+returns g c = λ e there is.
+    c.line.ensures ∙ ap g.S.EventSection.section.line (c.record_at.ensures e there is) ∙ g.S.EventSection.bare e

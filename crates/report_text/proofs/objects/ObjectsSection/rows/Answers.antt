@@ -1,5 +1,5 @@
 use Rattle.std.proofs.Common.{◌≡◌, ℕ, List, refl, ap, ◌∙◌}
-use Rattle.event_core.specs.Events.{events_of_wholes}
+use Rattle.event_core.specs.Events.{events_of_frames}
 use Rattle.audit_findings.specs.Kept.{bad_at_place}
 use Rattle.audit_findings.specs.declared.findings.Sections.{Sections}
 use Rattle.audit_findings.specs.declared.objects.BadRow.{BadRow}
@@ -19,7 +19,7 @@ keeps : Keeps objects_section bad_at_place head_of rows_of
 keeps = record { head = λ found rows. refl; rows = λ found. refl }
 
 events : HaveEvents objects_section (λ b. b.owner)
-events = λ wholes. owners_there (events_of_wholes wholes)
+events = λ frames. owners_there (events_of_frames frames)
 
 kept : (c : goal.After-as_slice) → c.as_slice.result.now ≡ rows_of c.args.found.now.sections
 kept c = c.as_slice.ensures ∙ ap rows_of c.sections.ensures.value

@@ -6,4 +6,4 @@ pub returns-clause-told : goal.returns-clause-told
 returns-clause-told g c =
     let S = g.S.WholeSection in
     kept_lines S.section (λ row. row) S.head_of S.rows_of S.keeps c.args.found.now c.rows.result.now c.rows.ensures
-    (λ row line. line ≡ S.section.line row) (λ wholes of k d within line is. is)
+    (λ row line. line ≡ S.section.line row) (λ k d within line is. is)

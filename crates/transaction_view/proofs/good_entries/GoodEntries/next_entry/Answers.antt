@@ -1,55 +1,41 @@
-use Rattle.std.proofs.Common.{ℕ, ◌+◌, None, Ok, refl, sym, ap, subst, ◌∙◌, arith}
-use Rattle.capture_frame.specs.Envelope.{commands_place, frame_text, placed_frame}
-use Rattle.transaction_view.specs.Reading.{Steps}
-use Rattle.transaction_view.proofs.GoodLaws.{next_good, next_steps, none_left}
-use Rattle.transaction_view.proofs.ReadLaws.{named_within, parts_within}
+use Rattle.std.proofs.Common.{sym, ap, ◌∙◌, arith}
+use Rattle.std.proofs.lemmas.List.{take_rest}
+use Rattle.capture_frame.specs.ReadOn.{Parsed}
+use Rattle.transaction_view.specs.Attachments.{EntryText}
+use Rattle.transaction_view.proofs.EntryLaws.{good_past, none_ahead}
 use Rattle.transaction_view.proofs.good_entries.GoodEntries.next_entry.Goals as goal
 
 pub returns-in_default : goal.returns-in_default
 returns-in_default c =
     let r = c.self.inside in
-    subst (λ reading. Steps reading (Ok None) reading) c.self.view_is
-    (none_left (frame_text r.frame) r.distance r.before c.self.invariant c.in_default.ensures.short, refl)
+    let none = sym c.self.view_is ∙ none_ahead r.frame r.distance r.before _ (take_rest r.frame.attachments.now r.distance) c.self.invariant c.in_default.ensures.short in
+    (none, none)
 
 pub overflow_add-owner : goal.overflow_add-owner
 overflow_add-owner c =
     let r = c.self.inside in
-    let next = next_good (frame_text r.frame) r.distance r.before c.self.invariant c.in-Some.parts c.in-Some.ensures.parts in
-    let named = named_within (frame_text r.frame) r.before _ next.may in
+    let past = good_past r.frame r.distance r.before _ (take_rest r.frame.attachments.now r.distance) c.self.invariant c.in-Some.parts c.in-Some.ensures.parts in
     let fits = r.frame.fits in
-    let start = c.commands_place.ensures in
-    let offset = c.from.ensures in
-    omega (arith, named, fits, start, offset)
+    omega (arith, past, fits, c.commands_place.ensures, c.from.ensures)
 
 pub invariant_of-result : goal.invariant_of-result
 invariant_of-result c =
     let r = c.self.inside in
-    let next = next_good (frame_text r.frame) r.distance r.before c.self.invariant c.in-Some.parts c.in-Some.ensures.parts in
-    let named = named_within (frame_text r.frame) r.before _ next.may in
-    let within = parts_within r.frame.attachments.now r.distance c.in-Some.parts c.self.invariant.within c.in-Some.ensures.parts in
+    let past = good_past r.frame r.distance r.before _ (take_rest r.frame.attachments.now r.distance) c.self.invariant c.in-Some.parts c.in-Some.ensures.parts in
     let fits = r.frame.fits in
-    let start = c.commands_place.ensures in
-    let offset = c.from.ensures in
-    let there = c.attachments_place.ensures in
     record {
-      fits = omega (arith, within, fits, there);
-      after_owner = omega (arith, named, start, offset, there);
+      fits = omega (arith, past, fits, c.attachments_place.ensures);
+      after_owner = omega (arith, past, c.commands_place.ensures, c.from.ensures, c.attachments_place.ensures);
     }
 
 pub invariant_of-self : goal.invariant_of-self
 invariant_of-self c =
     let r = c.self.inside in
-    (next_good (frame_text r.frame) r.distance r.before c.self.invariant c.in-Some.parts c.in-Some.ensures.parts).ahead
+    let past = good_past r.frame r.distance r.before _ (take_rest r.frame.attachments.now r.distance) c.self.invariant c.in-Some.parts c.in-Some.ensures.parts in
+    record { within = past.within; good = sym (ap (λ (found : Parsed EntryText). found.fault) past.ahead) ∙ c.self.invariant.good }
 
 pub returns : goal.returns
 returns c =
     let r = c.self.inside in
-    let parts = c.in-Some.parts in
-    let next = next_good (frame_text r.frame) r.distance r.before c.self.invariant parts c.in-Some.ensures.parts in
-    next_steps c.args.self.now (placed_frame r.frame) r.distance r.before parts _ (sym c.self.view_is) c.in-Some.ensures.parts next.may
-    (record {
-      place_is = ap (λ (n : ℕ). n + r.distance) c.attachments_place.ensures;
-      owner = ap (λ (n : ℕ). n + c.from.result) c.commands_place.ensures ∙ ap (λ (n : ℕ). commands_place r.frame.place + n) c.from.ensures;
-      body = refl;
-      offsets = refl;
-    })
+    let past = good_past r.frame r.distance r.before _ (take_rest r.frame.attachments.now r.distance) c.self.invariant c.in-Some.parts c.in-Some.ensures.parts in
+    rw (c.attachments_place.ensures, c.commands_place.ensures, c.from.ensures) (sym c.self.view_is ∙ ap (λ (found : Parsed EntryText). found.units) past.ahead)

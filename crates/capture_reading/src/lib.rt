@@ -1,4 +1,0 @@
-//! What the parts of a capture say, as one function of their bytes.
-#![tactic(auto)]
-
-pub mod laws;
