@@ -1,23 +1,21 @@
 use Rattle.std.proofs.Common.{refl}
 use Rattle.std.specs.Fmt.{digits}
-use Rattle.capture_frame.specs.Envelope.{frame_bytes, number_at}
-use Rattle.record_view.specs.Records.{record_bytes}
-use Rattle.transaction_view.specs.Attachments.{entry_bytes}
+use Rattle.capture_frame.specs.Envelope.{number_at}
 use Rattle.report_text.specs.Text.{report_text}
 use Rattle.worked_rows.proofs.counts.references.Goals as goal
 
 pub returns-clause-acquire : goal.returns-clause-acquire
-unfolding digits number_at frame_bytes record_bytes entry_bytes report_text
+unfolding digits number_at report_text
 returns-clause-acquire c = refl
 
 pub returns-clause-released_before_acquired : goal.returns-clause-released_before_acquired
-unfolding digits number_at frame_bytes record_bytes entry_bytes report_text
+unfolding digits number_at report_text
 returns-clause-released_before_acquired c = refl
 
 pub returns-clause-handles_of_two_processes : goal.returns-clause-handles_of_two_processes
-unfolding digits number_at frame_bytes record_bytes entry_bytes report_text
+unfolding digits number_at report_text
 returns-clause-handles_of_two_processes c = refl
 
 pub returns-clause-node_half_confirmed : goal.returns-clause-node_half_confirmed
-unfolding digits number_at frame_bytes record_bytes entry_bytes report_text
+unfolding digits number_at report_text
 returns-clause-node_half_confirmed c = refl

@@ -1,14 +1,12 @@
 use Rattle.std.proofs.Common.{refl}
 use Rattle.std.specs.Fmt.{digits}
-use Rattle.capture_frame.specs.Envelope.{frame_bytes, number_at}
-use Rattle.record_view.specs.Records.{record_bytes}
-use Rattle.transaction_view.specs.Attachments.{entry_bytes}
+use Rattle.capture_frame.specs.Envelope.{number_at}
 use Rattle.report_text.specs.Fault.{fault_line, part_fault_line}
 use Rattle.report_text.specs.Text.{report_text}
 use Rattle.worked_rows.proofs.faults.attachment_cut.Goals as goal
 
 pub returns-clause-at_16 : goal.returns-clause-at_16
-unfolding digits number_at frame_bytes record_bytes entry_bytes report_text
+unfolding digits number_at report_text
 returns-clause-at_16 c = refl
 
 pub returns-clause-from_17_to_47 : goal.returns-clause-from_17_to_47

@@ -1,8 +1,6 @@
 use Rattle.std.proofs.Common.{refl}
 use Rattle.std.specs.Fmt.{digits}
-use Rattle.capture_frame.specs.Envelope.{frame_bytes, number_at}
-use Rattle.record_view.specs.Records.{record_bytes}
-use Rattle.transaction_view.specs.Attachments.{entry_bytes}
+use Rattle.capture_frame.specs.Envelope.{number_at}
 use Rattle.report_text.specs.Fault.{fault_line, part_fault_line}
 use Rattle.report_text.specs.Text.{report_text}
 use Rattle.worked_rows.proofs.faults.refused_oneway_cut.Goals as goal
@@ -20,13 +18,13 @@ unfolding digits number_at part_fault_line fault_line
 returns-clause-from_352_to_355 c = refl
 
 pub returns-clause-at_116 : goal.returns-clause-at_116
-unfolding digits number_at frame_bytes record_bytes entry_bytes report_text
+unfolding digits number_at report_text
 returns-clause-at_116 c = refl
 
 pub returns-clause-at_220 : goal.returns-clause-at_220
-unfolding digits number_at frame_bytes record_bytes entry_bytes report_text
+unfolding digits number_at report_text
 returns-clause-at_220 c = refl
 
 pub returns-clause-at_320 : goal.returns-clause-at_320
-unfolding digits number_at frame_bytes record_bytes entry_bytes report_text
+unfolding digits number_at report_text
 returns-clause-at_320 c = refl

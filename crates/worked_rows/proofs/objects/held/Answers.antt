@@ -1,19 +1,17 @@
 use Rattle.std.proofs.Common.{refl}
 use Rattle.std.specs.Fmt.{digits}
-use Rattle.capture_frame.specs.Envelope.{frame_bytes, number_at}
-use Rattle.record_view.specs.Records.{record_bytes}
-use Rattle.transaction_view.specs.Attachments.{entry_bytes}
+use Rattle.capture_frame.specs.Envelope.{number_at}
 use Rattle.report_text.specs.Text.{report_text}
 use Rattle.worked_rows.proofs.objects.held.Goals as goal
 
 pub returns-clause-held_and_taken : goal.returns-clause-held_and_taken
-unfolding digits number_at frame_bytes record_bytes entry_bytes report_text
+unfolding digits number_at report_text
 returns-clause-held_and_taken c = refl
 
 pub returns-clause-held_taken_and_freed : goal.returns-clause-held_taken_and_freed
-unfolding digits number_at frame_bytes record_bytes entry_bytes report_text
+unfolding digits number_at report_text
 returns-clause-held_taken_and_freed c = refl
 
 pub returns-clause-held_and_freed : goal.returns-clause-held_and_freed
-unfolding digits number_at frame_bytes record_bytes entry_bytes report_text
+unfolding digits number_at report_text
 returns-clause-held_and_freed c = refl

@@ -1,19 +1,17 @@
 use Rattle.std.proofs.Common.{refl}
 use Rattle.std.specs.Fmt.{digits}
-use Rattle.capture_frame.specs.Envelope.{frame_bytes, number_at}
-use Rattle.record_view.specs.Records.{record_bytes}
-use Rattle.transaction_view.specs.Attachments.{entry_bytes}
+use Rattle.capture_frame.specs.Envelope.{number_at}
 use Rattle.report_text.specs.Text.{report_text}
 use Rattle.worked_rows.proofs.objects.objects.Goals as goal
 
 pub returns-clause-attachment : goal.returns-clause-attachment
-unfolding digits number_at frame_bytes record_bytes entry_bytes report_text
+unfolding digits number_at report_text
 returns-clause-attachment c = refl
 
 pub returns-clause-bad_object : goal.returns-clause-bad_object
-unfolding digits number_at frame_bytes record_bytes entry_bytes report_text
+unfolding digits number_at report_text
 returns-clause-bad_object c = refl
 
 pub returns-clause-overlapping_objects : goal.returns-clause-overlapping_objects
-unfolding digits number_at frame_bytes record_bytes entry_bytes report_text
+unfolding digits number_at report_text
 returns-clause-overlapping_objects c = refl

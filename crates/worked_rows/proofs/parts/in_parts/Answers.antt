@@ -1,22 +1,20 @@
 use Rattle.std.proofs.Common.{refl}
 use Rattle.std.specs.Fmt.{digits}
-use Rattle.capture_frame.specs.Envelope.{frame_bytes, number_at}
-use Rattle.record_view.specs.Records.{record_bytes}
-use Rattle.transaction_view.specs.Attachments.{entry_bytes}
+use Rattle.capture_frame.specs.Envelope.{number_at}
 use Rattle.report_text.specs.Fault.{part_fault_line}
 use Rattle.report_text.specs.Text.{report_text}
 use Rattle.worked_rows.proofs.parts.in_parts.Goals as goal
 
 pub returns-clause-reply : goal.returns-clause-reply
-unfolding digits number_at frame_bytes record_bytes entry_bytes report_text
+unfolding digits number_at report_text
 returns-clause-reply c = refl
 
 pub returns-clause-headers_alone : goal.returns-clause-headers_alone
-unfolding digits number_at frame_bytes record_bytes entry_bytes report_text
+unfolding digits number_at report_text
 returns-clause-headers_alone c = refl
 
 pub returns-clause-missing : goal.returns-clause-missing
-unfolding digits number_at frame_bytes record_bytes entry_bytes report_text
+unfolding digits number_at report_text
 returns-clause-missing c = refl
 
 pub returns-clause-other_order : goal.returns-clause-other_order
