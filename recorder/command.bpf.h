@@ -27,8 +27,8 @@ static __always_inline void read_command(struct command *c, struct task_struct *
 }
 
 /* Reports the command line and the user of the caller, the process that opened the device, if they are others than it
- * reported. It looks at the first call, and then at most once a second, or after exec, or when the first thread has another
- * name. */
+ * reported. It looks at the first call, and then at most once a second, or after exec, or when the first thread has
+ * another name. */
 static __noinline int look_at_command(struct opening *o)
 {
 	struct scratch *s = scratch();

@@ -402,8 +402,8 @@ static __noinline int end_read(struct thread *t, u64 bytes)
 	return 0;
 }
 
-/* Of a call that was in the driver when the recording began, what it reads is recorded. Its write was before that; and its
- * read_consumed was 0, as in all known programs. A thread that has called since is in the table already. */
+/* Of a call that was in the driver when the recording began, what it reads is recorded. Its write was before that, and
+ * its read_consumed was 0, as in all known programs. A thread that has called since is in the table already. */
 static __noinline int meet_return(u32 id, u32 process)
 {
 	struct task_struct *task = bpf_get_current_task_btf();

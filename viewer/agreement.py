@@ -16,8 +16,8 @@ SELECT e.upid, e.deaths FROM book_opening e JOIN process p USING (upid)
 WHERE e.moment = 'end' AND e.quiet AND e.upid NOT IN (SELECT upid FROM lossy)
   AND (p.met = 'from-start' OR p.met = 'in-mid-life' AND b.quiet)"""
 
-# What both sides say of an opening: its section, what it is about, and a number. The report counts from nothing, so what
-# the books had at the beginning is added to it. What is on its way to a process is in the books, and not in the report.
+# What both sides say of an opening: its section, what it is about, and a number. The report counts from nothing, so
+# what the books had at the beginning is added to it. What is on its way to a process is in the books alone.
 
 # A buffer with objects holds references too. Where one was on its way, or was from before the recording, the references
 # of handles are not compared.
@@ -53,8 +53,8 @@ FROM (SELECT upid, 1 AS report_n, number_in('buffers', text, 'data_size') AS rep
       AND NOT b.unread)),
   (SELECT 'buffers' AS of, 'buffers' AS what UNION ALL SELECT 'bytes', 'bytes in buffers')
 GROUP BY upid, what""",
-    # A thread that left or ended has no calls any more. Of a call that was made before the recording it is not known which
-    # answer is on its way.
+    # A thread that left or ended has no calls any more. Of a call that was made before the recording it is not known
+    # which answer is on its way.
     "calls": """
 SELECT upid, 'calls ' || side, sum(report), sum(books) FROM (
   SELECT t.upid, iif(f.section = 'calls', 'made', 'served') AS side, 1 AS report, 0 AS books

@@ -104,8 +104,9 @@ QUIET = {"begin": "SELECT first_seq > :after FROM raw_process WHERE upid = :upid
 
 
 def is_quiet(database: sqlite3.Connection, copy: Copy, upid: int) -> int:
-    """Whether it is known of all frames of a process that they are in the copy or, at the beginning, that they are not."""
-    return database.execute(QUIET[copy.moment], {"after": copy.after, "from": copy.from_seq, "upid": upid}).fetchone()[0]
+    """Whether all frames of a process are surely in the copy or, at the beginning, surely not."""
+    row = database.execute(QUIET[copy.moment], {"after": copy.after, "from": copy.from_seq, "upid": upid}).fetchone()
+    return row[0]
 
 
 def sides_of(opening: Opening) -> Iterator[tuple[str, int, Transaction | None]]:
@@ -129,7 +130,7 @@ CUT = ("SELECT 1 FROM side_time s, raw_capture c WHERE c.last_seq IS NULL OR s.s
 
 
 def load_state(database: sqlite3.Connection, copy: Copy, text: str) -> None:
-    """What the openings of the capture had by the book `state`; nothing if the capture lacks frames that belong to it."""
+    """What the openings of the capture had by the book `state`; nothing if the capture lacks frames around it."""
     if database.execute(CUT, {"end": copy.moment == "end", "from": copy.from_seq}).fetchone():
         return
     found = matched(database, copy, state(text))

@@ -193,8 +193,8 @@ WHERE rule IS NULL AND what = 'crossed' AND c.place = finding.place;
 -- before the capture does not matter.
 UPDATE finding SET rule = 'S2', note = 'refused at ' || s.refused FROM raw_send s
 WHERE rule IS NULL AND section = 'strays' AND s.place = finding.place AND s.refused IS NOT NULL;
--- Of a thread that had calls open when the recording began, as many closers are theirs. It is known of a thread without a
--- frame before the copy of the books.
+-- Of a thread that had calls open when the recording began, as many closers are theirs. It is known of a thread without
+-- a frame before the copy of the books.
 CREATE TEMP TABLE begun_call AS
 SELECT f.id, t.first_seq > b.after AS known, (SELECT count(*) FROM book_call c WHERE c.moment = 'begin'
     AND c.utid = f.utid AND c.side = iif(r.kind IN (:BC_REPLY, :BC_REPLY_SG), 'served', 'made')) AS n,
@@ -259,8 +259,8 @@ SELECT f.id, f.upid, f.handle, f.generation, f.what,
 FROM finding f JOIN report r ON r.id = f.report WHERE f.section IN ('handles', 'nodes');
 -- The same with what was held before added, for handles and nodes that the books have.
 CREATE TEMP TABLE held_before AS
-SELECT h.id, h.begun, k.strong AS had_strong, k.weak AS had_weak, number_in(f.section, r.text, 'strong') + k.strong AS strong,
-  number_in(f.section, r.text, 'weak') + k.weak AS weak,
+SELECT h.id, h.begun, k.strong AS had_strong, k.weak AS had_weak,
+  number_in(f.section, r.text, 'strong') + k.strong AS strong, number_in(f.section, r.text, 'weak') + k.weak AS weak,
   min(number_in(f.section, r.text, 'strong_low') + k.strong, number_in(f.section, r.text, 'weak_low') + k.weak,
     iif(f.section = 'nodes', number_in(f.section, r.text, 'strong_due') + k.local_strong, 0),
     iif(f.section = 'nodes', number_in(f.section, r.text, 'weak_due') + k.local_weak, 0)) AS least
@@ -272,8 +272,8 @@ FROM handle_row h JOIN finding f USING (id) JOIN report r ON r.id = f.report
   ON (k.section, k.upid, k.a, k.b) = (f.section, h.upid, iif(f.section = 'handles', f.handle, f.ptr),
     iif(f.section = 'handles', 0, f.cookie))
 WHERE NOT h.known AND (h.least < 0 OR f.section = 'handles' AND NOT h.given AND f.handle <> 0);
-UPDATE finding SET rule = CASE WHEN h.least >= 0 THEN iif(h.strong > 0 OR h.weak > 0, 'H6', 'H7') WHEN NOT h.begun THEN 'P1'
-    ELSE iif(finding.upid IN (SELECT upid FROM lossy), 'M1', 'H2') END,
+UPDATE finding SET rule = CASE WHEN h.least >= 0 THEN iif(h.strong > 0 OR h.weak > 0, 'H6', 'H7')
+    WHEN NOT h.begun THEN 'P1' ELSE iif(finding.upid IN (SELECT upid FROM lossy), 'M1', 'H2') END,
   what = iif(h.least >= 0 AND h.strong <= 0 AND h.weak <= 0, 'balanced', what),
   note = 'before the recording: strong ' || h.had_strong || ', weak ' || h.had_weak
 FROM held_before h WHERE rule IS NULL AND h.id = finding.id;
@@ -348,8 +348,8 @@ WHERE f.section = 'requests' AND (p.met = 'from-start' OR p.met = 'before-file' 
   FROM side_handle h WHERE (h.device, h.process, h.handle) = (p.device, p.process, f.handle)));
 -- And of one whose handles are in the driver's books: it does not hold it any more, even with what it held before.
 CREATE TEMP TABLE still_held AS
-SELECT f.id, max(sum(g.acquired - g.released) + coalesce(b.strong, 0), sum(g.increfs - g.decrefs) + coalesce(b.weak, 0)) > 0
-  AS held, r.seq > u.after AS sure
+SELECT f.id, max(sum(g.acquired - g.released) + coalesce(b.strong, 0),
+  sum(g.increfs - g.decrefs) + coalesce(b.weak, 0)) > 0 AS held, r.seq > u.after AS sure
 FROM finding f JOIN begun u USING (upid) JOIN raw_generation g ON g.upid = f.upid AND g.handle = f.handle
   LEFT JOIN book_handle b ON b.moment = 'begin' AND b.upid = f.upid AND b.handle = f.handle
   LEFT JOIN raw_generation o ON o.upid = f.upid AND o.handle = f.handle AND o.n = 1
@@ -403,8 +403,8 @@ WHERE rule IS NULL AND section IN ('deaths', 'clears') AND b.place = finding.pla
       AND (y.kind IN (:BR_DEAD_BINDER, :BC_DEAD_BINDER_DONE)) = (finding.section = 'deaths')), 0));
 -- The driver's books say that deaths wait for acknowledgement, and not how many.
 CREATE TEMP TABLE begun_death AS
-SELECT f.id, b.quiet,
-  iif(f.section = 'deaths', b.deaths, row_number() OVER (PARTITION BY f.upid, f.section ORDER BY f.place) <= b.clears) AS had
+SELECT f.id, b.quiet, iif(f.section = 'deaths', b.deaths,
+  row_number() OVER (PARTITION BY f.upid, f.section ORDER BY f.place) <= b.clears) AS had
 FROM finding f JOIN begun b USING (upid) WHERE f.rule IS NULL AND f.section IN ('deaths', 'clears');
 UPDATE finding SET rule = CASE
   WHEN EXISTS (SELECT 1 FROM begun_death b WHERE b.id = finding.id AND b.had) THEN 'P2'
@@ -429,15 +429,16 @@ FROM raw_record x, delivery d
 WHERE rule IS NULL AND finding.section = 'frees' AND x.place = finding.place AND d.freed_by < finding.place
   AND d.place = (SELECT e.place FROM freed e WHERE e.upid = finding.upid AND e.address = x.address
     AND e.place < finding.place ORDER BY e.place DESC LIMIT 1);
--- Each buffer that a process had when the recording began may be freed once. Newer kernels have in place of an address how
--- far it is from the beginning of a page-aligned mapping, so there only the last three digits are compared.
+-- Each buffer that a process had when the recording began may be freed once. Newer kernels have in place of an address
+-- how far it is from the beginning of a page-aligned mapping, so there only the last three digits are compared.
 CREATE TEMP TABLE begun_free AS
 SELECT f.id, f.seq > b.after AS known, (SELECT count(*) FROM book_buffer k WHERE k.moment = 'begin' AND k.upid = f.upid
     AND NOT k.unread AND (k.address = r.address OR k.address < 1 << 30 AND k.address & 4095 = r.address & 4095)) AS n,
   row_number() OVER (PARTITION BY f.upid, r.address ORDER BY f.place) AS nth
 FROM finding f JOIN begun b USING (upid) JOIN raw_record r USING (place)
 WHERE f.rule IS NULL AND f.section = 'frees';
-UPDATE finding SET rule = CASE WHEN EXISTS (SELECT 1 FROM begun_free b WHERE b.id = finding.id AND b.nth <= b.n) THEN 'P2'
+UPDATE finding SET rule = CASE
+  WHEN EXISTS (SELECT 1 FROM begun_free b WHERE b.id = finding.id AND b.nth <= b.n) THEN 'P2'
   WHEN finding.upid IN (SELECT upid FROM lossy) THEN 'M1'
   WHEN (SELECT known FROM process_life p WHERE p.upid = finding.upid)
     OR EXISTS (SELECT 1 FROM begun_free b WHERE b.id = finding.id AND b.known) THEN 'F2' ELSE 'P1' END

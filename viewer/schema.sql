@@ -409,7 +409,7 @@ CREATE TABLE about(name TEXT PRIMARY KEY, rests_on TEXT NOT NULL
 INSERT INTO about VALUES
   ('capture', 'bytes', 'what the capture is: a key and a value each'),
   ('device', 'side', 'a Binder device of the capture; its name is from the side list'),
-  ('process', 'side', 'a device and a process number, as upid; pid, name, command, uid, opening and ends are from the side list'),
+  ('process', 'side', 'a device and a process number, as upid; pid, name, command, uid, opening, ends: of the side list'),
   ('thread', 'side', 'a thread of a process, as utid; tid, name and end are from the side list'),
   ('side_lost', 'side', 'a frame that the recorder lost, and why'),
   ('side_missed', 'side', 'what the recorder missed without giving it a number, of whatever process'),

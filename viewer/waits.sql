@@ -47,8 +47,9 @@ INSERT INTO ring SELECT n.next FROM waits_for n JOIN ring r ON r.id = n.id WHERE
 -- utid.
 CREATE TEMP TABLE serves_on AS
 SELECT p.upid, t.utid FROM (SELECT device, process, thread, served FROM side_calls
-    UNION ALL SELECT p.device, p.process, coalesce(t.thread, b.tid), count(*) FROM book_call b JOIN raw_process p USING (upid)
-      LEFT JOIN raw_thread t ON t.utid = b.utid WHERE b.moment = 'begin' AND b.side = 'served' GROUP BY 1, 2, 3) c
+    UNION ALL SELECT p.device, p.process, coalesce(t.thread, b.tid), count(*)
+      FROM book_call b JOIN raw_process p USING (upid) LEFT JOIN raw_thread t ON t.utid = b.utid
+      WHERE b.moment = 'begin' AND b.side = 'served' GROUP BY 1, 2, 3) c
   JOIN raw_process p USING (device, process) JOIN process_life l USING (upid)
   LEFT JOIN raw_thread t ON t.upid = p.upid AND t.thread = c.thread
   LEFT JOIN side_thread s ON (s.device, s.process, s.thread) = (c.device, c.process, c.thread), last

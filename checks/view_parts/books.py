@@ -68,7 +68,8 @@ LINES: list[tuple[dict, str]] = [
      differ("service 100: bytes in buffers 4 by the report and 12 by the books")),
     ({"service": SERVICE + buffer(0x7400, 103).replace("size 28", "size 0")},
      differ("service 100: buffers 2 by the report and 3 by the books")),
-    ({"service": SERVICE + buffer(0x7400, 103) + f"  {transaction_of('pending async').replace('102', '103')}\n"}, AGREED),
+    ({"service": SERVICE + buffer(0x7400, 103) + "  " + transaction_of("pending async").replace("102", "103") + "\n"},
+     AGREED),
     ({"later": True}, "The driver's books at the end agree with the report on 1 opening; 1 other cannot be compared."),
     ({"had": True, "client": CLIENT.replace(" s 1 ", " s 3 ")}, AGREED),
     ({"had": True}, differ("client 200: handle 1 3 by the report and 1 by the books"))]
@@ -123,8 +124,9 @@ def check_copies(folder: pathlib.Path, room: pathlib.Path, fail: Fail) -> None:
         status, _, told = view(folder, room, capture, "--side", list_, "-o", f"copies-{name}.html")
         compare(f"books, {name}", (status, told_by(told)), (0, f"view: {due}\n" if due else ""), fail)
         compare(f"books, {name}, the page", says(room / f"copies-{name}.html", due), True, fail)
-    for due in ("Met in mid-life; by the driver's books of then they had: service 100 0 handles, 0 objects, 0 buffers, 0"
-                " calls made and 0 served; client 200 1 handle, 0 objects, 0 buffers, 0 calls made and 0 served.", AGREED):
+    for due in ("Met in mid-life; by the driver's books of then they had: service 100 0 handles, 0 objects, 0 buffers,"
+                " 0 calls made and 0 served; client 200 1 handle, 0 objects, 0 buffers, 0 calls made and 0 served.",
+                AGREED):
         compare(f"books, the page says {due!r}", says(room / "copies-whole.html", due), True, fail)
     begin.write_text(texts[0])
     end.write_text(texts[1])
@@ -142,13 +144,15 @@ def check_copies(folder: pathlib.Path, room: pathlib.Path, fail: Fail) -> None:
 # ---- command lines
 
 # The name of a process in the side list, its command line there, and what it is called then.
-NAMES = [("service", "/system/bin/other\\x00--now", "service"), ("ndroid.systemui", "com.android.systemui", "com.android.systemui"),
+NAMES = [("service", "/system/bin/other\\x00--now", "service"),
+         ("ndroid.systemui", "com.android.systemui", "com.android.systemui"),
          ("android.hardwar", "/vendor/bin/hw/android.hardware.nfc@1.2-service\\x00",
           "android.hardware.nfc@1.2-service"),
          ("main", "zygote64", "zygote64"), ("main", "<pre-initialized>", "main"), ("service", "", "service"),
          ("service", "\\x00a", "service"), ("service", "com.example.mail:remote\\x00", "com.example.mail:remote"),
          ("chromium", "/usr/lib/chromium --type=a", "chromium"), ("a", "x" * 300, "x" * 256 + "…"),
-         ("a", "<script>alert(1)</script>", "<script>alert(1)</script>"), ("a", "\\x0a\\x1b[0m \\x5cx41", "\x1b[0m \\x41")]
+         ("a", "<script>alert(1)</script>", "<script>alert(1)</script>"),
+         ("a", "\\x0a\\x1b[0m \\x5cx41", "\x1b[0m \\x41")]
 
 
 def check_commands(folder: pathlib.Path, room: pathlib.Path, fail: Fail) -> None:
@@ -160,7 +164,8 @@ def check_commands(folder: pathlib.Path, room: pathlib.Path, fail: Fail) -> None
         side = session.side().replace(" name=service\n", f" name={name}\n")
         told = f"9 command 0 100 after=0 uid=7 name=first\n9 command 0 100 after=1 uid=10123 name={command}\n"
         (room / f"named-{number}.cap").write_bytes(session.capture())
-        (room / f"named-{number}.side").write_text(re.sub(r"(\d+ process 0 100 .*\n)", lambda found: found[1] + told, side))
+        (room / f"named-{number}.side").write_text(
+            re.sub(r"(\d+ process 0 100 .*\n)", lambda found: found[1] + told, side))
         status, _, _ = view(folder, room, f"named-{number}.cap", "--side", f"named-{number}.side", "-o",
                             f"named-{number}.html", "--database", f"named-{number}.db")
         database = sqlite3.connect(room / f"named-{number}.db")

@@ -115,7 +115,8 @@ def request_from_before(s, had, early=False, again=False):
 @case("P2:1", lines=["outgoing"], answers=1, early=True)
 @case("M1:1", lines=[], answers=1, lost=True)
 def answers_to_calls_from_before(s, lines, answers, early=False, lost=False):
-    told = ["transaction error: 29189" if kind == "error" else transaction_of(kind, int(kind != "pending")) for kind in lines]
+    told = ["transaction error: 29189" if kind == "error" else transaction_of(kind, int(kind != "pending"))
+            for kind in lines]
     _, client = begun(s, thread(200, *told), early=early)
     if lost:
         s.loses(client)
