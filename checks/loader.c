@@ -1,8 +1,10 @@
 /* loader OUT: gives the recorder's loader messages of callers that hand over as much as they can. See loader. */
+#include "command.h"
 #include "frame.h"
 #include "names.h"
 #include "parts.h"
 #include "redact.h"
+#include "side.h"
 #include "window.h"
 #include <linux/android/binder.h>
 #include <stdio.h>
@@ -155,6 +157,50 @@ static void long_settling(void)
 	should(window_frames() == frames + KEPT + 1, "frames that waited", (double)(window_frames() - frames));
 }
 
+static void hear_command(u32 opening, const char *text, u32 bytes, u32 claimed)
+{
+	struct command command = { .head = head_of(MESSAGE_COMMAND, last, 0), .user = 10123, .bytes = claimed };
+	command.head.opening = opening;
+	memcpy(command.text, text, bytes);
+	window_hear(&command, sizeof command);
+}
+
+/* Whether the side list has this line, after its time. */
+static int has_line(const char *line)
+{
+	static char text[64 << 20];
+	FILE *file = fopen(side_path(), "r");
+	text[file ? fread(text, 1, sizeof text - 1, file) : 0] = 0;
+	if (file)
+		fclose(file);
+	return strstr(text, line) != NULL;
+}
+
+/* The longest command line, of bytes that are written as four each; one that is said to be longer; one that comes when
+ * the opening has its number, and again; and what is kept of it if payloads are redacted. */
+static void command_lines(void)
+{
+	char control[COMMAND_BYTES], due[4 * COMMAND_BYTES + 64] = " command 0 1000 after=";
+	memset(control, 1, sizeof control);
+	hear_command(1, control, sizeof control, 9999);
+	sprintf(due + strlen(due), "%llu uid=10123 name=", (unsigned long long)last);
+	for (u32 i = 0; i < COMMAND_BYTES; i++)
+		strcat(due, "\\x01");
+	strcat(due, "\n");
+	hear_command(1, "a\n \\\0b\0\0", 8, 8);
+	hear_command(1, "a\n \\\0b", 6, 6);
+	parts_flush();
+	should(has_line(due), "the longest command line", (double)strlen(due));
+	should(has_line(" uid=10123 name=a\\x0a \\x5c\\x00b\n"), "a command line with NULs", 0);
+	should(!has_line("name=a\\x0a \\x5c\\x00b\\x00"), "NULs at the end of a command line", 0);
+	command_redact();
+	hear_command(1, "first\0second", 12, 12);
+	hear_command(1, "", 0, 0);
+	parts_flush();
+	should(has_line(" uid=10123 name=first\n") && !has_line("second"), "what is kept of a command line", 0);
+	should(has_line(" uid=10123 name=\n"), "an empty command line", 0);
+}
+
 int main(int count, char **words)
 {
 	static const char name[NAME_BYTES] = "caller";
@@ -169,6 +215,7 @@ int main(int count, char **words)
 	much_memory();
 	redact_begin(1);
 	long_settling();
+	command_lines();
 	if (parts_end())
 		fail("the files can't be written");
 	return failed;

@@ -6,17 +6,42 @@
 #include <sys/utsname.h>
 #include <time.h>
 
+#define ROUNDS 5
+
 static char line[1024];		/* empty before the recording has begun */
+
+/* One moment on three clocks. */
+struct moment {
+	u64 time;			/* CLOCK_MONOTONIC, as all times of the side list */
+	struct timespec wall, boot;
+};
+
+/* Between two clocks the processor may be lost, so of a few readings the fastest one counts. */
+static struct moment this_moment(void)
+{
+	struct moment best = { 0 };
+	u64 took = UINT64_MAX;
+	for (int i = 0; i < ROUNDS; i++) {
+		struct moment m = { .time = now() };
+		clock_gettime(CLOCK_BOOTTIME, &m.boot);
+		clock_gettime(CLOCK_REALTIME, &m.wall);
+		u64 end = now();
+		if (end - m.time < took) {
+			took = end - m.time;
+			best = m;
+		}
+	}
+	return best;
+}
 
 void begin_tell(const char *payloads)
 {
 	struct utsname name;
-	struct timespec wall;
-	u64 time = now();
+	struct moment moment = this_moment();
 	uname(&name);
-	clock_gettime(CLOCK_REALTIME, &wall);
-	snprintf(line, sizeof line, "%llu begin realtime=%lld%09ld kernel=%s machine=%s payloads=%s\n", (unsigned long long)time,
-		 (long long)wall.tv_sec, wall.tv_nsec, name.release, name.machine, payloads);
+	snprintf(line, sizeof line, "%llu begin realtime=%lld%09ld boottime=%lld%09ld kernel=%s machine=%s payloads=%s\n",
+		 (unsigned long long)moment.time, (long long)moment.wall.tv_sec, moment.wall.tv_nsec, (long long)moment.boot.tv_sec,
+		 moment.boot.tv_nsec, name.release, name.machine, payloads);
 	side_text(line);
 }
 

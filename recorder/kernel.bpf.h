@@ -73,6 +73,18 @@ struct signal_struct {
 	atomic_t live;
 } FROM_BTF;
 
+struct mm_struct {
+	unsigned long arg_start, arg_end;
+} FROM_BTF;
+
+typedef struct {
+	unsigned int val;
+} kuid_t;
+
+struct cred {
+	kuid_t euid;
+} FROM_BTF;
+
 #ifdef __TARGET_ARCH_x86
 struct pcpu_hot {
 	int preempt_count;
@@ -91,7 +103,8 @@ struct thread_info {
 struct task_struct {
 	struct thread_info thread_info;
 	struct files_struct *files;
-	void *mm;
+	struct mm_struct *mm;
+	const struct cred *cred;
 	struct signal_struct *signal;
 	struct task_struct *group_leader;
 	struct pid *thread_pid;

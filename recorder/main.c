@@ -1,5 +1,7 @@
 /* Records the Binder traffic of a system into a capture and a side list. docs/RECORDER.md says how and why. */
 #include "begin.h"
+#include "books.h"
+#include "command.h"
 #include "common.h"
 #include "frame.h"
 #include "kernel.h"
@@ -194,6 +196,8 @@ int main(int count, char **words)
 	struct ring ring;
 	options_read(&options, count, words);
 	const char *path = parts_in_the_way(options.out);
+	if (!path)
+		path = books_in_the_way(options.out);
 	if (path)
 		fail("%s exists already, and is not overwritten", path);
 	need_capabilities();
@@ -207,6 +211,8 @@ int main(int count, char **words)
 	if (signal_got)
 		fail("a signal came before the recording began");
 	redact_begin(options.redact);
+	if (options.redact)
+		command_redact();
 	create_files(&options);
 	kernel_meet_openings();
 	if (options.program)
@@ -214,9 +220,12 @@ int main(int count, char **words)
 	missed_begin();
 	kernel_start();
 	begin_tell(options.no_attachments ? "none" : options.redact ? "redacted" : "whole");
+	books_copy(options.out, "begin");
 	side_flush();
 	program_go();
 	int error = record(&ring);
+	if (!error)
+		books_copy(options.out, "end");
 	finish(&ring);
 	redact_end();
 	int end_error = parts_end();

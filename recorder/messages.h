@@ -12,6 +12,7 @@
 #define FIRST_BYTES 65536u	/* so many bytes of a frame may use the whole ring */
 #define MOST_CPUS 512u
 #define NAME_BYTES 16u
+#define COMMAND_BYTES 256u	/* the most bytes of a command line */
 
 /* The driver takes a last command that goes past write_size. The longest command, BC_TRANSACTION_SG, may have all bytes
  * but its first one there: 4 + 72 - 1 bytes. */
@@ -30,6 +31,7 @@ enum message_type {
 	MESSAGE_NAME,		/* a thread has another name */
 	MESSAGE_LEFT,		/* a thread left by BINDER_THREAD_EXIT */
 	MESSAGE_ENDED,		/* a thread ended */
+	MESSAGE_COMMAND,	/* the command line of an opening's process, and its user */
 };
 
 /* Why a number goes unused, or a record has no entry. `reasons` in side.c has their words. */
@@ -93,6 +95,13 @@ struct event {
 		struct { unsigned long long id, process, is_last; } ended;	/* is_last: its process ended too */
 	};
 	char name[NAME_BYTES];
+};
+
+struct command {
+	struct message head;
+	unsigned int user;		/* the effective user id, in the first namespace */
+	unsigned int bytes;		/* how many bytes of the text count; 0 if it could not be read */
+	char text[COMMAND_BYTES];	/* as in /proc/PID/cmdline */
 };
 
 /* What the iterator over open files writes: an opening from before the recording. */

@@ -1,4 +1,5 @@
 #include "names.h"
+#include "command.h"
 #include "devices.h"
 #include "met.h"
 #include "side.h"
@@ -150,6 +151,17 @@ static void tell_process(u32 opening, const char *met)
 		snprintf(space, sizeof space, " pidns=%u nspid=%u", o->space, o->id_there);
 	side_line(o->told, "process %u %u pid=%u start=%llu opening=%u met=%s%s name=%s", o->device, o->process, o->process_id,
 		  (unsigned long long)o->start, opening, met, space, clean);
+	const char *command = command_line(opening, o->device, o->process);
+	if (command)
+		side_line(o->told, "%s", command);
+}
+
+void names_command(const struct command *command)
+{
+	u32 opening = command->head.opening;
+	const struct known_opening *o = opening_of(opening);
+	if (command_keep(command) && o->numbered)
+		later_line(command->head.time, command->head.number, "%s", command_line(opening, o->device, o->process));
 }
 
 static struct known_opening *numbered(u32 opening, u64 time)
@@ -269,6 +281,7 @@ static void tell_opening_again(u32 opening, u64 number)
 		if (o->numbered)
 			met_process_ended(o->device, o->process);
 		o->known = o->numbered = 0;
+		command_forget(opening);
 	}
 	if (o->numbered)
 		tell_process(opening, "before-file");

@@ -15,6 +15,8 @@ enum met { MET_FROM_START, MET_IN_MID_LIFE };
 void names_opening(u32 opening, u64 time, u32 device, u32 process, u64 start, const char *name, enum met met);
 /* The namespace of the ids of the opening's process, if it is not the first one, and its id there; otherwise 0. */
 void names_space(u32 opening, u32 space, u32 id_there);
+/* The command line of the process, and its user. */
+void names_command(const struct command *command);
 void names_thread(u32 thread, u32 id, u32 process, u64 start, const char *name);
 /* Whether the thread makes calls of 32 or 64 bits. */
 void names_bits(u32 thread, u32 bits);

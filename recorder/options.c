@@ -18,14 +18,16 @@ static const char usage[] =
 
 static const char help[] =
 	"Records the Binder traffic of the whole system until PROGRAM ends, or until SIGINT or SIGTERM, into\n"
-	"OUT-1.cap, OUT-2.cap and so on, and the side list OUT.side. It needs root. docs/RECORDER.md says more.\n"
+	"OUT-1.cap, OUT-2.cap and so on, the side list OUT.side, and copies of what the driver holds, OUT.begin.state and so\n"
+	"on. It needs root. docs/RECORDER.md says more.\n"
 	"\n"
 	"-o OUT             the start of the files' names; by default `capture`\n"
 	"--size BYTES       the most bytes of a file, 65536 to 1073741824; by default 268435456\n"
 	"--files N          keeps only the newest N files, 2 to 65536, each with a side list of its own, OUT-1.side and so on\n"
 	"--pid PID          records only the openings of this process; may be given several times\n"
 	"--device NAME      records only this device, for example binder or /dev/binder; may be given several times\n"
-	"--redact           replaces what is secret in the data of transactions and replies by bytes that tell nothing of it\n"
+	"--redact           replaces what is secret in the data of transactions and replies by bytes that tell nothing of it,\n"
+	"                   and keeps only the first word of command lines\n"
 	"--no-attachments   leaves out the data of transactions and replies\n"
 	"--ring BYTES       the size of the buffer between kernel and recorder, a power of two; by default 67108864\n"
 	"\n"

@@ -1,5 +1,6 @@
 /* The recorder's program in the kernel: what it does at each event of the driver and of the scheduler. */
 #include "copy.bpf.h"
+#include "command.bpf.h"
 
 extern const void binder_fops __ksym __weak;
 
@@ -133,6 +134,7 @@ static __noinline int introduce(struct opening *o, struct thread *t, u32 id)
 	return !o->told || !t->told;
 }
 
+/* Returns 1 if the thread has another name. */
 static __noinline int look_at_name(struct thread *t, u32 id)
 {
 	char name[NAME_BYTES] = {};	/* a kernel before 6.2 does not clear the bytes after the name */
@@ -142,7 +144,7 @@ static __noinline int look_at_name(struct thread *t, u32 id)
 	__builtin_memcpy(t->name, name, NAME_BYTES);
 	if (t->told)
 		say(MESSAGE_NAME, t->id, t->opening, last_number, id, t->process, 0, name);
-	return 0;
+	return 1;
 }
 
 /* Begins a call of BINDER_WRITE_READ: keeps its fields as they are at entry, and copies what it writes. */
@@ -189,6 +191,25 @@ static __always_inline void leave_out(u32 id)
 		t->call_is = CALL_NOT_RECORDED;
 }
 
+/* Looks at the caller, and reports what is new of it. Returns 0 if all is reported that frames need. */
+static __always_inline int meet_caller(struct task_struct *task, struct opening *o, struct thread *t, u32 bits)
+{
+	u64 both = bpf_get_current_pid_tgid();
+	u32 id = both, process = both >> 32;
+	if (look_at_name(t, id) && id == process)
+		o->look_at = 0;
+	if (t->bits != bits) {		/* it is told anew, with the other bits */
+		t->bits = bits;
+		t->told = 0;
+	}
+	int untold = introduce(o, t, id);
+	if (!untold && o->process == process)
+		look_at_command(o);
+	t->opening = o->id;
+	t->reads_own_memory = (u64)BPF_CORE_READ(task, mm) == o->memory;
+	return untold;
+}
+
 /* At the entry of any ioctl on a Binder device. */
 static __always_inline int enter(struct task_struct *task, struct file *file, u32 command, u64 argument, u32 bits)
 {
@@ -213,17 +234,10 @@ static __always_inline int enter(struct task_struct *task, struct file *file, u3
 		leave_out(id);
 		return 0;
 	}
-	look_at_name(t, id);
-	if (t->bits != bits) {		/* it is told anew, with the other bits */
-		t->bits = bits;
-		t->told = 0;
-	}
-	int told = !introduce(o, t, id);
-	t->opening = o->id;
+	int told = !meet_caller(task, o, t, bits);
 	if (t->call_is)
 		__sync_fetch_and_add(&half_calls, 1);
 	t->call_is = CALL_NOT_RECORDED;
-	t->reads_own_memory = (u64)BPF_CORE_READ(task, mm) == o->memory;
 	if (command == BINDER_THREAD_EXIT)
 		say(MESSAGE_LEFT, t->id, o->id, last_number, id, process, 0, 0);
 	if (command == BINDER_WRITE_READ)
@@ -256,6 +270,23 @@ static __always_inline u32 descriptor_of_call(struct pt_regs *registers, int bit
 #endif
 	bpf_probe_read_kernel(&descriptor, sizeof descriptor, &PT_REGS_PARM1(registers));
 	return descriptor;
+}
+
+/* The second and the third argument: the command of an ioctl, and its argument. */
+static __always_inline u64 command_of_call(struct pt_regs *registers, int bits, u64 *argument)
+{
+	u64 command = 0;
+#ifdef __TARGET_ARCH_x86
+	if (bits == 32) {
+		bpf_probe_read_kernel(&command, sizeof command, &registers->rcx);
+		bpf_probe_read_kernel(argument, sizeof *argument, &registers->rdx);
+		*argument &= 0xffffffff;
+		return command & 0xffffffff;
+	}
+#endif
+	bpf_probe_read_kernel(&command, sizeof command, &PT_REGS_PARM2(registers));
+	bpf_probe_read_kernel(argument, sizeof *argument, &PT_REGS_PARM3(registers));
+	return command & 0xffffffff;
 }
 
 /* The file of a descriptor: it identifies the opening. */
@@ -371,12 +402,45 @@ static __noinline int end_read(struct thread *t, u64 bytes)
 	return 0;
 }
 
+/* Of a call that was in the driver when the recording began, what it reads is recorded. Its write was before that, and
+ * its read_consumed was 0, as in all known programs. A thread that has called since is in the table already. */
+static __noinline int meet_return(u32 id, u32 process)
+{
+	struct task_struct *task = bpf_get_current_task_btf();
+	struct pt_regs *registers = (void *)bpf_task_pt_regs(task);
+	int bits = is_32_bit(task, registers) ? 32 : 64;
+	u64 argument = 0, key;
+	if (command_of_call(registers, bits, &argument) != BINDER_WRITE_READ)
+		return 0;
+	key = file_of(task, descriptor_of_call(registers, bits));
+	struct opening *o = bpf_map_lookup_elem(&openings, &key);
+	if (!o || !o->recorded || add_thread(task, id, process))
+		return 0;
+	struct thread *t = bpf_map_lookup_elem(&threads, &id);
+	struct scratch *s = scratch();
+	if (!t || !s)
+		return 0;
+	meet_caller(task, o, t, bits);
+	t->call = argument;
+	t->write_number = t->attached = t->spent = t->write_consumed = t->read_consumed = 0;
+	t->commands = t->has_late = t->attachments = t->is_over = 0;
+	t->read_size = 1;
+	t->read_buffer = read_call(argument) ? 0 : s->call.read_buffer;
+	t->call_is = CALL_RECORDED;
+	return 0;
+}
+
 SEC("tp/binder/binder_ioctl_done") int at_return(struct number_fields *fields)
 {
-	u32 id = bpf_get_current_pid_tgid();
+	u64 both = bpf_get_current_pid_tgid();
+	u32 id = both;
 	int result = fields->number;
 	struct thread *t = bpf_map_lookup_elem(&threads, &id);
 	struct scratch *s = scratch();
+	if (!t && !stopped) {
+		meet_return(id, both >> 32);
+		t = bpf_map_lookup_elem(&threads, &id);
+	}
 	if (!s || !t)
 		return 0;
 	u8 call_is = t->call_is;

@@ -66,7 +66,7 @@ void side_text(const char *text)
 
 void side_line(u64 time, const char *format, ...)
 {
-	char line[1024];
+	char line[LONGEST_LINE];
 	int head = snprintf(line, sizeof line, "%llu ", (unsigned long long)time);
 	va_list arguments;
 	va_start(arguments, format);
@@ -83,7 +83,12 @@ int side_flush(void)
 
 void clean_name(char *to, const char *from, u32 length)
 {
-	for (u32 i = 0; i < length && from[i]; i++) {
+	clean_bytes(to, from, (u32)strnlen(from, length));
+}
+
+void clean_bytes(char *to, const char *from, u32 count)
+{
+	for (u32 i = 0; i < count; i++) {
 		unsigned char byte = (unsigned char)from[i];
 		if (byte < 0x20 || byte == 0x7f || byte == '\\')
 			to += sprintf(to, "\\x%02x", byte);

@@ -10,7 +10,8 @@ int side_close(void);
 const char *side_path(void);
 u64 side_bytes(void);
 void side_remove(void);
-/* Adds a line: the time, a space, and the rest. */
+#define LONGEST_LINE 2048
+/* Adds a line of less than LONGEST_LINE bytes: the time, a space, and the rest. */
 void side_line(u64 time, const char *format, ...) __attribute__((format(printf, 2, 3)));
 /* Adds text: whole lines, as they are. */
 void side_text(const char *text);
@@ -18,7 +19,9 @@ void side_text(const char *text);
 int side_flush(void);
 /* The word for a reason. */
 const char *reason_word(u32 reason);
-/* Copies a name from the kernel; what would break a line becomes \xHH. `to` needs 4 * length + 1 bytes. */
+/* Copies a name from the kernel, up to a NUL; what would break a line becomes \xHH. `to` needs 4 * length + 1 bytes. */
 void clean_name(char *to, const char *from, u32 length);
+/* Does the same with all bytes, NULs too. */
+void clean_bytes(char *to, const char *from, u32 count);
 #define CLEAN_NAME_BYTES (4 * 128 + 1)
 #endif

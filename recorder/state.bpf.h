@@ -8,11 +8,14 @@ struct opening {
 	u32 id;
 	u8 recorded, told;
 	u8 born;		/* it was opened after the recording began */
-	u8 unused;
+	u8 has_command;		/* a command line was reported */
 	u32 process, device;
 	u32 space, id_there;	/* the namespace of the process's ids, if it is not the first one, and its id there */
 	u64 memory;		/* the mm of the process that opened it, where the device is mapped */
 	u64 start;
+	u64 look_at;		/* when the command line is looked at again, */
+	u64 looked_in;		/* and the mm in which it was: exec makes another one */
+	u64 command;		/* the sum of the one that was reported */
 	char name[NAME_BYTES];
 };
 
@@ -75,6 +78,7 @@ struct scratch {
 	u8 chunk_bytes[2 * CHUNK];
 	struct piece piece;
 	u8 piece_bytes[2 * CHUNK];
+	struct command command;		/* not the last one: see BOUND in command.bpf.h */
 	struct event event;
 	struct thread new_thread;
 };

@@ -166,7 +166,7 @@ void window_end(u64 last_number)
 
 void later_line(u64 time, u64 after, const char *format, ...)
 {
-	char line[1024];
+	char line[LONGEST_LINE];
 	va_list arguments;
 	va_start(arguments, format);
 	vsnprintf(line, sizeof line, format, arguments);
@@ -327,6 +327,8 @@ void window_hear(const void *message, u64 bytes)
 		hear_chunk(message);
 	else if (head->type == MESSAGE_PIECE)
 		hear_piece(message);
+	else if (head->type == MESSAGE_COMMAND)
+		names_command(message);
 	else
 		hear_event(message);
 }

@@ -18,6 +18,12 @@ SELECT upid, iif(ended_after <= last.seq, ended_after, NULL) AS ended_after,
   coalesce(met = 'from-start', 0) AS known
 FROM process, last;
 CREATE UNIQUE INDEX temp.life_of_process ON process_life(upid);
+-- Processes of which the driver's books say what they held when the recording began. `after`: the last frame of which
+-- what it did may be in the books already; `quiet`: the process has no such frame.
+CREATE TEMP TABLE begun AS
+SELECT o.upid, o.quiet, b.after, o.deaths, o.clears FROM book_opening o JOIN book b USING (moment)
+WHERE o.moment = 'begin' AND b.what = 'state';
+CREATE UNIQUE INDEX temp.begun_process ON begun(upid);
 CREATE TEMP TABLE life AS
 SELECT t.utid, min(coalesce(t.ended_after, p.ended_after), coalesce(p.ended_after, t.ended_after)) AS ended_after,
   min(coalesce(t.ended, p.ended), coalesce(p.ended, t.ended)) AS ended

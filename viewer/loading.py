@@ -12,11 +12,12 @@ import struct
 import subprocess
 from typing import Callable, Iterable, Iterator
 
-from viewer import fit
+from viewer import agreement, fit, held
 from viewer.called import LIBRARY, PACKED, called
 from viewer.columns import COLUMNS, fields_of, number_of as number_in
 from viewer.names import Methods, Names, load_methods
-from viewer.units import counted, duration_of, likeness, status_name
+from viewer.processes import long_name
+from viewer.units import counted, duration_of, likeness, signed, status_name
 
 FOLDER = pathlib.Path(__file__).resolve().parent
 
@@ -216,11 +217,6 @@ def before_fault(database: sqlite3.Connection, files: list[str], folder: pathlib
 # ---- numbers
 
 
-def signed(unsigned: int) -> int:
-    """The number as SQLite has it, in two's complement."""
-    return unsigned - 2**64 if unsigned >= 2**63 else unsigned
-
-
 def number(word: str) -> int:
     """A number of at most 64 bits, as SQLite has it."""
     if not (word.isascii() and word.isdigit() and int(word) < 2**64):
@@ -238,15 +234,14 @@ def numbers(words: list[str], count: int) -> list[int]:
 # ---- the side list
 
 
-# The longest name that is kept. Those of the system have at most 15 bytes.
+# The longest name that is kept. Those of the system have at most 15 bytes, and command lines at most 256.
 LONGEST_NAME = 256
 
 
 def unescaped(name: str) -> str:
     """A name of the side list. In the list a control character or a backslash is written as `\\x` and two digits."""
-    if len(name) > LONGEST_NAME:
-        name = name[:LONGEST_NAME] + "…"
-    return re.sub(r"\\x([0-9a-f]{2})", lambda found: chr(int(found[1], 16)), name)
+    name = re.sub(r"\\x([0-9a-f]{2})", lambda found: chr(int(found[1], 16)), name[:4 * LONGEST_NAME + 1])
+    return name if len(name) <= LONGEST_NAME else name[:LONGEST_NAME] + "…"
 
 
 def line_of(line: str, path: str) -> tuple[int, str, list[str], dict[str, str]]:
@@ -291,6 +286,7 @@ class SideList:
         self.pending: list[tuple[int, int]] = []
         self.frame: re.Match[str] | None = None
         self.told = 0
+        self.copies: list[held.Copy] = []
 
     def last(self) -> int:
         """The last number that has come in the list, of a frame or of a lost frame."""
@@ -306,6 +302,14 @@ class SideList:
         except OSError as error:
             raise Stopped(4, f"{path}: {error.strerror}") from error
         self.flush()
+        self.name_processes()
+
+    def name_processes(self) -> None:
+        """A command line may say more than the name of a process. It is kept with spaces between its words."""
+        self.database.executemany(
+            "UPDATE side_process SET name = ?, command = ? WHERE rowid = ?",
+            [(long_name(name, command), command.replace("\0", " "), row) for row, name, command in self.database.execute(
+                "SELECT rowid, name, command FROM side_process WHERE command NOTNULL").fetchall()])
 
     def judge(self) -> None:
         """Refuses a list that certainly belongs to another capture, and keeps the doubt if it may belong to another."""
@@ -349,7 +353,8 @@ class SideList:
 
     def take_begin(self, time: int, _: list[str], keyed: dict[str, str]) -> None:
         self.facts.update(begin_ts=time, realtime=number(keyed["realtime"]), kernel=keyed["kernel"],
-                          machine=keyed["machine"], payloads=keyed.get("payloads"))
+                          machine=keyed["machine"], payloads=keyed.get("payloads"),
+                          boottime=number(keyed["boottime"]) if "boottime" in keyed else None)
 
     def take_device(self, _: int, positional: list[str], keyed: dict[str, str]) -> None:
         self.database.execute("INSERT OR REPLACE INTO side_device VALUES (?, ?)",
@@ -357,9 +362,19 @@ class SideList:
 
     def take_process(self, time: int, positional: list[str], keyed: dict[str, str]) -> None:
         self.database.execute(
-            "INSERT OR REPLACE INTO side_process VALUES (?, ?, ?, ?, ?, ?, ?, NULL, NULL)",
+            "INSERT OR REPLACE INTO side_process VALUES (?, ?, ?, ?, ?, ?, ?, NULL, NULL, NULL, NULL)",
             (*numbers(positional, 2), number(keyed["pid"]), number(keyed["opening"]), keyed["met"], keyed["name"],
              time))
+
+    def take_command(self, _: int, positional: list[str], keyed: dict[str, str]) -> None:
+        """The last command line counts."""
+        self.database.execute("UPDATE side_process SET command = ?, uid = ? WHERE (device, process) = (?, ?)",
+                              (keyed["name"], number(keyed["uid"]), *numbers(positional, 2)))
+
+    def take_books(self, time: int, positional: list[str], keyed: dict[str, str]) -> None:
+        moment, what = positional[:2]
+        self.copies.append(held.Copy(moment, what, number(keyed["from"]), number(keyed["after"]), time,
+                                     number(keyed["bytes"])))
 
     def take_thread(self, _: int, positional: list[str], keyed: dict[str, str]) -> None:
         self.database.execute("INSERT OR REPLACE INTO side_thread VALUES (?, ?, ?, ?, ?, NULL, NULL, NULL, ?)",
@@ -570,7 +585,7 @@ def load_facts(database: sqlite3.Connection, files: list[str], malformed: str | 
     names = ("parts", "bytes", "frames", "records", "first_seq", "last_seq", "missing")
     row = database.execute(f"SELECT {', '.join(names)} FROM raw_capture").fetchone()
     shown = os.fsencode(" ".join(os.path.basename(name) for name in files)).decode(errors="replace")
-    known: dict[str, object] = {"file": shown, "side_list": 0, "side_doubt": None,
+    known: dict[str, object] = {"file": shown, "side_list": 0, "side_doubt": None, "books_doubt": None,
                                 **dict(zip(names, row)), "malformed": malformed, **facts}
     known["first_ts"], known["last_ts"] = database.execute(
         "SELECT (SELECT ts FROM side_time WHERE seq = ?), (SELECT ts FROM side_time WHERE seq = ?)",
@@ -587,13 +602,15 @@ def refuse_unreadable(files: list[str]) -> None:
 
 
 def fill(database: sqlite3.Connection, files: list[str], side: str | None, has_times: bool, report: pathlib.Path,
-         malformed: str | None, methods: Methods | None = None) -> None:
-    """Adds the side list, the report and its findings to the raw tables."""
+         malformed: str | None, methods: Methods | None = None, beside: list[str] | None = None) -> None:
+    """Adds the side list, the report and its findings to the raw tables. The driver's books are beside the side lists
+    `beside`, or else beside the side list."""
     database.execute("BEGIN")
     taken = SideList(database, has_times)
     if side is not None:
         taken.load(side)
         taken.judge()
+        taken.facts["books_doubt"] = held.load(database, taken.copies, beside or [side])
     load_report(database, report)
     load_facts(database, files, malformed, taken.facts if side is not None else {})
     load_findings(database)
@@ -604,7 +621,8 @@ def fill(database: sqlite3.Connection, files: list[str], side: str | None, has_t
 
 
 def database_of(root: pathlib.Path, files: list[str], side: str | None, made: pathlib.Path,
-                tell: Callable[[str], None], methods: Methods | None = None) -> str | None:
+                tell: Callable[[str], None], methods: Methods | None = None,
+                beside: list[str] | None = None) -> str | None:
     """Makes the database of a capture, with the report and the verdicts of the rules, and the names of methods. Returns
     the line of the capture's first fault, or None."""
     refuse_unreadable(files)
@@ -625,9 +643,10 @@ def database_of(root: pathlib.Path, files: list[str], side: str | None, made: pa
     if malformed:
         answer(root, report, "audit", "report", *before_fault(database, files, made.parent))
     tell("applying the rules")
-    fill(database, files, side, has_times, report, malformed, methods)
+    fill(database, files, side, has_times, report, malformed, methods, beside)
     report.unlink()
     judge(database)
+    agreement.compare(database)
     database.close()
     return malformed
 

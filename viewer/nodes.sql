@@ -32,6 +32,11 @@ CREATE TABLE node_of(generation INTEGER PRIMARY KEY, upid INTEGER NOT NULL, ptr 
   cookie INTEGER NOT NULL, certain INTEGER NOT NULL) STRICT;
 INSERT INTO node_of
 SELECT generation, node_upid, ptr, cookie, 1 FROM peer WHERE certain > 0 GROUP BY generation HAVING count(*) = 1;
+-- Or else, of what was held when the recording began, the node in the driver's books.
+INSERT INTO node_of
+SELECT g.id, b.node_upid, b.ptr, b.cookie, 1 FROM book_handle b JOIN raw_generation g USING (upid, handle)
+WHERE b.moment = 'begin' AND b.node_upid NOTNULL AND g.n = 1 AND coalesce(g.begin < g.given_by, 1)
+  AND g.id NOT IN (SELECT generation FROM node_of);
 -- Or else the object that was handed over: one of the sender's own, or one that the sender has a handle of, which may
 -- have been handed over to the sender in its turn.
 CREATE TEMP TABLE handed AS

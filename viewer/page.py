@@ -10,7 +10,7 @@ import sqlite3
 import unicodedata
 from typing import Iterator, NamedTuple
 
-from viewer import columns
+from viewer import agreement, columns
 from viewer.called import called
 from viewer.lane import lane_of
 from viewer.loading import Stopped, for_owner
@@ -174,11 +174,20 @@ class Page:
             return
         if self.facts["side_doubt"]:
             yield f"<b>{text_of(self.facts['side_doubt'].capitalize())}.</b>"
+        if self.facts["books_doubt"]:
+            yield f"<b>Of the driver's books not all can be used:</b> {text_of(self.facts['books_doubt'])}."
         met = [who for _, who in self.ask("SELECT upid, who FROM who JOIN process USING (upid) WHERE met IS NOT"
-                                          " 'from-start' ORDER BY upid LIMIT 20")]
+                                          " 'from-start' AND upid NOT IN (SELECT upid FROM book_opening"
+                                          " WHERE moment = 'begin') ORDER BY upid LIMIT 20")]
         if met:
             yield ("Met in mid-life, so that what came before is not known: " + ", ".join(map(name_of, met))
                    + (", …" if len(met) == 20 else "") + ".")
+        held = self.asked("held_before", 21)
+        if held:
+            yield ("Met in mid-life; by the driver's books of then they had: " + "; ".join(
+                f"{name_of(who)} {counted(handles, 'handle')}, {counted(nodes, 'object')}, {counted(buffers, 'buffer')},"
+                f" {counted(made, 'call')} made and {number_of(served)} served"
+                for who, handles, nodes, buffers, made, served in held[:20]) + ("; …" if len(held) > 20 else "") + ".")
         calls, handles = self.ask("SELECT (SELECT sum(made + served) FROM side_calls),"
                                   " (SELECT count(*) FROM side_handle)")[0]
         if calls or handles:
@@ -212,7 +221,9 @@ class Page:
         first = f'<p class="fault">{text_of(facts["malformed"])}: this page shows what comes before it.</p>' \
             if facts["malformed"] else ""
         missing = counted(facts["missing"] % 2**64, "frame") if facts["missing"] else "no frames"
-        told = "".join(f'<p class="dim">{one}</p>' for one in self.unknown())
+        agreed = agreement.line_of(self.database)
+        told = "" if agreed is None else f'<p class="dim">{name_of(agreed)}</p>'
+        told += "".join(f'<p class="dim">{one}</p>' for one in self.unknown())
         return (f"{first}<h1>{name_of(facts['file'])}</h1>"
                 f'<p class="dim">{counted(facts["frames"], "frame")}, {counted(facts["records"], "record")},'
                 f' {counted(facts["bytes"], "byte")}{span}; {missing} missing;'
@@ -308,15 +319,18 @@ class Page:
 
     def processes(self) -> str:
         begun = self.facts.get("first_ts")
-        heads = ["process", "#device", "#pid", "#threads", "met", "#frames", "#first seq", "#last seq", "ended"]
+        heads = ["process", "#device", "#pid", "#user", "#threads", "met", "#frames", "#first seq", "#last seq", "ended",
+                 "command line"]
         cells = []
-        for upid, device, pid, threads, met, frames, first, last, ended, after in self.asked("processes", ROWS):
+        for upid, device, pid, threads, met, frames, first, last, ended, after, user, command in self.asked(
+                "processes", ROWS):
             end = "" if after is None else f"after {number_of(after)}"
             if after is not None and begun is not None:
                 end += f", at {duration_of(ended - begun)}" if ended >= begun else ", before the capture"
             cells.append([Cell(self.name(upid)), number_cell(device), Cell(str(pid or ""), True, pid),
-                          number_cell(threads), Cell(text_of(met)), *map(number_cell, (frames, first, last)),
-                          Cell(end)])
+                          Cell("" if user is None else str(user), True, user), number_cell(threads),
+                          Cell(text_of(met)), *map(number_cell, (frames, first, last)), Cell(end),
+                          Cell(name_of(command))])
         return table_of("processes", heads, cells, len(self.who))
 
     def talk(self) -> str:

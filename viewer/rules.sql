@@ -21,6 +21,7 @@ INSERT INTO rule VALUES
   ('M2', 'maybe', 'It has lasted as what is real does, but frames of its process are missing.'),
   ('M3', 'maybe', 'An error reply ended a send, and it need not be this one: frames of its process are missing.'),
   ('P1', 'explained', 'Not all that came before is known: before the capture, or in data that it does not have.'),
+  ('P2', 'explained', 'It began before the recording: the driver had it in its books then.'),
   ('T1', 'explained', 'Its process or thread ended then, and the driver has let it go.'),
   ('U1', 'explained', 'Under way: others of its path took as long.'),
   ('U2', 'real', 'More than ten times as long as the longest of its path that came to a good end, and 0.1 s.'),
@@ -192,10 +193,20 @@ WHERE rule IS NULL AND what = 'crossed' AND c.place = finding.place;
 -- before the capture does not matter.
 UPDATE finding SET rule = 'S2', note = 'refused at ' || s.refused FROM raw_send s
 WHERE rule IS NULL AND section = 'strays' AND s.place = finding.place AND s.refused IS NOT NULL;
+-- Of a thread that had calls open when the recording began, as many closers are theirs. It is known of a thread without
+-- a frame before the copy of the books.
+CREATE TEMP TABLE begun_call AS
+SELECT f.id, t.first_seq > b.after AS known, (SELECT count(*) FROM book_call c WHERE c.moment = 'begin'
+    AND c.utid = f.utid AND c.side = iif(r.kind IN (:BC_REPLY, :BC_REPLY_SG), 'served', 'made')) AS n,
+  row_number() OVER (PARTITION BY f.utid, r.kind IN (:BC_REPLY, :BC_REPLY_SG) ORDER BY f.place) AS nth
+FROM finding f JOIN raw_record r USING (place) JOIN raw_thread t ON t.utid = f.utid JOIN begun b ON b.upid = f.upid
+WHERE f.rule IS NULL AND f.section = 'strays';
 UPDATE finding SET rule = CASE
   WHEN EXISTS (SELECT 1 FROM first_crossed c WHERE c.utid = finding.utid AND c.closer < finding.place) THEN 'S3'
+  WHEN EXISTS (SELECT 1 FROM begun_call b WHERE b.id = finding.id AND b.nth <= b.n) THEN 'P2'
   WHEN finding.upid IN (SELECT upid FROM lossy) THEN 'M1'
-  WHEN (SELECT known FROM process_life p WHERE p.upid = finding.upid) THEN 'S4' ELSE 'P1' END
+  WHEN (SELECT known FROM process_life p WHERE p.upid = finding.upid)
+    OR EXISTS (SELECT 1 FROM begun_call b WHERE b.id = finding.id AND b.known) THEN 'S4' ELSE 'P1' END
 WHERE rule IS NULL AND (section = 'strays' OR what = 'crossed');
 
 -- M: if frames are missing, an error reply may belong to another send, but not if the send has bad objects.
@@ -229,8 +240,13 @@ FROM (SELECT 1 FROM finding f JOIN raw_generation g ON g.id = f.generation
     WHERE f.section = 'handles' AND f.handle <> 0 AND g.given_by IS NULL LIMIT 1)
   CROSS JOIN raw_delivery d JOIN raw_record r USING (place) JOIN raw_thread t ON t.utid = d.utid
 WHERE r.offsets_size <> 0 AND r.attachment IS NULL GROUP BY 1;
+-- What a process held when the recording began is in the driver's books. What it named only after the copy was there, it
+-- had not let go of before.
 CREATE TEMP TABLE handle_row AS
 SELECT f.id, f.upid, f.handle, f.generation, f.what,
+  coalesce((SELECT b.quiet FROM begun b WHERE b.upid = f.upid) OR (SELECT r.seq > b.after FROM begun b
+    JOIN raw_generation g ON g.upid = b.upid JOIN raw_record r ON r.place = g.begin
+    WHERE b.upid = f.upid AND f.section = 'handles' AND g.handle = f.handle AND g.n = 1), 0) AS begun,
   -- Below 0 if more was let go, or acknowledged, than was taken or asked for; and what buffers hold, or what is due.
   min(number_in(f.section, r.text, 'strong_low'), number_in(f.section, r.text, 'weak_low'),
     iif(f.section = 'nodes', number_in(f.section, r.text, 'strong_due'), 0),
@@ -241,6 +257,27 @@ SELECT f.id, f.upid, f.handle, f.generation, f.what,
   EXISTS (SELECT 1 FROM raw_generation g WHERE g.upid = f.upid AND g.handle = f.handle AND g.given_by IS NOT NULL)
     AS given
 FROM finding f JOIN report r ON r.id = f.report WHERE f.section IN ('handles', 'nodes');
+-- The same with what was held before added, for handles and nodes that the books have.
+CREATE TEMP TABLE held_before AS
+SELECT h.id, h.begun, k.strong AS had_strong, k.weak AS had_weak,
+  number_in(f.section, r.text, 'strong') + k.strong AS strong, number_in(f.section, r.text, 'weak') + k.weak AS weak,
+  min(number_in(f.section, r.text, 'strong_low') + k.strong, number_in(f.section, r.text, 'weak_low') + k.weak,
+    iif(f.section = 'nodes', number_in(f.section, r.text, 'strong_due') + k.local_strong, 0),
+    iif(f.section = 'nodes', number_in(f.section, r.text, 'weak_due') + k.local_weak, 0)) AS least
+FROM handle_row h JOIN finding f USING (id) JOIN report r ON r.id = f.report
+  JOIN (SELECT 'handles' AS section, upid, handle AS a, 0 AS b, strong, weak, 0 AS local_strong, 0 AS local_weak
+      FROM book_handle WHERE moment = 'begin'
+    UNION ALL SELECT 'nodes', upid, ptr, cookie, strong, weak, local_strong, local_weak FROM book_node
+      WHERE moment = 'begin') k
+  ON (k.section, k.upid, k.a, k.b) = (f.section, h.upid, iif(f.section = 'handles', f.handle, f.ptr),
+    iif(f.section = 'handles', 0, f.cookie))
+WHERE NOT h.known AND (h.least < 0 OR f.section = 'handles' AND NOT h.given AND f.handle <> 0);
+UPDATE finding SET rule = CASE WHEN h.least >= 0 THEN iif(h.strong > 0 OR h.weak > 0, 'H6', 'H7')
+    WHEN NOT h.begun THEN 'P1' ELSE iif(finding.upid IN (SELECT upid FROM lossy), 'M1', 'H2') END,
+  what = iif(h.least >= 0 AND h.strong <= 0 AND h.weak <= 0, 'balanced', what),
+  note = 'before the recording: strong ' || h.had_strong || ', weak ' || h.had_weak
+FROM held_before h WHERE rule IS NULL AND h.id = finding.id;
+UPDATE handle_row SET known = begun WHERE NOT known;
 UPDATE finding SET rule = CASE WHEN NOT h.known OR EXISTS (SELECT 1 FROM unseen u WHERE u.upid = finding.upid
     AND u.place < finding.place) THEN 'P1'
   WHEN finding.upid IN (SELECT upid FROM lossy) THEN 'M1' ELSE 'H1' END
@@ -309,7 +346,18 @@ CREATE TEMP TABLE knows_handle AS
 SELECT f.id FROM finding f JOIN process p USING (upid)
 WHERE f.section = 'requests' AND (p.met = 'from-start' OR p.met = 'before-file' AND NOT EXISTS (SELECT 1
   FROM side_handle h WHERE (h.device, h.process, h.handle) = (p.device, p.process, f.handle)));
-UPDATE finding SET rule = iif(finding.id IN (SELECT id FROM knows_handle), 'D1', 'P1')
+-- And of one whose handles are in the driver's books: it does not hold it any more, even with what it held before.
+CREATE TEMP TABLE still_held AS
+SELECT f.id, max(sum(g.acquired - g.released) + coalesce(b.strong, 0),
+  sum(g.increfs - g.decrefs) + coalesce(b.weak, 0)) > 0 AS held, r.seq > u.after AS sure
+FROM finding f JOIN begun u USING (upid) JOIN raw_generation g ON g.upid = f.upid AND g.handle = f.handle
+  LEFT JOIN book_handle b ON b.moment = 'begin' AND b.upid = f.upid AND b.handle = f.handle
+  LEFT JOIN raw_generation o ON o.upid = f.upid AND o.handle = f.handle AND o.n = 1
+  LEFT JOIN raw_record r ON r.place = o.begin
+WHERE f.section = 'requests' GROUP BY f.id;
+INSERT INTO knows_handle SELECT id FROM still_held WHERE NOT held AND sure;
+UPDATE finding SET rule = CASE WHEN finding.id IN (SELECT id FROM knows_handle) THEN 'D1'
+  WHEN finding.id IN (SELECT id FROM still_held WHERE held) THEN NULL ELSE 'P1' END
 FROM raw_generation g WHERE rule IS NULL AND section = 'requests' AND g.id = finding.generation
   AND (g.end IS NOT NULL OR g.acquired > 0 AND g.strong + g.weak + g.held_strong + g.held_weak = 0);
 CREATE TEMP TABLE second_request AS
@@ -353,8 +401,16 @@ WHERE rule IS NULL AND section IN ('deaths', 'clears') AND b.place = finding.pla
   AND b.open >= min(0, coalesce((SELECT min(x.open) FROM balance x JOIN dead_record y USING (place)
     WHERE y.upid = d.upid AND y.cookie = d.cookie AND x.place < d.place
       AND (y.kind IN (:BR_DEAD_BINDER, :BC_DEAD_BINDER_DONE)) = (finding.section = 'deaths')), 0));
-UPDATE finding SET rule = CASE WHEN finding.upid IN (SELECT upid FROM lossy) THEN 'M1'
-  WHEN (SELECT known FROM process_life p WHERE p.upid = finding.upid) THEN 'D4' ELSE 'P1' END
+-- The driver's books say that deaths wait for acknowledgement, and not how many.
+CREATE TEMP TABLE begun_death AS
+SELECT f.id, b.quiet, iif(f.section = 'deaths', b.deaths,
+  row_number() OVER (PARTITION BY f.upid, f.section ORDER BY f.place) <= b.clears) AS had
+FROM finding f JOIN begun b USING (upid) WHERE f.rule IS NULL AND f.section IN ('deaths', 'clears');
+UPDATE finding SET rule = CASE
+  WHEN EXISTS (SELECT 1 FROM begun_death b WHERE b.id = finding.id AND b.had) THEN 'P2'
+  WHEN finding.upid IN (SELECT upid FROM lossy) THEN 'M1'
+  WHEN (SELECT known FROM process_life p WHERE p.upid = finding.upid)
+    OR EXISTS (SELECT 1 FROM begun_death b WHERE b.id = finding.id AND b.quiet) THEN 'D4' ELSE 'P1' END
 WHERE rule IS NULL AND section IN ('deaths', 'clears');
 
 -- F: frees.
@@ -373,8 +429,19 @@ FROM raw_record x, delivery d
 WHERE rule IS NULL AND finding.section = 'frees' AND x.place = finding.place AND d.freed_by < finding.place
   AND d.place = (SELECT e.place FROM freed e WHERE e.upid = finding.upid AND e.address = x.address
     AND e.place < finding.place ORDER BY e.place DESC LIMIT 1);
-UPDATE finding SET rule = CASE WHEN finding.upid IN (SELECT upid FROM lossy) THEN 'M1'
-  WHEN (SELECT known FROM process_life p WHERE p.upid = finding.upid) THEN 'F2' ELSE 'P1' END
+-- Each buffer that a process had when the recording began may be freed once. Newer kernels have in place of an address
+-- how far it is from the beginning of a page-aligned mapping, so there only the last three digits are compared.
+CREATE TEMP TABLE begun_free AS
+SELECT f.id, f.seq > b.after AS known, (SELECT count(*) FROM book_buffer k WHERE k.moment = 'begin' AND k.upid = f.upid
+    AND NOT k.unread AND (k.address = r.address OR k.address < 1 << 30 AND k.address & 4095 = r.address & 4095)) AS n,
+  row_number() OVER (PARTITION BY f.upid, r.address ORDER BY f.place) AS nth
+FROM finding f JOIN begun b USING (upid) JOIN raw_record r USING (place)
+WHERE f.rule IS NULL AND f.section = 'frees';
+UPDATE finding SET rule = CASE
+  WHEN EXISTS (SELECT 1 FROM begun_free b WHERE b.id = finding.id AND b.nth <= b.n) THEN 'P2'
+  WHEN finding.upid IN (SELECT upid FROM lossy) THEN 'M1'
+  WHEN (SELECT known FROM process_life p WHERE p.upid = finding.upid)
+    OR EXISTS (SELECT 1 FROM begun_free b WHERE b.id = finding.id AND b.known) THEN 'F2' ELSE 'P1' END
 WHERE rule IS NULL AND section = 'frees';
 
 -- O: objects and flags. A bad object and the call that the driver refused for it are one finding.

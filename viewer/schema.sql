@@ -1,7 +1,8 @@
 -- The database of a capture. docs/DATABASE.md describes it as an interface, and this is the version of that interface.
 -- Since version 3, interface is new, and the column interface of record, listing, call, send and delivery.
 -- Since version 4, method and node_interface are new.
-PRAGMA user_version = 5;
+-- Since version 6, command and uid of process are new, and the names that begin with book, and disagreement.
+PRAGMA user_version = 6;
 
 -- ---- raw tables: the rows that `./listing --tables` writes, column by column
 --
@@ -219,7 +220,7 @@ CREATE TABLE raw_level(upid INTEGER NOT NULL, slice INTEGER NOT NULL, buffers IN
 
 CREATE TABLE side_device(device INTEGER PRIMARY KEY, name TEXT NOT NULL) STRICT;
 CREATE TABLE side_process(device INTEGER, process INTEGER, pid INTEGER, opening INTEGER, met TEXT, name TEXT,
-  opened INTEGER, ended_after INTEGER, ended INTEGER, PRIMARY KEY(device, process)) STRICT;
+  opened INTEGER, ended_after INTEGER, ended INTEGER, command TEXT, uid INTEGER, PRIMARY KEY(device, process)) STRICT;
 CREATE TABLE side_thread(device INTEGER, process INTEGER, thread INTEGER, tid INTEGER, name TEXT, ended_after INTEGER,
   ended INTEGER, why TEXT, from_seq INTEGER, PRIMARY KEY(device, process, thread)) STRICT;
 -- A line `name` or `end pid` names a thread or a process by the system's number.
@@ -244,6 +245,25 @@ CREATE TABLE side_missed(id INTEGER PRIMARY KEY, what TEXT NOT NULL, count INTEG
 CREATE TABLE side_calls(device INTEGER, process INTEGER, thread INTEGER, made INTEGER NOT NULL,
   served INTEGER NOT NULL, PRIMARY KEY(device, process, thread)) STRICT;
 CREATE TABLE side_handle(device INTEGER, process INTEGER, handle INTEGER, PRIMARY KEY(device, process, handle)) STRICT;
+-- The copies of the driver's books that are beside the side list, and what openings of the capture had in its book
+-- `state`. Tables and columns are in docs/DATABASE.md; held.py fills them.
+CREATE TABLE book(moment TEXT NOT NULL, what TEXT NOT NULL, from_seq INTEGER NOT NULL, after INTEGER NOT NULL,
+  ts INTEGER NOT NULL, PRIMARY KEY(moment, what)) STRICT;
+CREATE TABLE book_opening(moment TEXT NOT NULL, upid INTEGER NOT NULL, quiet INTEGER NOT NULL, deaths INTEGER NOT NULL,
+  clears INTEGER NOT NULL, PRIMARY KEY(moment, upid)) STRICT;
+CREATE TABLE book_handle(moment TEXT NOT NULL, upid INTEGER NOT NULL, handle INTEGER NOT NULL, strong INTEGER NOT NULL,
+  weak INTEGER NOT NULL, dead INTEGER NOT NULL, requested INTEGER NOT NULL, node_upid INTEGER, ptr INTEGER,
+  cookie INTEGER, PRIMARY KEY(moment, upid, handle)) STRICT;
+CREATE TABLE book_node(moment TEXT NOT NULL, upid INTEGER NOT NULL, ptr INTEGER NOT NULL, cookie INTEGER NOT NULL,
+  strong INTEGER NOT NULL, weak INTEGER NOT NULL, local_strong INTEGER NOT NULL, local_weak INTEGER NOT NULL,
+  PRIMARY KEY(moment, upid, ptr, cookie)) STRICT;
+CREATE TABLE book_buffer(moment TEXT NOT NULL, upid INTEGER NOT NULL, number INTEGER NOT NULL, address INTEGER NOT NULL,
+  data_size INTEGER NOT NULL, offsets_size INTEGER NOT NULL, unread INTEGER NOT NULL,
+  PRIMARY KEY(moment, upid, number)) STRICT;
+CREATE TABLE book_call(id INTEGER PRIMARY KEY, moment TEXT NOT NULL, upid INTEGER NOT NULL, utid INTEGER,
+  tid INTEGER NOT NULL, side TEXT NOT NULL, number INTEGER, code INTEGER) STRICT;
+CREATE TABLE disagreement(id INTEGER PRIMARY KEY, upid INTEGER NOT NULL, section TEXT NOT NULL, what TEXT NOT NULL,
+  report INTEGER NOT NULL, books INTEGER NOT NULL) STRICT;
 CREATE TABLE capture(key TEXT PRIMARY KEY, value) WITHOUT ROWID;
 CREATE TABLE report(id INTEGER PRIMARY KEY, section TEXT NOT NULL, place INTEGER, device INTEGER, process INTEGER,
   text TEXT NOT NULL) STRICT;
@@ -287,7 +307,7 @@ SELECT DISTINCT p.device, s.name FROM raw_process p LEFT JOIN side_device s USIN
 
 CREATE VIEW process AS
 SELECT p.upid, p.device, p.process, coalesce(s.pid, iif(p.process < 4194304, p.process, NULL)) AS pid, s.name,
-  s.opening, s.met, s.opened, s.ended_after, s.ended, p.first_seq, p.last_seq, p.frames
+  s.opening, s.met, s.opened, s.ended_after, s.ended, p.first_seq, p.last_seq, p.frames, s.command, s.uid
 FROM raw_process p LEFT JOIN side_process s USING (device, process);
 
 CREATE VIEW thread AS
@@ -389,12 +409,19 @@ CREATE TABLE about(name TEXT PRIMARY KEY, rests_on TEXT NOT NULL
 INSERT INTO about VALUES
   ('capture', 'bytes', 'what the capture is: a key and a value each'),
   ('device', 'side', 'a Binder device of the capture; its name is from the side list'),
-  ('process', 'side', 'a device and a process number, as upid; pid, name, opening and ends are from the side list'),
+  ('process', 'side', 'a device and a process number, as upid; pid, name, command, uid, opening, ends: of the side list'),
   ('thread', 'side', 'a thread of a process, as utid; tid, name and end are from the side list'),
   ('side_lost', 'side', 'a frame that the recorder lost, and why'),
   ('side_missed', 'side', 'what the recorder missed without giving it a number, of whatever process'),
   ('side_calls', 'side', 'the calls of a thread that were open before the first file'),
   ('side_handle', 'side', 'a handle that a process had met before the first file'),
+  ('book', 'side', 'a copy of one of the driver''s books, and which frames came before and while it was made'),
+  ('book_opening', 'side', 'an opening in such a copy, and the deaths and clears that wait there'),
+  ('book_handle', 'side', 'a handle of an opening in such a copy; its node is NULL if its process is not known'),
+  ('book_node', 'side', 'an object of an opening in such a copy'),
+  ('book_buffer', 'side', 'a buffer of an opening in such a copy'),
+  ('book_call', 'side', 'a call that a thread had open in such a copy'),
+  ('disagreement', 'inferred', 'where the report and the books at the end differ'),
   ('frame', 'bytes', 'what one call wrote or read; ts, in nanoseconds, is from the side list'),
   ('record', 'bytes', 'a record, with its fields by the names of binder.h; a field that it has not is NULL'),
   ('object', 'bytes', 'an object of an attachment, up to the first bad one'),

@@ -451,7 +451,7 @@ class Timeline:
 
 def facts_of(database: sqlite3.Connection) -> dict[str, object]:
     """What the trace says of the capture."""
-    names = ("file", "malformed", "side_doubt", "realtime", "begin_ts", "kernel", "machine")
+    names = ("file", "malformed", "side_doubt", "realtime", "begin_ts", "boottime", "kernel", "machine")
     known = dict(database.execute("SELECT key, value FROM capture"))
     hidden, = database.execute("SELECT count(*) FROM finding f JOIN rule u ON u.id = f.rule"
                                " WHERE u.verdict <> 'normal' AND (f.place IS NULL OR f.utid IS NULL)").fetchone()

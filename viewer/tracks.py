@@ -43,6 +43,7 @@ class Axis:
         earliest = database.execute("SELECT x.ts FROM side_time x JOIN raw_frame f USING (seq) ORDER BY x.seq LIMIT 1"
                                     ).fetchone()
         self.timed = earliest is not None
+        self.clock, self.shift = self.clock_of(database) if self.timed else ("", 0)
         end = 0 if self.last is None else self.last % 2**64
         self.base = 0 if end < EXACT // 1000 else first % 2**64
         self.untimed = self.raised = 0
@@ -65,9 +66,17 @@ class Axis:
         return row[0] or 0 if row is not None else 0
 
     @staticmethod
-    def text_of(ns: int) -> str:
-        """Nanoseconds as the microseconds of a trace."""
-        whole, rest = divmod(ns, 1000)
+    def clock_of(database: sqlite3.Connection) -> tuple[str, int]:
+        """The clock of the trace, and how far it was ahead of that of the side list when the recording began: the one
+        that system traces have, if the side list has it too."""
+        known = dict(database.execute("SELECT key, value FROM capture WHERE key IN ('boottime', 'begin_ts')"))
+        if known.get("boottime") is None:
+            return "CLOCK_MONOTONIC", 0
+        return "CLOCK_BOOTTIME", known["boottime"] - known["begin_ts"]
+
+    def text_of(self, ns: int) -> str:
+        """Nanoseconds of the side list as the microseconds of a trace."""
+        whole, rest = divmod(ns + self.shift, 1000)
         return f"{whole}.{rest:03d}" if rest else str(whole)
 
     def at(self, seq: int, ts: int | None) -> int:
@@ -95,7 +104,7 @@ class Axis:
 
     def facts(self) -> dict[str, object]:
         if self.timed:
-            return {"axis": "CLOCK_MONOTONIC of the recorded system, in microseconds",
+            return {"axis": f"{self.clock} of the recorded system, in microseconds",
                     "frames_without_time": self.untimed, "frames_with_earlier_time": self.raised}
         return {"axis": "the number of the frame: one microsecond is one frame, and times are not known",
                 "frame_at_zero": self.base}

@@ -4,6 +4,11 @@ import errno
 import re
 
 
+def signed(unsigned: int) -> int:
+    """The number as SQLite has it, in two's complement."""
+    return unsigned - 2**64 if unsigned >= 2**63 else unsigned
+
+
 def duration_of(nanoseconds: int | None) -> str:
     """A time, with three digits."""
     if nanoseconds is None:

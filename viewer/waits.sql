@@ -42,10 +42,15 @@ INSERT INTO ring SELECT n.next FROM waits_for n JOIN ring r ON r.id = n.id WHERE
 
 -- ---- the pools of threads of processes that should get what waits
 
--- The threads that serve a call from before the capture, as the side list of a flight recorder says: they have not
--- replied to as many calls as they served then, and have not ended. A thread without a frame has no utid.
+-- The threads that serve a call from before the capture, as the side list of a flight recorder or the driver's books
+-- say: they have not replied to as many calls as they served then, and have not ended. A thread without a frame has no
+-- utid.
 CREATE TEMP TABLE serves_on AS
-SELECT p.upid, t.utid FROM side_calls c JOIN raw_process p USING (device, process) JOIN process_life l USING (upid)
+SELECT p.upid, t.utid FROM (SELECT device, process, thread, served FROM side_calls
+    UNION ALL SELECT p.device, p.process, coalesce(t.thread, b.tid), count(*)
+      FROM book_call b JOIN raw_process p USING (upid) LEFT JOIN raw_thread t ON t.utid = b.utid
+      WHERE b.moment = 'begin' AND b.side = 'served' GROUP BY 1, 2, 3) c
+  JOIN raw_process p USING (device, process) JOIN process_life l USING (upid)
   LEFT JOIN raw_thread t ON t.upid = p.upid AND t.thread = c.thread
   LEFT JOIN side_thread s ON (s.device, s.process, s.thread) = (c.device, c.process, c.thread), last
 WHERE l.ended_after IS NULL AND (s.ended_after IS NULL OR s.ended_after > last.seq)

@@ -10,6 +10,7 @@ the books: if that is not found, the status is 1 too.
 
 import pathlib
 import re
+import sqlite3
 import struct
 import sys
 import tempfile
@@ -20,6 +21,10 @@ from recording import Recording, Report, frames_of, report_on
 from sections import both
 
 HERE = pathlib.Path(__file__).resolve().parent
+ROOT = HERE.parents[1]
+sys.path[:0] = [str(ROOT), str(HERE.parent)]
+from view_parts.common import groups_due, groups_of  # noqa: E402
+from viewer import loading  # noqa: E402
 
 
 def lines_of(name):
@@ -182,6 +187,77 @@ def secret_differences(recording):
         yield "secret", "all", "token", 0, 1
 
 
+# ---- command lines, and the driver's books
+
+LONGEST_COMMAND = 256
+USER = 10123
+COMMANDS = (	# of each process of the scenario people, in order: the users, and the command lines
+    [(0, b"/scenarios.static\0people\0/out/people")], [(0, b"com.example.mail\0person\0a")],
+    [(0, b"<pre-initialized>, and room for the name that it gets\0person\0z"),
+     (0, b"com.example.a.name.of.many.letters:remote")],
+    [(0, b"odd\n\\x41 \t\xff\xc3\xa9\0person\0o\0two words\0\0last")], [(0, b"\0person\0n")],
+    [(0, b"/system/bin/before-exec\0person\0x"), (0, b"after-exec\0person\0e")],
+    [(USER, b"/system/bin/other-user\0person\0u")], [(0, b"l" * LONGEST_COMMAND)])
+
+
+def command_differences(recording):
+    """The command lines of the scenario; only their first words if payloads are redacted."""
+    came = defaultdict(list)
+    for device, number, user, name in re.findall(r"^\d+ command (\d+) (\d+) after=\d+ uid=(\d+) name=(.*)$",
+                                                 recording.side, re.M):
+        raw = re.sub(rb"\\x([0-9a-f]{2})", lambda found: bytes([int(found[1], 16)]),
+                     name.encode(errors="surrogateescape"))
+        came[int(device), int(number)].append((int(user), raw))
+    for nth, due in enumerate(COMMANDS):
+        key = sorted(recording.names)[nth]
+        if recording.is_redacted:
+            due = [(user, text.partition(b"\0")[0]) for user, text in due]
+        if came[key] != due:
+            yield "names", recording.names[key], "command", came[key], due
+
+
+BOOKS = [(when, which) for when in ("begin", "end") for which in ("state", "transactions", "stats")]
+
+
+def copy_differences(how, recording, folder):
+    """Each copy of the driver's books has the length that the side list names. Only a recorder that was killed has none
+    at the end, and the list of the beginning may be gone where old files are."""
+    told = {(when, which): int(size) for when, which, size in re.findall(
+        r"^\d+ books (\S+) (\S+) from=\d+ after=\d+ bytes=(\d+)$", recording.side, re.M)}
+    for when, which in BOOKS:
+        if when == ("end" if how == "killed" else "begin" if recording.is_cut else None):
+            continue
+        path = folder / f"capture.{when}.{which}"
+        size = path.stat().st_size if path.exists() else 0
+        if told.get((when, which)) != size:
+            yield "books", "all", f"{when}-{which}", told.get((when, which)), size
+
+
+def view_differences(folder):
+    """What `./view` says of the scenario before: its groups, and that the report agrees with the driver's books."""
+    with tempfile.TemporaryDirectory() as room:
+        made = pathlib.Path(room) / "made.db"
+        loading.database_of(ROOT, [str(folder / "capture-1.cap")], str(folder / "capture.side"), made, lambda _: None)
+        database = sqlite3.connect(made)
+        facts = dict(database.execute("SELECT key, value FROM capture WHERE key GLOB 'books_*'"))
+        came, due = groups_of(database), groups_due("before")
+        for group in sorted(set(came) ^ set(due)):
+            yield "view", "all", "-".join(group[:2]), group in came, group in due
+        for who, what, report, books in database.execute(
+                "SELECT who, what, report, books FROM disagreement JOIN who USING (upid)"):
+            yield "view", who, what, report, books
+        rules = dict(database.execute("SELECT rule, count(*) FROM finding GROUP BY 1"))
+        if rules != RULES_BEFORE:
+            yield "view", "all", "rules", rules, RULES_BEFORE
+        if facts != FACTS_BEFORE:
+            yield "view", "all", "facts", facts, FACTS_BEFORE
+
+
+# The rules of all findings of the scenario before, and how many of its openings are compared at the end.
+RULES_BEFORE = {"P2": 5, "H7": 1, "H6": 1, "H2": 1, "H1": 1, "F2": 1, "D4": 1}
+FACTS_BEFORE = {"books_doubt": None, "books_compared": 5, "books_left_out": 0}
+
+
 # ---- namespaces, and openings from before the recording
 
 OWN_NUMBERS = 4194304	# numbers from here on are no ids of Linux
@@ -213,7 +289,7 @@ OPENINGS_BEFORE = 4	# of the load: manager, service and two clients
 SAYS = {"drivers": ["driver is the one in Rust", "rust alone: status 1", "two Binder drivers"]}
 
 
-PARTIAL = {"late", "hidden", "killed", "stopped", "full", "narrow", "flight", "hoard"}	# the recorder did not record all, from beginning to end
+PARTIAL = {"late", "hidden", "before", "killed", "stopped", "full", "narrow", "flight", "hoard"}	# the recorder did not record all, from beginning to end
 MOST_AFTER = 200_000_000	# nanoseconds from the last frame to the end, if the scenario goes on after the recording
 MOST_CUT = 8192		# bytes of a last frame of the load that a killed recorder may leave cut
 
@@ -230,8 +306,11 @@ class Scenario:
         self.text = text
         self.output = (folder / "output").read_text(errors="replace") if (folder / "output").exists() else ""
         self.report = Report(text) if code == 0 else None
+        self.has_copies = self.how != "stored" or " books end state " in self.recording.side
         if self.how == "stored" and self.recording.lost:
             self.how = "narrow"
+        if self.how == "stored" and self.recording.met:
+            self.how = "before"
         self.books = books_of.texts(folder) if (folder / "state").exists() else None
 
     def differences(self, texts=None):
@@ -258,9 +337,13 @@ class Scenario:
                 found += flight_differences(self.recording, self.folder)
             if self.how == "hoard":
                 found += hoard_differences(self.output, self.folder)
-            if self.how in ("flight", "hoard") and self.status != "0":
+            if self.how in ("flight", "hoard", "before") and self.status != "0":
                 found.append(("status", "all", "program", self.status, 0))
-            return found, {"capture", "lost", "names"}
+            if self.name == "before":
+                found += view_differences(self.folder)
+            if self.has_copies:
+                found += copy_differences(self.how, self.recording, self.folder)
+            return found, {"capture", "lost", "names", "books"} | ({"view"} if self.name == "before" else set())
         if self.books is None:
             return [("status", "all", "no books", self.status, 0)], {"status"}
         sides = both(self.recording, self.report, books_of.Books(texts or self.books))
@@ -271,6 +354,11 @@ class Scenario:
         found += bits_differences(self.how, self.recording)
         found += [("status", "all", "unsaid", words, 0) for words in SAYS.get(self.how, ()) if words not in self.output]
         seen = sides.seen | {"purpose", "lost", "capture", "status", "senders", "names"}
+        if self.name in ("people", "people-redacted"):
+            found += command_differences(self.recording)
+        if self.has_copies:
+            found += copy_differences(self.how, self.recording, self.folder)
+            seen.add("books")
         if self.name in ("secret", "secret-redacted"):
             found += secret_differences(self.recording)
             seen.add("secret")

@@ -42,6 +42,32 @@ void wait_until(_Atomic int *counter, int least)
 	}
 }
 
+void end_of(pid_t process)
+{
+	int status;
+	if (waitpid(process, &status, 0) != process || status) fail("a process of the scenario did not end well");
+}
+
+void make_file(const char *name)
+{
+	char path[300];
+	snprintf(path, sizeof path, "%s/%s", directory, name);
+	int file = open(path, O_WRONLY | O_CREAT | O_EXCL, 0600);
+	if (file < 0) fail(path);
+	close(file);
+}
+
+void wait_for_file(const char *name)
+{
+	char path[300];
+	time_t began = time(NULL);
+	snprintf(path, sizeof path, "%s/%s", directory, name);
+	while (access(path, F_OK)) {
+		if (time(NULL) > began + LONGEST_WAIT) fail(path);
+		usleep(10000);
+	}
+}
+
 static void copy_file(const char *from, const char *to)
 {
 	static char buffer[1 << 16];

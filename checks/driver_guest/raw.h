@@ -78,7 +78,10 @@ uint32_t handle_in(const transaction *);	/* the handle of the first object; 0 if
 
 pid_t start(const char *name, void (*process)(void));
 void wait_until(_Atomic int *counter, int least);
+void end_of(pid_t process);			/* waits until it has ended, without an error */
 void in_directory(const char *directory);
+void make_file(const char *name);		/* in that directory, for whoever waits for it */
+void wait_for_file(const char *name);
 void dump_books(const char *suffix);
 void end_all(void);
 #endif

@@ -53,7 +53,7 @@ class Recording:
         self.sides = sorted(folder.glob(f"{name}.side"), key=lambda path: int(path.stem.split("-")[1]))
         if (folder / "capture.side").exists():
             self.sides = [folder / "capture.side"]
-        self.side = "".join(path.read_text() for path in self.sides)
+        self.side = "".join(path.read_text(errors="surrogateescape") for path in self.sides)
         self.is_redacted = " payloads=redacted\n" in self.side
         self.devices = {int(a): b for a, b in re.findall(r"^\d+ device (\d+) .*name=(\S+)", self.side, re.M)}
         self.lost = [(int(n), why) for n, why in re.findall(r"^\d+ lost (\d+) .*why=(\S+)", self.side, re.M)]

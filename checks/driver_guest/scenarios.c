@@ -21,7 +21,8 @@ static const struct scenario *find(const char *name)
 {
 	const struct scenario *const lists[] = {call_scenarios, held_scenarios, end_scenarios, odd_scenarios, many_scenarios,
 					       fault_scenarios, gap_scenarios, greedy_scenarios, client_scenarios,
-					       crowd_scenarios, secret_scenarios, hoard_scenarios};
+					       crowd_scenarios, secret_scenarios, hoard_scenarios,
+					       people_scenarios, before_scenarios};
 	for (size_t i = 0; i < sizeof lists / sizeof *lists; i++)
 		for (const struct scenario *scenario = lists[i]; scenario->name; scenario++)
 			if (!strcmp(scenario->name, name)) return scenario;
@@ -30,8 +31,12 @@ static const struct scenario *find(const char *name)
 
 int main(int count, char **words)
 {
-	const struct scenario *scenario = count > 2 ? find(words[1]) : NULL;
 	struct sigaction interrupted = {.sa_handler = nothing};
+	if (count > 2 && !strcmp(words[1], "person")) {
+		shared = mmap(NULL, SHARED_SIZE, PROT_READ | PROT_WRITE, MAP_SHARED | MAP_ANONYMOUS, -1, 0);
+		return person(words);
+	}
+	const struct scenario *scenario = count > 2 ? find(words[1]) : NULL;
 	if (!scenario) {
 		fprintf(stderr, "usage: scenarios NAME DIRECTORY [NUMBER]\n");
 		return 64;

@@ -20,7 +20,7 @@ def main(auditor, source, to):
         files = [*captures, folder / "capture.side"]
         if len(captures) != 1 or sum(path.stat().st_size for path in files) > LARGEST:
             continue
-        if (folder / "status").read_text().split()[1] not in ("both", "record", "redact", "narrow"):
+        if (folder / "status").read_text().split()[1] not in ("both", "record", "redact", "narrow", "before"):
             continue
         status, text = report_on(auditor, captures)
         if status:
@@ -28,7 +28,7 @@ def main(auditor, source, to):
         kept = to / folder.name
         shutil.rmtree(kept, ignore_errors=True)
         kept.mkdir(parents=True)
-        for path in (*files, *(folder / name for name in books.NAMES)):
+        for path in (*files, *folder.glob("capture.*.*"), *(folder / name for name in books.NAMES)):
             shutil.copyfile(path, kept / path.name)
         (kept / "report.txt").write_text(text)
 

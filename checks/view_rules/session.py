@@ -143,7 +143,7 @@ class Process:
 class Session:
     def __init__(self, has_side=True):
         self.time, self.sequence, self.has_side = 1_000_000_000, 0, has_side
-        self.frames, self.lines, self.missing = [HEADER_2], [], 0
+        self.frames, self.lines, self.missing, self.copies = [HEADER_2], [], 0, {}
         self.tell("begin realtime=1 kernel=6.1 machine=x86_64")
         self.tell("device 0 major=10 minor=1 name=binder")
 
@@ -165,6 +165,13 @@ class Session:
         whose = f" device=0 process={process.number} thread={process.number}" if process else ""
         self.tell(f"lost {self.sequence}{whose} why=ring-full")
         self.missing += 1
+
+    def books(self, moment, **openings):
+        """The driver's book `state`, copied now: of each process, as `of_100`, the lines."""
+        text = "binder state:\n" + "".join(
+            f"proc {name.removeprefix('of_')}\ncontext binder\n{lines}" for name, lines in openings.items())
+        self.copies[f"{moment}.state"] = text
+        self.tell(f"books {moment} state from={self.sequence} after={self.sequence} bytes={len(text)}")
 
     def process(self, number, name, met="from-start"):
         return Process(self, number, name, met)

@@ -1,0 +1,114 @@
+#define _GNU_SOURCE
+#include "books.h"
+#include "file.h"
+#include "kernel.h"
+#include "side.h"
+#include <errno.h>
+#include <fcntl.h>
+#include <stdio.h>
+#include <string.h>
+#include <sys/stat.h>
+#include <unistd.h>
+
+#define LONGEST_PATH 4200u
+#define MOST_BYTES (64u << 20)		/* of a copy; what is longer is not kept */
+#define PIECE 65536u
+
+static const char *const whens[] = { "begin", "end" };
+static const char *const names[] = { "state", "transactions", "stats" };	/* the first one is what matters */
+#define WHENS (sizeof whens / sizeof *whens)
+#define NAMES (sizeof names / sizeof *names)
+
+static void path_of(char *path, const char *out, const char *when, const char *name)
+{
+	snprintf(path, LONGEST_PATH, "%s.%s.%s", out, when, name);
+}
+
+const char *books_in_the_way(const char *out)
+{
+	static char path[LONGEST_PATH];
+	struct stat status;
+	for (size_t i = 0; i < WHENS * NAMES; i++) {
+		path_of(path, out, whens[i / NAMES], names[i % NAMES]);
+		if (!lstat(path, &status))
+			return path;
+	}
+	return NULL;
+}
+
+/* The books of a binderfs are in its folder, if it is mounted with stats=global. They have the processes of all devices,
+ * as those of debugfs have. Writes the path of one of them, and returns whether it can be read. */
+static int is_in_binderfs(char *path, const char *name)
+{
+	char line[8192], folder[4096], sort[64];
+	int is_found = 0;
+	FILE *mounts = fopen("/proc/self/mounts", "r");
+	while (mounts && !is_found && fgets(line, sizeof line, mounts)) {
+		if (sscanf(line, "%*s %4095s %63s", folder, sort) != 2 || strcmp(sort, "binder") || strchr(folder, '\\'))
+			continue;
+		snprintf(path, LONGEST_PATH, "%s/binder_logs/%s", folder, name);
+		is_found = !access(path, R_OK);
+	}
+	if (mounts)
+		fclose(mounts);
+	return is_found;
+}
+
+/* Opens one of the books. Returns a descriptor, or one below 0. */
+static int open_book(const char *name)
+{
+	char path[LONGEST_PATH];
+	if (!is_in_binderfs(path, name))
+		snprintf(path, sizeof path, "/sys/kernel/debug/binder/%s", name);
+	return open(path, O_RDONLY | O_CLOEXEC);
+}
+
+/* Reads the whole of it into the file. The driver makes the text when its first bytes are read, and `after` is the last
+ * number that was taken by then. Returns 0, or an errno. */
+static int read_book(int book, struct file *to, u64 *after)
+{
+	static char piece[PIECE];
+	ssize_t count;
+	while ((count = read(book, piece, sizeof piece)) > 0) {
+		if (!to->bytes)
+			*after = kernel_last_number();
+		if (to->bytes + (u64)count > MOST_BYTES)
+			return EFBIG;
+		file_add(to, piece, (u64)count);
+	}
+	return count < 0 ? errno : 0;
+}
+
+/* Copies one of the books. */
+static void copy_book(const char *out, const char *when, const char *name)
+{
+	char path[LONGEST_PATH];
+	struct file to;
+	u64 time = now(), from = kernel_last_number(), after = from;
+	int book = open_book(name);
+	if (book < 0)
+		return;
+	path_of(path, out, when, name);
+	int error = file_create(&to, path);
+	if (!error)
+		error = read_book(book, &to, &after);
+	if (!error)
+		error = file_flush(&to);
+	if (error)
+		file_remove(&to);
+	u64 bytes = to.bytes;
+	int end_error = file_close(&to);
+	close(book);
+	error = error ? error : end_error;
+	if (error)
+		complain("%s: %s; the driver's books are not copied", path, strerror(error));
+	else
+		side_line(time, "books %s %s from=%llu after=%llu bytes=%llu", when, name, (unsigned long long)from,
+			  (unsigned long long)after, (unsigned long long)bytes);
+}
+
+void books_copy(const char *out, const char *when)
+{
+	for (size_t i = 0; i < NAMES; i++)
+		copy_book(out, when, names[i]);
+}

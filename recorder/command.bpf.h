@@ -1,0 +1,58 @@
+/* What a process is called beyond the 15 bytes of its name: its command line. It is read from the memory of the caller,
+ * as /proc/PID/cmdline would be, but a program here waits for no memory, and so for nobody. */
+#ifndef RECORDER_COMMAND_BPF_H
+#define RECORDER_COMMAND_BPF_H
+#include "copy.bpf.h"
+
+#define LOOK_AGAIN 1000000000u	/* nanoseconds */
+
+/* A sum by which one command line is told from another. */
+static __always_inline u64 sum_of(const struct command *c)
+{
+	u64 sum = 0xcbf29ce484222325ull ^ c->user;
+	for (u32 i = 0; i < COMMAND_BYTES / sizeof sum; i++)
+		sum = (sum ^ ((const u64 *)c->text)[i]) * 0x100000001b3ull;
+	return sum;
+}
+
+static __always_inline void read_command(struct command *c, struct task_struct *task)
+{
+	u64 from = BPF_CORE_READ(task, mm, arg_start), bytes = BPF_CORE_READ(task, mm, arg_end) - from;
+	__builtin_memset(c->text, 0, sizeof c->text);
+	if (bytes > COMMAND_BYTES)
+		bytes = COMMAND_BYTES;
+	BOUND(bytes, 0x1ff);
+	c->user = BPF_CORE_READ(task, cred, euid.val);
+	c->bytes = bytes && !read_memory(c->text, bytes, from) ? bytes : 0;
+}
+
+/* Reports the command line and the user of the caller, the process that opened the device, if they are others than it
+ * reported. It looks at the first call, and then at most once a second, or after exec, or when the first thread has
+ * another name. */
+static __noinline int look_at_command(struct opening *o)
+{
+	struct scratch *s = scratch();
+	struct task_struct *task = bpf_get_current_task_btf();
+	u64 time = bpf_ktime_get_ns(), memory = (u64)BPF_CORE_READ(task, mm);
+	if (!s || !o || (time < o->look_at && memory == o->looked_in))
+		return 0;
+	struct command *c = &s->command;
+	read_command(c, task);
+	u64 sum = sum_of(c);
+	if (!o->has_command || sum != o->command) {
+		c->head.type = MESSAGE_COMMAND;
+		c->head.direction = 0;
+		c->head.number = last_number;
+		c->head.time = time;
+		c->head.opening = o->id;
+		c->head.thread = 0;
+		if (bpf_ringbuf_output(&ring, c, sizeof *c, QUIETLY))
+			return 0;		/* no room: the next call tries again */
+		o->has_command = 1;
+		o->command = sum;
+	}
+	o->look_at = time + LOOK_AGAIN;
+	o->looked_in = memory;
+	return 0;
+}
+#endif
