@@ -12,6 +12,7 @@
 #define FIRST_BYTES 65536u	/* so many bytes of a frame may use the whole ring */
 #define MOST_CPUS 512u
 #define NAME_BYTES 16u
+#define MOST_OF_STACK 64u	/* the most addresses of a stack */
 
 /* The driver takes a last command that goes past write_size. The longest command, BC_TRANSACTION_SG, may have all bytes
  * but its first one there: 4 + 72 - 1 bytes. */
@@ -30,6 +31,7 @@ enum message_type {
 	MESSAGE_NAME,		/* a thread has another name */
 	MESSAGE_LEFT,		/* a thread left by BINDER_THREAD_EXIT */
 	MESSAGE_ENDED,		/* a thread ended */
+	MESSAGE_STACK,		/* the stack of a call, if stacks are taken */
 };
 
 /* Why a number goes unused, or a record has no entry. `reasons` in side.c has their words. */
@@ -93,6 +95,14 @@ struct event {
 		struct { unsigned long long id, process, is_last; } ended;	/* is_last: its process ended too */
 	};
 	char name[NAME_BYTES];
+};
+
+/* The stack of a call that writes: where its functions go on, the innermost one first. */
+struct stack {
+	struct message head;
+	unsigned long long memory, start;	/* its process's mm, and when that process began */
+	unsigned int process, count;
+	unsigned long long addresses[MOST_OF_STACK];	/* only `count` of them are in the ring */
 };
 
 /* What the iterator over open files writes: an opening from before the recording. */

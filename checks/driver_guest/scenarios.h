@@ -7,6 +7,6 @@ struct scenario {
 };
 extern const struct scenario call_scenarios[], held_scenarios[], end_scenarios[], odd_scenarios[], many_scenarios[];
 extern const struct scenario fault_scenarios[], gap_scenarios[], greedy_scenarios[], client_scenarios[];
-extern const struct scenario crowd_scenarios[], secret_scenarios[], hoard_scenarios[];
+extern const struct scenario crowd_scenarios[], secret_scenarios[], hoard_scenarios[], stack_scenarios[];
 extern int scale;	/* how much is done, for scenarios that can do more or less */
 #endif

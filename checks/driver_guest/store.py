@@ -3,12 +3,20 @@
 
 import pathlib
 import shutil
+import subprocess
 import sys
 
 import books
 from recording import Recording, report_on
 
 LARGEST = 200_000	# bytes of a capture with its side list
+
+
+def store_symbols(program, folder):
+    """Of a program whose stacks were recorded only its symbols are kept."""
+    folder.mkdir()
+    subprocess.run(["objcopy", "--only-keep-debug", program, folder / "program.debug"], check=True)
+    (folder / "program.debug").chmod(0o644)
 
 
 def main(auditor, source, to):
@@ -20,7 +28,7 @@ def main(auditor, source, to):
         files = [*captures, folder / "capture.side"]
         if len(captures) != 1 or sum(path.stat().st_size for path in files) > LARGEST:
             continue
-        if (folder / "status").read_text().split()[1] not in ("both", "record", "redact", "narrow"):
+        if (folder / "status").read_text().split()[1] not in ("both", "record", "redact", "narrow", "stacks", "frameless"):
             continue
         status, text = report_on(auditor, captures)
         if status:
@@ -31,6 +39,8 @@ def main(auditor, source, to):
         for path in (*files, *(folder / name for name in books.NAMES)):
             shutil.copyfile(path, kept / path.name)
         (kept / "report.txt").write_text(text)
+        if (folder / "status").read_text().split()[1] == "stacks":
+            store_symbols(folder / "program", kept / "symbols")
 
 
 if __name__ == "__main__":
