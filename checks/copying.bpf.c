@@ -82,6 +82,22 @@ SEC("raw_tp/played") int play_write_done(void *unused)
 
 /* ---- the longest runs */
 
+/* The stack of the call that runs this is taken. */
+SEC("raw_tp/measured") int measure_stack(void *context)
+{
+	struct thread *t = caller();
+	if (!t)
+		return 1;
+	begin_measured_call(t);
+	t->write_number = 1;
+	t->write_told = t->stack_of = 0;
+	u64 begun = bpf_ktime_get_ns();
+	if (wants_stack(t, BC_REPLY) && !wants_stack(t, BC_RELEASE))
+		take_stack(context, t);
+	took = bpf_ktime_get_ns() - begun;
+	return wants_stack(t, BC_REPLY);
+}
+
 /* A read comes back, with as many bytes and attachments as are taken. */
 SEC("raw_tp/measured") int measure_return(void *unused)
 {

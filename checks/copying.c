@@ -9,6 +9,8 @@
 #include <stdlib.h>
 #include <string.h>
 #include <sys/mman.h>
+#include <sys/syscall.h>
+#include <unistd.h>
 #include "ring.h"
 #include "copying.skel.h"
 
@@ -60,6 +62,13 @@ static int compare(const void *one, const void *two)
 	return a < b ? -1 : a > b;
 }
 
+static void tell_times(const char *what, u64 *took, u32 rounds)
+{
+	qsort(took, rounds, sizeof *took, compare);
+	printf("%-66s %8.1f %8.1f %8.1f\n", what, (double)took[0] / 1e3, (double)took[rounds / 2] / 1e3, (double)took[rounds * 9 / 10] / 1e3);
+	free(took);
+}
+
 static void measure(const char *what, const struct bpf_program *measured, u32 rounds, u64 bytes, u32 attachments)
 {
 	u64 *took = allocate(rounds * sizeof *took);
@@ -74,9 +83,7 @@ static void measure(const char *what, const struct bpf_program *measured, u32 ro
 			     (unsigned long long)seen);
 		took[i] = program->bss->took;
 	}
-	qsort(took, rounds, sizeof *took, compare);
-	printf("%-66s %8.0f %8.0f %8.0f\n", what, (double)took[0] / 1e3, (double)took[rounds / 2] / 1e3, (double)took[rounds * 9 / 10] / 1e3);
-	free(took);
+	tell_times(what, took, rounds);
 }
 
 /* ---- a write with data that is not there when the driver begins the command, or that is too much for one run */
@@ -182,6 +189,48 @@ static void play_full_ring(const u8 *data, u8 *returns)
 		fail("of %d reads %u came, and %u attachments were left out", READS, chunks, others);
 }
 
+/* ---- the stack of a call */
+
+static const struct stack *stack;
+
+static void hear_stack(const void *message, u64 bytes)
+{
+	const struct stack *heard = message;
+	static struct stack kept;
+	if (heard->head.type != MESSAGE_STACK || bytes < sizeof *heard - (MOST_OF_STACK - heard->count) * sizeof(u64))
+		fail("a message that is no stack");
+	memcpy(&kept, heard, sizeof *heard - (MOST_OF_STACK - heard->count) * sizeof(u64));
+	stack = &kept;
+}
+
+/* Runs the program in so many calls of this function, which keeps its frame pointer. */
+__attribute__((noinline, optimize("no-omit-frame-pointer", "no-optimize-sibling-calls"))) static long run_deep(u32 depth, union bpf_attr *run)
+{
+	long error = depth ? run_deep(depth - 1, run) : syscall(SYS_bpf, BPF_PROG_TEST_RUN, run, sizeof *run);
+	asm volatile("" : "+r"(error));
+	return error;
+}
+
+/* As many functions as a stack has are in it, and all but the first one are where run_deep goes on. */
+static void measure_stack(u32 rounds)
+{
+	u64 *took = allocate(rounds * sizeof *took);
+	for (u32 i = 0; i < rounds; i++) {
+		union bpf_attr run = { .test = { .prog_fd = (u32)bpf_program__fd(program->progs.measure_stack) } };
+		stack = NULL;
+		long error = run_deep(2 * MOST_OF_STACK, &run);
+		while (ring_drain(&ring, hear_stack) > 0)
+			continue;
+		if (error || run.test.retval || !stack || stack->count != MOST_OF_STACK || stack->process != (u32)getpid() || !stack->start)
+			fail("stack: error %ld, %u functions", error, stack ? stack->count : 0);
+		for (u32 at = 2; at < MOST_OF_STACK; at++)
+			if (stack->addresses[at] != stack->addresses[1] || stack->addresses[at] - (u64)run_deep > 256)
+				fail("stack: function %u is at 0x%llx", at, (unsigned long long)stack->addresses[at]);
+		took[i] = program->bss->took;
+	}
+	tell_times("the stack of a call of as many functions as are taken", took, rounds);
+}
+
 int main(int words, char **word)
 {
 	u32 rounds = words > 1 ? (u32)atoi(word[1]) : 400;
@@ -191,6 +240,8 @@ int main(int words, char **word)
 		fail("the program can't be opened");
 	bpf_program__set_autoload(program->progs.look_at_preemption, false);
 	bpf_map__set_max_entries(program->maps.scratches, (u32)libbpf_num_possible_cpus());
+	bpf_map__set_max_entries(program->maps.stack_scratches, (u32)libbpf_num_possible_cpus());
+	program->rodata->takes_stacks = 1;
 	if (copying__load(program) || ring_open(&ring, bpf_map__fd(program->maps.ring), room))
 		fail("the program can't be loaded: root is needed");
 
@@ -207,5 +258,6 @@ int main(int words, char **word)
 	fill_returns(returns, data, MOST_AT_ONCE / MOST_ATTACHMENTS, MOST_ATTACHMENTS);
 	measure("the longest read, with as many attachments as are taken", program->progs.measure_return, rounds,
 		MOST_AT_ONCE + MOST_RETURNS, MOST_ATTACHMENTS);
+	measure_stack(rounds);
 	return 0;
 }

@@ -51,7 +51,7 @@ _binder_record() { # COMMAND WORD BEFORE
     -o) _binder_audit_files ;;
     --device) _binder_audit_words "$2" 'binder hwbinder vndbinder' ;;
     --size | --files | --pid | --ring) ;;
-    *) _binder_audit_words "$2" '-o --size --files --pid --device --redact --no-attachments --ring --help --' ;;
+    *) _binder_audit_words "$2" '-o --size --files --pid --device --redact --no-attachments --stacks --ring --help --' ;;
   esac
 }
 
@@ -60,7 +60,7 @@ _binder_view() { # COMMAND WORD BEFORE
   case $3 in
     --process | --thread | --from | --to) ;;
     *)
-      _binder_audit_options "$2" '--side --methods -o --database --groups --trace --process --thread --from --to --help'
+      _binder_audit_options "$2" '--side --methods --symbols -o --database --groups --trace --process --thread --from --to --help'
       ;;
   esac
 }

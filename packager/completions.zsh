@@ -61,6 +61,7 @@ case $service in
       '*--device[only this device]:device:(binder hwbinder vndbinder)' \
       '--redact[replace what is secret]' \
       '--no-attachments[leave out the data]' \
+      '--stacks[record stacks of calls]' \
       '--ring[size of the buffer]:a power of two:' \
       '(- *)--help[say what the options do]'
     ;;
@@ -68,6 +69,7 @@ case $service in
     _arguments \
       '*--side[side list, for times and names]:side list:_files' \
       '*--methods[table of methods]:table:_files' \
+      '*--symbols[folder with files that have symbols]:folder:_files -/' \
       '-o[file of the page]:page:_files' \
       '--database[keep the database]:database:_files' \
       '--groups[print the groups of findings]' \

@@ -2,6 +2,7 @@
 #include "met.h"
 #include "names.h"
 #include "side.h"
+#include "stacks.h"
 #include <stdio.h>
 #include <sys/utsname.h>
 #include <time.h>
@@ -50,4 +51,5 @@ void begin_tell_again(u64 number)
 	side_text(line);
 	names_tell_again(number);
 	met_tell_again();
+	stacks_tell_again();
 }

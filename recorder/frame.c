@@ -4,6 +4,7 @@
 #include "parts.h"
 #include "redact.h"
 #include "side.h"
+#include "stacks.h"
 #include <stdlib.h>
 #include <string.h>
 
@@ -177,6 +178,8 @@ static void write_lines(const struct frame *frame, u64 consumed, int attachments
 {
 	unsigned long long number = frame->number;
 	side_line(frame->time, "frame %llu", number);
+	if (frame->stack)
+		stacks_tell_call(frame->time, number, frame->stack);
 	if (frame->is_late)
 		side_line(frame->time, "late %llu commands", number);
 	for (const struct note *note = frame->notes; note; note = note->next) {

@@ -28,6 +28,7 @@ struct frame {
 	u32 expected;			/* where the next chunk begins */
 	int is_broken;			/* a chunk is missing */
 	int is_late;			/* the commands were read late */
+	u32 stack;			/* of its call, as stacks.h numbers it; 0 if there is none */
 	struct entry *entries, *last_entry;	/* in the order of their records */
 	struct note *notes, *last_note;
 	u64 memory;

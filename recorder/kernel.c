@@ -59,6 +59,9 @@ static void set_up(const struct options *options)
 	bpf_map__set_max_entries(program->maps.scratches, (u32)libbpf_num_possible_cpus());
 	program->rodata->ring_limit = options->ring / 16 * 15;
 	program->rodata->no_attachments = (u32)options->no_attachments;
+	program->rodata->takes_stacks = (u32)options->stacks;
+	if (options->stacks)
+		bpf_map__set_max_entries(program->maps.stack_scratches, (u32)libbpf_num_possible_cpus());
 	program->rodata->by_process = options->process_count != 0;
 	program->rodata->by_device = options->device_count != 0;
 }
@@ -209,6 +212,21 @@ u64 kernel_calls_32_bit(void)
 u64 kernel_calls_without_number(void)
 {
 	return program->bss->calls_without_room + program->bss->calls_without_file;
+}
+
+u64 kernel_stacks_without_room(void)
+{
+	return program->bss->stacks_without_room;
+}
+
+u64 kernel_stacks_failed(void)
+{
+	return program->bss->stacks_failed;
+}
+
+u64 kernel_stacks_empty(void)
+{
+	return program->bss->stacks_empty;
 }
 
 /* Kernels before 6.7 do not count what they miss at tracepoints: calls of which only a part was seen show it too. */

@@ -21,5 +21,9 @@ u64 kernel_calls_32_bit(void);
 u64 kernel_calls_without_number(void);
 /* How many events a program did not see, because another one ran on the same CPU. */
 u64 kernel_runs_missed(void);
+/* How many stacks had no room in the ring, could not be taken, or had no address. */
+u64 kernel_stacks_without_room(void);
+u64 kernel_stacks_failed(void);
+u64 kernel_stacks_empty(void);
 void kernel_unload(void);
 #endif

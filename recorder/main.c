@@ -14,6 +14,7 @@
 #include "program.h"
 #include "redact.h"
 #include "side.h"
+#include "stacks.h"
 #include "window.h"
 #include <signal.h>
 #include <stdio.h>
@@ -75,6 +76,7 @@ static long take(struct ring *ring)
 		window_silent_until(bound);
 	if (count)
 		missed_tell();
+	stacks_look();
 	return window_settle() && count < FEW_MESSAGES ? FEW_MESSAGES : count;
 }
 
@@ -126,6 +128,7 @@ static void finish(struct ring *ring)
 		pause_for(LOOK_EVERY);
 	missed_tell();
 	window_end(kernel_last_number());
+	stacks_end();
 	side_line(stopped, "end recording after=%llu frames=%llu lost=%llu", (unsigned long long)window_last(),
 		  (unsigned long long)window_frames(), (unsigned long long)window_lost());
 }
@@ -162,6 +165,9 @@ static void tell_end(const char *audit)
 	add_count(text, sizeof text, "events missed", missed_count(MISSED_EVENTS));
 	add_count(text, sizeof text, "attachments left out", frame_entries_left_out());
 	add_count(text, sizeof text, "calls of 32-bit programs, not recorded", missed_count(MISSED_32_BIT));
+	add_count(text, sizeof text, "stacks not had", missed_count(MISSED_STACK_ROOM) + missed_count(MISSED_STACK_FAILED) +
+		  missed_count(MISSED_STACK_EMPTY) + stacks_forgotten());
+	add_count(text, sizeof text, "processes without maps", stacks_unmapped());
 	parts_commands(audit, commands, sizeof commands);
 	if (parts_kept() < parts_count())
 		add_count(text, sizeof text, "files removed", parts_count() - parts_kept());
@@ -213,6 +219,8 @@ int main(int count, char **words)
 	redact_begin(options.redact);
 	if (options.redact)
 		command_redact();
+	if (options.stacks)
+		stacks_begin();
 	create_files(&options);
 	kernel_meet_openings();
 	if (options.program)

@@ -13,6 +13,7 @@
 #define MOST_CPUS 512u
 #define NAME_BYTES 16u
 #define COMMAND_BYTES 256u	/* the most bytes of a command line */
+#define MOST_OF_STACK 64u	/* the most addresses of a stack */
 
 /* The driver takes a last command that goes past write_size. The longest command, BC_TRANSACTION_SG, may have all bytes
  * but its first one there: 4 + 72 - 1 bytes. */
@@ -32,6 +33,7 @@ enum message_type {
 	MESSAGE_LEFT,		/* a thread left by BINDER_THREAD_EXIT */
 	MESSAGE_ENDED,		/* a thread ended */
 	MESSAGE_COMMAND,	/* the command line of an opening's process, and its user */
+	MESSAGE_STACK,		/* the stack of a call, if stacks are taken */
 };
 
 /* Why a number goes unused, or a record has no entry. `reasons` in side.c has their words. */
@@ -102,6 +104,14 @@ struct command {
 	unsigned int user;		/* the effective user id, in the first namespace */
 	unsigned int bytes;		/* how many bytes of the text count; 0 if it could not be read */
 	char text[COMMAND_BYTES];	/* as in /proc/PID/cmdline */
+};
+
+/* The stack of a call that writes: where its functions go on, the innermost one first. */
+struct stack {
+	struct message head;
+	unsigned long long memory, start;	/* its process's mm, and when that process began */
+	unsigned int process, count;
+	unsigned long long addresses[MOST_OF_STACK];	/* only `count` of them are in the ring */
 };
 
 /* What the iterator over open files writes: an opening from before the recording. */

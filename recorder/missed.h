@@ -3,7 +3,11 @@
 #define RECORDER_MISSED_H
 #include "common.h"
 
-enum missed { MISSED_EVENTS, MISSED_NUMBERS, MISSED_32_BIT, MISSED_END };
+enum missed {
+	MISSED_EVENTS, MISSED_NUMBERS, MISSED_32_BIT,
+	MISSED_STACK_ROOM, MISSED_STACK_FAILED, MISSED_STACK_EMPTY,	/* stacks that a frame has not */
+	MISSED_END
+};
 
 /* The recording begins: what was counted before does not matter. */
 void missed_begin(void);

@@ -14,7 +14,7 @@
 
 static const char usage[] =
 	"record [-o OUT] [--size BYTES] [--files N] [--pid PID].. [--device NAME].. [--redact]"
-	" [--no-attachments] [-- PROGRAM ARGUMENT...]";
+	" [--no-attachments] [--stacks] [-- PROGRAM ARGUMENT...]";
 
 static const char help[] =
 	"Records the Binder traffic of the whole system until PROGRAM ends, or until SIGINT or SIGTERM, into\n"
@@ -29,6 +29,7 @@ static const char help[] =
 	"--redact           replaces what is secret in the data of transactions and replies by bytes that tell nothing of it,\n"
 	"                   and keeps only the first word of command lines\n"
 	"--no-attachments   leaves out the data of transactions and replies\n"
+	"--stacks           also records the stacks of calls that write, as far as programs keep frame pointers\n"
 	"--ring BYTES       the size of the buffer between kernel and recorder, a power of two; by default 67108864\n"
 	"\n"
 	"The exit status is that of PROGRAM, or 128 and the number of its signal; 1 if no recording was made.\n";
@@ -67,6 +68,7 @@ static void take(struct options *options, int letter)
 	case 'd': add_device(options, optarg); break;
 	case 'x': options->redact = 1; break;
 	case 'a': options->no_attachments = 1; break;
+	case 't': options->stacks = 1; break;
 	case 'r': options->ring = number("--ring", optarg, SMALLEST_RING, LARGEST_RING); break;
 	case 'h': printf("%s\n\n%s", usage, help); exit(0);
 	default: fail("usage: %s", usage);
@@ -80,6 +82,7 @@ void options_read(struct options *options, int count, char **words)
 		{ "files", required_argument, NULL, 'f' },
 		{ "pid", required_argument, NULL, 'p' }, { "device", required_argument, NULL, 'd' },
 		{ "redact", no_argument, NULL, 'x' }, { "no-attachments", no_argument, NULL, 'a' }, { "ring", required_argument, NULL, 'r' },
+		{ "stacks", no_argument, NULL, 't' },
 		{ "help", no_argument, NULL, 'h' }, { NULL, 0, NULL, 0 },
 	};
 	*options = (struct options){ .out = "capture", .size = 268435456, .ring = 67108864 };
@@ -92,6 +95,8 @@ void options_read(struct options *options, int count, char **words)
 		options->program = words + optind;
 	if (options->ring & (options->ring - 1))
 		fail("--ring takes a power of two, not %llu", (unsigned long long)options->ring);
+	if (options->stacks && options->redact)
+		fail("--stacks does not go with --redact: it records paths of files and addresses of code");
 	if (!*options->out || strlen(options->out) > 4000)
 		fail("-o takes the start of the files' names");
 }

@@ -13,7 +13,7 @@ struct options {
 	u32 processes[MOST_NAMED], process_count;
 	const char *devices[MOST_NAMED];
 	u32 device_count;
-	int redact, no_attachments;
+	int redact, no_attachments, stacks;
 	char **program;			/* NULL if there is none */
 };
 

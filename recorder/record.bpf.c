@@ -1,6 +1,6 @@
 /* The recorder's program in the kernel: what it does at each event of the driver and of the scheduler. */
-#include "copy.bpf.h"
 #include "command.bpf.h"
+#include "stacks.bpf.h"
 
 extern const void binder_fops __ksym __weak;
 
@@ -352,6 +352,8 @@ SEC("tp/binder/binder_command") int at_command(struct number_fields *fields)
 	t->commands++;
 	if (t->write_number && !t->write_told)
 		take_command(t, record, word);
+	if (takes_stacks && wants_stack(t, word))
+		take_stack(fields, t);
 	return 0;
 }
 

@@ -37,7 +37,8 @@ struct thread {
 	u32 attachments, is_over;	/* of this call; is_over: the frame gets no more of them */
 	u32 reads_own_memory, process;
 	u32 has_late, late;		/* a record whose data the next run copies */
-	u32 bits, unused;		/* of its last call: 32 or 64 */
+	u32 bits;			/* of its last call: 32 or 64 */
+	u32 stack_of;			/* the last 32 bits of the number of the last write whose stack was asked for */
 	u64 start;
 	char name[NAME_BYTES];
 };

@@ -2,6 +2,7 @@
 #include "frame.h"
 #include "names.h"
 #include "side.h"
+#include "stacks.h"
 #include <stdarg.h>
 #include <stdio.h>
 #include <stdlib.h>
@@ -292,6 +293,13 @@ static void hear_note(const struct event *event)
 	memory += frame->memory;
 }
 
+static void hear_stack(const struct stack *stack)
+{
+	struct slot *slot = slot_of(stack->head.number);
+	if (slot && slot->state == WAITING && slot->frame)
+		slot->frame->stack = stacks_hear(stack);
+}
+
 static void hear_event(const struct event *event)
 {
 	const struct message *head = &event->head;
@@ -329,6 +337,8 @@ void window_hear(const void *message, u64 bytes)
 		hear_piece(message);
 	else if (head->type == MESSAGE_COMMAND)
 		names_command(message);
+	else if (head->type == MESSAGE_STACK)
+		hear_stack(message);
 	else
 		hear_event(message);
 }

@@ -224,6 +224,13 @@ def number(word: str) -> int:
     return signed(int(word))
 
 
+def address(word: str) -> int:
+    """An address of at most 64 bits, as SQLite has it."""
+    if not re.fullmatch("0x[0-9a-f]{1,16}", word):
+        raise ValueError(word)
+    return signed(int(word, 16))
+
+
 def numbers(words: list[str], count: int) -> list[int]:
     """The first `count` of some numbers; it is an error if there are fewer."""
     if len(words) < count:
@@ -273,8 +280,14 @@ def joined_sides(paths: list[str], to: pathlib.Path) -> str:
     return str(to)
 
 
+# The most addresses of a stack.
+MOST_OF_STACK = 64
+
 # The time and the number of a frame, of at most 18 digits each.
 FRAME_LINE = re.compile(r"([0-9]{1,18}) frame ([0-9]{1,18})\n")
+
+# The number of a frame and that of its stack.
+CALL_LINE = re.compile(r"[0-9]{1,18} call ([0-9]{1,18}) stack=([0-9]{1,18})\n")
 
 
 class SideList:
@@ -284,6 +297,7 @@ class SideList:
         self.database, self.has_times = database, has_times
         self.facts: dict[str, object] = {"side_list": 1}
         self.pending: list[tuple[int, int]] = []
+        self.calls: list[tuple[str, str]] = []
         self.frame: re.Match[str] | None = None
         self.told = 0
         self.copies: list[held.Copy] = []
@@ -319,11 +333,13 @@ class SideList:
 
     def read_lines(self, lines: Iterable[str], path: str) -> None:
         for line in lines:
-            # Nearly all lines are those of frames, so they are not split like the others.
+            # Nearly all lines are those of frames and of their stacks, so they are not split like the others.
             if frame := FRAME_LINE.match(line):
                 self.frame = frame
                 if not self.has_times:
                     self.add_time(int(frame[1]), int(frame[2]))
+            elif call := CALL_LINE.match(line):
+                self.add_call(call[1], call[2])
             elif line.endswith("\n"):
                 self.take(line_of(line[:-1], path), path)
 
@@ -340,10 +356,17 @@ class SideList:
     def flush(self) -> None:
         self.database.executemany("INSERT OR REPLACE INTO side_time(ts, seq) VALUES (?, ?)", self.pending)
         self.pending.clear()
+        self.database.executemany("INSERT OR REPLACE INTO side_call VALUES (?, ?)", self.calls)
+        self.calls.clear()
 
     def add_time(self, time: int, seq: int) -> None:
         self.pending.append((time, seq))
         if len(self.pending) >= 100_000:
+            self.flush()
+
+    def add_call(self, seq: str, stack: str) -> None:
+        self.calls.append((seq, stack))
+        if len(self.calls) >= 100_000:
             self.flush()
 
     def take_frame(self, time: int, positional: list[str], _: dict[str, str]) -> None:
@@ -404,6 +427,31 @@ class SideList:
         self.database.execute("INSERT INTO side_missed(count, what, from_seq, after, ts) VALUES (?, ?, ?, ?, ?)",
                               (*numbers(positional, 1), keyed["what"], number(keyed["from"]), number(keyed["after"]),
                                time))
+
+    def take_call(self, _: int, positional: list[str], keyed: dict[str, str]) -> None:
+        """A line that is not of the usual form."""
+        seq, = numbers(positional, 1)
+        self.database.execute("INSERT OR REPLACE INTO side_call VALUES (?, ?)", (seq, number(keyed["stack"])))
+
+    def take_stack(self, _: int, positional: list[str], keyed: dict[str, str]) -> None:
+        stack, memory, pid = *numbers(positional, 1), number(keyed["memory"]), number(keyed["pid"])
+        self.database.executemany("INSERT OR REPLACE INTO side_pc VALUES (?, ?, ?, ?, ?)",
+                                  [(stack, idx, memory, pid, address(word))
+                                   for idx, word in enumerate(keyed["pcs"].split(",", MOST_OF_STACK)[:MOST_OF_STACK])])
+
+    def take_map(self, _: int, positional: list[str], keyed: dict[str, str]) -> None:
+        """The address of a file that is not known is the place in it."""
+        start, end, offset = (address(keyed[name]) for name in ("start", "end", "offset"))
+        known, build_id = keyed["address"] != "-", keyed["build-id"]
+        if not re.fullmatch("-|([0-9a-f]{2}){1,64}", build_id):
+            raise ValueError(build_id)
+        self.database.execute("INSERT OR REPLACE INTO side_map VALUES (?, ?, ?, ?, ?, ?)",
+                              (*numbers(positional, 1), start, end, address(keyed["address"]) if known else offset,
+                               None if build_id == "-" else build_id, keyed["name"]))
+
+    def take_unstacked(self, _: int, positional: list[str], keyed: dict[str, str]) -> None:
+        self.database.execute("INSERT INTO side_unstacked(count, what, from_seq, after) VALUES (?, ?, ?, ?)",
+                              (*numbers(positional, 1), keyed["what"], number(keyed["from"]), number(keyed["after"])))
 
     def take_end(self, time: int, positional: list[str], keyed: dict[str, str]) -> None:
         after, what = number(keyed["after"]), positional[0]
@@ -546,7 +594,7 @@ def named_numbers(database: sqlite3.Connection) -> dict[str, int]:
 
 
 # The files that judge the rows of the report, in order.
-JUDGING = ("nodes.sql", "names.sql", "facts.sql", "ages.sql", "waits.sql", "rules.sql", "groups.sql")
+JUDGING = ("nodes.sql", "names.sql", "facts.sql", "ages.sql", "waits.sql", "rules.sql", "groups.sql", "stacks.sql")
 
 
 def judge(database: sqlite3.Connection, folder: pathlib.Path = FOLDER) -> None:
@@ -597,6 +645,14 @@ def refuse_unreadable(files: list[str]) -> None:
     for name in files:
         try:
             open(name, "rb").close()
+        except OSError as error:
+            raise Stopped(4, f"{name}: {error.strerror}") from error
+
+
+def refuse_no_folder(folders: list[str]) -> None:
+    for name in folders:
+        try:
+            os.scandir(name).close()
         except OSError as error:
             raise Stopped(4, f"{name}: {error.strerror}") from error
 

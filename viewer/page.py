@@ -8,6 +8,7 @@ import pathlib
 import shlex
 import sqlite3
 import unicodedata
+from collections import Counter
 from typing import Iterator, NamedTuple
 
 from viewer import agreement, columns
@@ -15,12 +16,16 @@ from viewer.called import called
 from viewer.lane import lane_of
 from viewer.loading import Stopped, for_owner
 from viewer.names import Names
+from viewer.stacks import Frame, Stacks
 from viewer.units import code_name, counted, duration_of
 
 FOLDER = pathlib.Path(__file__).resolve().parent
 
 # The most rows of a block, findings of a group and lanes of a page. The rest is counted.
 ROWS, FINDINGS, LANES = 1000, 100, 300
+
+# The frames of a stack that are not folded, and the most stacks of a group.
+FRAMES, STACKS = 12, 4
 
 VERDICTS = ("real", "maybe", "explained", "normal")
 
@@ -144,6 +149,7 @@ class Page:
         self.who = dict(database.execute("SELECT upid, who FROM who"))
         self.rules = dict(database.execute("SELECT id, text FROM rule"))
         self.names = Names(database)
+        self.stacks = Stacks(database)
         self.lanes = 0
 
     def ask(self, query: str, *values: object) -> list[tuple]:
@@ -207,6 +213,11 @@ class Page:
         if missed:
             yield ("Missed without a number, so that frames of any process may be missing: "
                    + ", ".join(f"{number_of(count)} {text_of(what)}" for what, count in missed) + ".")
+        unstacked = self.ask("SELECT what, sum(count) FROM side_unstacked, raw_capture c WHERE after >= c.first_seq - 1"
+                             " AND from_seq <= c.last_seq GROUP BY 1 ORDER BY 1")
+        if unstacked:
+            yield ("Stacks that the recorder does not have: "
+                   + ", ".join(f"{number_of(count)} {text_of(what)}" for what, count in unstacked) + ".")
         if self.facts.get("payloads") == "redacted":
             yield "Payloads are redacted: only their objects and interface tokens are as they were."
         if "end_ts" not in self.facts:
@@ -267,7 +278,7 @@ class Page:
                 f'<span class="count">{count}{waits}</span><span class="who">{self.who_of(number)}</span>'
                 f'<span class="marks">{marks}<br><span class="of">{span}</span></span>')
         return (f'<details class="group {verdict}" id="group-{number}"><summary>{line}</summary><div class="inner">'
-                f"{self.findings(number, found)}{self.lane(verdict, found)}</div></details>\n")
+                f"{self.findings(number, found)}{self.stacks_of(number, n)}{self.lane(verdict, found)}</div></details>\n")
 
     def findings(self, group: int, found: list[tuple]) -> str:
         more = (f'<p class="of">and more: SELECT * FROM finding JOIN finding_head USING (id) WHERE grp = {group}</p>'
@@ -304,6 +315,45 @@ class Page:
         lines = "\n".join(f"<b>{text_of(line)}</b>" if bold else text_of(line)
                           for line, bold in lane_of(self.database, self.names, *at))
         return f'<p class="of">What its thread did around place {at[1]}:</p><pre class="lane" tabindex=0>{lines}</pre>'
+
+    def frame(self, frame: Frame) -> str:
+        """A function of a stack, or the place in a file."""
+        file = name_of(frame.file) if frame.path else "code in no file" if frame.path == "" else "not mapped"
+        if frame.function is None:
+            at = f"0x{frame.pc:x}" if frame.address is None or not frame.path else f"0x{frame.address:x}"
+            return f"<li>{file}+{at}\n" if frame.path and frame.address is not None else f"<li>{at}, {file}\n"
+        source = f"{name_of(frame.source)}, " if frame.source else ""
+        inside = "inlined in the next, " if frame.is_inlined else ""
+        return f'<li><b>{name_of(frame.function)}</b> <span class="of">{inside}{source}{file}</span>\n'
+
+    def frames(self, stack: int) -> str:
+        """The functions of a stack, the innermost one first. Those after the first twelve are folded."""
+        lines = [self.frame(frame) for frame in self.stacks.frames(stack)]
+        more = "".join(lines[FRAMES:])
+        return (f'<ol class="stack">{"".join(lines[:FRAMES])}</ol>'
+                + (f"<details><summary>{counted(len(lines) - FRAMES, 'more frame')}</summary>"
+                   f'<ol class="stack" start={FRAMES + 1}>{more}</ol></details>' if more else ""))
+
+    def stacks_of(self, group: int, count: int) -> str:
+        """The stack that tells of the first finding of a group, and folded what else tells of it, and the other stacks
+        of the group. Of each it says whose it is, and of how many findings it is the first."""
+        rows = self.asked("stacks", group) if self.stacks.are_there else []
+        shapes = [self.stacks.shape(stack) for _, _, stack, *_ in rows]
+        firsts = [at for at, row in enumerate(rows) if at == 0 or rows[at - 1][0] != row[0]]
+        how_often = Counter(shapes[at] for at in firsts)
+        shown: dict[object, str] = {}
+        for at in [*(at for at, row in enumerate(rows) if row[0] == rows[0][0]), *firsts]:
+            _, place, stack, whose, upid, thread = rows[at]
+            if shapes[at] in shown:
+                continue
+            if len(shown) == STACKS:
+                break
+            often = f"; {number_of(how_often[shapes[at]])} of {number_of(count)} have it" if how_often[shapes[at]] else ""
+            head = f"stack of {self.name(upid)} thread {thread} at place {place}, {text_of(whose)}{often}"
+            shown[shapes[at]] = (f"<details><summary>The {head}</summary>{self.frames(stack)}</details>" if shown
+                                 else f'<p class="of">The {head}:</p>{self.frames(stack)}')
+        left = len(how_often.keys() - shown.keys())
+        return "".join(shown.values()) + (f'<p class="of">and {counted(left, "other stack")}</p>' if left else "")
 
     def groups(self, *verdicts: str) -> str:
         """The groups of some verdicts, one after another."""
@@ -409,6 +459,16 @@ class Page:
                 + table_of("interfaces and methods", ["interface", "#code", "method", "source", "#sends"], cells)
                 + "</details>") if rows else ""
 
+    def files(self) -> str:
+        """The files that the frames of stacks are in; nothing if there are no stacks."""
+        rows = self.asked("files", ROWS) if self.stacks.are_there else []
+        cells = [[Cell(name_of(path)), Cell(f"<code>{text_of(build_id)}</code>"), number_cell(frames), number_cell(named)]
+                 for path, build_id, frames, named in rows]
+        return ('<details class="fold"><summary>Files that the stacks are in</summary><p class="dim">--symbols names the'
+                " functions in a file if it finds one with the same build-id that has symbols"
+                " (docs/VIEW.md#stacks).</p>" + table_of("files", ["file", "build-id", "#frames", "#named"], cells)
+                + "</details>") if rows else ""
+
     def heads(self) -> str:
         lines = "".join(f'<div class="proved">{text_of(text)}</div>' for text, in
                         self.ask("SELECT text FROM report WHERE section = 'head' ORDER BY id"))
@@ -437,6 +497,7 @@ class Page:
                " nothing, and a call ends with its thread.</p>" + self.levels())
         yield "<h2>Calls without an answer, and those that took longest</h2>" + self.slow_calls()
         yield self.methods()
+        yield self.files()
         yield ('<details class="fold"><summary>Normal rows: references that are held or were let go, and requests that'
                " wait</summary>" + self.groups("normal") + "</details>")
         yield "<h2>The heads of the proved report</h2>" + self.heads()

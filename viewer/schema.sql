@@ -1,7 +1,8 @@
 -- The database of a capture. docs/DATABASE.md describes it as an interface, and this is the version of that interface.
 -- Since version 3, interface is new, and the column interface of record, listing, call, send and delivery.
 -- Since version 4, method and node_interface are new.
--- Since version 6, command and uid of process are new, and the names that begin with book, and disagreement.
+-- Since version 5, command and uid of process, the names that begin with book, disagreement, side_call, side_unstacked,
+-- stack and finding_stack are.
 PRAGMA user_version = 6;
 
 -- ---- raw tables: the rows that `./listing --tables` writes, column by column
@@ -264,6 +265,19 @@ CREATE TABLE book_call(id INTEGER PRIMARY KEY, moment TEXT NOT NULL, upid INTEGE
   tid INTEGER NOT NULL, side TEXT NOT NULL, number INTEGER, code INTEGER) STRICT;
 CREATE TABLE disagreement(id INTEGER PRIMARY KEY, upid INTEGER NOT NULL, section TEXT NOT NULL, what TEXT NOT NULL,
   report INTEGER NOT NULL, books INTEGER NOT NULL) STRICT;
+-- The stacks of calls. A memory is that of a process, from its start or from exec on; idx 0 is the innermost function, and
+-- pc is where it goes on. A map is told with the address that the symbols of its file have where it starts.
+CREATE TABLE side_call(seq INTEGER PRIMARY KEY, stack INTEGER NOT NULL) STRICT;
+CREATE TABLE side_pc(stack INTEGER, idx INTEGER, memory INTEGER NOT NULL, pid INTEGER NOT NULL, pc INTEGER NOT NULL,
+  PRIMARY KEY(stack, idx)) STRICT, WITHOUT ROWID;
+CREATE TABLE side_map(memory INTEGER, start INTEGER, end INTEGER NOT NULL, address INTEGER NOT NULL, build_id TEXT,
+  path TEXT NOT NULL, PRIMARY KEY(memory, start)) STRICT, WITHOUT ROWID;
+CREATE TABLE side_unstacked(id INTEGER PRIMARY KEY, what TEXT NOT NULL, count INTEGER NOT NULL,
+  from_seq INTEGER NOT NULL, after INTEGER NOT NULL) STRICT;
+-- What the files of --symbols say of these addresses. `inlined` is 0 for the innermost function at an address, and rises
+-- to the one into which the others were put.
+CREATE TABLE symbol(build_id TEXT, address INTEGER, inlined INTEGER, function TEXT NOT NULL, source TEXT,
+  PRIMARY KEY(build_id, address, inlined)) STRICT, WITHOUT ROWID;
 CREATE TABLE capture(key TEXT PRIMARY KEY, value) WITHOUT ROWID;
 CREATE TABLE report(id INTEGER PRIMARY KEY, section TEXT NOT NULL, place INTEGER, device INTEGER, process INTEGER,
   text TEXT NOT NULL) STRICT;
@@ -402,6 +416,16 @@ CREATE VIEW node_interface AS
 SELECT o.upid, o.ptr, i.name AS interface, o.n, o.others
 FROM object_interface o JOIN interface i ON i.id = o.interface WHERE o.upid > 0;
 
+-- The frames of the stacks. The map of a frame is that of the call from which its function returns to pc.
+CREATE VIEW stack AS
+SELECT f.stack, f.idx, coalesce(y.inlined, 0) AS inlined, f.pid, f.pc, f.path, f.build_id, f.address, y.function,
+  y.source
+FROM (SELECT p.stack, p.idx, p.pid, p.pc, m.path, m.build_id,
+    CAST(m.address + (p.pc - m.start) AS INTEGER) AS address
+  FROM side_pc p LEFT JOIN side_map m ON m.memory = p.memory AND m.end >= p.pc
+    AND m.start = (SELECT max(start) FROM side_map x WHERE x.memory = p.memory AND x.start < p.pc)) f
+  LEFT JOIN symbol y ON y.build_id = f.build_id AND y.address = f.address;
+
 -- ---- what each name rests on
 
 CREATE TABLE about(name TEXT PRIMARY KEY, rests_on TEXT NOT NULL
@@ -422,6 +446,9 @@ INSERT INTO about VALUES
   ('book_buffer', 'side', 'a buffer of an opening in such a copy'),
   ('book_call', 'side', 'a call that a thread had open in such a copy'),
   ('disagreement', 'inferred', 'where the report and the books at the end differ'),
+  ('side_call', 'side', 'the stack of the call that wrote a frame'),
+  ('side_unstacked', 'side', 'stacks that the recorder did not have, and why'),
+  ('stack', 'side', 'the frames of a stack; function and source are from the files of --symbols'),
   ('frame', 'bytes', 'what one call wrote or read; ts, in nanoseconds, is from the side list'),
   ('record', 'bytes', 'a record, with its fields by the names of binder.h; a field that it has not is NULL'),
   ('object', 'bytes', 'an object of an attachment, up to the first bad one'),
@@ -441,6 +468,7 @@ INSERT INTO about VALUES
   ('peer', 'inferred', 'the nodes that a generation of a handle was seen to lead to'),
   ('node_of', 'inferred', 'the one of them that is taken'),
   ('finding_head', 'inferred', 'which group a finding is in'),
+  ('finding_stack', 'inferred', 'the stacks that tell of a finding, the first one by n first, and whose they are'),
   ('finding', 'inferred', 'a row of the report, or a oneway send that never came, with the rule that judged it'),
   ('finding_group', 'inferred', 'findings of one path in one line: n of all'),
   ('rule', 'inferred', 'the rules: id, verdict, and one sentence of why'),

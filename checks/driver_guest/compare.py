@@ -19,6 +19,7 @@ from collections import Counter, defaultdict
 import books as books_of
 from recording import Recording, Report, frames_of, report_on
 from sections import both
+from stacked import stack_differences
 
 HERE = pathlib.Path(__file__).resolve().parent
 ROOT = HERE.parents[1]
@@ -307,6 +308,8 @@ class Scenario:
         self.output = (folder / "output").read_text(errors="replace") if (folder / "output").exists() else ""
         self.report = Report(text) if code == 0 else None
         self.has_copies = self.how != "stored" or " books end state " in self.recording.side
+        self.has_stacks = self.how in ("stacks", "frameless") or bool(re.search(r"^\d+ stack ", self.recording.side, re.M))
+        self.program = next((path for path in (folder / "program", *folder.glob("symbols/*")) if path.exists()), None)
         if self.how == "stored" and self.recording.lost:
             self.how = "narrow"
         if self.how == "stored" and self.recording.met:
@@ -368,6 +371,9 @@ class Scenario:
         if self.how == "both":
             found += witness_differences(self.recording, self.folder)
             seen.add("witness")
+        if self.has_stacks:
+            found += stack_differences(self.recording, self.name.endswith("frameless"), self.program)
+            seen.add("stacks")
         if self.status != "0":
             found.append(("status", "all", "program", self.status, 0))
         return found, seen

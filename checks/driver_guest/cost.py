@@ -1,5 +1,5 @@
 #!/usr/bin/env python3
-"""cost.py FOLDER: prints how long the loads of a boot took, bare, with the recorder and with the witness."""
+"""cost.py FOLDER: prints how long the loads of a boot took: bare, with the recorder, also with stacks, with the witness."""
 
 import pathlib
 import re
@@ -16,7 +16,7 @@ def seconds(folder):
 def main(folder):
     times = defaultdict(list)
     for path in sorted(pathlib.Path(folder).iterdir()):
-        if found := re.match(r"(bare|record|witness)-(\d+)", path.name):
+        if found := re.match(r"(bare|record|stacks|witness)-(\d+)", path.name):
             if (path / "moment").exists():
                 times[int(found[2]), found[1]].append(seconds(path))
     if not times:

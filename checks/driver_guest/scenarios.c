@@ -22,7 +22,7 @@ static const struct scenario *find(const char *name)
 	const struct scenario *const lists[] = {call_scenarios, held_scenarios, end_scenarios, odd_scenarios, many_scenarios,
 					       fault_scenarios, gap_scenarios, greedy_scenarios, client_scenarios,
 					       crowd_scenarios, secret_scenarios, hoard_scenarios,
-					       people_scenarios, before_scenarios};
+					       people_scenarios, before_scenarios, stack_scenarios};
 	for (size_t i = 0; i < sizeof lists / sizeof *lists; i++)
 		for (const struct scenario *scenario = lists[i]; scenario->name; scenario++)
 			if (!strcmp(scenario->name, name)) return scenario;

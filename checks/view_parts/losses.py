@@ -96,7 +96,7 @@ def without_numbers_of(lost: set[int], capture: bytes, side: str) -> tuple[bytes
             at = fallen(int(rest[0]))
             lines.append(f"{time} missed 1 what=events from={at} after={at}\n")
             continue
-        lines.append(re.sub(r"( after=|^\d+ (?:frame|late|lost|unattached) )(\d+)",
+        lines.append(re.sub(r"( after=|^\d+ (?:frame|late|lost|unattached|call) )(\d+)",
                             lambda found: found[1] + str(fallen(int(found[2]))), line))
     return bytes(made), "".join(lines)
 
@@ -111,7 +111,7 @@ def without(capture: bytes, side: str, loss: Loss) -> tuple[bytes, str]:
     lines = []
     for line in side.splitlines(keepends=True):
         time, word, *rest = line.split()
-        frame = lost.get(int(rest[0])) if word in ("frame", "late", "unattached") else None
+        frame = lost.get(int(rest[0])) if word in ("frame", "late", "unattached", "call") else None
         if frame is None:
             lines.append(line)
         elif word == "frame":

@@ -144,6 +144,7 @@ class Session:
     def __init__(self, has_side=True):
         self.time, self.sequence, self.has_side = 1_000_000_000, 0, has_side
         self.frames, self.lines, self.missing, self.copies = [HEADER_2], [], 0, {}
+        self.stack = None
         self.tell("begin realtime=1 kernel=6.1 machine=x86_64")
         self.tell("device 0 major=10 minor=1 name=binder")
 
@@ -157,7 +158,13 @@ class Session:
         self.wait(1)
         self.sequence += 1
         self.tell(f"frame {self.sequence}")
+        if direction == 1 and self.stack is not None:
+            self.tell(f"call {self.sequence} stack={self.stack}")
         self.frames.append(frame(direction, self.sequence, thread.process.number, thread.number, records, entries))
+
+    def with_stack(self, stack):
+        """From now on writes have this stack; None: they have none."""
+        self.stack = stack
 
     def loses(self, process=None):
         """A frame is lost; the side list says whose it was, if a process is given."""

@@ -1,0 +1,267 @@
+/* maps OUT: gives the recorder's loader stacks, of this process and of others that are not there, and lets it read whole
+ * and damaged files. See maps. */
+#define _GNU_SOURCE
+#include "code_file.h"
+#include "frame.h"
+#include "maps.h"
+#include "parts.h"
+#include "redact.h"
+#include "side.h"
+#include "stacks.h"
+#include "window.h"
+#include <fcntl.h>
+#include <linux/android/binder.h>
+#include <stdio.h>
+#include <stdlib.h>
+#include <string.h>
+#include <sys/mman.h>
+#include <sys/resource.h>
+#include <time.h>
+#include <unistd.h>
+
+enum {
+	DAMAGED = 20000,	/* files */
+	MANY = 40000,		/* different stacks */
+	STRANGER = 4194303,	/* the id of no process */
+};
+
+static int failed;
+static u64 last;
+static char *list;		/* what the side list has so far */
+
+static void should(int is_so, const char *what, double value)
+{
+	if (is_so)
+		return;
+	printf("checks/maps: %s: %g\n", what, value);
+	failed = 1;
+}
+
+static double processor_seconds(void)
+{
+	struct timespec time;
+	clock_gettime(CLOCK_PROCESS_CPUTIME_ID, &time);
+	return (double)time.tv_sec + (double)time.tv_nsec / 1e9;
+}
+
+static double mebibytes(void)
+{
+	struct rusage used;
+	getrusage(RUSAGE_SELF, &used);
+	return (double)used.ru_maxrss / 1024;
+}
+
+static char *all_of(const char *path, u64 *bytes)
+{
+	FILE *file = fopen(path, "r");
+	char *text = allocate(64 << 20);
+	if (!file)
+		fail("%s can't be opened", path);
+	*bytes = fread(text, 1, (64 << 20) - 1, file);
+	text[*bytes] = 0;
+	fclose(file);
+	return text;
+}
+
+static void read_list(void)
+{
+	u64 bytes;
+	side_flush();
+	free(list);
+	list = all_of(side_path(), &bytes);
+}
+
+/* How often the side list has a text. (With the sanitizers strstr looks at the whole rest each time.) */
+static int times(const char *text)
+{
+	int found = 0;
+	for (const char *at = list; *at; at++) {
+		u32 same = 0;
+		while (text[same] && at[same] == text[same])
+			same++;
+		found += !text[same];
+	}
+	return found;
+}
+
+/* ---- files */
+
+static int file_with(const char *bytes, u64 count)
+{
+	static int file = -1;
+	if (file < 0)
+		file = memfd_create("damaged", 0);
+	if (file < 0 || ftruncate(file, 0) || pwrite(file, bytes, count, 0) != (ssize_t)count)
+		fail("no file can be made");
+	return file;
+}
+
+static int is_same(const struct code_file *one, const struct code_file *other)
+{
+	return one->build_id_bytes == other->build_id_bytes && !memcmp(one->build_id, other->build_id, MOST_BUILD_ID) &&
+	       one->segment_count == other->segment_count;
+}
+
+/* A damaged file has a build-id or none, and is read in a moment. The sanitizers see what is read beyond its end. */
+static void damaged_files(const char *self)
+{
+	u64 bytes;
+	char *whole = all_of(self, &bytes), *made = allocate(bytes);
+	struct code_file good = code_file_read(file_with(whole, bytes));
+	double began = processor_seconds();
+	int same = 0;
+	should(good.build_id_bytes == 20 && good.segment_count == 1, "the build-id of this program", good.build_id_bytes);
+	srand(7);
+	for (int i = 0; i < DAMAGED; i++) {
+		u64 count = i % 2 ? bytes : (u64)rand() % 4096;
+		memcpy(made, whole, count);
+		for (int change = rand() % 20; change >= 0 && count; change--)
+			made[(u64)rand() % (count < 1024 ? count : 1024)] = (char)(rand() % 3 ? 0xff : rand());
+		struct code_file found = code_file_read(file_with(made, count));
+		should(found.build_id_bytes <= MOST_BUILD_ID && found.segment_count <= MOST_SEGMENTS, "a damaged file", i);
+		same += is_same(&found, &good);
+	}
+	should(same > 0 && same < DAMAGED, "damaged files like the whole one", same);
+	should(processor_seconds() - began < 20, "seconds for damaged files", processor_seconds() - began);
+	free(whole);
+	free(made);
+}
+
+static void addresses_of_files(void)
+{
+	struct code_file file = { .segment_count = 2, .segments = { { 0x1040, 0x500, 0x3040 }, { 0x8000, 0x100, 0x20000 } } };
+	u64 address = 0;
+	should(code_file_address(&file, 0x1000, 0x1000, &address) && address == 0x3000, "a map from before its code", (double)address);
+	should(code_file_address(&file, 0x8000, 0x1000, &address) && address == 0x20000, "a map of the second code", (double)address);
+	should(!code_file_address(&file, 0x4000, 0x1000, &address), "a map of no code", (double)address);
+}
+
+/* ---- stacks */
+
+/* When this process began, as the kernel counts it. */
+static u64 own_start(void)
+{
+	unsigned long long ticks = 0;
+	u64 bytes;
+	char *text = all_of("/proc/self/stat", &bytes), *rest = strrchr(text, ')');
+	for (int field = 2; field < 22 && rest; field++)
+		rest = strchr(rest + 1, ' ');
+	if (!rest || sscanf(rest, "%llu", &ticks) != 1)
+		fail("/proc/self/stat");
+	free(text);
+	return ticks * (1000000000u / (u64)sysconf(_SC_CLK_TCK));
+}
+
+static struct message head_of(u32 type)
+{
+	return (struct message){ .type = type, .direction = DIRECTION_WRITE, .number = last, .time = now(), .opening = 1, .thread = 1 };
+}
+
+/* A write with one command and the stack of these addresses; it is finished and written. */
+static void hear_call(u32 process, u64 start, u64 memory, const u64 *addresses, u32 count)
+{
+	struct { struct chunk chunk; u32 word; u64 address; } __attribute__((packed)) write = { .word = BC_FREE_BUFFER };
+	struct stack stack = { .memory = memory, .start = start, .process = process, .count = count };
+	struct event event;
+	last++;
+	write.chunk = (struct chunk){ .head = head_of(MESSAGE_CHUNK), .commands = 12, .next = 12 };
+	stack.head = head_of(MESSAGE_STACK);
+	event = (struct event){ .head = head_of(MESSAGE_WRITTEN), .written = { 12 } };
+	memcpy(stack.addresses, addresses, count * sizeof *addresses);
+	window_hear(&write, sizeof write);
+	window_hear(&stack, offsetof(struct stack, addresses) + count * sizeof *addresses);
+	window_hear(&event, sizeof event);
+	window_settle();
+	stacks_look();
+}
+
+static void wait_for_maps(void)
+{
+	for (int i = 0; i < 1000 && maps_awaited(); i++) {
+		usleep(1000);
+		stacks_look();
+	}
+}
+
+/* This process calls three times with one stack and once with another: its file and the C library's are told. */
+static void own_stacks(void)
+{
+	u64 first[] = { (u64)(uintptr_t)&memcpy + 1, (u64)(uintptr_t)&own_start + 1, 0x10 }, other[] = { (u64)(uintptr_t)&own_start + 2 };
+	for (int i = 0; i < 3; i++)
+		hear_call((u32)getpid(), own_start(), 1, first, 3);
+	hear_call((u32)getpid(), own_start(), 1, other, 1);
+	wait_for_maps();
+	read_list();
+	should(times(" stack 1 memory=1 ") == 1 && times(" stack 2 memory=1 ") == 1 && times(" stack ") == 2, "stacks of this process", times(" stack "));
+	should(times(" stack=1\n") == 3 && times(" stack=2\n") == 1, "calls with a stack", times(" call "));
+	should(times(" map 1 ") >= 1 && times("build-id=-") == 0, "maps of this process", times(" map 1 "));
+	should(times(" name=/") && times("/loader") == 1, "the path of this program", times("/loader"));
+	should(times(",0x10\n") == 1 && times(" unmapped ") == 0, "an address that is not mapped", times(" unmapped "));
+}
+
+/* A process that began at another time is another one: nothing is read of it. So is one that is not there. */
+static void others_stacks(void)
+{
+	u64 stack[] = { (u64)(uintptr_t)&own_start };
+	hear_call((u32)getpid(), own_start() + 5000000000u, 2, stack, 1);
+	hear_call(STRANGER, 1, 3, stack, 1);
+	wait_for_maps();
+	read_list();
+	should(times(" unmapped 2 ") == 1 && times(" unmapped 3 ") == 1 && times(" why=ended\n") == 2, "processes without maps", times(" unmapped "));
+	should(times(" map 2 ") + times(" map 3 ") == 0 && stacks_unmapped() == 2, "maps of processes that are not there", times(" map 2 "));
+}
+
+/* A caller with ever new stacks takes bounded memory, and each call has its line. */
+static void many_stacks(void)
+{
+	double began = processor_seconds();
+	u64 stack[MOST_OF_STACK] = { 0 };
+	int before = times(" call ");
+	for (u64 i = 0; i < MANY; i++) {
+		for (u32 at = 0; at < MOST_OF_STACK; at++)
+			stack[at] = 0x1000 * i + at;
+		hear_call(STRANGER, 1, 3, stack, MOST_OF_STACK);
+		hear_call(STRANGER, 1, 3, stack, MOST_OF_STACK);
+	}
+	read_list();
+	should(times(" call ") - before == 2 * MANY && stacks_forgotten() == 0, "calls with new stacks", times(" call ") - before);
+	should(mebibytes() < 600, "MiB with new stacks", mebibytes());
+	should(processor_seconds() - began < 60, "seconds for new stacks", processor_seconds() - began);
+}
+
+/* A new side list has the stacks anew that calls in it have, also of calls that waited. */
+static void new_list(const char *out)
+{
+	u64 stack[] = { (u64)(uintptr_t)&own_start + 3 };
+	char path[4096];
+	hear_call((u32)getpid(), own_start(), 1, stack, 1);
+	wait_for_maps();
+	stacks_tell_again();
+	snprintf(path, sizeof path, "%s-other", out);
+	side_close();
+	if (side_create(path, 0))
+		fail("no second side list");
+	hear_call((u32)getpid(), own_start(), 1, stack, 1);
+	hear_call((u32)getpid(), own_start(), 1, stack, 1);
+	read_list();
+	should(times(" stack ") == 1 && times(" map ") == 1 && times(" call ") == 2, "lines of a new side list", times(" stack "));
+}
+
+int main(int count, char **words)
+{
+	static const char name[NAME_BYTES] = "caller";
+	if (count != 2 || parts_begin(words[1], MOST_TOGETHER, 0))
+		fail("usage: maps OUT");
+	redact_begin(0);
+	stacks_begin();
+	names_opening(1, now(), 0, 1000, 1, name, MET_FROM_START);
+	names_thread(1, 1001, 1000, 1, name);
+	damaged_files("/proc/self/exe");
+	addresses_of_files();
+	own_stacks();
+	others_stacks();
+	many_stacks();
+	new_list(words[1]);
+	stacks_end();
+	return failed;
+}
