@@ -32,10 +32,10 @@ _binder_listing() { # COMMAND WORD BEFORE
     --form) _binder_audit_words "$2" tab ;;
     --side | --tables) _binder_audit_files ;;
     --at | --frame | --call | --process | --thread | --device | --from | --to | --code) ;;
-    --handle | --cookie | --node | --address | --flag | --larger | --table) ;;
+    --handle | --cookie | --node | --address | --flag | --larger | --interface | --table) ;;
     *)
       _binder_audit_options "$2" '--at --frame --call --process --thread --device --direction --from --to --code
-        --handle --cookie --node --address --flag --larger --objects --form --side --tables --table --help'
+        --handle --cookie --node --address --flag --larger --interface --objects --form --side --tables --table --help'
       ;;
   esac
 }

@@ -37,6 +37,7 @@ case $service in
       '*--address[transactions with this buffer, and its frees]:address:' \
       '*--flag[transactions with this flag]:flag:' \
       '*--larger[transactions with more data than this]:bytes:' \
+      '*--interface[transactions that name this interface]:interface:' \
       '--objects[a line for each object]' \
       '--form[the form of a line]:form:(tab)' \
       '--side[side list, for times and names]:side list:_files' \

@@ -11,8 +11,13 @@ DOCUMENTS = "/usr/share/doc/binder-audit"
 WIDTH = 78
 
 
+# The page that has the way from a running system to the cause of a leak.
+FIRST = "binder-view"
+
+
 class Page(NamedTuple):
-    """A page: its name, section and title; and the sections of docs/, a file and the headings, or all without any."""
+    """A page: its name, section and title; and the sections of docs/ or README.md, a file and the headings, or all
+    without any."""
 
     name: str
     section: int
@@ -26,7 +31,8 @@ PAGES = (
          {"REPORT": ("From a row to its record",)}),
     Page("binder-record", 1, "records the Binder traffic of a running system",
          {"RECORDER": ("./record", "The side list of record")}),
-    Page("binder-view", 1, "shows a capture as a page, a database or a timeline", {"VIEW": ()}),
+    Page(FIRST, 1, "shows a capture as a page, a database or a timeline",
+         {"../README": ("A leak, from a running system to its record",), "VIEW": ()}),
     Page("binder-capture", 5, "captures of Binder traffic", {"ENVELOPE": (), "COMMANDS": ()}),
 )
 
@@ -279,6 +285,8 @@ def also_lines(page: Page) -> Iterator[str]:
     others = [it for it in PAGES if it != page]
     for at, it in enumerate(others, 1):
         yield f".BR {escaped(it.name)} ({it.section})" + ("" if at == len(others) else " ,")
+    if page.name != FIRST:
+        yield from (".PP", f".BR {escaped(FIRST)} (1)", "has the way from a running system to the cause of a leak.")
 
 
 def made(page: Page, programs: pathlib.Path, version: str, date: str) -> str:

@@ -14,7 +14,7 @@
 
 static const char usage[] =
 	"record [-o OUT] [--size BYTES] [--files N] [--pid PID].. [--device NAME].. [--redact]"
-	" [--no-attachments] [--stacks] [-- PROGRAM ARGUMENT...]";
+	" [--no-attachments] [--ring BYTES] [--stacks] [-- PROGRAM ARGUMENT...]";
 
 static const char help[] =
 	"Records the Binder traffic of the whole system until PROGRAM ends, or until SIGINT or SIGTERM, into\n"

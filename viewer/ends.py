@@ -3,7 +3,7 @@
 import sqlite3
 from typing import Iterator
 
-from viewer.tracks import Mark, Tracks
+from viewer.tracks import MARK, Mark, Tracks
 
 # A place after all others.
 LAST = 2**64
@@ -11,8 +11,8 @@ LAST = 2**64
 # The place of the first frame after one.
 NEXT_FRAME = "coalesce((SELECT f.place FROM raw_frame f WHERE f.seq > {} ORDER BY f.seq LIMIT 1), 9223372036854775807)"
 
-# A place before which a mark comes; nothing, where other rows say what they are about; and the mark.
-Row = tuple[int, None, Mark]
+# A place before which a mark comes, what the row is about, and the mark.
+Row = tuple[int, int, Mark]
 
 
 def ends_of(database: sqlite3.Connection, tracks: Tracks) -> list[Row]:
@@ -21,14 +21,14 @@ def ends_of(database: sqlite3.Connection, tracks: Tracks) -> list[Row]:
     after = f"max(t.ended_after, t.last_seq) AS after, {NEXT_FRAME.format('max(t.ended_after, t.last_seq)')}"
     for utid, why, seq, place, ts in database.execute(
             f"SELECT t.utid, t.why, {after}, t.ended FROM thread t, raw_capture c WHERE t.ended_after <= c.last_seq"):
-        found.append((place, None, Mark(seq, ts, "thread ended", "end", {"after": seq, "why": why}, utid=utid,
+        found.append((place, MARK, Mark(seq, ts, "thread ended", "end", {"after": seq, "why": why}, utid=utid,
                                         why="its thread ended", threads=(utid,))))
     of: dict[int, list[int]] = {}
     for utid, upid in tracks.upid_of.items():
         of.setdefault(upid, []).append(utid)
     for upid, seq, place, ts in database.execute(
             f"SELECT t.upid, {after}, t.ended FROM process t, raw_capture c WHERE t.ended_after <= c.last_seq"):
-        found.append((place, None, Mark(seq, ts, "process ended", "end", {"after": seq}, upid=upid,
+        found.append((place, MARK, Mark(seq, ts, "process ended", "end", {"after": seq}, upid=upid,
                                         why="its process ended", threads=tuple(of.get(upid, ())), processes=(upid,))))
     return sorted(found, key=lambda row: (row[0], row[2].seq, len(row[2].processes)))
 
@@ -41,7 +41,7 @@ def lost_of(database: sqlite3.Connection, tracks: Tracks) -> Iterator[Row]:
             f"SELECT l.seq, l.device, l.process, l.thread, l.why, {NEXT_FRAME.format('l.seq')} FROM side_lost l,"
             " raw_capture c WHERE l.seq BETWEEN c.first_seq AND c.last_seq ORDER BY l.seq"):
         utid, upid = threads.get((device, process, thread)), processes.get((device, process))
-        yield place, None, Mark(seq, None, "lost frame", "lost", {"seq": seq, "why": why}, utid=utid, upid=upid)
+        yield place, MARK, Mark(seq, None, "lost frame", "lost", {"seq": seq, "why": why}, utid=utid, upid=upid)
 
 
 def missed_of(database: sqlite3.Connection) -> Iterator[Row]:
@@ -49,7 +49,7 @@ def missed_of(database: sqlite3.Connection) -> Iterator[Row]:
     for what, count, first, after, ts, place in database.execute(
             f"SELECT m.what, m.count, m.from_seq, m.after, m.ts, {NEXT_FRAME.format('m.after')} FROM side_missed m,"
             " raw_capture c WHERE m.after >= c.first_seq - 1 AND m.from_seq <= c.last_seq ORDER BY m.after, m.id"):
-        yield place, None, Mark(after, ts, "missed", "lost", {"what": what, "count": count, "from": first,
+        yield place, MARK, Mark(after, ts, "missed", "lost", {"what": what, "count": count, "from": first,
                                                               "after": after})
 
 
@@ -65,4 +65,4 @@ def gaps_of(database: sqlite3.Connection) -> Iterator[Row]:
             " WHERE before NOTNULL AND seq <> before + 1"):
         count = (seq - before - 1) % 2**64 - told
         if count:
-            yield place, None, Mark(before, None, "missing frames", "lost", {"after": before % 2**64, "count": count})
+            yield place, MARK, Mark(before, None, "missing frames", "lost", {"after": before % 2**64, "count": count})

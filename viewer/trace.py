@@ -16,10 +16,10 @@ from typing import Callable, Iterable, Iterator, NamedTuple
 from viewer import loading
 from viewer.ends import Mark, ends_of, gaps_of, lost_of, missed_of
 from viewer.names import Names
-from viewer.tracks import Axis, Tracks, Window
+from viewer.tracks import MARK, Axis, Track, Tracks, Window
 
 # What a row is about, and its order among rows of one place.
-SEND, DELIVERY, FREE, OTHER, FINDING = range(5)
+SEND, DELIVERY, RECORD, FINDING = range(MARK + 1, MARK + 5)
 
 # The counters of a process: the name, and what is counted.
 COUNTERS = (("buffers", "held"), ("bytes", "held"), ("async bytes", "held"), ("references", "strong"),
@@ -28,8 +28,8 @@ BUFFERS, BYTES, ASYNC, REFERENCES, CALLS, BUSY = range(len(COUNTERS))
 
 MADE, SERVED, ONEWAY = range(3)
 
-# The end of what says on which track an event is.
-TS = '"ts":'
+# How many events are packed at a time.
+AT_ONCE = 4096
 
 # A flow ends at the slice around it.
 ENCLOSING = ',"bp":"e"'
@@ -39,45 +39,66 @@ TF_ONE_WAY = 1
 QUERIES = {
     # A send, its call, its delivery if each names the other, and the node that its handle leads to.
     SEND: """
-SELECT s.place, 0, s.seq, x.ts, s.utid, r.kind, r.code, r.flags, r.data_size, r.handle, c.verdict, c.closer,
+SELECT s.place, :what, s.seq, x.ts, s.utid, r.code, r.flags, r.data_size, r.handle, c.verdict, c.closer,
   s.refused, s.certain, s.fits, e.place, e.utid, e.seq, n.upid, n.certain, n.ptr, r.interface
 FROM raw_send s CROSS JOIN raw_record r ON r.place = s.place LEFT JOIN side_time x ON x.seq = s.seq
   LEFT JOIN raw_call c ON c.place = s.place LEFT JOIN raw_delivery e ON e.place = s.delivery AND e.send = s.place
   LEFT JOIN node_of n ON n.generation = s.generation ORDER BY s.place""",
     # A delivery, its call, and its send if each names the other.
     DELIVERY: """
-SELECT d.place, 1, d.seq, x.ts, d.utid, r.kind, r.code, r.flags, r.data_size, r.ptr, r.cookie, r.sender_pid,
-  c.verdict, c.closer, p.place, p.utid, p.seq, p.certain, p.fits, y.ts, r.interface
+SELECT d.place, :what, d.seq, x.ts, d.utid, r.kind, r.code, r.flags, r.data_size, r.ptr, r.cookie, r.sender_pid,
+  d.freed_by, c.verdict, c.closer, p.place, p.utid, p.seq, p.certain, p.fits,
+  iif(r.flags & :TF_ONE_WAY, (SELECT y.ts FROM side_time y WHERE y.seq = p.seq), NULL), r.interface
 FROM raw_delivery d CROSS JOIN raw_record r ON r.place = d.place LEFT JOIN side_time x ON x.seq = d.seq
   LEFT JOIN raw_call c ON c.place = d.place LEFT JOIN raw_send p ON p.place = d.send AND p.delivery = d.place
-  LEFT JOIN side_time y ON y.seq = p.seq ORDER BY d.place""",
-    # A delivery again, at the record that frees it.
-    FREE: """
-SELECT d.freed_by, 2, f.seq, x.ts, f.utid, d.utid, d.place, r.data_size, r.kind <> :BR_REPLY AND r.flags & :TF_ONE_WAY
-FROM raw_delivery d CROSS JOIN raw_record r ON r.place = d.place CROSS JOIN raw_record f ON f.place = d.freed_by
-  LEFT JOIN side_time x ON x.seq = f.seq
-WHERE d.freed_by NOTNULL ORDER BY d.freed_by, d.place""",
-    OTHER: """
-SELECT r.place, 3, r.seq, x.ts, r.utid, r.kind, r.handle, r.cookie, r.value, q.place
-FROM raw_record r LEFT JOIN side_time x ON x.seq = r.seq LEFT JOIN raw_send q ON q.refused = r.place
-WHERE r.kind IN (:BC_ACQUIRE, :BC_RELEASE, :BR_ERROR, :BR_DEAD_REPLY, :BR_FAILED_REPLY, :BR_FROZEN_REPLY,
-  :BR_DEAD_BINDER, :BR_ONEWAY_SPAM_SUSPECT) ORDER BY r.place""",
+ORDER BY d.place""",
+    RECORD: """
+SELECT r.place, :what, r.seq, x.ts, r.utid, r.kind, r.handle, r.cookie, r.value,
+  iif(r.kind IN (:BR_DEAD_REPLY, :BR_FAILED_REPLY, :BR_FROZEN_REPLY),
+    (SELECT q.place FROM raw_send q WHERE q.refused = r.place), NULL)
+FROM raw_record r LEFT JOIN side_time x ON x.seq = r.seq
+WHERE r.kind IN (:BC_FREE_BUFFER, :BC_ACQUIRE, :BC_RELEASE, :BR_ERROR, :BR_DEAD_REPLY, :BR_FAILED_REPLY,
+  :BR_FROZEN_REPLY, :BR_DEAD_BINDER, :BR_ONEWAY_SPAM_SUSPECT) ORDER BY r.place""",
     FINDING: """
-SELECT f.place, 4, f.seq, x.ts, f.utid, u.verdict, g.title, f.section, f.path, f.rule, u.text, f.note
+SELECT f.place, :what, f.seq, x.ts, f.utid, u.verdict, g.title, f.section, f.path, f.rule, u.text, f.note
 FROM finding f JOIN rule u ON u.id = f.rule JOIN finding_head h ON h.id = f.id JOIN finding_group g ON g.grp = h.grp
   LEFT JOIN side_time x ON x.seq = f.seq
 WHERE f.utid NOTNULL AND f.place NOTNULL AND u.verdict <> 'normal' ORDER BY f.place, f.id"""}
 
 
-class Open(NamedTuple):
+class Open:
     """What a thread is in: a call that it makes or serves, or a oneway transaction. `text` is its event, if it is not
     written yet."""
-    place: int
-    closer: int | None
-    kind: int
-    text: str
+    __slots__ = "place", "closer", "kind", "text"
+
+    def __init__(self, place: int, closer: int | None, kind: int, text: str):
+        self.place, self.closer, self.kind, self.text = place, closer, kind, text
 
 
+class Process(Track):
+    """What a process holds: the values of its counters now, and as they are shown, with the beginnings of their events,
+    none if it is not shown; and its strong references by handle."""
+    __slots__ = "heads", "now", "shown", "strong"
+
+    def __init__(self, number: int | None):
+        super().__init__()
+        self.heads = [] if number is None else [f'{{"ph":"C","pid":{number},"name":"{name}","args":{{"{of}":'
+                                                for name, of in COUNTERS]
+        self.now, self.shown = [0] * len(COUNTERS), [0] * len(COUNTERS)
+        self.strong: dict[int, int] = {}
+
+
+class Thread(Track):
+    """What a thread is in, the innermost last, and how much of it it serves. `head` is empty if it is not shown."""
+    __slots__ = "upid", "process", "head", "stack", "serving"
+
+    def __init__(self, upid: int, process: Process, head: str):
+        super().__init__()
+        self.upid, self.process, self.head, self.serving = upid, process, head, 0
+        self.stack: list[Open] = []
+
+
+@functools.lru_cache(4096)
 def hexadecimal(value: int | None) -> str:
     return "null" if value is None else f'"0x{value % 2**64:x}"'
 
@@ -115,26 +136,25 @@ class Timeline:
         self.call_names = Names(database)
         self.label = functools.lru_cache(4096)(self.label_of)
         self.numbers = loading.named_numbers(database)
-        self.reply = self.numbers["BR_REPLY"]
+        self.reply, self.free_buffer = self.numbers["BR_REPLY"], self.numbers["BC_FREE_BUFFER"]
         self.names = {number: name for name, number in self.numbers.items()}
         self.at_end = "after --to" if self.axis.is_cut else "open at the end"
         self.told: dict[str, int] = {name: 0 for name in (
             "slices", "queue_slices", "flows", "counter_events", "instants", "pairs_without_flow")}
-        self.counter_heads = {upid: [
-            f'{{"ph":"C",{head.removesuffix(TS)}"name":"{name}","args":{{"{of}":' for name, of in COUNTERS]
-            for upid, head in self.tracks.first_heads.items()}
-        self.stacks: dict[int, list[Open]] = {}
-        self.serving: dict[int, int] = {}
+        tracks = self.tracks
+        self.processes = {upid: Process(number if upid in tracks.first_of else None)
+                          for upid, number in tracks.numbers.items()}
+        self.threads = {utid: Thread(upid, self.processes[upid], tracks.heads.get(utid, ""))
+                        for utid, upid in tracks.upid_of.items()}
         self.oneways: set[int] = set()
         self.freed: set[int] = set()
-        self.strong: dict[int, dict[int, int]] = {}
-        self.now: dict[int, list[int]] = {}
-        self.shown: dict[int, list[int]] = {}
-        self.changed: dict[int, None] = {}
+        # The deliveries that a record frees, by its place.
+        self.frees: dict[int, list[tuple[int, int, int, int]]] = {}
+        self.changed: dict[Process, None] = {}
         self.seq: int | None = None
-        self.live, self.entered = False, 0
-        self.handlers: tuple[Callable[[tuple], None], ...] = (self.send, self.deliver, self.free, self.other,
-                                                              self.finding)
+        self.is_whole, self.live, self.entered = window.is_whole(), False, 0
+        self.handlers: dict[int, Callable[[tuple], None]] = {
+            SEND: self.send, DELIVERY: self.deliver, RECORD: self.record, FINDING: self.finding}
 
     # -- events
 
@@ -144,97 +164,95 @@ class Timeline:
                                f'"name":{json.dumps(name)},"args":{{{fields}}}}}')
             self.told["instants"] += 1
 
-    def flow(self, phase: str, utid: int, name: str, ident: int) -> None:
-        self.events.append(f'{{"ph":"{phase}",{self.tracks.heads[utid]}{self.axis.text},"cat":"flow","name":"{name}",'
+    def flow(self, phase: str, thread: Thread, name: str, ident: int) -> None:
+        self.events.append(f'{{"ph":"{phase}",{thread.head}{self.axis.text},"cat":"flow","name":"{name}",'
                            f'"id":{ident}{"" if phase == "s" else ENCLOSING}}}')
 
-    def has_flow(self, certain: int | None, utid: int, other: int | None, seq: int | None) -> bool:
+    def has_flow(self, certain: int | None, thread: Thread, other: int | None, seq: int | None) -> bool:
         """Whether the flow between a record of a thread here and another one is shown."""
-        if not self.live or not certain or other is None:
-            return False
-        return utid in self.tracks.heads and other in self.tracks.heads and self.window.has(seq)
+        return bool(certain and self.live and other is not None and thread.head and self.threads[other].head) \
+            and (self.is_whole or self.window.has(seq))
 
     def label_of(self, code: int, upid: int, ptr: int, interface: int | None) -> str:
         """The name of a call as part of a name, within the quotes of JSON."""
         return json.dumps(self.call_names.call(code, upid, ptr, interface))[1:-1]
 
-    def queue(self, utid: int | None, label: str, place: int, begin: int, end: int, fields: str) -> None:
+    def queue(self, head: str, label: str, place: int, begin: int, end: int, fields: str) -> None:
         """How long a oneway transaction waited, in the process that gets it."""
-        head, end = "" if utid is None else self.tracks.heads.get(utid, ""), max(begin, end)
         if head:
             named = f'"cat":"queue","id":{place},"name":"queue {label}"'
-            fields = f'"args":{{"place":{place},{fields}}}'
-            self.events.append(f'{{"ph":"b",{head}{self.axis.text_of(begin)},{named},{fields}}}')
-            self.events.append(f'{{"ph":"e",{head}{self.axis.text_of(end)},{named}}}')
+            self.events.append(f'{{"ph":"b",{head}{self.axis.text_of(begin)},{named},'
+                               f'"args":{{"place":{place},{fields}}}}}')
+            self.events.append(f'{{"ph":"e",{head}{self.axis.text_of(max(begin, end))},{named}}}')
             self.told["queue_slices"] += 1
 
     # -- what a thread is in
 
-    def push(self, utid: int, entry: Open) -> None:
-        if self.live and utid in self.tracks.heads:
-            self.begin(utid, self.axis.text, entry)
-            entry = Open(entry.place, entry.closer, entry.kind, "")
-        self.stacks.setdefault(utid, []).append(entry)
-        counts = self.counts(self.tracks.upid_of[utid])
+    def push(self, thread: Thread, entry: Open) -> None:
+        if self.live and thread.head:
+            self.begin(thread, self.axis.text, entry)
+        thread.stack.append(entry)
+        process = thread.process
+        self.changed[process] = None
+        if entry.kind == MADE:
+            process.now[CALLS] += 1
+            return
         if entry.kind == ONEWAY:
             self.oneways.add(entry.place)
-        if entry.kind == MADE:
-            counts[CALLS] += 1
-        else:
-            self.serving[utid] = self.serving.get(utid, 0) + 1
-            counts[BUSY] += self.serving[utid] == 1
+        thread.serving += 1
+        if thread.serving == 1:
+            process.now[BUSY] += 1
 
-    def begin(self, utid: int, at: str, entry: Open, more: str = "") -> None:
-        self.events.append(f'{{"ph":"B",{self.tracks.heads[utid]}{at},{entry.text}{more}}}}}')
+    def begin(self, thread: Thread, at: str, entry: Open, more: str = "") -> None:
+        self.events.append(f'{{"ph":"B",{thread.head}{at},{entry.text}{more}}}}}')
         self.told["slices"] += 1
+        entry.text = ""
 
-    def pop(self, utid: int, why: str = "", ns: int | None = None) -> None:
+    def pop(self, thread: Thread, why: str = "", ns: int | None = None) -> None:
         """Ends what a thread is in, and what is then freed below it."""
-        entry = self.stacks[utid].pop()
-        self.freed.discard(entry.place)
-        self.oneways.discard(entry.place)
-        counts = self.counts(self.tracks.upid_of[utid])
+        entry, process = thread.stack.pop(), thread.process
+        self.changed[process] = None
         if entry.kind == MADE:
-            counts[CALLS] -= 1
+            process.now[CALLS] -= 1
         else:
-            self.serving[utid] -= 1
-            counts[BUSY] -= self.serving[utid] == 0
-        if self.live and utid in self.tracks.heads:
-            at = self.axis.text if ns is None else self.axis.text_for(utid, ns)
+            thread.serving -= 1
+            if thread.serving == 0:
+                process.now[BUSY] -= 1
+            if entry.kind == ONEWAY:
+                self.freed.discard(entry.place)
+                self.oneways.discard(entry.place)
+        if self.live and thread.head:
+            at = self.axis.text if ns is None else self.axis.text_on(thread, ns)
             more = f',"args":{{"end":"{why}"}}' if why else ""
-            self.events.append(f'{{"ph":"E",{self.tracks.heads[utid]}{at}{more}}}')
-        if self.stacks[utid] and self.stacks[utid][-1].place in self.freed:
-            self.pop(utid)
+            self.events.append(f'{{"ph":"E",{thread.head}{at}{more}}}')
+        if thread.stack and thread.stack[-1].place in self.freed:
+            self.pop(thread)
 
-    def closes(self, utid: int, place: int) -> bool:
+    def closes(self, thread: Thread, place: int) -> bool:
         """Whether a record closes the innermost call of its thread. Oneway transactions within that call end."""
-        stack = self.stacks.get(utid, ())
-        call = next((entry for entry in reversed(stack) if entry.kind != ONEWAY), None)
-        if call is None or call.closer != place:
+        depth = len(thread.stack)
+        while depth and thread.stack[depth - 1].kind == ONEWAY:
+            depth -= 1
+        if not depth or thread.stack[depth - 1].closer != place:
             return False
-        while stack[-1] is not call:
-            self.pop(utid, "the call around it ended")
+        while len(thread.stack) > depth:
+            self.pop(thread, "the call around it ended")
         return True
 
     # -- counters
 
-    def counts(self, upid: int) -> list[int]:
-        """The counters of a process, of which some will be changed."""
-        self.changed[upid] = None
-        if upid not in self.now:
-            self.now[upid], self.shown[upid] = [0] * len(COUNTERS), [0] * len(COUNTERS)
-        return self.now[upid]
-
-    def count(self, ns: int | None = None) -> None:
+    def count(self, ns: int) -> None:
         """Writes the counters that were changed."""
         if not self.live:
             return
         before = len(self.events)
-        for upid in self.changed:
-            heads, now, shown = self.counter_heads.get(upid), self.now[upid], self.shown[upid]
-            if heads is not None and now != shown:
-                tail = f'}},"ts":{self.axis.text_for(-upid, self.axis.ns if ns is None else ns)}}}'
-                self.events += [f"{head}{value}{tail}" for head, value, old in zip(heads, now, shown) if value != old]
+        for process in self.changed:
+            now, shown = process.now, process.shown
+            if now != shown and process.heads:
+                tail = f'}},"ts":{self.axis.text_on(process, ns)}}}'
+                for head, value, old in zip(process.heads, now, shown):
+                    if value != old:
+                        self.events.append(f"{head}{value}{tail}")
                 shown[:] = now
         self.told["counter_events"] += len(self.events) - before
         self.changed.clear()
@@ -242,111 +260,121 @@ class Timeline:
     # -- rows
 
     def send(self, row: tuple) -> None:
-        (place, _, seq, _, utid, _, code, flags, size, handle, verdict, closer, refused, certain, fits, delivery,
+        (place, _, seq, _, utid, code, _, size, handle, verdict, closer, refused, certain, fits, delivery,
          receiver, receiver_seq, node, node_certain, ptr, interface) = row
-        flow = self.has_flow(certain, utid, receiver, receiver_seq)
+        thread = self.threads[utid]
+        flow = self.has_flow(certain, thread, receiver, receiver_seq)
         if delivery is not None and not certain:
             self.told["pairs_without_flow"] += self.live
         if handle is None:
-            if self.closes(utid, place):
+            if self.closes(thread, place):
                 if flow:
-                    self.flow("s", utid, "reply", place)
-                self.pop(utid)
+                    self.flow("s", thread, "reply", place)
+                self.pop(thread)
             return
-        label = self.label(code, *((-self.tracks.upid_of[utid], handle) if node is None else (node, ptr)), interface)
+        label = self.label(code, *((-thread.upid, handle) if node is None else (node, ptr)), interface)
         to = "" if node is None else f',"to":{self.tracks.who(node, node_certain)}'
         got = "" if not certain else f',"delivery":{delivery},"fits":{fits}'
         fields = f'"place":{place},"seq":{seq % 2**64},"handle":{handle}{to},"data_size":{size % 2**64}{got}'
         if verdict is not None:
             closed = "" if closer is None else f',"closer":{closer}'
-            self.push(utid, Open(place, closer, MADE, f'"cat":"call","name":"call {label}","args":{{{fields},'
-                                 f'"verdict":"{VERDICTS[verdict]}"{closed}'))
+            self.push(thread, Open(place, closer, MADE, f'"cat":"call","name":"call {label}","args":{{{fields},'
+                                   f'"verdict":"{VERDICTS[verdict]}"{closed}'))
             if flow:
-                self.flow("s", utid, "call", place)
+                self.flow("s", thread, "call", place)
         elif self.live:
-            self.send_oneway(utid, place, label, fields, flow, refused)
+            self.send_oneway(thread, place, label, fields, flow, refused)
             if refused is None and (delivery is None or certain and not self.window.has(receiver_seq)):
                 self.wait(place, label, delivery, receiver, node, node_certain)
 
-    def send_oneway(self, utid: int, place: int, label: str, fields: str, flow: bool, refused: int | None) -> None:
+    def send_oneway(self, thread: Thread, place: int, label: str, fields: str, flow: bool, refused: int | None) -> None:
         """A oneway send takes no time here: what the driver says of it is read later, maybe after other things."""
-        if utid in self.tracks.heads:
+        if thread.head:
             fields += f',"refused":{refused}' if refused is not None else ""
-            self.begin(utid, self.axis.text, Open(place, None, MADE,
-                                  f'"cat":"oneway","name":"send oneway {label}","args":{{{fields}'))
+            self.begin(thread, self.axis.text, Open(place, None, MADE,
+                                                    f'"cat":"oneway","name":"send oneway {label}","args":{{{fields}'))
             if flow:
-                self.flow("s", utid, "oneway", place)
-            self.events.append(f'{{"ph":"E",{self.tracks.heads[utid]}{self.axis.text}}}')
+                self.flow("s", thread, "oneway", place)
+            self.events.append(f'{{"ph":"E",{thread.head}{self.axis.text}}}')
 
     def wait(self, place: int, label: str, delivery: int | None, receiver: int | None, node: int | None,
              certain: int | None) -> None:
         """A oneway transaction that is not delivered in what is shown."""
         if delivery is not None and receiver is not None:
-            self.queue(receiver, label, place, self.axis.ns, self.axis.end, f'"end":"{self.at_end}"')
+            self.queue(self.threads[receiver].head, label, place, self.axis.ns, self.axis.end,
+                       f'"end":"{self.at_end}"')
         elif delivery is None and certain and node is not None:
-            self.queue(self.tracks.first_of.get(node), label, place, self.axis.ns,
+            self.queue(self.tracks.first_heads.get(node, ""), label, place, self.axis.ns,
                        min(self.axis.end, self.tracks.ended.get(node, self.axis.end)), '"end":"never seen to come"')
 
     def deliver(self, row: tuple) -> None:
-        (place, _, seq, _, utid, kind, code, flags, size, ptr, cookie, sender_pid, verdict, closer, send, sender,
-         send_seq, certain, fits, send_ts, interface) = row
+        (place, _, seq, _, utid, kind, code, flags, size, ptr, cookie, sender_pid, freed_by, verdict, closer, send,
+         sender, send_seq, certain, fits, send_ts, interface) = row
+        thread = self.threads[utid]
         is_reply = kind == self.reply
         oneway = not is_reply and flags & TF_ONE_WAY
-        self.hold(utid, 1, size, oneway)
-        flow = self.has_flow(certain, utid, sender, send_seq)
+        self.hold(thread.process, size % 2**64, oneway)
+        if freed_by is not None:
+            self.frees.setdefault(freed_by, []).append((utid, place, size % 2**64, oneway))
+        flow = self.has_flow(certain, thread, sender, send_seq)
         if is_reply:
-            if self.closes(utid, place):
-                self.arrive(flow, utid, "reply", send)
-                self.pop(utid)
+            if self.closes(thread, place):
+                self.arrive(flow, thread, "reply", send)
+                self.pop(thread)
             return
-        stack = self.stacks.get(utid)
-        if stack and stack[-1].kind == ONEWAY:
-            self.pop(utid)
-        label = self.label(code, self.tracks.upid_of[utid], ptr, interface)
-        came = "" if not certain else (f',"from":{self.tracks.who(self.tracks.upid_of[sender], 1)},"send":{send},'
+        if thread.stack and thread.stack[-1].kind == ONEWAY:
+            self.pop(thread)
+        label = self.label(code, thread.upid, ptr, interface)
+        came = "" if not certain else (f',"from":{self.tracks.who(self.threads[sender].upid, 1)},"send":{send},'
                                        f'"fits":{fits}')
         fields = (f'"place":{place},"seq":{seq % 2**64},"ptr":{hexadecimal(ptr)},"cookie":{hexadecimal(cookie)},'
                   f'"sender_pid":{sender_pid},"data_size":{size % 2**64}{came}')
         if oneway:
             if certain and self.live:
                 begin = max(self.entered, min(self.axis.ns, self.axis.at(send_seq, send_ts)))
-                self.queue(utid, label, send, begin, self.axis.ns, f'"delivery":{place},"fits":{fits}')
-            self.push(utid, Open(place, None, ONEWAY, f'"cat":"oneway","name":"serve oneway {label}",'
-                                 f'"args":{{{fields}'))
+                self.queue(thread.head, label, send, begin, self.axis.ns, f'"delivery":{place},"fits":{fits}')
+            self.push(thread, Open(place, None, ONEWAY, f'"cat":"oneway","name":"serve oneway {label}",'
+                                   f'"args":{{{fields}'))
         else:
             closed = "" if closer is None else f',"closer":{closer}'
-            self.push(utid, Open(place, closer, SERVED, f'"cat":"served","name":"serve {label}",'
-                                 f'"args":{{{fields},"verdict":"{VERDICTS[verdict]}"{closed}'))
-        self.arrive(flow, utid, "oneway" if oneway else "call", send)
+            self.push(thread, Open(place, closer, SERVED, f'"cat":"served","name":"serve {label}",'
+                                   f'"args":{{{fields},"verdict":"{VERDICTS[verdict]}"{closed}'))
+        self.arrive(flow, thread, "oneway" if oneway else "call", send)
 
-    def arrive(self, flow: bool, utid: int, name: str, send: int) -> None:
+    def arrive(self, flow: bool, thread: Thread, name: str, send: int) -> None:
         """The end of a flow, if it is shown."""
         if flow:
-            self.flow("f", utid, name, send)
+            self.flow("f", thread, name, send)
             self.told["flows"] += 1
 
-    def hold(self, utid: int, change: int, size: int, oneway: int) -> None:
-        """A buffer that a process gets or frees."""
-        counts = self.counts(self.tracks.upid_of[utid])
-        counts[BUFFERS] += change
-        counts[BYTES] += change * (size % 2**64)
+    def hold(self, process: Process, size: int, oneway: int, change: int = 1) -> None:
+        """A buffer that a process gets, or frees."""
+        self.changed[process] = None
+        process.now[BUFFERS] += change
+        process.now[BYTES] += change * size
         if oneway:
-            counts[ASYNC] += change * (size % 2**64)
+            process.now[ASYNC] += change * size
 
-    def free(self, row: tuple) -> None:
-        _, _, _, _, _, utid, place, size, oneway = row
-        self.hold(utid, -1, size, oneway)
+    def free(self, utid: int, place: int, size: int, oneway: int) -> None:
+        """The end of a delivery."""
+        thread = self.threads[utid]
+        self.hold(thread.process, size, oneway, -1)
         if place in self.oneways:
-            if self.stacks[utid][-1].place == place:
-                self.pop(utid, ns=self.axis.ns)
+            if thread.stack[-1].place == place:
+                self.pop(thread, ns=self.axis.ns)
             else:
                 self.freed.add(place)
 
-    def other(self, row: tuple) -> None:
+    def record(self, row: tuple) -> None:
+        """A record that is neither a send nor a delivery."""
         place, _, _, _, utid, kind, handle, cookie, value, refused = row
-        name = self.names[kind]
+        if kind == self.free_buffer:
+            for freed in self.frees.pop(place, ()):
+                self.free(*freed)
+            return
+        thread, name = self.threads[utid], self.names[kind]
         if handle is not None:
-            self.refer(self.tracks.upid_of[utid], handle, name == "BC_ACQUIRE")
+            self.refer(thread.process, handle, name == "BC_ACQUIRE")
         elif name == "BR_DEAD_BINDER":
             self.instant(utid, "death", name, f'"place":{place},"cookie":{hexadecimal(cookie)}')
         elif name == "BR_ONEWAY_SPAM_SUSPECT":
@@ -354,17 +382,17 @@ class Timeline:
         else:
             more = f',"value":{value}' if value is not None else f',"refuses":{refused}' if refused is not None else ""
             self.instant(utid, "error", name, f'"place":{place}{more}')
-            if self.closes(utid, place):
-                self.pop(utid)
+            if self.closes(thread, place):
+                self.pop(thread)
 
-    def refer(self, upid: int, handle: int, takes: bool) -> None:
+    def refer(self, process: Process, handle: int, takes: bool) -> None:
         """A strong reference that is taken or let go. The driver ignores it if one is let go that is not held."""
-        held = self.strong.setdefault(upid, {})
-        strong = held.pop(handle, 0)
+        strong = process.strong.pop(handle, 0)
         change = 1 if takes else -1 if strong else 0
-        self.counts(upid)[REFERENCES] += change
+        self.changed[process] = None
+        process.now[REFERENCES] += change
         if strong + change:
-            held[handle] = strong + change
+            process.strong[handle] = strong + change
 
     def finding(self, row: tuple) -> None:
         place, _, _, _, utid, verdict, title, section, path, rule, text, note = row
@@ -376,54 +404,56 @@ class Timeline:
 
     def next_frame(self, seq: int, ts: int | None, utid: int) -> bool:
         """Goes on to a frame. Returns whether it is past the window."""
-        self.count()
+        if self.changed:
+            self.count(self.axis.ns)
         self.seq = seq
-        if self.window.is_past(seq):
+        if not self.is_whole and self.window.is_past(seq):
             return True
-        self.axis.go_to(seq, ts, utid)
+        self.axis.go_to(seq, ts, self.threads[utid])
         if not self.live and self.window.has(seq):
             self.enter()
-        if len(self.events) > 4096:
+        if len(self.events) > AT_ONCE:
             self.out.flush()
         return False
 
     def enter(self) -> None:
         """Begins to write, with what goes on already."""
         self.live, self.entered = True, self.axis.ns
-        for utid, stack in self.stacks.items():
-            at = self.axis.text_for(utid, self.entered) if stack else ""
-            for number, entry in enumerate(stack):
-                if utid in self.tracks.heads:
-                    self.begin(utid, at, entry, ',"begin":"before --from"')
-                    stack[number] = entry._replace(text="")
-        self.changed = dict.fromkeys(self.now)
-        self.count()
+        for thread in self.threads.values():
+            at = self.axis.text_on(thread, self.entered) if thread.stack else ""
+            for entry in thread.stack if thread.head else ():
+                self.begin(thread, at, entry, ',"begin":"before --from"')
+        self.changed = dict.fromkeys(self.processes.values())
+        self.count(self.axis.ns)
 
     def mark(self, mark: Mark) -> None:
         """What is not a record: an end, or something that is missing."""
-        self.count()
         axis = self.axis
+        self.count(axis.ns)
         ns = axis.ns if mark.ts is None or not axis.timed else max(axis.ns, min(mark.ts, axis.end))
         for utid in mark.threads:
-            while self.stacks.get(utid):
-                self.pop(utid, mark.why, ns)
+            while self.threads[utid].stack:
+                self.pop(self.threads[utid], mark.why, ns)
         for upid in mark.processes:
-            self.counts(upid)[:] = [0] * len(COUNTERS)
-            self.strong.pop(upid, None)
+            process = self.processes[upid]
+            self.changed[process] = None
+            process.now[:] = [0] * len(COUNTERS)
+            process.strong.clear()
         self.count(ns)
         if self.window.has(mark.seq) and self.tracks.has_mark(mark):
             self.events.append(f'{{"ph":"i",{self.tracks.head_of(mark)}{axis.text_of(ns)},'
                                f'"cat":"{mark.category}","name":"{mark.name}","args":{json.dumps(mark.fields)}}}')
             self.told["instants"] += 1
 
-    def sources(self) -> list[Iterable[tuple]]:
-        marks = heapq.merge(ends_of(self.database, self.tracks), lost_of(self.database, self.tracks),
-                            missed_of(self.database), gaps_of(self.database), key=operator.itemgetter(0))
-        return [marks, *(self.database.execute(query, self.numbers) for query in QUERIES.values())]
+    def sources(self) -> Iterator[Iterable[tuple]]:
+        yield heapq.merge(ends_of(self.database, self.tracks), lost_of(self.database, self.tracks),
+                          missed_of(self.database), gaps_of(self.database), key=operator.itemgetter(0))
+        for what, query in QUERIES.items():
+            yield self.database.execute(query, {**self.numbers, "what": what})
 
     def walk(self) -> None:
-        for row in heapq.merge(*self.sources(), key=operator.itemgetter(0)):
-            if row[1] is None:
+        for row in heapq.merge(*self.sources()):
+            if row[1] == MARK:
                 if self.window.is_past(row[2].seq):
                     break
                 self.mark(row[2])
@@ -431,13 +461,13 @@ class Timeline:
                 self.handlers[row[1]](row)
             else:
                 break
-        self.count()
+        self.count(self.axis.ns)
         if not self.live and self.window.begins_within(self.axis.last):
             self.enter()
         end = max(self.axis.ns, self.axis.end)
-        for utid, stack in self.stacks.items():
-            while stack:
-                self.pop(utid, self.at_end, end)
+        for thread in self.threads.values():
+            while thread.stack:
+                self.pop(thread, self.at_end, end)
 
     def write(self, facts: dict[str, object]) -> None:
         self.out.text('{"displayTimeUnit":"ns","traceEvents":[\n')

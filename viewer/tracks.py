@@ -24,6 +24,9 @@ class Window(NamedTuple):
     def is_past(self, seq: int) -> bool:
         return self.last is not None and seq % 2**64 > self.last
 
+    def is_whole(self) -> bool:
+        return self.first is None and self.last is None
+
     def begins_within(self, last: int | None) -> bool:
         """Whether it has a frame of a capture that ends with this one."""
         return last is not None and (self.first is None or last % 2**64 >= self.first)
@@ -31,6 +34,14 @@ class Window(NamedTuple):
     def facts(self) -> dict[str, int]:
         named = zip(("--process", "--thread", "--from", "--to"), self)
         return {name: value for name, value in named if value is not None}
+
+
+class Track:
+    """A thread, or the counters of a process: where an event may be, and the last time there."""
+    __slots__ = "latest",
+
+    def __init__(self) -> None:
+        self.latest = 0
 
 
 class Axis:
@@ -47,9 +58,6 @@ class Axis:
         end = 0 if self.last is None else self.last % 2**64
         self.base = 0 if end < EXACT // 1000 else first % 2**64
         self.untimed = self.raised = 0
-        # The last time on each track: of a thread by its utid, of the counters of a process by its upid, below 0.
-        self.latest: dict[int, int] = {}
-        self.shown, self.shown_text = -1, ""
         self.ns = earliest[0] if earliest is not None else 0
         self.text = self.text_of(self.ns)
         self.is_cut = window.last is not None and window.last < end
@@ -76,31 +84,29 @@ class Axis:
 
     def text_of(self, ns: int) -> str:
         """Nanoseconds of the side list as the microseconds of a trace."""
-        whole, rest = divmod(ns + self.shift, 1000)
-        return f"{whole}.{rest:03d}" if rest else str(whole)
+        digits = f"{ns + self.shift:04d}"
+        return digits[:-3] if digits[-3:] == "000" else f"{digits[:-3]}.{digits[-3:]}"
 
     def at(self, seq: int, ts: int | None) -> int:
         if not self.timed:
             return 1000 * (seq % 2**64 - self.base)
         return self.ns if ts is None else ts
 
-    def go_to(self, seq: int, ts: int | None, utid: int) -> None:
+    def go_to(self, seq: int, ts: int | None, track: Track) -> None:
         """Goes to a frame of a thread."""
-        self.ns = self.at(seq, ts)
-        self.untimed += self.timed and ts is None
-        self.raised += self.ns < self.latest.get(utid, 0)
-        self.text = self.text_for(utid, self.ns)
-        self.ns = self.latest[utid]
+        ns = ts if ts is not None else self.at(seq, ts)
+        if ts is None and self.timed:
+            self.untimed += 1
+        if ns < track.latest:
+            self.raised += 1
+            ns = track.latest
+        self.ns = track.latest = ns
+        self.text = self.text_of(ns)
 
-    def text_for(self, track: int, ns: int) -> str:
+    def text_on(self, track: Track, ns: int) -> str:
         """A time on a track, no earlier than the last one there."""
-        latest = self.latest.get(track, 0)
-        if ns < latest:
-            return self.text_of(latest)
-        self.latest[track] = ns
-        if ns != self.shown:
-            self.shown, self.shown_text = ns, self.text_of(ns)
-        return self.shown_text
+        track.latest = max(ns, track.latest)
+        return self.text if track.latest == self.ns else self.text_of(track.latest)
 
     def facts(self) -> dict[str, object]:
         if self.timed:
@@ -108,6 +114,10 @@ class Axis:
                     "frames_without_time": self.untimed, "frames_with_earlier_time": self.raised}
         return {"axis": "the number of the frame: one microsecond is one frame, and times are not known",
                 "frame_at_zero": self.base}
+
+
+# What a row of the walk is about if it is a mark. At one place marks come first.
+MARK = 0
 
 
 class Mark(NamedTuple):
