@@ -1,2 +1,3 @@
 pub mod Interface
+pub mod Service
 pub mod Walk
