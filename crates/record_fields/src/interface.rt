@@ -47,6 +47,8 @@ const UNKN: u32 = 0x554e_4b4e;
 #[derive(Clone, Copy)]
 pub struct InterfaceName<'c> {
     pub bytes: &'c [u8],
+    /// What follows it in the data; nothing after a name of HIDL.
+    pub(crate) rest: &'c [u8],
     ghost spelled: { All (λ byte. IsTrue (may_spell byte)) bytes.now },
 }
 
@@ -108,7 +110,7 @@ pub fn reply_name(item: Item<'_>) -> Option<InterfaceName<'_>>
     if !rest.is_empty() || read_units(text) != Reading::Interface {
         return None;
     }
-    spelled(text)
+    spelled(text, rest)
 }
 
 fn is_reply(kind: Kind) -> bool {
@@ -135,9 +137,9 @@ fn token_in(bytes: &[u8]) -> Option<InterfaceName<'_>>
 fn marked_in(bytes: &[u8]) -> Option<InterfaceName<'_>>
     ensures { IfSome result (λ name. name.bytes.now ≡ string_of bytes.now) }
 {
-    let (text, _) = string_in(bytes)?;
+    let (text, rest) = string_in(bytes)?;
     match read_units(text) {
-        Reading::Plain | Reading::Dotted | Reading::Interface => spelled(text),
+        Reading::Plain | Reading::Dotted | Reading::Interface => spelled(text, rest),
         _ => None,
     }
 }
@@ -147,9 +149,9 @@ fn marked_in(bytes: &[u8]) -> Option<InterfaceName<'_>>
 fn unmarked_in(bytes: &[u8]) -> Option<InterfaceName<'_>>
     ensures { IfSome result (λ name. name.bytes.now ≡ string_of bytes.now) }
 {
-    let (text, _) = string_in(bytes)?;
+    let (text, rest) = string_in(bytes)?;
     match read_units(text) {
-        Reading::Interface => spelled(text),
+        Reading::Interface => spelled(text, rest),
         _ => None,
     }
 }
@@ -161,14 +163,14 @@ fn versioned_in(bytes: &[u8]) -> Option<InterfaceName<'_>>
     let length = bytes.iter().take(LONGEST + 1).position(|byte| *byte == 0)?;
     let text = bytes.get(..length)?;
     match read_bytes(text) {
-        Reading::Versioned => spelled(text),
+        Reading::Versioned => spelled(text, &[]),
         _ => None,
     }
 }
 
 /// The units of the `String16` at the begin of the data, and what follows it. A longer one than a
 /// name can be is none.
-fn string_in(bytes: &[u8]) -> Option<(&[u8], &[u8])>
+pub(crate) fn string_in(bytes: &[u8]) -> Option<(&[u8], &[u8])>
     ensures { IfSome result (λ found. found.0.now ≡ string_of bytes.now) }
 {
     if bytes.len() < 4 {
@@ -190,17 +192,17 @@ fn string_in(bytes: &[u8]) -> Option<(&[u8], &[u8])>
 }
 
 /// The name of these bytes, if none of them is foreign to names.
-fn spelled(bytes: &[u8]) -> Option<InterfaceName<'_>>
+fn spelled<'c>(bytes: &'c [u8], rest: &'c [u8]) -> Option<InterfaceName<'c>>
     ensures { IfSome result (λ name. name.bytes.now ≡ bytes.now) }
 {
     if !bytes.iter().all(|byte| may_spell(*byte)) {
         return None;
     }
-    Some(InterfaceName { bytes })
+    Some(InterfaceName { bytes, rest })
 }
 
 /// Whether a name may have this byte.
-fn may_spell(byte: u8) -> bool
+pub(crate) fn may_spell(byte: u8) -> bool
     ensures { result ≡ may_spell byte }
 {
     byte.is_ascii_alphanumeric()

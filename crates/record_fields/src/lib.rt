@@ -8,6 +8,7 @@ mod error;
 mod fields;
 mod frames;
 mod interface;
+mod service;
 mod stopped;
 mod text;
 
@@ -17,5 +18,6 @@ pub use error::{ListingError, read_error, write_error};
 pub use fields::{Field, Form, Shown, Value, fields_of, has_field, object_fields};
 pub use frames::{direction_number, is_oneway, thread_of};
 pub use interface::{InterfaceName, interface_of, reply_name};
+pub use service::{ServiceName, service_of};
 pub use stopped::Stopped;
 pub use text::{push_decimal, push_digits, push_hexadecimal, push_place, push_signed};
