@@ -1,5 +1,6 @@
 """Payloads of transactions, each with the interface that it names: made ones of each form, recorded ones, and payloads
-that name none. `checks/listing` takes them."""
+that name none. And payloads to the manager of names, each with the service that it is about. `checks/listing` takes
+them."""
 
 import random
 import struct
@@ -120,7 +121,49 @@ def strangers(count: int) -> dict[bytes, None]:
     return made
 
 
+# ---- services
+
+# Names of services, and texts that are none.
+SERVICES = ("activity", "SurfaceFlinger", "android.hardware.power.IPower/default", "media.audio_flinger", "0", "-",
+            "a-b_c.d/e:f@g$h", "z" * 256)
+NO_SERVICES = ("", "a b", "a\n", "a\tb", "a\0b", "\0", "<b>", "a<script>", "&lt;", "a'b", 'a"b', "a\\b", "a;b", "(a)",
+               "\u202ea", "a\u202e", "\u2066a", "a\ufeff", "\ud800", "a\udc00", "\U0001f600", "\u0141", "\uff41",
+               "\u6161", "\x7f", "z" * 257)
+
+# What clients on libgbinder sent to the manager by aidl, aidl2 and aidl3: to ask for a service, and to register one.
+TO_MANAGER = "1a00000061006e00640072006f00690064002e006f0073002e00490053006500720076006900630065004d0061006e006100"
+TO_MANAGER += "6700650072000000000005000000680065006c006c006f000000"
+HEADS = "00004000", "00004000ffffffff", "00004000ffffffff54535953"
+REGISTERED = ("852a62737f010000704dba8355550000000000000000000000000000",
+              "852a62737f010000f05fea845555000000000000000000000000000008000000",
+              "852a62737f01000050b2fa6d5555000000000000000000000c0000000000000008000000")
+RECORDED_SERVICES = {bytes.fromhex(head + TO_MANAGER + more): "hello"
+                     for head, object_of in zip(HEADS, REGISTERED) for more in ("", object_of)}
+
+
+def managers() -> tuple[bytes, ...]:
+    """The tokens of the manager, of all forms."""
+    return tuple(token for token, name in MADE.items() if name == MANAGER)
+
+
+def services() -> dict[bytes, str | None]:
+    """Payloads, most of them to the manager. The name comes right after the interface."""
+    long = string16("activity")
+    made: dict[bytes, str | None] = {}
+    for token in managers():
+        made |= {token + long[:end]: None for end in range(len(long))}
+        made |= {token + string16(text): None for text in NO_SERVICES}
+        made |= {token + numbers(count) + long[4:]: None
+                 for count in (0, 7, 9, 257, 2**16, 2**30, 2**31 - 1, 2**31, 2**32 - 1)}
+        made |= {token + long[:-4] + end: None for end in (b"abcd", b"\0\0\0\1", b"\1\0\0\0")}
+        made |= {token + numbers(0) + long: None}
+        made |= {token + string16(name) + more: name for name in SERVICES for more in (b"", numbers(1, 2, 3))}
+    others = (token for token, name in MADE.items() if name != MANAGER)
+    made |= {token + long: None for token in (*others, ended(b"android.hidl.manager@1.0::IServiceManager\0"), b"")}
+    return made | RECORDED_SERVICES
+
+
 def payloads() -> dict[bytes, str | None]:
-    """All of them."""
+    """All that name an interface, or none."""
     more = {token + bytes(range(1, 30)): name for token, name in MADE.items()}
     return cuts() | hostile() | strangers(500) | MADE | more | RECORDED

@@ -93,14 +93,15 @@ UPDATE finding SET path = CASE
     OR section IN ('strays', 'objects', 'flags') AND generation IS NOT NULL
   THEN iif(generation IS NULL, 'a reply', call_name(code, coalesce(target, -upid), iif(target IS NULL, handle, ptr))
     || ' to '
-    || coalesce((SELECT who FROM who WHERE upid = target) || printf(' node 0x%x', ptr), 'handle ' || handle))
+    || coalesce((SELECT who FROM who WHERE upid = target) || printf(' node 0x%x', ptr) || service_name(target, ptr),
+      'handle ' || handle || service_name(-upid, handle)))
   WHEN section = 'buffers' AND what = 'BR_REPLY' THEN coalesce('reply to '
     || call_name(code, coalesce(target, -upid), iif(target IS NULL, handle, ptr)) || ' of '
-    || coalesce((SELECT who FROM who WHERE upid = target) || printf(' node 0x%x', ptr), 'handle ' || handle),
-    'reply to no call')
+    || coalesce((SELECT who FROM who WHERE upid = target) || printf(' node 0x%x', ptr) || service_name(target, ptr),
+      'handle ' || handle || service_name(-upid, handle)), 'reply to no call')
   WHEN section IN ('buffers', 'served') THEN iif(section = 'buffers' AND (SELECT flags & :TF_ONE_WAY FROM raw_record r
     WHERE r.place = finding.place), 'oneway ', '') || call_name(code, upid, ptr) || ' at '
-    || (SELECT who FROM who w WHERE w.upid = finding.upid) || printf(' node 0x%x', ptr)
+    || (SELECT who FROM who w WHERE w.upid = finding.upid) || printf(' node 0x%x', ptr) || service_name(upid, ptr)
   WHEN section = 'objects' THEN coalesce('a reply to ' || call_name(code, upid, ptr), 'a reply')
   WHEN section IN ('handles', 'requests', 'deaths', 'clears') AND target IS NOT NULL
   THEN 'handle ' || coalesce(handle, '?') || ', ' || (SELECT who FROM who WHERE upid = target)
@@ -172,7 +173,8 @@ SELECT g.id AS generation, g.upid, d.code, d.kind = 'BR_REPLY' AS reply, d.handl
   coalesce(n.upid, (SELECT t.upid FROM raw_send x JOIN raw_thread t USING (utid) WHERE x.place = d.send)) AS sender,
   iif(d.kind = 'BR_REPLY', 'given by replies to '
     || call_name(d.code, coalesce(n.upid, -g.upid), coalesce(n.ptr, d.handle)) || ' of '
-    || coalesce(w.who || printf(' node 0x%x', n.ptr), 'handle ' || d.handle),
+    || coalesce(w.who || printf(' node 0x%x', n.ptr) || service_name(n.upid, n.ptr),
+      'handle ' || d.handle || service_name(-g.upid, d.handle)),
     'given by calls of ' || call_name(d.code, g.upid, d.ptr)) AS way,
   g.strong + g.weak > 0 AS kept
 FROM raw_generation g JOIN delivery d ON d.place = g.given_by
@@ -190,7 +192,8 @@ WHERE section = 'handles' AND g.generation = finding.generation AND g.kept;
 -- many short-lived objects may get one call. What the context manager gives are services, each with a path of its own.
 CREATE TEMP TABLE object_of AS
 SELECT o.id AS generation, iif(g.way NOTNULL AND g.sender NOT IN (SELECT upid FROM manager), 'objects ' || g.way,
-  coalesce(w.who || printf(' node 0x%x', n.ptr), 'handle ' || o.handle || ' of ' || o.upid)) AS name
+  coalesce(w.who || printf(' node 0x%x', n.ptr) || service_name(n.upid, n.ptr),
+    'handle ' || o.handle || ' of ' || o.upid)) AS name
 FROM raw_generation o LEFT JOIN given g ON g.generation = o.id LEFT JOIN node_of n ON n.generation = o.id
   LEFT JOIN who w ON w.upid = n.upid
 WHERE EXISTS (SELECT 1 FROM finding WHERE section = 'answers');

@@ -468,15 +468,15 @@ class SideList:
             self.facts.update(end_ts=time, lost=number(keyed["lost"]))
 
 
-# ---- the names of interfaces
+# ---- the names of interfaces and of services
 
 
-def load_interfaces(database: sqlite3.Connection) -> None:
-    """Puts the names together, of which the raw table has eight characters in a number."""
+def load_names(database: sqlite3.Connection, of: str) -> None:
+    """Puts names together, of which a raw table has eight characters in a number."""
     names: dict[int, bytes] = {}
-    for number, letters in database.execute("SELECT id, letters FROM raw_interface ORDER BY id, idx"):
+    for number, letters in database.execute(f"SELECT id, letters FROM raw_{of} ORDER BY id, idx"):
         names[number] = names.get(number, b"") + struct.pack("<q", letters).rstrip(b"\0")
-    database.executemany("INSERT INTO interface VALUES (?, ?)",
+    database.executemany(f"INSERT INTO {of} VALUES (?, ?)",
                          ((number, name.decode("ascii")) for number, name in names.items()))
 
 
@@ -601,7 +601,8 @@ def judge(database: sqlite3.Connection, folder: pathlib.Path = FOLDER) -> None:
     """Gives each finding its verdict. In the statements `:BR_REPLY` is the number of that name. They make texts by
     `duration(nanoseconds)`, `counted(n, 'row')` and `status_name(number)`, alike ones by `likeness(path, ..)`, and look
     into a row of the report by `number_in(section, text, column)`. After names.sql, `call_name(code, upid, ptr)` names
-    a call, `object_name(upid, ptr)` an object, and `without_methods(path)` takes methods and packages out."""
+    a call, `service_name(upid, ptr)` and `object_name(upid, ptr)` an object, and `without_methods(path)` takes methods
+    and packages out."""
     database.create_function("duration", 1, duration_of, deterministic=True)
     database.create_function("counted", -1, counted, deterministic=True)
     database.create_function("likeness", 5, likeness, deterministic=True)
@@ -615,6 +616,7 @@ def judge(database: sqlite3.Connection, folder: pathlib.Path = FOLDER) -> None:
             names_of = Names(database)
             database.create_function("call_name", 3, names_of.call, deterministic=True)
             database.create_function("without_methods", 1, names_of.without_methods, deterministic=True)
+            database.create_function("service_name", 2, names_of.service, deterministic=True)
             database.create_function("object_name", 2, names_of.object, deterministic=True)
 
 
@@ -670,7 +672,8 @@ def fill(database: sqlite3.Connection, files: list[str], side: str | None, has_t
     load_report(database, report)
     load_facts(database, files, malformed, taken.facts if side is not None else {})
     load_findings(database)
-    load_interfaces(database)
+    load_names(database, "interface")
+    load_names(database, "service")
     load_methods(database, methods or {})
     load_status(database, files)
     database.execute("COMMIT")

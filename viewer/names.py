@@ -118,6 +118,9 @@ class Names:
                        database.execute("SELECT code, upid, ptr, interface, others FROM call_interface")}
         self.objects = {(upid, ptr): (interface, others) for upid, ptr, interface, others in
                         database.execute("SELECT upid, ptr, interface, others FROM object_interface")}
+        self.services = {(upid, ptr): name + (" or others" if others else "") for upid, ptr, name, others in
+                         database.execute("SELECT o.upid, o.ptr, s.name, o.others FROM object_service o"
+                                          " JOIN service s ON s.id = o.service")}
         shorts = [short_of(name) for name in {BINDER, *self.full.values()}]
         self.short = {name: short_of(name) if shorts.count(short_of(name)) == 1 else name
                       for name in {BINDER, *self.full.values()}}
@@ -165,9 +168,20 @@ class Names:
         interface, others = self.objects[upid, ptr]
         return self.full[interface] + (" or others" if others else "")
 
+    def whole(self, upid: int | None, ptr: int | None) -> str:
+        """An object by service and interface, as far as they are known: `activity (android.app.IActivityManager)`."""
+        service, interface = self.services.get((upid, ptr), ""), self.interface(upid, ptr)
+        return f"{service} ({interface})" if service and interface else service or interface
+
+    def service(self, upid: int | None, ptr: int | None) -> str:
+        """What follows an object in the path of a call: the service that it is, if it is one."""
+        service = self.services.get((upid, ptr))
+        return "" if service is None else f" {service}"
+
     def object(self, upid: int | None, ptr: int | None) -> str:
-        """What follows an object in a path: its interface in brackets, if it is known."""
+        """What follows an object in a path: the service that it is, and its interface in brackets, if they are
+        known."""
         if (upid, ptr) not in self.objects:
-            return ""
+            return self.service(upid, ptr)
         interface, others = self.objects[upid, ptr]
-        return f" ({self.short[self.full[interface]]}{' or others' if others else ''})"
+        return f"{self.service(upid, ptr)} ({self.short[self.full[interface]]}{' or others' if others else ''})"

@@ -1,4 +1,5 @@
--- Which interfaces calls name: those of each code at each node, and those of each node. After nodes.sql.
+-- Which interfaces calls name: those of each code at each node, and those of each node; and under which names nodes are
+-- registered as services. After nodes.sql.
 BEGIN;
 
 -- How many records of each code and node name an interface; of a handle whose node is not known, its process with a
@@ -32,6 +33,47 @@ FROM (SELECT x.*, sum(iif(base, 0, n)) OVER (PARTITION BY upid, ptr) AS total,
     row_number() OVER (PARTITION BY upid, ptr ORDER BY base, n DESC, interface) AS nth
   FROM (SELECT m.upid, m.ptr, m.interface, i.name = 'android.hidl.base@1.0::IBase' AS base, sum(m.n) AS n
     FROM naming m JOIN interface i ON i.id = m.interface GROUP BY 1, 2, 3) x)
+WHERE nth = 1;
+
+-- ---- services
+
+-- What is sent to the manager of names about a service, and how many objects of processes it has. In HIDL a name is
+-- where an object points, so that only the code tells `add` and `addWithChain`.
+CREATE TEMP TABLE to_manager AS
+SELECT r.place, r.service, t.upid, r.data_size, length(v.name) AS letters, c.verdict, c.closer,
+  (SELECT count(*) FROM raw_object o WHERE o.place = r.place AND o.sort IN (:BINDER, :WEAK_BINDER, :HANDLE)) AS objects
+FROM (SELECT 1 FROM interface WHERE name GLOB 'android.*.IServiceManager' OR name GLOB 'android.*::IServiceManager'
+    LIMIT 1) CROSS JOIN raw_record r JOIN raw_thread t USING (utid) LEFT JOIN service v ON v.id = r.service
+  LEFT JOIN raw_call c USING (place)
+WHERE r.handle = 0 AND r.kind IN (:BC_TRANSACTION, :BC_TRANSACTION_SG) AND (r.service NOTNULL
+  OR (SELECT i.name || ' ' || r.code FROM interface i WHERE i.id = r.interface)
+    IN ('android.hidl.manager@1.0::IServiceManager 2', 'android.hidl.manager@1.2::IServiceManager 12'));
+-- A name takes 4 bytes, two for each character and two for a NUL, up to a multiple of four. What is registered follows
+-- at once, in 24 bytes. Before the name is the token, of 64, 68 or 72 bytes by release. After the object come two
+-- numbers or more, with the first token maybe one; a callback for a name has fewer after it.
+CREATE TEMP TABLE is_service AS
+SELECT m.upid, o.binder AS ptr, m.service, m.place AS registered, m.place
+FROM to_manager m JOIN raw_object o USING (place)
+WHERE m.objects = 1 AND o.sort = :BINDER AND m.verdict IS NOT 3
+  AND NOT EXISTS (SELECT 1 FROM raw_record a WHERE a.place = m.closer AND a.flags & :TF_STATUS_CODE)
+  AND (m.service IS NULL OR m.data_size - o.offset - 24 >=
+    CASE o.offset - 4 - (2 * m.letters + 5) / 4 * 4 WHEN 64 THEN 4 WHEN 68 THEN 8 WHEN 72 THEN 8 END);
+-- Who asks for a name gets a handle of the service, or its own object.
+INSERT INTO is_service
+SELECT iif(o.sort = :BINDER, m.upid, coalesce(n.upid, -m.upid)),
+  iif(o.sort = :BINDER, o.binder, coalesce(n.ptr, o.handle)), m.service, NULL, m.place
+FROM to_manager m JOIN raw_object o ON o.place = m.closer LEFT JOIN raw_generation g ON g.upid = m.upid
+    AND g.handle = o.handle AND g.begin <= m.closer AND (g.end IS NULL OR g.end > m.closer)
+  LEFT JOIN node_of n ON n.generation = g.id
+WHERE m.service NOTNULL AND m.objects = 0 AND m.verdict = 1 AND o.sort IN (:BINDER, :HANDLE)
+  AND (SELECT count(*) FROM raw_object x WHERE x.place = m.closer) = 1;
+-- The name under which a node was registered first, or by which it was asked for most often.
+INSERT INTO object_service
+SELECT upid, ptr, service, registered, n, total - n
+FROM (SELECT upid, ptr, service, min(registered) AS registered, count(*) AS n,
+    sum(count(*)) OVER (PARTITION BY upid, ptr) AS total, row_number() OVER (PARTITION BY upid, ptr
+      ORDER BY min(registered) IS NULL, min(registered), count(*) DESC, min(place)) AS nth
+  FROM is_service GROUP BY 1, 2, 3)
 WHERE nth = 1;
 
 COMMIT;

@@ -395,8 +395,8 @@ class Page:
             to = (-upid, handle) if node is None else (node, ptr)
             if node is not None:
                 server, its_node = self.name(node), f"<code>0x{ptr % 2**64:x}</code>"
-            if interface := self.names.interface(*to):
-                its_node += f' <span class="of">{name_of(interface)}</span>'
+            if named := self.names.whole(*to):
+                its_node += f' <span class="of">{name_of(named)}</span>'
             cells.append([Cell(self.name(upid)), number_cell(handle), Cell(server), Cell(its_node),
                           self.call_cell(code, *to),
                           Cell("oneway" if oneway else "call"), *map(number_cell, numbers),
@@ -441,7 +441,8 @@ class Page:
             if fits is not None and fits != 1:
                 got += f' <i class="of">one of {fits}</i>'
             cells.append([Cell(f"<code>{place}</code>", True, place), Cell(f"{self.name(upid)} thread {thread}"),
-                          Cell(self.name(server) or f"handle {handle}"), self.call_cell(code, *to), Cell(verdict),
+                          Cell((self.name(server) or f"handle {handle}") + name_of(self.names.service(*to[:2]))),
+                          self.call_cell(code, *to), Cell(verdict),
                           duration_cell(took, frames), duration_cell(got_time, got_frames), Cell(got, True, delivery),
                           Cell("" if replied is None else str(replied), True, replied),
                           Cell("<b>never</b>" if closer is None else str(closer), True, closer)])
@@ -469,6 +470,22 @@ class Page:
                 " (docs/VIEW.md#stacks).</p>" + table_of("files", ["file", "build-id", "#frames", "#named"], cells)
                 + "</details>") if rows else ""
 
+    def services(self) -> str:
+        """The services that are known; nothing if there is none."""
+        cells = []
+        for service, others, interface, upid, ptr, registered, n, rests_on in self.asked("services", ROWS):
+            name = '<span class="dim">not in a capture</span>' if service is None else name_of(service) + (
+                " or others" if others else "")
+            known = "its registration" if rests_on == "bytes" else f"{counted(n, 'answer')} of the manager"
+            cells.append([Cell(name), Cell(name_of(interface)), Cell(self.name(upid)),
+                          Cell(f"<code>0x{ptr % 2**64:x}</code>"), Cell(known),
+                          Cell("" if registered is None else f"<code>{registered}</code>", True, registered)])
+        heads = ["service", "interface", "process", "node", "known from", "#registered at"]
+        return ('<details class="fold"><summary>Services</summary><p class="dim">What processes registered with a'
+                " manager of names, or got from it. The manager's answers are inferred to lead to a node, and the"
+                " interface is what calls name (docs/VIEW.md#services).</p>"
+                + table_of("services", heads, cells) + "</details>") if cells else ""
+
     def heads(self) -> str:
         lines = "".join(f'<div class="proved">{text_of(text)}</div>' for text, in
                         self.ask("SELECT text FROM report WHERE section = 'head' ORDER BY id"))
@@ -477,6 +494,7 @@ class Page:
 
     def parts(self) -> Iterator[str]:
         of_nodes = " The interface of a node is what calls to it name." if self.names.objects else ""
+        of_nodes += " A service has its name before that." if self.names.services else ""
         yield self.head()
         yield self.counts()
         yield "<h2>Look at these</h2>" + self.groups("real", "maybe")
@@ -497,6 +515,7 @@ class Page:
                " nothing, and a call ends with its thread.</p>" + self.levels())
         yield "<h2>Calls without an answer, and those that took longest</h2>" + self.slow_calls()
         yield self.methods()
+        yield self.services()
         yield self.files()
         yield ('<details class="fold"><summary>Normal rows: references that are held or were let go, and requests that'
                " wait</summary>" + self.groups("normal") + "</details>")

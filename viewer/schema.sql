@@ -2,7 +2,7 @@
 -- Since version 3, interface is new, and the column interface of record, listing, call, send and delivery.
 -- Since version 4, method and node_interface are new.
 -- Since version 5, command and uid of process, the names that begin with book, disagreement, side_call, side_unstacked,
--- stack and finding_stack are.
+-- stack, finding_stack, service and node_service are, and the column service of record.
 PRAGMA user_version = 6;
 
 -- ---- raw tables: the rows that `./listing --tables` writes, column by column
@@ -13,11 +13,11 @@ PRAGMA user_version = 6;
 --
 -- A column is present in every row unless it may be NULL. A place is the place of a record's code word unless said
 -- otherwise. A difference of two sequences is taken in 64 bits without a sign. Rows rise by the first column, in
--- raw_interface, raw_object and raw_level by the first two. Wherever the end of the capture is meant, a malformed capture ends at its
--- first fault.
+-- raw_interface, raw_service, raw_object and raw_level by the first two. Wherever the end of the capture is meant, a
+-- malformed capture ends at its first fault.
 
 -- The capture, in one row.
---   layout                2
+--   layout                3
 --   parts                 the number of files
 --   bytes                 the length of the joined capture; of a malformed one, the place of its fault in that
 --   frames, records       the numbers of rows of raw_frame and raw_record
@@ -71,6 +71,8 @@ CREATE TABLE raw_frame(seq INTEGER PRIMARY KEY, place INTEGER NOT NULL, utid INT
 --                and BR_ACQUIRE_RESULT, the priority of BC_ATTEMPT_ACQUIRE and BR_ATTEMPT_ACQUIRE
 --   interface    the id in raw_interface of the interface with which the data of a transaction begin, or of the one
 --                that is all of the data of a reply; NULL if they name none
+--   service      the id in raw_service of the name that comes after the interface android.os.IServiceManager in the
+--                data of a transaction; NULL without one
 -- The target of a reply means nothing, so BC_REPLY, BC_REPLY_SG and BR_REPLY have no handle, ptr or cookie. A sent
 -- transaction goes to a handle and a received one to a ptr and a cookie; the other reading of these bytes is left out.
 -- Indexes are those that a query of the page, or of docs/DATABASE.md, was measured to need: nodes.sql begins with them.
@@ -78,14 +80,15 @@ CREATE TABLE raw_frame(seq INTEGER PRIMARY KEY, place INTEGER NOT NULL, utid INT
 CREATE TABLE raw_record(place INTEGER PRIMARY KEY, seq INTEGER NOT NULL, utid INTEGER NOT NULL, kind INTEGER NOT NULL,
   handle INTEGER, ptr INTEGER, cookie INTEGER, address INTEGER, code INTEGER, flags INTEGER, sender_pid INTEGER,
   sender_euid INTEGER, data_size INTEGER, offsets_size INTEGER, offsets INTEGER, extra INTEGER, attachment INTEGER,
-  value INTEGER, interface INTEGER);
+  value INTEGER, interface INTEGER, service INTEGER);
 
--- A row for each eight characters of the name of an interface. Each name is there once, in the order of the first
--- records that have it.
+-- A row for each eight characters of the name of an interface, and of a service. Each name is there once, in the order
+-- of the first records that have it.
 --   id        1, 2 and so on
 --   idx       0 of the first eight characters, then 1 and so on
 --   letters   the characters in ASCII, the first one in the lowest byte; bytes after the last one are 0
 CREATE TABLE raw_interface(id INTEGER NOT NULL, idx INTEGER NOT NULL, letters INTEGER NOT NULL);
+CREATE TABLE raw_service(id INTEGER NOT NULL, idx INTEGER NOT NULL, letters INTEGER NOT NULL);
 
 -- A row for each object of an attachment, up to the first bad one, which has a row too (docs/REPORT.md#objects). Of a
 -- bad object only place, idx, offset and bad are there.
@@ -229,15 +232,18 @@ CREATE INDEX side_process_of_pid ON side_process(pid);
 CREATE INDEX side_thread_of_tid ON side_thread(tid);
 CREATE TABLE side_time(seq INTEGER PRIMARY KEY, ts INTEGER NOT NULL) STRICT;
 CREATE TABLE side_lost(seq INTEGER PRIMARY KEY, device INTEGER, process INTEGER, thread INTEGER, why TEXT) STRICT;
--- The names in raw_interface, put together.
+-- The names in raw_interface and in raw_service, put together.
 CREATE TABLE interface(id INTEGER PRIMARY KEY, name TEXT NOT NULL) STRICT;
+CREATE TABLE service(id INTEGER PRIMARY KEY, name TEXT NOT NULL) STRICT;
 -- The methods of these interfaces, as far as they are known, and those that all objects have.
 CREATE TABLE method(interface TEXT, code INTEGER, method TEXT NOT NULL, source TEXT NOT NULL,
   PRIMARY KEY(interface, code)) STRICT, WITHOUT ROWID;
--- The interface of each code at a node, and that of each node. In names.sql.
+-- The interface of each code at a node, that of each node, and the service that a node is. In names.sql.
 CREATE TABLE call_interface(code INTEGER, upid INTEGER, ptr INTEGER, interface INTEGER NOT NULL,
   others INTEGER NOT NULL, PRIMARY KEY(code, upid, ptr)) STRICT, WITHOUT ROWID;
 CREATE TABLE object_interface(upid INTEGER, ptr INTEGER, interface INTEGER NOT NULL, n INTEGER NOT NULL,
+  others INTEGER NOT NULL, PRIMARY KEY(upid, ptr)) STRICT, WITHOUT ROWID;
+CREATE TABLE object_service(upid INTEGER, ptr INTEGER, service INTEGER, registered INTEGER, n INTEGER NOT NULL,
   others INTEGER NOT NULL, PRIMARY KEY(upid, ptr)) STRICT, WITHOUT ROWID;
 -- The number that a BR_REPLY with TF_STATUS_CODE has in place of data; NULL if its data are not in the capture.
 CREATE TABLE status(place INTEGER PRIMARY KEY, value INTEGER) STRICT;
@@ -337,9 +343,10 @@ FROM raw_frame f JOIN raw_thread t USING (utid) LEFT JOIN side_time x USING (seq
 CREATE VIEW record AS
 SELECT r.place, r.seq, r.utid, t.upid, k.name AS kind, r.handle, r.ptr, r.cookie, r.address, r.code, r.flags,
   r.flags & 1 AS oneway, r.sender_pid, r.sender_euid, r.data_size, r.offsets_size, r.offsets, r.extra, r.attachment,
-  r.value, x.ts, i.name AS interface
+  r.value, x.ts, i.name AS interface, v.name AS service
 FROM raw_record r JOIN raw_thread t USING (utid) LEFT JOIN kind k ON k.number = r.kind
-  LEFT JOIN side_time x USING (seq) LEFT JOIN interface i ON i.id = r.interface;
+  LEFT JOIN side_time x USING (seq) LEFT JOIN interface i ON i.id = r.interface
+  LEFT JOIN service v ON v.id = r.service;
 
 CREATE VIEW object AS
 SELECT o.place, o.idx, o.offset, s.name AS sort, o.flags, o.binder, o.handle, o.fd, o.cookie, o.num_fds, o.buffer,
@@ -426,6 +433,12 @@ FROM (SELECT p.stack, p.idx, p.pid, p.pc, m.path, m.build_id,
     AND m.start = (SELECT max(start) FROM side_map x WHERE x.memory = p.memory AND x.start < p.pc)) f
   LEFT JOIN symbol y ON y.build_id = f.build_id AND y.address = f.address;
 
+CREATE VIEW node_service AS
+SELECT o.upid, o.ptr, v.name AS service, x.interface, o.registered, o.n, o.others,
+  iif(o.registered IS NULL, 'inferred', 'bytes') AS rests_on
+FROM object_service o LEFT JOIN service v ON v.id = o.service LEFT JOIN node_interface x USING (upid, ptr)
+WHERE o.upid > 0;
+
 -- ---- what each name rests on
 
 CREATE TABLE about(name TEXT PRIMARY KEY, rests_on TEXT NOT NULL
@@ -453,8 +466,10 @@ INSERT INTO about VALUES
   ('record', 'bytes', 'a record, with its fields by the names of binder.h; a field that it has not is NULL'),
   ('object', 'bytes', 'an object of an attachment, up to the first bad one'),
   ('interface', 'bytes', 'the name of an interface that a record has in its data'),
+  ('service', 'bytes', 'the name of a service that a record has in its data'),
   ('method', 'inferred', 'a method of an interface, by the files of --methods, or built in; source says where'),
   ('node_interface', 'inferred', 'the interface that most calls to a node name'),
+  ('node_service', 'inferred', 'a node that is a service, and its name; rests_on says whether bytes say so'),
   ('listing', 'bytes', 'a line of ./listing'),
   ('call', 'rule', 'a call that a thread makes or gets to serve, by the rules of REPORT.md; delivery is inferred'),
   ('delivery', 'rule', 'a buffer that a process got, and the free that gave it back; send is inferred'),

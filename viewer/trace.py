@@ -134,6 +134,7 @@ class Timeline:
         self.axis = Axis(database, window)
         self.tracks = Tracks(database, window)
         self.call_names = Names(database)
+        self.services = {to: f',"service":{json.dumps(name)}' for to, name in self.call_names.services.items()}
         self.label = functools.lru_cache(4096)(self.label_of)
         self.numbers = loading.named_numbers(database)
         self.reply, self.free_buffer = self.numbers["BR_REPLY"], self.numbers["BC_FREE_BUFFER"]
@@ -272,10 +273,12 @@ class Timeline:
                     self.flow("s", thread, "reply", place)
                 self.pop(thread)
             return
-        label = self.label(code, *((-thread.upid, handle) if node is None else (node, ptr)), interface)
+        target = (-thread.upid, handle) if node is None else (node, ptr)
+        label = self.label(code, *target, interface)
         to = "" if node is None else f',"to":{self.tracks.who(node, node_certain)}'
         got = "" if not certain else f',"delivery":{delivery},"fits":{fits}'
-        fields = f'"place":{place},"seq":{seq % 2**64},"handle":{handle}{to},"data_size":{size % 2**64}{got}'
+        fields = (f'"place":{place},"seq":{seq % 2**64},"handle":{handle}{to}{self.services.get(target, "")},'
+                  f'"data_size":{size % 2**64}{got}')
         if verdict is not None:
             closed = "" if closer is None else f',"closer":{closer}'
             self.push(thread, Open(place, closer, MADE, f'"cat":"call","name":"call {label}","args":{{{fields},'
@@ -324,11 +327,12 @@ class Timeline:
             return
         if thread.stack and thread.stack[-1].kind == ONEWAY:
             self.pop(thread)
-        label = self.label(code, thread.upid, ptr, interface)
+        target = thread.upid, ptr
+        label = self.label(code, *target, interface)
         came = "" if not certain else (f',"from":{self.tracks.who(self.threads[sender].upid, 1)},"send":{send},'
                                        f'"fits":{fits}')
-        fields = (f'"place":{place},"seq":{seq % 2**64},"ptr":{hexadecimal(ptr)},"cookie":{hexadecimal(cookie)},'
-                  f'"sender_pid":{sender_pid},"data_size":{size % 2**64}{came}')
+        fields = (f'"place":{place},"seq":{seq % 2**64},"ptr":{hexadecimal(ptr)},"cookie":{hexadecimal(cookie)}'
+                  f'{self.services.get(target, "")},"sender_pid":{sender_pid},"data_size":{size % 2**64}{came}')
         if oneway:
             if certain and self.live:
                 begin = max(self.entered, min(self.axis.ns, self.axis.at(send_seq, send_ts)))

@@ -53,18 +53,18 @@ def code_name(code: int | None) -> str | None:
     return ("HIDL_" if first == HIDL else "") + bytes(letters).decode()
 
 
-# An interface after a node or a handle.
-INTERFACE = r"(?: \([\w$.:@]+(?: or others)?\))?"
+# A service, and an interface in brackets, after a node or a handle.
+OBJECT = r"(?: (?!of )[\w$.:@/-]*[\w$.@/-](?: or others)?)?(?: \([\w$.:@]+(?: or others)?\))?"
 
 
 def likeness(path: str, *processes: str | None) -> str:
     """A path without what differs if one cause is seen in several processes: the processes' numbers, nodes with their
-    interfaces, handles, cookies and addresses. `processes` are what a process is called in the path, and its name, in
-    turns."""
+    services and interfaces, handles, cookies and addresses. `processes` are what a process is called in the path, and
+    its name, in turns."""
     for who, name in zip(processes[::2], processes[1::2]):
         if who:
             path = path.replace(who, name or "a process")
-    path = re.sub(rf"(?<!^) node 0x[0-9a-f]+{INTERFACE}", "", path)
-    path = re.sub(rf"^(handle|node|cookie) (0x)?[0-9a-f]+{INTERFACE}", r"\1s", path)
+    path = re.sub(rf"(?<!^) node 0x[0-9a-f]+{OBJECT}", "", path)
+    path = re.sub(rf"^(handle|node|cookie) (0x)?[0-9a-f]+{OBJECT}", r"\1s", path)
     path = re.sub(r"^address 0x[0-9a-f]+", "addresses", path)
-    return re.sub(r"\bhandle [0-9]+", "a handle", path)
+    return re.sub(rf"\bhandle [0-9]+{OBJECT}", "a handle", path)

@@ -80,7 +80,9 @@ def frames_of(capture: bytes) -> list[Frame]:
 
 
 def without_numbers(path: str) -> str:
-    return re.sub(r"( from .*) \d+( on \w+)?$", r"\1\2", re.sub(r" \d+( on \w+)? node ", r"\1 node ", path))
+    """A path without numbers of processes, and without addresses, which are others in each recording."""
+    path = re.sub(r" node 0x[0-9a-f]{8,}", " node 0x..", re.sub(r" \d+( on \w+)? node ", r"\1 node ", path))
+    return re.sub(r"( from .*) \d+( on \w+)?$", r"\1\2", path)
 
 
 def groups_of(database: sqlite3.Connection) -> list[tuple[str, ...]]:

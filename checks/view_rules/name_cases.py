@@ -1,6 +1,6 @@
-"""Sessions whose calls name interfaces: what their paths and notes call them."""
+"""Sessions whose calls name interfaces, or services: what their paths and notes call them."""
 
-from tokens import marked, string16
+from tokens import GATHER, MANAGER, NO_SOURCE, marked, numbers, string16
 from view_rules.cases import case, with_server
 from view_rules.session import *
 
@@ -113,3 +113,94 @@ def named_calls_give(s):
         address = server.main.gets(sent, 0x9000, ONE + of_handle(2, handle), offsets(len(ONE)))
         server.main.writes(*each(BC_ACQUIRE, handle))
         client.main.answered(server.main.replies(address))
+
+
+# ---- services
+
+
+# What begins the data of what is sent to the manager: of Android 11, 10 and 9, and what HIDL's sends begin with.
+TO_MANAGER = {"11": marked(MANAGER), "10": numbers(GATHER, NO_SOURCE) + string16(MANAGER),
+              "9": numbers(GATHER) + string16(MANAGER), "other": marked("a.b.IOther"),
+              "hidl": of_hidl("android.hidl.manager@1.0::IServiceManager")}
+ADDED = (12, 0, 15)
+
+
+@case("H6:1", "handle 3, server 300 node 0x9000 hello)", form="11", after=ADDED)
+@case("H6:1", "handle 3, server 300 node 0x9000 hello)", form="11", after=ADDED, code=5)
+@case("H6:1", "handle 3, server 300 node 0x9000 hello)", form="10", after=ADDED[1:])
+@case("H6:1", "handle 3, server 300 node 0x9000 hello)", form="9", after=ADDED[1:])
+@case("H6:1", "handle 3, server 300 node 0x9000 hello)", form="9", after=(0,))
+@case("H6:1", "handle 3, server 300 node 0x9000)", form="11", after=ADDED[:1])
+@case("H6:1", "handle 3, server 300 node 0x9000)", form="10", after=ADDED[:1])
+@case("H6:1", "handle 3, server 300 node 0x9000)", form="other", after=ADDED)
+@case("H6:1", "handle 3, server 300 node 0x9000)", form="hidl", after=ADDED)
+@case("H6:1", "handle 3, server 300 node 0x9000)", form="11", after=ADDED, between=b"1234")
+@case("H6:1", "handle 3, server 300 node 0x9000)", form="11", after=ADDED, name="a<b>")
+@case("H6:1 R2:1", "handle 3, server 300 node 0x9000)", form="11", after=ADDED, flags=STATUS_CODE)
+def registers(s, form, after, code=3, between=b"", name="hello", flags=0):
+    """An object is handed to the manager with a name: what follows it tells that it is registered."""
+    manager, _ = s.two()
+    s.process(300, "server").main.gives(manager.main, 3, code, 0x9000, TO_MANAGER[form] + string16(name) + between,
+                                        numbers(*after), flags)
+
+
+@case("H6:2", "handle 3, server 300 node 0x9000 hello)", "handle 1, server 300 node 0x9000 hello)", form="11")
+@case("H6:2", "handle 1, server 300 node 0x9000 hello)", form="9")
+@case("H6:2", "handle 1, server 300 node 0x9000)", form="other")
+def asks_for(s, form):
+    """Who asks the manager for a name gets a handle: its object has the name, for others too."""
+    manager, client = s.two()
+    server = s.process(300, "server")
+    server.main.gives(manager.main, 3, node=0x9000)
+    client.main.is_given(manager.main, 1, 2, server_handle=3, body=TO_MANAGER[form] + string16("hello"))
+
+
+@case("H6:2", "handle 1, server 300 node 0x9000 hello or others)", names="hello world")
+@case("H6:2", "handle 1, server 300 node 0x9000 hello)", names="hello hello")
+@case("H6:2", "handle 1, server 300 node 0x9000 hello or others)", names="hello world world")
+def goes_by(s, names):
+    """An object that is registered by the first of these names, and asked for by the others: the first counts."""
+    manager, client = s.two()
+    server = s.process(300, "server")
+    first, *others = names.split()
+    server.main.gives(manager.main, 3, 3, 0x9000, marked(MANAGER) + string16(first), numbers(*ADDED))
+    for at, name in enumerate(others):
+        client.main.is_given(manager.main, 1, 2, not at, server_handle=3, body=marked(MANAGER) + string16(name))
+
+
+@case("C4:1 A1:2", "IOne code 7 to server 300 node 0x9000 hello (server 300 got it",
+      "IOne code 7 at server 300 node 0x9000 hello (")
+def hangs_in_service(s):
+    """A call to a service that hangs."""
+    manager, client = s.two()
+    server = s.process(300, "server")
+    server.main.gives(manager.main, 3, 3, 0x9000, marked(MANAGER) + string16("hello"), numbers(*ADDED))
+    client.main.is_given(manager.main, 1, server_handle=3)
+    for _ in range(3):
+        client.main.asks(server.main, 8, 1, 0x9000, body=ONE)
+    server.main.gets(client.main.sends(1, 7, body=ONE), 0x9000)
+    s.wait(200)
+
+
+@case("U3:3", "reply to IOne code 7 of server 300 node 0x9000 hello ()")
+def keeps_replies_of_service(s):
+    manager, client = s.two()
+    server = s.process(300, "server")
+    server.main.gives(manager.main, 3, 3, 0x9000, marked(MANAGER) + string16("hello"), numbers(*ADDED))
+    client.main.is_given(manager.main, 1, server_handle=3)
+    for free in False, False, False, True, True:
+        client.main.asks(server.main, 8 if free else 7, 1, 0x9000, body=ONE, free=free)
+    s.wait(200)
+
+
+@case("C5:1", "IOne code 7 to handle 9 hello (not got")
+def hangs_at_unknown_node(s):
+    """A call to a service whose process is not known."""
+    manager, client = s.two(met="in-mid-life")
+    asked = client.main.sends(0, 2, body=marked(MANAGER) + string16("hello"))
+    address = manager.main.gets(asked)
+    got = client.main.answered(manager.main.replies(address), of_handle(2, 9), offsets(0), free=False)
+    client.main.writes(*each(BC_ACQUIRE, 9))
+    client.main.frees(got)
+    client.main.sends(9, 7, body=ONE)
+    s.wait(200)

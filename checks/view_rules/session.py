@@ -91,23 +91,24 @@ class Thread:
 
     # -- handles
 
-    def is_given(self, server, handle, code=5, take=True, node=None, server_handle=None, via=0, ptr=0):
+    def is_given(self, server, handle, code=5, take=True, node=None, server_handle=None, via=0, ptr=0, body=b""):
         """Gets this handle in the answer to a call: an object of the server, or one that the server has a handle of."""
         theirs = of_handle(2, server_handle) if server_handle else node_object(node or 0x100 * handle)
         ours, listed = of_handle(2, handle), offsets(0)
-        address = server.gets(self.sends(via, code), ptr)
+        address = server.gets(self.sends(via, code, body=body), ptr)
         reply = server.replies(address, theirs, listed)
         got = self.answered(reply, ours, free=False)
         if take:
             self.writes(*each(BC_ACQUIRE, handle))
         self.frees(got)
 
-    def gives(self, server, handle, code=4, node=None):
-        """Hands an object of its own over to the server, which takes it by this handle."""
-        body, listed = node_object(node or 0x9000 + 0x100 * handle), offsets(0)
-        address = server.gets(self.sends(0, code, body=body, listed=listed), 0, of_handle(2, handle))
+    def gives(self, server, handle, code=4, node=None, before=b"", after=b"", flags=0):
+        """Hands an object of its own over to the server, which takes it by this handle. Before and after the object
+        there may be other data, and the answer may be a status."""
+        body, listed = before + node_object(node or 0x9000 + 0x100 * handle) + after, offsets(len(before))
+        address = server.gets(self.sends(0, code, body=body, listed=listed), 0, before + of_handle(2, handle) + after)
         server.writes(*each(BC_ACQUIRE, handle))
-        self.answered(server.replies(address))
+        self.answered(server.replies(address, b"1234" if flags & STATUS_CODE else b"", flags=flags))
 
     def ends(self, why="ended"):
         self.session.tell(f"end thread 0 {self.process.number} {self.number} after={self.session.sequence} why={why}")

@@ -9,7 +9,7 @@ use std::alloc::Global;
 use std::io::Write;
 
 /// The layout of the tables.
-const LAYOUT: u64 = 2;
+const LAYOUT: u64 = 3;
 
 /// The capture itself, in one row.
 #[derive(Drop)]

@@ -1,6 +1,6 @@
 //! The table record.
 
-use crate::interfaces::Interfaces;
+use crate::names::Named;
 use crate::rows::{Rows, signed};
 use crate::walk::{Standing, Table};
 use binder_code::{Code, Kind};
@@ -14,14 +14,14 @@ use transaction_view::Transaction;
 /// A row for each record.
 #[derive(Drop)]
 pub(crate) struct RecordTable {
-    /// The interfaces of the rows so far.
-    pub interfaces: Interfaces,
+    /// The names of the rows so far.
+    pub named: Named,
 }
 
 impl RecordTable {
     pub(crate) fn new(alloc: Global) -> RecordTable {
         RecordTable {
-            interfaces: Interfaces::new(alloc),
+            named: Named::new(alloc),
         }
     }
 }
@@ -34,7 +34,7 @@ impl Table for RecordTable {
         rows: &mut Rows<'_, W>,
     ) -> Result<(), ListingError> {
         let record = item.record;
-        let mut columns = [None; 19];
+        let mut columns = [None; 20];
         columns[0] = Some(record.place);
         columns[1] = Some(standing.frame.sequence);
         columns[2] = Some(u64::from(standing.utid));
@@ -45,7 +45,8 @@ impl Table for RecordTable {
             columns[16] = item.entry.map(|entry| entry.place);
         }
         columns[17] = value_of(record);
-        columns[18] = self.interfaces.number_of(item)?;
+        columns[18] = self.named.interface(item)?;
+        columns[19] = self.named.service(item)?;
         rows.push(&columns)
     }
 }
@@ -65,7 +66,7 @@ pub(crate) fn kind_number(record: Record<'_>, direction: Direction) -> u64 {
 }
 
 /// Sets handle, ptr, cookie and address. The target of a reply means nothing.
-fn set_target(columns: &mut [Option<u64>; 19], record: Record<'_>) {
+fn set_target(columns: &mut [Option<u64>; 20], record: Record<'_>) {
     let is_reply = matches!(record.kind, Kind::BcReply | Kind::BcReplySg | Kind::BrReply);
     for field in fields_of(record.kind) {
         let column = match field.0 {
@@ -85,7 +86,7 @@ fn set_target(columns: &mut [Option<u64>; 19], record: Record<'_>) {
     }
 }
 
-fn set_transaction(columns: &mut [Option<u64>; 19], transaction: Transaction<'_>) {
+fn set_transaction(columns: &mut [Option<u64>; 20], transaction: Transaction<'_>) {
     columns[8] = Some(u64::from(transaction.code()));
     columns[9] = Some(u64::from(transaction.flags()));
     columns[10] = Some(signed(transaction.sender_pid()));

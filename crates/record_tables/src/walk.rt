@@ -25,6 +25,7 @@ pub enum Name {
     Frame,
     Record,
     Interface,
+    Service,
     Object,
     Call,
     Generation,
@@ -102,13 +103,14 @@ pub(crate) trait Table {
 }
 
 /// The tables by name.
-pub const NAMES: [(&str, Name); 12] = [
+pub const NAMES: [(&str, Name); 13] = [
     ("capture", Name::Capture),
     ("process", Name::Process),
     ("thread", Name::Thread),
     ("frame", Name::Frame),
     ("record", Name::Record),
     ("interface", Name::Interface),
+    ("service", Name::Service),
     ("object", Name::Object),
     ("call", Name::Call),
     ("generation", Name::Generation),
@@ -127,14 +129,14 @@ pub fn name_of(word: &str) -> Option<Name> {
     None
 }
 
-/// What is kept from walk to walk: the processes and threads of the latest walk, the interfaces that
-/// records name, and the ledger of which the tables from call on are made. Interfaces and ledger are
-/// made once.
+/// What is kept from walk to walk: the processes and threads of the latest walk, the names that
+/// records have, and the ledger of which the tables from call on are made. Names and ledger are made
+/// once.
 #[derive(Drop)]
 pub struct Book {
     spans: Spans,
     records: RecordTable,
-    /// How the walk that found the interfaces ended.
+    /// How the walk that found the names ended.
     named: Option<Ending>,
     ledger: Ledger,
     /// How the walk that made the ledger ended.
@@ -167,7 +169,7 @@ pub fn write_table<W: Write>(
         Name::Thread => written(&mut ThreadTable::new(alloc), parts, &mut book.spans, rows),
         Name::Frame => written(&mut FrameTable, parts, &mut book.spans, rows),
         Name::Record => write_records(parts, book, rows),
-        Name::Interface => write_interfaces(parts, book, rows),
+        Name::Interface | Name::Service => write_names(name, parts, book, rows),
         Name::Object => written(&mut ObjectTable, parts, &mut book.spans, rows),
         _ => write_booked(alloc, name, parts, book, rows),
     }
@@ -186,7 +188,7 @@ fn written<T: Table, W: Write>(
     Ok(ending)
 }
 
-/// Writes the table record, and keeps the interfaces that records name.
+/// Writes the table record, and keeps the names that records have.
 fn write_records<W: Write>(
     parts: &[Vec<u8>],
     book: &mut Book,
@@ -197,19 +199,24 @@ fn write_records<W: Write>(
     Ok(ending)
 }
 
-/// Writes the table interface. If the table record was not written before it, a walk finds the
-/// interfaces.
-fn write_interfaces<W: Write>(
+/// Writes the table interface or service. If the table record was not written before it, a walk
+/// finds the names.
+fn write_names<W: Write>(
+    name: Name,
     parts: &[Vec<u8>],
     book: &mut Book,
     rows: &mut Rows<'_, W>,
 ) -> Result<Ending, ListingError> {
     let ending = match book.named {
         Some(ending) => ending,
-        None => walk(&mut book.records.interfaces, &mut book.spans, parts, rows)?,
+        None => walk(&mut book.records.named, &mut book.spans, parts, rows)?,
     };
     book.named = Some(ending);
-    book.records.interfaces.write(rows)?;
+    let named = &book.records.named;
+    match name {
+        Name::Service => named.services.write(rows)?,
+        _ => named.interfaces.write(rows)?,
+    }
     rows.flush()?;
     Ok(ending)
 }

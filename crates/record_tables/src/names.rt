@@ -1,49 +1,42 @@
-//! The interfaces that records name, and the table interface.
+//! The names that records have, of interfaces and of services, and their tables.
 
 use crate::rows::Rows;
 use crate::spans::number_at;
 use crate::walk::{Standing, Table};
 use indexmap::IndexSet;
-use record_fields::{InterfaceName, Item, ListingError, interface_of, reply_name};
+use record_fields::{Item, ListingError, interface_of, reply_name, service_of};
 use std::alloc::Global;
 use std::io::Write;
 
-/// The names so far, as they lie in the data, in the order of the first records that have them. The
+/// Names so far, as they lie in the data, in the order of the first records that have them. The
 /// first one has the number 1.
 #[derive(Drop)]
-pub(crate) struct Interfaces {
+pub(crate) struct Names {
     names: IndexSet<Vec<u8>>,
     alloc: Global,
 }
 
-impl Interfaces {
-    pub(crate) fn new(alloc: Global) -> Interfaces {
-        Interfaces {
+impl Names {
+    fn new(alloc: Global) -> Names {
+        Names {
             names: IndexSet::new(alloc),
             alloc,
         }
     }
 
-    /// The number of the interface that a transaction names, or of the name that a reply is.
-    pub(crate) fn number_of(&mut self, item: Item<'_>) -> Result<Option<u64>, ListingError> {
-        match interface_of(item).or(reply_name(item)) {
-            Some(name) => Ok(Some(self.number(name)?)),
-            None => Ok(None),
-        }
-    }
-
-    fn number(&mut self, name: InterfaceName<'_>) -> Result<u64, ListingError> {
-        if let Some(index) = self.names.get_index_of(name.bytes) {
-            return Ok(number_at(index));
+    /// The number of a name.
+    fn number(&mut self, name: &[u8]) -> Result<Option<u64>, ListingError> {
+        if let Some(index) = self.names.get_index_of(name) {
+            return Ok(Some(number_at(index)));
         }
         let number = number_at(self.names.len());
         let mut bytes = Vec::new(self.alloc);
-        bytes.extend_from_slice(name.bytes)?;
+        bytes.extend_from_slice(name)?;
         self.names.insert(bytes)?;
-        Ok(number)
+        Ok(Some(number))
     }
 
-    /// Writes the rows of the table interface.
+    /// Writes the rows of the table of these names.
     pub(crate) fn write<W: Write>(&self, rows: &mut Rows<'_, W>) -> Result<(), ListingError> {
         let mut number = 0u64;
         for bytes in &self.names {
@@ -54,14 +47,47 @@ impl Interfaces {
     }
 }
 
-impl Table for Interfaces {
+/// The interfaces and the services that records name.
+#[derive(Drop)]
+pub(crate) struct Named {
+    pub interfaces: Names,
+    pub services: Names,
+}
+
+impl Named {
+    pub(crate) fn new(alloc: Global) -> Named {
+        Named {
+            interfaces: Names::new(alloc),
+            services: Names::new(alloc),
+        }
+    }
+
+    /// The number of the interface that a transaction names, or of the name that a reply is.
+    pub(crate) fn interface(&mut self, item: Item<'_>) -> Result<Option<u64>, ListingError> {
+        match interface_of(item).or(reply_name(item)) {
+            Some(name) => self.interfaces.number(name.bytes),
+            None => Ok(None),
+        }
+    }
+
+    /// The number of the service that a transaction to the manager of names is about.
+    pub(crate) fn service(&mut self, item: Item<'_>) -> Result<Option<u64>, ListingError> {
+        match service_of(item) {
+            Some(name) => self.services.number(name.bytes),
+            None => Ok(None),
+        }
+    }
+}
+
+impl Table for Named {
     fn add_item<W: Write>(
         &mut self,
         _standing: Standing<'_>,
         item: Item<'_>,
         _rows: &mut Rows<'_, W>,
     ) -> Result<(), ListingError> {
-        self.number_of(item)?;
+        self.interface(item)?;
+        self.service(item)?;
         Ok(())
     }
 }

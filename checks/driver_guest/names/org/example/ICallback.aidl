@@ -1,0 +1,5 @@
+package org.example;
+
+interface ICallback {
+    void call();
+}

@@ -1,0 +1,5 @@
+package org.example;
+
+interface ISession {
+    void use();
+}
