@@ -247,6 +247,32 @@ static void new_list(const char *out)
 	should(times(" stack ") == 1 && times(" map ") == 1 && times(" call ") == 2, "lines of a new side list", times(" stack "));
 }
 
+/* While frames wait, more stacks come than are kept, and a new side list begins: each call has its line, or is told as one
+ * whose stack was not kept. */
+static void forgotten_stacks(const char *out)
+{
+	struct stack stack = { .head = head_of(MESSAGE_STACK), .memory = 3, .start = 1, .process = STRANGER, .count = 2 };
+	u32 *numbers = allocate(MANY * sizeof *numbers);
+	char path[4096];
+	for (u32 i = 0; i < MANY; i++) {
+		stack.addresses[0] = 0x70000000 + i;
+		numbers[i] = stacks_hear(&stack);
+	}
+	stacks_tell_again();
+	snprintf(path, sizeof path, "%s-third", out);
+	side_close();
+	if (side_create(path, 0))
+		fail("no third side list");
+	for (u32 i = 0; i < MANY; i++)
+		stacks_tell_call(1, i, numbers[i]);
+	read_list();
+	int forgotten = times(" unstacked 1 what=forgotten ");
+	should(forgotten > 0 && forgotten == (int)stacks_forgotten(), "calls whose stack was not kept", forgotten);
+	should(times(" call ") + forgotten == MANY && times(" call ") > 1000, "calls of kept stacks", times(" call "));
+	should(times(" stack ") == times(" call "), "stacks that are told again", times(" stack "));
+	free(numbers);
+}
+
 int main(int count, char **words)
 {
 	static const char name[NAME_BYTES] = "caller";
@@ -262,6 +288,7 @@ int main(int count, char **words)
 	others_stacks();
 	many_stacks();
 	new_list(words[1]);
+	forgotten_stacks(words[1]);
 	stacks_end();
 	return failed;
 }
