@@ -1,23 +1,22 @@
 -- Frames that parts are cut into: judged with their content, they are the frames of the parts, or the first that has a
 -- fault has the first fault of the parts.
-use Rattle.std.proofs.Common.{◌≡◌, ◌≢◌, ◌⊎◌, inl, inr, ℕ, suc, ◌+◌, ◌-◌, ◌<◌, ◌≤◌, ◌^◌, Bool, true, false, List, [], ◌∷◌, ◌++◌, length, drop, map, Option, Some, None, Result, Ok, Err, refl, sym, ap, ap₂, subst, ◌∙◌, append_assoc, length-append, length-drop, arith}
-use Rattle.std.specs.Prelude.{All, AllPairs, IfSome, nat_lt, if◌then◌else◌}
+use Rattle.std.proofs.Common.{◌≡◌, inl, inr, ℕ, ◌+◌, ◌-◌, ◌<◌, ◌≤◌, ◌^◌, List, [], ◌∷◌, ◌++◌, length, drop, Option, Some, None, Result, Ok, Err, refl, sym, ap, ap₂, subst, ◌∙◌, length-drop, arith}
+use Rattle.std.specs.Prelude.{All, IfSome}
 use Rattle.std.specs.List.{sum_by}
 use Rattle.std.specs.Option.{option_map}
-use Rattle.std.proofs.lemmas.List.Elements.{All-append, All-cons, All-head, All-nil, All-tail, All-weaker}
-use Rattle.std.proofs.lemmas.List.Kept.{AllPairs-cons}
+use Rattle.std.proofs.lemmas.List.Elements.{All-cons, All-nil, All-weaker}
 use Rattle.std.proofs.lemmas.List.Sums.{sum_by-append, sum_by-cons}
 use Rattle.capture_frame.specs.declared.fault.Fault.{Fault}
 use Rattle.capture_frame.specs.declared.fault.PartFault.{PartFault}
 use Rattle.capture_frame.specs.declared.version.Version.{Version}
 use Rattle.capture_frame.specs.Cut.{CutsTo, cut_of}
-use Rattle.capture_frame.specs.Envelope.{FrameText, PlacedFrame, Before, in_version, frame_width, file_header_length}
+use Rattle.capture_frame.specs.Envelope.{FrameText, PlacedFrame, in_version, frame_width}
 use Rattle.capture_frame.specs.Frames.{frame_parser}
-use Rattle.capture_frame.specs.Lookup.{span_of, AreApart, Holds}
+use Rattle.capture_frame.specs.Lookup.{span_of, Holds}
 use Rattle.capture_frame.specs.Parts.{ParsedParts, joined_frames, parts_read, part_and_later, frames_of_part, frames_if, header_at, last_of, one_part_on}
-use Rattle.capture_frame.specs.ReadOn.{Parsed, parsed_by}
+use Rattle.capture_frame.specs.ReadOn.{Parsed}
 use Rattle.capture_frame.specs.Tests.{fault_at}
-use Rattle.capture_frame.specs.Units.{Placed, placed, placed_at, units_of}
+use Rattle.capture_frame.specs.Units.{placed, placed_at, units_of}
 use Rattle.transaction_view.specs.Grammar.{content_fault, first_content_fault, first_of, frames_of_parts, unless, whole_parser, wholes_of}
 use Rattle.audit_findings.specs.Frames.{AreGoodFrames}
 use Rattle.audit_join.specs.Jobs.{AreSound, AreCut, EndsNear}

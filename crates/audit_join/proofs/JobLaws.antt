@@ -1,5 +1,5 @@
 -- The jobs that pieces of frames are.
-use Rattle.std.proofs.Common.{◌≡◌, ℕ, ◌<◌, ◌≤◌, ◌*◌, ◌^◌, List, length, map, get_or, arith}
+use Rattle.std.proofs.Common.{◌≡◌, ℕ, ◌<◌, ◌*◌, ◌^◌, List, length, map, get_or, arith}
 use Rattle.std.proofs.lemmas.List.{get_or-map, length-map}
 use Rattle.capture_frame.specs.Envelope.{PlacedFrame}
 use Rattle.claim_board.specs.Running.{job_at}

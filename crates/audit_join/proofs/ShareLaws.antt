@@ -136,8 +136,7 @@ placeable : (pieces : List (List PlacedFrame)) → All AreCut pieces → All IsP
 placeable [] cut = All-nil IsPlaceable
 placeable (piece ∷ pieces) cut =
     let near = (All-head AreCut piece pieces cut).near in
-    All-cons IsPlaceable (job_of piece) (map job_of pieces)
-    (
+    All-cons IsPlaceable (job_of piece) (map job_of pieces) (
       start_near piece near,
       first_by (λ x. x < no_place) piece
           (All-weaker EndsNear (λ (f : PlacedFrame). (x : ℕ) → Holds x f → x < no_place)

@@ -1,5 +1,5 @@
 -- What is read of parts, by what the audit says of them, and so what is to be written and returned.
-use Rattle.std.proofs.Common.{◌≡◌, ℕ, List, length, map, Bor, Option, Some, None, Result, Ok, Err, true, refl, sym, ap, ◌∙◌}
+use Rattle.std.proofs.Common.{◌≡◌, ℕ, List, length, map, Bor, Some, None, Result, Ok, Err, true, refl, sym, ap}
 use Rattle.std.specs.Prelude.{is_ok}
 use Rattle.std.specs.Result.{result_err, result_map_both}
 use Rattle.std.proofs.lemmas.List.{length-map}

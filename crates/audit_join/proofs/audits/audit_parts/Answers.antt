@@ -1,4 +1,4 @@
-use Rattle.std.proofs.Common.{◌≡◌, List, Ok, sym, ap, subst, ◌∙◌}
+use Rattle.std.proofs.Common.{List, Ok, sym, ap, subst, ◌∙◌}
 use Rattle.capture_frame.specs.Envelope.{PlacedFrame}
 use Rattle.audit_findings.specs.Kept.{AreSectionsOf}
 use Rattle.transaction_view.specs.Grammar.{first_content_fault}

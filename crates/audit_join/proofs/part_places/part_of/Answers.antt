@@ -1,8 +1,8 @@
-use Rattle.std.proofs.Common.{◌≡◌, ◌+◌, ◌-◌, ℕ, [], ap, refl, sym, subst, ◌∙◌, arith}
+use Rattle.std.proofs.Common.{◌+◌, ◌-◌, ℕ, [], ap, refl, sym, subst, ◌∙◌, arith}
 use Rattle.std.proofs.lemmas.List.{drop_all}
 use Rattle.capture_frame.specs.declared.fault.PartFault.{PartFault}
 use Rattle.capture_frame.specs.Tests.{fault_at}
-use Rattle.audit_join.proofs.PlaceLaws.{IsLeft, bytes_of, left_next, none_passed, part_found, some_left}
+use Rattle.audit_join.proofs.PlaceLaws.{IsLeft, left_next, none_passed, part_found, some_left}
 use Rattle.audit_join.proofs.part_places.part_of.Goals as goal
 
 pub loop-part-init : goal.loop-part-init

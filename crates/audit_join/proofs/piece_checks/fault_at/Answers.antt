@@ -1,4 +1,4 @@
-use Rattle.std.proofs.Common.{◌≡◌, Some, sym, subst, refl, ◌∙◌, rules}
+use Rattle.std.proofs.Common.{sym, subst, refl, ◌∙◌}
 use Rattle.std.specs.Prelude.{IsSome}
 use Rattle.capture_frame.specs.Lookup.{IsFrameAt}
 use Rattle.audit_join.proofs.FaultLaws.{some_holds, fails_there, some_first}

@@ -1,4 +1,4 @@
-use Rattle.std.proofs.Common.{◌≡◌, ◌∙◌, sym, subst, None, arith}
+use Rattle.std.proofs.Common.{◌≡◌, sym, subst, None, arith}
 use Rattle.std.proofs.lemmas.List.{take_all}
 use Rattle.transaction_view.specs.Grammar.{first_content_fault}
 use Rattle.audit_join.proofs.FaultLaws.{first_at, none_more}

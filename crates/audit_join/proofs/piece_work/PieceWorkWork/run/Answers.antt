@@ -1,4 +1,4 @@
-use Rattle.std.proofs.Common.{◌≡◌, Option, Some, sym, ap, arith, ◌∙◌}
+use Rattle.std.proofs.Common.{sym, ap, arith, ◌∙◌}
 use Rattle.std.specs.Option.{option_map}
 use Rattle.capture_frame.specs.declared.fault.Fault.{Fault}
 use Rattle.claim_board.specs.declared.job.Job.{Job}
