@@ -149,21 +149,21 @@ def frees_what_came_before(s, had, frees, early=False):
     client.main.frees(*frees)
 
 
-@case("P2:2", lines=DEAD, deaths=2)
-@case("D4:2", lines="", deaths=2)
-@case("P1:1", lines="", deaths=1, early=True)
-def acknowledges_what_was_told_before(s, lines, deaths, early=False):
+@case("P2:2", told=True, deaths=2)
+@case("D4:2", told=False, deaths=2)
+@case("P1:1", told=False, deaths=1, early=True)
+def acknowledges_what_was_told_before(s, told, deaths, early=False):
     """The book says that deaths wait for acknowledgement, and not how many."""
-    _, client = begun(s, lines, early=early)
+    _, client = begun(s, DEAD if told else "", early=early)
     client.main.writes(*each_long(BC_DEAD_BINDER_DONE, *range(0xD, 0xD + deaths)))
 
 
-@case("P2:1", lines=CLEARED, clears=1)
-@case("P2:1 D4:1", lines=CLEARED, clears=2)
-@case("D4:1", lines="", clears=1)
-@case("P1:1", lines="", clears=1, early=True)
-def confirms_what_was_cleared_before(s, lines, clears, early=False):
-    _, client = begun(s, lines, early=early)
+@case("P2:1", waits=True, clears=1)
+@case("P2:1 D4:1", waits=True, clears=2)
+@case("D4:1", waits=False, clears=1)
+@case("P1:1", waits=False, clears=1, early=True)
+def confirms_what_was_cleared_before(s, waits, clears, early=False):
+    _, client = begun(s, CLEARED if waits else "", early=early)
     client.main.reads(*each_long(BR_CLEAR_DEATH_NOTIFICATION_DONE, *range(0xD, 0xD + clears)))
 
 
