@@ -28,8 +28,9 @@ ROOTS = [("audit_run", "part_runs.rt", "run_parts")]
 CHAPTERS = {
     "The headline": "audit_run audit_join audit_streams",
     "The answer": "report_text/Answers.antt report_text/Text.antt report_text/Section.antt report_text/Fault.antt",
-    "The grammar": """capture_reading transaction_view/Grammar.antt capture_frame transaction_view record_view
-        object_view""",
+    "The grammar": "transaction_view/Grammar.antt capture_frame/ReadOn.antt capture_frame/Tests.antt capture_frame",
+    "Records": "record_view",
+    "Attachments and objects": "transaction_view object_view",
     "Codes, fields and flags": "transaction_view/Transaction.antt binder_code",
     "Events, brackets and calls": """event_core/Events.antt capture_frame/Process.antt capture_frame/process.rt
         call_stacks event_core/Brackets.antt event_core/marks.rt""",
@@ -82,9 +83,6 @@ WORDS = {
     "AllZip": "the lists have the same length, and the statement is true of each two elements with the same number",
     "Appends": "if the old bytes are known, the new ones are the old ones and then these",
     "IfSome": "if there is a value, the statement is true of it",
-    "IsOk": "it is `Ok`, with whatever value",
-    "IsOkAnd": "it is `Ok`, with a value of which the statement is true",
-    "IsTrue": "it is `true`",
     "Keeps": "if the old bytes are known, the new ones are the same",
     "bit_and": "the bits that both numbers have",
     "bit_or": "the bits that at least one of the numbers has",
@@ -110,7 +108,6 @@ WORDS = {
     "last_or": "the last element, or the given one if the list is empty",
     "length": "how many elements a list has",
     "list_any": "whether some element passes the test",
-    "little_bytes": "the n lowest bytes of a number, the lowest first",
     "little_number": "the number in the first n bytes, the lowest first",
     "map": "what is made of each element, in their order",
     "match_ordering": "the first, the second or the third value, for `Less`, `Equal` or `Greater`",

@@ -1,4 +1,3 @@
-pub mod PartLaws
 pub mod PieceLaws
 pub mod JobLaws
 pub mod CutLaws

@@ -1,5 +1,4 @@
--- The shares of frames that workers sum. `SumsPiece` says nothing of frames with a fault, so it is used together with
--- `AreGoodFrames`.
+-- The shares of frames that workers sum. That the frames are good, `SumsPiece` does not say: `AreGoodFrames` does.
 use Rattle.std.specs.Prelude.{◌≡◌, List, ◌++◌}
 use Rattle.capture_frame.specs.Cut.{shown_by}
 use Rattle.capture_frame.specs.Envelope.{PlacedFrame}

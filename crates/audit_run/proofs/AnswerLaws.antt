@@ -22,14 +22,14 @@ Reading = Result (List PlacedFrame) PartFault
 -- the answer to parts of which this is read
 abbrev answer_by : List (List ℕ) → Reading → List ℕ
 answer_by parts read = elim read [
-  | Ok wholes ↦ report_text (findings_of wholes)
+  | Ok frames ↦ report_text (findings_of frames)
   | Err found ↦ part_fault_line (length parts) found
 ]
 
 -- the line of `first-fault` on parts of which this is read
 abbrev line_by : List (List ℕ) → Reading → List ℕ
 line_by parts read = elim read [
-  | Ok wholes ↦ no_fault_line
+  | Ok frames ↦ no_fault_line
   | Err found ↦ part_fault_line (length parts) found
 ]
 
@@ -48,29 +48,29 @@ line_of_slices slices found =
 -- ---- what was read, by what is returned
 
 pub if_ok : {W F : Type 0} (read : Result W F) → is_ok read ≡ true → Report ≡ written_of read
-if_ok (Ok wholes) ok = refl
+if_ok (Ok frames) ok = refl
 if_ok (Err found) ok = absurd (cc)
 
-pub if_report : {W F : Type 0} (read : Result W F) → Report ≡ written_of read → (wholes : W) × (read ≡ Ok wholes)
-if_report (Ok wholes) is = (wholes, refl)
+pub if_report : {W F : Type 0} (read : Result W F) → Report ≡ written_of read → (frames : W) × (read ≡ Ok frames)
+if_report (Ok frames) is = (frames, refl)
 if_report (Err found) is = absurd (cc)
 
 pub if_malformed : {W F : Type 0} (read : Result W F) (found : F) → Malformed found ≡ written_of read → read ≡ Err found
-if_malformed (Ok wholes) found is = absurd (cc)
+if_malformed (Ok frames) found is = absurd (cc)
 if_malformed (Err other) found is = let same : found ≡ other = cc in ap Err (sym same)
 
-pub if_none : {W F : Type 0} (read : Result W F) → None ≡ result_err read → (wholes : W) × (read ≡ Ok wholes)
-if_none (Ok wholes) is = (wholes, refl)
+pub if_none : {W F : Type 0} (read : Result W F) → None ≡ result_err read → (frames : W) × (read ≡ Ok frames)
+if_none (Ok frames) is = (frames, refl)
 if_none (Err found) is = absurd (cc)
 
 pub if_some : {W F : Type 0} (read : Result W F) (found : F) → Some found ≡ result_err read → read ≡ Err found
-if_some (Ok wholes) found is = absurd (cc)
+if_some (Ok frames) found is = absurd (cc)
 if_some (Err other) found is = let same : found ≡ other = cc in ap Err (sym same)
 
 -- ---- a single part, as a capture
 
 abbrev alone : {W : Type 0} → Result W PartFault → Result W Fault
-alone read = result_map_both (λ wholes. wholes) (λ found. found.fault) read
+alone read = result_map_both (λ frames. frames) (λ found. found.fault) read
 
 pub report_alone : {W : Type 0} (read : Result W PartFault) → Report ≡ written_of read → Report ≡ written_of (alone read)
 report_alone {W} read is = sym (ap (λ (r : Result W PartFault). written_of (alone r)) (if_report read is).1)

@@ -16,5 +16,5 @@ answer_to FirstFault parts = first_fault_line parts
 
 -- the status that goes with what was read: 0 with frames, and 2 with a first fault
 abbrev pub reading_status : {W F : Type 0} → Result W F → ℕ
-reading_status (Ok wholes) = 0
+reading_status (Ok frames) = 0
 reading_status (Err found) = 2

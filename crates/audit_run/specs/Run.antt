@@ -54,9 +54,9 @@ pub data RunEnds {C A : Type 0} (Gives : Result C RunError → Type 0) (text_of 
 
 -- what a run has written, by what was read of the capture: the report on its frames, or the line of its first fault
 abbrev pub written_of : {W F : Type 0} → Result W F → Written F
-written_of (Ok wholes) = Report
+written_of (Ok frames) = Report
 written_of (Err fault) = Malformed fault
 
 -- the frames of a capture in one part, or its first fault, which is told without the number of the part
 abbrev pub frames_of_capture : List ℕ → Result (List PlacedFrame) Fault
-frames_of_capture capture = result_map_both (λ wholes. wholes) (λ found. found.fault) (frames_of_parts (capture ∷ []))
+frames_of_capture capture = result_map_both (λ frames. frames) (λ found. found.fault) (frames_of_parts (capture ∷ []))
