@@ -27,8 +27,8 @@ UNION ALL SELECT f.id, 1, (SELECT max(q.place) FROM dead_record q WHERE q.upid =
   AND q.kind = :BC_REQUEST_DEATH_NOTIFICATION AND q.place < f.place), 'the request for it'
 FROM finding f WHERE f.section = 'deaths' AND EXISTS (SELECT 1 FROM side_call)
 UNION ALL SELECT f.id, 1, min(s.place), 'the first send that handed it over'
-FROM finding f JOIN raw_object o ON o.binder = f.ptr AND o.sort IN (:BINDER, :WEAK_BINDER) JOIN raw_send s USING (place)
-  JOIN raw_thread t ON t.utid = s.utid AND t.upid = f.upid
+FROM finding f JOIN raw_object o ON o.binder = f.ptr AND o.sort IN (:BINDER, :WEAK_BINDER)
+  JOIN raw_send s ON s.place = o.place JOIN raw_thread t ON t.utid = s.utid AND t.upid = f.upid
 WHERE f.section = 'nodes' AND f.what <> 'balanced' AND EXISTS (SELECT 1 FROM side_call) GROUP BY f.id
 -- The record itself.
 UNION ALL SELECT f.id, 3, f.place,

@@ -101,3 +101,49 @@ def reply_refused(s):
     s.with_stack(4)
     service.main.writes(Sent(None, 0, 0, b"", b"").record(BC_REPLY))
     service.main.reads(record(BR_FAILED_REPLY))
+
+
+@case("U4:1", "finding_stack 1: 3, the request for it", "finding_stack 2: -")
+def death_unanswered(s):
+    """A death is not acknowledged: the request for it tells, and not a later one with another cookie."""
+    service, client = s.two()
+    client.main.is_given(service.main, 1)
+    client.main.is_given(service.main, 2)
+    s.with_stack(3)
+    client.main.writes(watch(BC_REQUEST_DEATH_NOTIFICATION, 1, 0xD))
+    s.with_stack(4)
+    client.main.writes(watch(BC_REQUEST_DEATH_NOTIFICATION, 2, 0xE))
+    s.with_stack(None)
+    client.main.reads(*each_long(BR_DEAD_BINDER, 0xD))
+    client.main.writes(watch(BC_CLEAR_DEATH_NOTIFICATION, 2, 0xE))
+    client.main.reads(*each_long(BR_CLEAR_DEATH_NOTIFICATION_DONE, 0xE))
+    client.main.writes(ENTER)
+    s.wait(200)
+
+
+@case("U4:1", "finding_stack 1: 3, the first send that handed it over", "finding_stack 2: -")
+def node_unanswered(s):
+    """A process does not acknowledge a reference to an object that it handed over twice."""
+    service, client = s.two()
+    client.main.asks(service.main)
+    for stack, code in (3, 4), (5, 6):
+        s.with_stack(stack)
+        sent = client.main.sends(0, code, body=node_object(0x500), listed=offsets(0))
+        s.with_stack(None)
+        client.main.answered(service.main.replies(service.main.gets(sent, 0, of_handle(2, 1))))
+    client.main.reads(node(BR_ACQUIRE, 0x500, 0x501))
+    client.main.writes(ENTER)
+    client.main.writes(ENTER)
+    s.wait(200)
+
+
+@case("O2:1", "finding_stack 1: 4, the reply to it", "finding_stack 2: -")
+def bad_object_read(s):
+    """What is read is not what was sent, so no send is known of it."""
+    service, client = s.two()
+    body, listed = bytes(32), offsets(2)
+    s.with_stack(3)
+    sent = client.main.sends(0, 1, body=body)
+    s.with_stack(4)
+    address = service.main.gets(sent, 0, body, listed)
+    client.main.answered(service.main.replies(address))
