@@ -274,7 +274,7 @@ FROM handle_row h JOIN finding f USING (id) JOIN report r ON r.id = f.report
 WHERE NOT h.known AND (h.least < 0 OR f.section = 'handles' AND NOT h.given AND f.handle <> 0);
 UPDATE finding SET rule = CASE WHEN h.least >= 0 THEN iif(h.strong > 0 OR h.weak > 0, 'H6', 'H7')
     WHEN NOT h.begun THEN 'P1' ELSE iif(finding.upid IN (SELECT upid FROM lossy), 'M1', 'H2') END,
-  what = iif(h.least >= 0 AND h.strong <= 0 AND h.weak <= 0, 'balanced', what),
+  what = CASE WHEN h.least < 0 THEN what WHEN h.strong > 0 OR h.weak > 0 THEN 'held' ELSE 'balanced' END,
   note = 'before the recording: strong ' || h.had_strong || ', weak ' || h.had_weak
 FROM held_before h WHERE rule IS NULL AND h.id = finding.id;
 UPDATE handle_row SET known = begun WHERE NOT known;
