@@ -1,7 +1,8 @@
-"""What calls and objects are called: by interface and method, as far as they are known, with the code beside them.
+"""What calls and objects are called: calls by interface and method, with the code beside them, and objects by service
+and interface, as far as they are known.
 
-The interface is what calls say in their data. The method comes of it and of the code, by the files of `--methods`, and
-by a few that are built in."""
+The interface is what calls say in their data, and the service what is said to the manager of names. The method comes of
+the interface and of the code, by the files of `--methods`, and by a few that are built in."""
 
 import functools
 import re

@@ -62,9 +62,9 @@ WHERE m.objects = 1 AND o.sort = :BINDER AND m.verdict IS NOT 3
 INSERT INTO is_service
 SELECT iif(o.sort = :BINDER, m.upid, coalesce(n.upid, -m.upid)),
   iif(o.sort = :BINDER, o.binder, coalesce(n.ptr, o.handle)), m.service, NULL, m.place
-FROM to_manager m JOIN raw_object o ON o.place = m.closer LEFT JOIN raw_generation g ON g.upid = m.upid
-    AND g.handle = o.handle AND g.begin <= m.closer AND (g.end IS NULL OR g.end > m.closer)
-  LEFT JOIN node_of n ON n.generation = g.id
+FROM to_manager m JOIN raw_object o ON o.place = m.closer LEFT JOIN node_of n ON n.generation = (SELECT g.id
+    FROM raw_generation g WHERE g.upid = m.upid AND g.handle = o.handle AND g.begin <= m.closer
+    ORDER BY g.begin DESC LIMIT 1)
 WHERE m.service NOTNULL AND m.objects = 0 AND m.verdict = 1 AND o.sort IN (:BINDER, :HANDLE)
   AND (SELECT count(*) FROM raw_object x WHERE x.place = m.closer) = 1;
 -- The name under which a node was registered first, or by which it was asked for most often.
