@@ -19,7 +19,7 @@ use Rattle.audit_findings.specs.declared.objects.ObjectLedger.{ObjectLedger}
 use Rattle.audit_findings.specs.declared.sort_counts.SortCounts.{SortCounts}
 use Rattle.audit_findings.specs.Kept.{bad_at_place}
 use Rattle.audit_findings.specs.Ledgers.{SumsObjects, AreFewEvents, offset_bytes_of}
-use Rattle.audit_findings.specs.Objects.{Attached, attached_to, attachments_of, objects_in, count_of, times_of, sort_counts, good_objects, bad_of, bad_objects, owned_by}
+use Rattle.audit_findings.specs.Objects.{Attached, attached_to, attachments_of, objects_in, sort_count, times_of, sort_counts, good_objects, bad_of, bad_objects, owned_by}
 use Rattle.audit_findings.proofs.ObjectWalk.{times_of-append, times_of-short}
 
 -- the good objects of an attachment
@@ -36,7 +36,7 @@ bad_objects-append events more =
 
 -- the ledger of events, with those after them added
 pub objects_more : (old new : ObjectLedger) (events more : List EventRead) → SumsObjects old events
-    → ((sort : Sort) → count_of new.counts sort ≡ count_of old.counts sort + times_of sort (good_objects more))
+    → ((sort : Sort) → sort_count new.counts sort ≡ sort_count old.counts sort + times_of sort (good_objects more))
     → new.bad.items ≡ old.bad.items ++ map bad_at_place (bad_objects more) → SumsObjects new (events ++ more)
 objects_more old new events more sums counts is = record {
   counted = λ sort.
@@ -50,10 +50,10 @@ objects_more old new events more sums counts is = record {
 
 -- and the join of two ledgers
 pub objects_joined : (first second new : ObjectLedger) (events more : List EventRead) → SumsObjects first events → SumsObjects second more
-    → ((sort : Sort) → count_of new.counts sort ≡ count_of first.counts sort + count_of second.counts sort)
+    → ((sort : Sort) → sort_count new.counts sort ≡ sort_count first.counts sort + sort_count second.counts sort)
     → new.bad.items ≡ first.bad.items ++ second.bad.items → SumsObjects new (events ++ more)
 objects_joined first second new events more sums others counts is =
-    objects_more first new events more sums (λ sort. counts sort ∙ ap (λ (n : ℕ). count_of first.counts sort + n) (others.counted sort))
+    objects_more first new events more sums (λ sort. counts sort ∙ ap (λ (n : ℕ). sort_count first.counts sort + n) (others.counted sort))
     (is ∙ ap (λ (t : List _). first.bad.items ++ t) others.kept)
 
 -- ---- how many objects there are
@@ -118,7 +118,7 @@ attachments_few (e ∷ events) all =
 
 -- no sort has more than 2^61 objects
 pub counts_short : (ledger : ObjectLedger) (events : List EventRead) → SumsObjects ledger events → AreFewEvents events → (sort : Sort)
-    → count_of ledger.counts sort ≤ 2 ^ 61
+    → sort_count ledger.counts sort ≤ 2 ^ 61
 counts_short ledger events sums fits sort =
     let counted = sums.counted sort in
     let few = times_of-short sort (good_objects events) in
@@ -145,7 +145,7 @@ module _ (e : Event) (found : Entry) (is : e.entry ≡ Some found) where
   one_bad (Some bad) same = ap (filter_map bad_of) one_attached ∙ gives_some bad_of attached [] _ (rw (sym same) refl)
 
 -- if each sort has its count, the counts are those of the objects
-pub counts_are : (counts : SortCounts) (objects : List ObjectText) → ((sort : Sort) → count_of counts sort ≡ times_of sort objects)
+pub counts_are : (counts : SortCounts) (objects : List ObjectText) → ((sort : Sort) → sort_count counts sort ≡ times_of sort objects)
     → counts ≡ sort_counts objects
 counts_are counts objects each = λ i. record {
   binder = each Binder i;

@@ -23,7 +23,7 @@ use Rattle.audit_findings.specs.declared.in_turn.ProcessRow.{ProcessRow}
 use Rattle.handle_ledger.specs.declared.held_row.HeldRow.{HeldRow}
 use Rattle.event_core.specs.Events.{events_of_frames}
 use Rattle.audit_findings.specs.Kept.{at_places, bad_at_place}
-use Rattle.audit_findings.specs.Objects.{bad_objects, count_of, good_objects, times_of}
+use Rattle.audit_findings.specs.Objects.{bad_objects, sort_count, good_objects, times_of}
 use Rattle.audit_findings.specs.Oneway.{oneway_counts}
 use Rattle.audit_findings.specs.Places.{places_in}
 use Rattle.object_view.specs.declared.sort.Sort.{Sort}
@@ -57,7 +57,7 @@ ListsFlagged ledger events = ledger.places.items ≡ map (λ e. e.place) (flagge
 
 -- the ledger counts the good objects of the events' attachments by sort, and keeps the bad ones
 pub record SumsObjects (ledger : ObjectLedger) (events : List EventRead) : Type 0 where
-  pub counted : (sort : Sort) → count_of ledger.counts sort ≡ times_of sort (good_objects events)
+  pub counted : (sort : Sort) → sort_count ledger.counts sort ≡ times_of sort (good_objects events)
   pub kept : ledger.bad.items ≡ map bad_at_place (bad_objects events)
 
 -- the ledgers are the sums of these events

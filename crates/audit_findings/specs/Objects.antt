@@ -33,14 +33,14 @@ abbrev pub same_sort : Sort → Sort → Bool
 same_sort sort other = sort_number sort == sort_number other
 
 -- the count of a sort
-abbrev pub count_of : SortCounts → Sort → ℕ
-count_of counts Binder = counts.binder
-count_of counts WeakBinder = counts.weak_binder
-count_of counts Handle = counts.handle
-count_of counts WeakHandle = counts.weak_handle
-count_of counts Fd = counts.fd
-count_of counts Fda = counts.fda
-count_of counts Ptr = counts.ptr
+abbrev pub sort_count : SortCounts → Sort → ℕ
+sort_count counts Binder = counts.binder
+sort_count counts WeakBinder = counts.weak_binder
+sort_count counts Handle = counts.handle
+sort_count counts WeakHandle = counts.weak_handle
+sort_count counts Fd = counts.fd
+sort_count counts Fda = counts.fda
+sort_count counts Ptr = counts.ptr
 
 -- how many of these objects are of the sort
 abbrev pub times_of : Sort → List ObjectText → ℕ

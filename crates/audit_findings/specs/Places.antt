@@ -31,8 +31,8 @@ abbrev pub places_in : EventTest → List EventRead → Process → List ℕ
 places_in test events process = map (λ e. e.place) (listed_in test process events)
 
 -- the events that pass the test among the events of their own process, in order
-abbrev pub listed : EventTest → List EventRead → List EventRead
-listed test events = read_all (by_key same_process process_of (chosen test)) events
+abbrev pub listed_events : EventTest → List EventRead → List EventRead
+listed_events test events = read_all (by_key same_process process_of (chosen test)) events
 
 -- whether the event is an open, and no later close has its key
 abbrev pub is_unclosed : (EventRead → Option (PendingItem ℕ)) → EventTest
@@ -50,9 +50,9 @@ either test other before e later = test before e later || other before e later
 -- order
 abbrev pub open_and_stray : (EventRead → Option (PendingItem ℕ)) → List EventRead → OpenAndStray EventRead
 open_and_stray read events = record {
-  unclosed = length (listed (is_unclosed read) events);
-  strays = length (listed (is_stray_close read) events);
-  rows = listed (either (is_unclosed read) (is_stray_close read)) events;
+  unclosed = length (listed_events (is_unclosed read) events);
+  strays = length (listed_events (is_stray_close read) events);
+  rows = listed_events (either (is_unclosed read) (is_stray_close read)) events;
 }
 
 -- the places of these events rise

@@ -8,11 +8,11 @@ use Rattle.capture_frame.specs.ReadOn.{Parsed}
 use Rattle.capture_frame.specs.Units.{Placed}
 use Rattle.record_view.specs.declared.record.Record.{Record}
 use Rattle.record_view.specs.Records.{RecordText}
-use Rattle.record_view.specs.State.{IsRecordView, Steps, placed_record}
+use Rattle.record_view.specs.State.{Steps, placed_record}
 use Rattle.transaction_view.specs.declared.entry.Entry.{Entry}
 use Rattle.transaction_view.specs.Attachments.{EntryText}
 use Rattle.transaction_view.specs.State.{StepsGood, placed_entry}
-use Rattle.event_core.specs.Events.{EventRead, attachment_text, event_with}
+use Rattle.event_core.specs.Events.{attachment_text, event_with}
 use Rattle.event_core.specs.Reading.{entry_attachment}
 use Rattle.event_core.specs.State.{entries_after, entries_left, entry_taken, events_beside}
 

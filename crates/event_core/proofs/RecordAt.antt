@@ -1,25 +1,22 @@
 -- The record at a place of a frame, and its event.
-use Rattle.std.proofs.Common.{◌≡◌, ℕ, zero, suc, ◌+◌, ◌-◌, ◌≤◌, inl, inr, true, List, [], ◌∷◌, length, drop, map, Option, Some, None, Result, Ok, Err, refl, sym, ap, subst, ◌∙◌, arith}
-use Rattle.std.specs.Prelude.{Contains, IsOk, IsSome, ◌↔◌, is_some}
+use Rattle.std.proofs.Common.{◌≡◌, ℕ, zero, suc, ◌-◌, inl, inr, true, List, [], ◌∷◌, length, drop, map, Option, Some, None, Result, Ok, Err, refl, sym, ap, subst, ◌∙◌, arith}
+use Rattle.std.specs.Prelude.{Contains, IsSome, ◌↔◌, is_some}
 use Rattle.std.specs.Option.{option_map}
 use Rattle.std.proofs.lemmas.Bool.{cases_eq, eq-eqb, ne_eqb}
-use Rattle.std.proofs.lemmas.List.Elements.{All-contains, Contains-append_right}
-use Rattle.capture_frame.specs.declared.direction.Direction.{Direction}
+use Rattle.std.proofs.lemmas.List.Elements.{Contains-append_right}
 use Rattle.capture_frame.specs.declared.fault.Fault.{Fault}
-use Rattle.capture_frame.specs.declared.fault.FaultKind.{FaultKind}
-use Rattle.capture_frame.specs.declared.fault.FaultKind.TheVariants.{RecordShort}
 use Rattle.capture_frame.specs.declared.frame.Frame.{Frame}
 use Rattle.capture_frame.specs.Envelope.{PlacedFrame, commands_place, placed_frame}
-use Rattle.capture_frame.specs.ReadOn.{Parsed, parsed_by, read_on, unit_or_fault, with_unit}
+use Rattle.capture_frame.specs.ReadOn.{Parsed, parsed_by, with_unit}
 use Rattle.capture_frame.specs.Tests.{at_place}
 use Rattle.capture_frame.specs.Units.{Placed, placed_at}
 use Rattle.capture_frame.proofs.ReadOnLaws.{unit_here}
 use Rattle.record_view.specs.declared.record.Record.{Record}
-use Rattle.record_view.specs.Records.{RecordText, protocol_of, record_at, record_parser, record_width, records_of}
+use Rattle.record_view.specs.Records.{RecordText, protocol_of, record_parser, records_of}
 use Rattle.record_view.specs.State.{Steps, placed_record}
 use Rattle.record_view.proofs.RecordLaws.{begin_with, records_there}
 use Rattle.event_core.specs.declared.event.Event.{Event}
-use Rattle.event_core.specs.Events.{EventRead, HasRecordAt, RecordIsAtPlace, event_at_place, event_of, events_of}
+use Rattle.event_core.specs.Events.{HasRecordAt, RecordIsAtPlace, event_at_place, event_of, events_of}
 use Rattle.event_core.specs.Lookup.{IsCutAt}
 use Rattle.event_core.specs.Reading.{IsEventAt, event_text}
 

@@ -45,8 +45,8 @@ mark_of BrFrozenReply oneway = Some Other
 mark_of _ oneway = None
 
 -- the bracket of a transaction: this opener, or Neither for a oneway one
-abbrev pub opener : Bracket → Bool → Bracket
-opener bracket oneway = if oneway then Neither else bracket
+abbrev pub unless_oneway : Bracket → Bool → Bracket
+unless_oneway bracket oneway = if oneway then Neither else bracket
 
 -- the bracket of an error reply, by the latest mark before it: after a oneway send or a sent reply it reports a refused
 -- send; after any other mark, or none, it closes a call
@@ -58,10 +58,10 @@ error_reply _ = Error
 -- the bracket of a record: what it is among the calls of its thread, by the latest mark before it. A call made or got
 -- opens. A reply got or sent closes. An error reply closes, or reports a refused send. Every other record is neither.
 abbrev pub bracket_of : Option Mark → Kind → Bool → Bracket
-bracket_of last BcTransaction oneway = opener Call oneway
-bracket_of last BcTransactionSg oneway = opener Call oneway
-bracket_of last BrTransaction oneway = opener Served oneway
-bracket_of last BrTransactionSecCtx oneway = opener Served oneway
+bracket_of last BcTransaction oneway = unless_oneway Call oneway
+bracket_of last BcTransactionSg oneway = unless_oneway Call oneway
+bracket_of last BrTransaction oneway = unless_oneway Served oneway
+bracket_of last BrTransactionSecCtx oneway = unless_oneway Served oneway
 bracket_of last BrReply oneway = Reply
 bracket_of last BcReply oneway = Sent
 bracket_of last BcReplySg oneway = Sent

@@ -20,7 +20,7 @@ use Rattle.pending_ledger.specs.declared.key_event.KeyEvent.{KeyEvent}
 use Rattle.pending_ledger.specs.declared.pending.Pending.{Pending}
 use Rattle.pending_ledger.specs.KeyEvents.{event_change, is_closing}
 use Rattle.pending_ledger.specs.Ledgers.{buffer_place}
-use Rattle.pending_ledger.specs.Pending.{is_close, is_open, closes, changes_of, is_left_open, is_stray, place_of, places_if}
+use Rattle.pending_ledger.specs.Pending.{is_close, was_open, closes, changes_of, is_left_open, is_stray, place_of, places_if}
 use Rattle.pending_ledger.specs.Sums.{gather, keyed, KeySums, PendingSums}
 use Rattle.summary_law.proofs.GatherLaws.{as_it_is, entries_sorted, map_each, map_none}
 use Rattle.summary_law.proofs.ReadingLaws.{chosen-is, read-rises}
@@ -85,7 +85,7 @@ module _ {K : Type 0} (eq : K → K → Bool) where
   left_open_by_key = λ t before item later. cond (not (is_close item.change) && not (closes_under item.key later t)) (Some item) None
 
   stray_by_key : chosen (is_stray eq) ≡ by_key eq key_of (chosen (is_unmet_close event_of))
-  stray_by_key = λ t before item later. cond (is_close item.change && not (is_open (last_or None (changes_under item.key before t)))) (Some item) None
+  stray_by_key = λ t before item later. cond (is_close item.change && not (was_open (last_or None (changes_under item.key before t)))) (Some item) None
 
 -- the lists of one key's ledger
 abbrev pub opens_of : KeyLedger → List ℕ

@@ -13,10 +13,10 @@ is_close Open = false
 is_close Close = true
 
 -- whether there is a change, and it is an open
-abbrev pub is_open : Option PendingChange → Bool
-is_open (Some Open) = true
-is_open (Some Close) = false
-is_open None = false
+abbrev pub was_open : Option PendingChange → Bool
+was_open (Some Open) = true
+was_open (Some Close) = false
+was_open None = false
 
 -- whether an item closes the key
 abbrev pub closes : {K : Type 0} → (K → K → Bool) → K → PendingItem K → Bool
@@ -32,7 +32,7 @@ is_left_open eq before item later = not (is_close item.change) && not (list_any 
 
 -- whether the item is a stray: it is a close, and the latest earlier item of its key, if there is one, is not an open
 abbrev pub is_stray : {K : Type 0} → (K → K → Bool) → List (PendingItem K) → PendingItem K → List (PendingItem K) → Bool
-is_stray eq before item later = is_close item.change && not (is_open (last_or None (changes_of eq item.key before)))
+is_stray eq before item later = is_close item.change && not (was_open (last_or None (changes_of eq item.key before)))
 
 -- the place of an item
 abbrev pub place_of : {K : Type 0} → PendingItem K → ℕ

@@ -20,7 +20,7 @@ use Rattle.summary_law.proofs.ReadLaws.{each_short, each_all}
 use Rattle.summary_law.specs.ByKey.{items_of, IsOwn, EachFits, SumsByKey}
 use Rattle.summary_law.specs.Fits.{IsShort}
 use Rattle.summary_law.specs.Amount.{IsAmount, AreWeights}
-use Rattle.summary_law.specs.Tally.{count_of, tally_row, tally_rows, AreKeys, IsTallyRow, AreTallyRows, AreWeighted}
+use Rattle.summary_law.specs.Tally.{count_of_key, tally_row, tally_rows, AreKeys, IsTallyRow, AreTallyRows, AreWeighted}
 use Rattle.summary_law.specs.declared.amount.Amount.{Amount}
 
 -- few weights have a sum far below 2^128
@@ -65,8 +65,8 @@ module _ {K : Type 0} (cmp : K → K → Ordering) (laws : IsTotalOrder cmp) (m 
   pub map_keys : AreKeys cmp items (keys_of m.entries)
   map_keys = record {
     rising = ordered;
-    came = All-map (λ key. 0 < count_of cmp key items) (λ (e : K × Amount). e.0) m.entries
-        (All-weaker (λ (e : K × Amount). get cmp m e.0 ≡ Some e.1) (λ e. 0 < count_of cmp e.0 items)
+    came = All-map (λ key. 0 < count_of_key cmp key items) (λ (e : K × Amount). e.0) m.entries
+        (All-weaker (λ (e : K × Amount). get cmp m e.0 ≡ Some e.1) (λ e. 0 < count_of_key cmp e.0 items)
         (λ e found. came (items_of (eq_by_cmp cmp) e.0 items) (entry_part e found).0) m.entries (All-found laws m ordered));
     whole = λ key h.
         sym (is_some-lookup (eq_by_cmp cmp key) m.entries) ∙ some_came (items_of (eq_by_cmp cmp) key items) (get cmp m key) (sums key) h;
@@ -98,10 +98,10 @@ module _ {K : Type 0} (cmp : K → K → Ordering) (laws : IsTotalOrder cmp) (ex
       let keys = map (λ (row : K × ℕ × ℕ). row.0) rows in
       rows_are cmp laws exact (λ row. row.0) (tally_row cmp items) (keys_of items) rows are.keys.rising row_made
       (λ key there.
-      let some = All-contains (λ key. 0 < count_of cmp key items) keys key are.keys.came (contained keys key there) in
+      let some = All-contains (λ key. 0 < count_of_key cmp key items) keys key are.keys.came (contained keys key there) in
       has_pair cmp exact key items (λ none. let empty = ap length none in absurd (omega (arith, some, empty))))
       (λ key there.
       let pair = in-map (λ (e : K × ℕ). e.0) items key there in
       found_in cmp exact key keys
       (are.keys.whole key
-      (subst (λ (k : K). 0 < count_of cmp k items) (sym pair.2) (came (items_of (eq_by_cmp cmp) pair.0.0 items) (has_own (eq_by_cmp_equiv laws) items pair.0 pair.1)))))
+      (subst (λ (k : K). 0 < count_of_key cmp k items) (sym pair.2) (came (items_of (eq_by_cmp cmp) pair.0.0 items) (has_own (eq_by_cmp_equiv laws) items pair.0 pair.1)))))

@@ -14,8 +14,8 @@ use Rattle.summary_law.specs.Sorted.{sorted}
 use Rattle.summary_law.specs.Summary.{FitsInHalves}
 
 -- how many items the key has
-abbrev pub count_of : {K : Type 0} → (K → K → Ordering) → K → List (K × ℕ) → ℕ
-count_of cmp key items = length (items_of (eq_by_cmp cmp) key items)
+abbrev pub count_of_key : {K : Type 0} → (K → K → Ordering) → K → List (K × ℕ) → ℕ
+count_of_key cmp key items = length (items_of (eq_by_cmp cmp) key items)
 
 -- the sum of the weights of the key
 abbrev pub sum_of : {K : Type 0} → (K → K → Ordering) → K → List (K × ℕ) → ℕ
@@ -23,7 +23,7 @@ sum_of cmp key items = sum (items_of (eq_by_cmp cmp) key items)
 
 -- the row of a key: the key, how many items it has, and the sum of their weights
 abbrev pub tally_row : {K : Type 0} → (K → K → Ordering) → List (K × ℕ) → K → K × ℕ × ℕ
-tally_row cmp items key = (key, count_of cmp key items, sum_of cmp key items)
+tally_row cmp items key = (key, count_of_key cmp key items, sum_of cmp key items)
 
 -- a row for each key that has items, in rising order of the keys
 abbrev pub tally_rows : {K : Type 0} → (K → K → Ordering) → List (K × ℕ) → List (K × ℕ × ℕ)
@@ -32,12 +32,12 @@ tally_rows cmp items = map (tally_row cmp items) (sorted cmp (keys_of items))
 -- the keys that have items, each once and in rising order
 pub record AreKeys {K : Type 0} (cmp : K → K → Ordering) (items : List (K × ℕ)) (keys : List K) : Type 0 where
   pub rising : IsStrictlySortedBy cmp keys
-  pub came : All (λ key. 0 < count_of cmp key items) keys
-  pub whole : (key : K) → 0 < count_of cmp key items → list_any (eq_by_cmp cmp key) keys ≡ true
+  pub came : All (λ key. 0 < count_of_key cmp key items) keys
+  pub whole : (key : K) → 0 < count_of_key cmp key items → list_any (eq_by_cmp cmp key) keys ≡ true
 
 -- the row has the count and the sum of its key
 pub record IsTallyRow {K : Type 0} (cmp : K → K → Ordering) (items : List (K × ℕ)) (row : K × ℕ × ℕ) : Type 0 where
-  pub count : row.1 ≡ count_of cmp row.0 items
+  pub count : row.1 ≡ count_of_key cmp row.0 items
   pub sum : row.2 ≡ sum_of cmp row.0 items
 
 -- a row for each key that has items, in rising order of the keys, each with the count and the sum of its key
