@@ -47,11 +47,11 @@ ROOTS, the definitions that this names, those that they name, and so on to the e
 proofs show that the program does what these definitions say. Whether they say what you mean, no proof can show: that
 you must read.
 
-Each definition is given by its comment, which says it in words, and its text, which is what counts. The two should say
-the same. A chapter goes from the whole to its parts: in it, a definition comes before those that it names. A heading
-names a file of `specs/` in a crate, for the definitions below it. A type or a constant of the code, from `src/`, comes
-after the first definition that names it. There a number of any width stands for a number without bounds, and `Vec<T>`
-for `List T`. The words of the toolchain come last. `checks/definitions.py` makes this page from the sources.
+Each definition has its comment before it, which says it in words. What counts is its text. The two should say the same.
+A chapter goes from the whole to its parts: in it, a definition comes before those that it names. A heading names a file
+of `specs/` in a crate, for the definitions below it. A type or a constant of the code, from `src/`, comes after the
+first definition that names it. There a number of any width stands for a number without bounds, and `Vec<T>` for
+`List T`. The words of the toolchain come last. `checks/definitions.py` makes this page from the sources.
 
 | sign | what it says |
 |---|---|
@@ -464,11 +464,12 @@ def linked(comment):
 
 
 def shown(one):
-    """The lines of a definition: its name and comment, then its text."""
-    of = f", of `{one.crate}/src/{one.file}`" if one.is_declared() else ""
-    says = f": {linked(one.comment)}" if one.comment else ""
-    comment = textwrap.wrap(f"**`{one.name}`**{of}{says}", WIDTH, break_long_words=False, break_on_hyphens=False)
-    return [*comment, "", *textwrap.indent(one.text, "    ").splitlines(), ""]
+    """The lines of a definition: its comment, then its text."""
+    of = f"of {one.crate}/src/{one.file}: " if one.is_declared() else ""
+    mark = "    -- "
+    comment = textwrap.wrap(f"{of}{one.comment}", WIDTH, initial_indent=mark, subsequent_indent=mark,
+                            break_long_words=False, break_on_hyphens=False)
+    return [*comment, *textwrap.indent(one.text, "    ").splitlines(), ""]
 
 
 def chapter_lines(title, ordered):
