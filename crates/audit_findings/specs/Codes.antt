@@ -20,7 +20,7 @@ is_opaque e = is_opaque_kind e.kind
 abbrev pub code_words : List EventRead → List ℕ
 code_words events = map (λ e. e.code) events
 
--- the row of a code word: the word, and how many of these words it is
+-- the row of a code word: the word, and how often it is among these
 abbrev pub code_row : List ℕ → ℕ → CodeRow
 code_row words word = record { word = word; count = count_by (λ other. other == word) words }
 

@@ -166,7 +166,7 @@ same_protocol Command Command = true
 same_protocol Return Return = true
 same_protocol _ _ = false
 
--- whether a code word is of the protocol (`asm-generic/ioctl.h`)
+-- whether a code word has the protocol's letter, and the direction bits that go with its size (`asm-generic/ioctl.h`)
 abbrev pub is_of : Protocol → ℕ → Bool
 is_of protocol code = (letter code == letter_of protocol) && (direction code == direction_of protocol (size code))
 
@@ -212,6 +212,6 @@ abbrev pub is_word_of : Kind → ℕ → Bool
 is_word_of kind word = option_map_or (λ row. word == word_of row) (row_of kind) false
 
 -- the kind of a record with this code word: the listed kind whose code word it is, or Opaque, if no listed kind has it.
--- A good code word names its protocol, so this is what it means in its frame (`laws::code_words`: `alone`).
+-- A good code word names its protocol, so this is what it means in its frame (a law: `code_words`).
 abbrev pub kind_of_word : ℕ → Kind
 kind_of_word word = unwrap_or (find (λ kind. is_word_of kind word) listed) Opaque

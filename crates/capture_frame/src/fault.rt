@@ -1,9 +1,8 @@
 //! What makes a capture malformed.
 
-/// The fifteen kinds of fault, in the order of their numbers. The crates above judge those of
-/// records and entries. Where several apply at one place, the first is named, with one exception: a
-/// payload that passes the command bytes is judged after the direction and the size of the code
-/// word. The program prints these names.
+/// The fifteen kinds of fault, in the order of their numbers. Where several apply at one place, the
+/// first is named, with one exception: a payload that passes the command bytes is judged after the
+/// direction and the size of the code word. The program prints these names.
 #[derive(Clone, Copy, Debug, PartialEq, Eq)]
 pub enum FaultKind {
     /// The file has fewer than 16 bytes.
@@ -45,7 +44,7 @@ pub enum FaultKind {
 pub struct Fault {
     /// What is wrong.
     pub kind: FaultKind,
-    /// Where the unit begins, in bytes from the capture's first.
+    /// Where the unit begins, in bytes from the first of the capture or part that is read.
     pub place: u64,
 }
 

@@ -17,7 +17,8 @@ is_oneway BrTransaction payload = has_one_way payload
 is_oneway BrTransactionSecCtx payload = has_one_way payload
 is_oneway _ payload = false
 
--- the mark of a transaction that the thread sends: Oneway for a oneway one, which can be refused, and Other for a call
+-- the mark of a transaction that the thread sends: Oneway for a oneway one, after which an error reply closes nothing,
+-- and Other for a call
 abbrev pub sent_mark : Bool → Option Mark
 sent_mark oneway = Some (if oneway then Oneway else Other)
 
@@ -26,8 +27,8 @@ abbrev pub received_mark : Bool → Option Mark
 received_mark oneway = if oneway then None else Some Other
 
 -- the mark that a record leaves in its thread, by its kind and by whether it is a oneway transaction: Oneway for a
--- oneway send, SentReply for a sent reply, Other for a call made or got, a reply got, an error reply or a confirmation.
--- Every other record leaves none.
+-- oneway send, SentReply for a sent reply, Other for a call made or got, a reply got, an error reply or a
+-- confirmation of a send. Every other record leaves none.
 abbrev pub mark_of : Kind → Bool → Option Mark
 mark_of BcTransaction oneway = sent_mark oneway
 mark_of BcTransactionSg oneway = sent_mark oneway

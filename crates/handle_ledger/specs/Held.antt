@@ -37,7 +37,7 @@ held_row items held handle = record {
 abbrev pub handles_of : List HandleItem → List (Held × ℕ) → List ℕ
 handles_of items held = map handle_of items ++ map (λ reference. reference.0.0) held
 
--- a row for each of these handles, handles rising
+-- a row for each handle that an item names or to which a reference is held, handles rising
 abbrev pub held_rows : List HandleItem → List (Held × ℕ) → List HeldRow
 held_rows items held = map (held_row items held) (sorted nat_cmp (handles_of items held))
 

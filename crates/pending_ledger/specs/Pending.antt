@@ -26,7 +26,7 @@ closes eq key item = eq key item.key && is_close item.change
 abbrev pub changes_of : {K : Type 0} → (K → K → Bool) → K → List (PendingItem K) → List PendingChange
 changes_of eq key items = filter_map (λ item. if eq key item.key then Some item.change else None) items
 
--- whether the item is outstanding: it is an open, and no later close has its key
+-- whether the item is an unclosed open: no later close has its key
 abbrev pub is_left_open : {K : Type 0} → (K → K → Bool) → List (PendingItem K) → PendingItem K → List (PendingItem K) → Bool
 is_left_open eq before item later = not (is_close item.change) && not (list_any (closes eq item.key) later)
 

@@ -28,7 +28,7 @@ node_item_of e = node_item e.kind e.payload
 abbrev pub buffer_item_of : EventRead → Option BufferItem
 buffer_item_of e = buffer_item e.place e.kind e.payload
 
--- the delivery as an open of its address, or the free as a close of it
+-- what an event does to the address of a buffer: a delivery opens it, and a free closes it
 abbrev pub buffer_pending_of : EventRead → Option (PendingItem ℕ)
 buffer_pending_of e = option_map buffer_pending (buffer_item_of e)
 

@@ -18,7 +18,7 @@ abbrev pub queue_fields : OnewayKey → List ℕ
 queue_fields (Sent handle) = codes "sent " ++ decimal handle
 queue_fields Received = codes "received"
 
--- a row: device, process, these fields, the count, the sum of data_size
+-- a row: device, process, `sent` and the handle or `received`, the count, the sum of data_size
 abbrev pub oneway_row : ProcessRow (OnewayKey × ℕ × ℕ) → List ℕ
 oneway_row of =
     process_start of.process ++ codes " " ++ queue_fields of.row.0 ++ codes " " ++ decimal of.row.1

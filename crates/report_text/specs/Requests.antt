@@ -16,7 +16,7 @@ requests_head requests standing = codes "requests " ++ decimal requests ++ codes
 abbrev pub request_fields : RequestKey → List ℕ
 request_fields key = codes " " ++ decimal key.handle ++ codes " " ++ hex_number key.cookie
 
--- a row: place, device, process, and these fields
+-- a row: place, device, process, handle, cookie
 abbrev pub requests_row : EventRead → List ℕ
 requests_row e = row_start e ++ request_fields (request_key e.payload)
 
