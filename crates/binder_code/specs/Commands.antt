@@ -71,7 +71,7 @@ row_of BrOnewaySpamSuspect = return_row 19 0 (codes "BR_ONEWAY_SPAM_SUSPECT")
 row_of BrTransactionPendingFrozen = return_row 20 0 (codes "BR_TRANSACTION_PENDING_FROZEN")
 row_of Opaque = None
 
--- the kinds of `linux/android/binder.h`, in the order of the table of codes (docs/COMMANDS.md)
+-- the kinds that `linux/android/binder.h` of Linux 6.11 lists, in the order of the table of codes (docs/COMMANDS.md)
 abbrev pub listed : List Kind
 listed =
     BcTransaction ∷

@@ -38,7 +38,7 @@ abbrev pub least_total : List Change → List Change → ℤ
 least_total before [] = total before
 least_total before (change ∷ later) = int_min (total before) (least_total (before ++ change ∷ []) later)
 
--- the one count that changes have
+-- the sum and the low of these changes
 abbrev pub count_of : List Change → Count
 count_of changes = record { sum = total changes; low = least_total [] changes }
 
