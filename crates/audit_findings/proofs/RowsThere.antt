@@ -19,7 +19,7 @@ use Rattle.audit_findings.specs.Calls.{openers, refused_sends, stray_closers}
 use Rattle.audit_findings.specs.Flags.{flagged, has_unknown_flags}
 use Rattle.audit_findings.specs.Objects.{Attached, attached_to, attachments_of, objects_in, bad_objects, bad_of}
 use Rattle.audit_findings.specs.declared.objects.BadRow.{BadRow}
-use Rattle.audit_findings.specs.Places.{EventTest, either, is_stray_close, is_unclosed, listed_events, open_and_stray}
+use Rattle.audit_findings.specs.Places.{EventTest, either, is_stray_close, is_unclosed, passing_events, open_and_stray}
 use Rattle.event_core.specs.declared.pending.PendingItem.{PendingItem}
 use Rattle.audit_findings.specs.TextReads.{text_reads}
 use Rattle.audit_findings.specs.Threads.{in_threads}
@@ -38,7 +38,7 @@ read_there {Y} read owner own events =
     (subst (In (owner y)) (sym at.3) (subst (λ (e : EventRead). In e (at.0 ++ at.1 ∷ at.2)) (sym (own at.0 at.1 at.2 y at.4)) (in_middle at.0 at.1 at.2))))
 
 -- the listed events of each process
-pub listed_there : (test : EventTest) (events : List EventRead) → All (Contains events) (listed_events test events)
+pub listed_there : (test : EventTest) (events : List EventRead) → All (Contains events) (passing_events test events)
 listed_there test events =
     read_there (by_key same_process process_of (chosen test)) (λ e. e)
     (λ b e l y is.

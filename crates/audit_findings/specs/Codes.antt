@@ -7,7 +7,7 @@ use Rattle.binder_code.specs.declared.record_kind.Kind.TheVariants.{Opaque}
 use Rattle.event_core.specs.Events.{EventRead}
 use Rattle.audit_findings.specs.declared.codes.CodeRow.{CodeRow}
 
--- whether the kind is that of opaque records, which the table of commands does not list
+-- whether the kind is that of opaque records, whose number the header does not list
 abbrev pub is_opaque_kind : Kind → Bool
 is_opaque_kind Opaque = true
 is_opaque_kind _ = false

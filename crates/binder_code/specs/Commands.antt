@@ -212,6 +212,6 @@ abbrev pub is_word_of : Kind → ℕ → Bool
 is_word_of kind word = option_map_or (λ row. word == word_of row) (row_of kind) false
 
 -- the kind of a record with this code word: the listed kind whose code word it is, or Opaque, if no listed kind has it.
--- A good code word names its protocol, so this is what it means in its frame (a law: `code_words`).
+-- The code word of a good record has the letter of its protocol, so `kind_of` gives the same kind in its frame.
 abbrev pub kind_of_word : ℕ → Kind
 kind_of_word word = unwrap_or (find (λ kind. is_word_of kind word) listed) Opaque

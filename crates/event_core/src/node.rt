@@ -28,8 +28,8 @@ impl NodeKey {
     }
 }
 
-/// What a record does to the references of one strength that the driver asks a process to keep to a
-/// node.
+/// What a record does to the references to a node. The driver asks the node's process to keep them,
+/// and they are all of one strength.
 #[derive(Clone, Copy, Debug, PartialEq, Eq)]
 pub enum NodeChange {
     /// The driver asks the process to keep one: they are one more, and one more is due.

@@ -2,7 +2,7 @@
 
 ghost use Rattle.std.specs.Prelude.{◌≡◌, ◌≤◌, ◌+◌, ◌++◌};
 ghost use Rattle.arrayvec.specs.ArrayString.{array_string_len};
-ghost use Rattle.report_text.specs.Oneway.{queue_fields};
+ghost use Rattle.report_text.specs.Oneway.{oneway_fields};
 
 use crate::line::{Row, push_counted, push_wide};
 use crate::process_row::process_start;
@@ -59,7 +59,7 @@ impl WholeSection for Oneway {
 /// Pushes `sent` and the handle, or `received`.
 fn push_key(line: &mut Row, key: OnewayKey)
     requires { array_string_len line.old + 25 ≤ 256 }
-    ensures text { line.new.bytes ≡ line.old.bytes ++ queue_fields key }
+    ensures text { line.new.bytes ≡ line.old.bytes ++ oneway_fields key }
     ensures short { array_string_len line.new ≤ array_string_len line.old + 25 }
 {
     match key {
