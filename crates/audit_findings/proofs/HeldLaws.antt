@@ -1,7 +1,7 @@
 -- The references that attachments hold, and tallies of them.
 use Rattle.std.proofs.Common.{◌≡◌, ℕ, suc, drop, ◌+◌, ◌<◌, ◌^◌, ◌≤◌, List, [], ◌∷◌, ◌++◌, length, map, Some, None, refl, sym, ap, subst, ◌∙◌, append_assoc, length-append, arith, get_or, take}
 use Rattle.std.specs.List.{cons_option, filter_map, flat_map}
-use Rattle.std.specs.Option.{option_map}
+use Rattle.std.specs.Option.{option_map_or}
 use Rattle.std.proofs.lemmas.Grind.{flat_map-append}
 use Rattle.std.proofs.lemmas.List.{append-nil, map-append, take_more}
 use Rattle.std.proofs.lemmas.List.Concat.{flat_map-cons}
@@ -11,7 +11,7 @@ use Rattle.std.proofs.Math.Seq.{split_at}
 use Rattle.event_core.specs.Events.{AttachmentText, EventRead}
 use Rattle.event_core.specs.Reading.{entry_attachment}
 use Rattle.handle_ledger.specs.Held.{Held, held_cmp}
-use Rattle.object_view.specs.Objects.{ObjectText, objects_of}
+use Rattle.object_view.specs.Objects.{ObjectText, no_objects, objects_of}
 use Rattle.object_view.proofs.ObjectLaws.{objects_short}
 use Rattle.summary_law.proofs.ReadLaws.{length-read}
 use Rattle.summary_law.proofs.TallyLaws.{weighted_map}
@@ -21,7 +21,7 @@ use Rattle.transaction_view.specs.declared.entry.Entry.{Entry}
 use Rattle.audit_findings.specs.Entries.{carried_by, list_bytes}
 use Rattle.audit_findings.specs.Held.{reference_of, unweighed}
 use Rattle.audit_findings.specs.HeldCounts.{good_in, CountsEntries, CountsHeld, CountsMore, CountsObjects, HasRoom}
-use Rattle.audit_findings.specs.Objects.{Attached, attachments_of, good_objects}
+use Rattle.audit_findings.specs.Objects.{good_objects}
 
 -- ---- one more reference
 
@@ -135,10 +135,9 @@ good_carried : (events : List EventRead) → flat_map good_of (carried_by events
 good_carried [] = refl
 good_carried (e ∷ events) =
     elim e.entry as (λ o. flat_map good_of (cons_option o (carried_by events))
-    ≡ flat_map (λ (a : Attached). good_of a.attachment) (cons_option (option_map (λ (x : AttachmentText). record { owner = e; attachment = x }) o) (attachments_of events))) [
+    ≡ (option_map_or (λ (a : AttachmentText). objects_of a.body a.offset_bytes) o no_objects).good ++ good_objects events) [
       | None ↦ good_carried events
-      | Some a ↦ flat_map-cons good_of a (carried_by events) ∙ ap (λ (t : List ObjectText). good_of a ++ t) (good_carried events)
-          ∙ sym (flat_map-cons (λ (x : Attached). good_of x.attachment) (record { owner = e; attachment = a }) (attachments_of events))
+      | Some a ↦ ap (λ (t : List ObjectText). good_of a ++ t) (good_carried events)
     ]
 
 -- entries that show the attachments of events hold what the events hold
