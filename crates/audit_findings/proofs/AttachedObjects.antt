@@ -13,8 +13,11 @@ use Rattle.object_view.specs.Objects.{ObjectText, Objects, no_objects, objects_o
 use Rattle.object_view.proofs.ObjectLaws.{objects_short}
 use Rattle.transaction_view.specs.declared.entry.Entry.{Entry}
 use Rattle.event_core.specs.declared.event.Event.{Event}
-use Rattle.event_core.specs.Events.{AttachmentText, EventRead}
-use Rattle.event_core.specs.Reading.{event_text, entry_attachment}
+use Rattle.capture_frame.specs.Units.{Placed}
+use Rattle.transaction_view.specs.Attachments.{EntryText}
+use Rattle.transaction_view.specs.State.{placed_entry}
+use Rattle.event_core.specs.Events.{EventRead}
+use Rattle.event_core.specs.Reading.{event_text}
 use Rattle.audit_findings.specs.declared.objects.BadRow.{BadRow}
 use Rattle.audit_findings.specs.declared.objects.ObjectLedger.{ObjectLedger}
 use Rattle.audit_findings.specs.declared.sort_counts.SortCounts.{SortCounts}
@@ -65,11 +68,11 @@ HasSmall e = offset_bytes_of e < 2 ^ 32
 good_short : (e : EventRead) → 8 * length (good_in e) ≤ offset_bytes_of e
 good_short e = by_entry e.entry
   where
-    by_entry : (entry : Option AttachmentText)
-        → 8 * length (option_map_or (λ (a : AttachmentText). objects_of a.body a.offset_bytes) entry no_objects).good
-        ≤ option_map_or (λ (a : AttachmentText). length a.offset_bytes) entry 0
+    by_entry : (entry : Option (Placed EntryText))
+        → 8 * length (option_map_or (λ (a : Placed EntryText). objects_of a.unit.body a.unit.offset_bytes) entry no_objects).good
+        ≤ option_map_or (λ (a : Placed EntryText). length a.unit.offset_bytes) entry 0
     by_entry None = omega arith
-    by_entry (Some a) = objects_short a.body a.offset_bytes
+    by_entry (Some a) = objects_short a.unit.body a.unit.offset_bytes
 
 -- nor have the attachments of some events
 all_short : (events : List EventRead) → All HasSmall events → 8 * length (flat_map good_in events) ≤ 2 ^ 32 * length events
@@ -101,7 +104,7 @@ owned e (Some x) = refl
 module _ (e : Event) (found : Entry) (is : e.entry ≡ Some found) where
   own_objects : objects_in (event_text e) ≡ objects_of found.body.now found.offsets.now
   own_objects =
-      ap (λ (o : Option Entry). option_map_or (λ (a : AttachmentText). objects_of a.body a.offset_bytes) (option_map entry_attachment o) no_objects) is
+      ap (λ (o : Option Entry). option_map_or (λ (a : Placed EntryText). objects_of a.unit.body a.unit.offset_bytes) (option_map placed_entry o) no_objects) is
 
   pub one_good : (sort : Sort) → times_of sort (good_objects (event_text e ∷ [])) ≡ times_of sort (objects_of found.body.now found.offsets.now).good
   one_good sort = ap (times_of sort) (append-nil (good_in (event_text e)) ∙ ap (λ (o : Objects). o.good) own_objects)

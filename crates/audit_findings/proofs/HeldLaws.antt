@@ -8,8 +8,10 @@ use Rattle.std.proofs.lemmas.List.Concat.{flat_map-cons}
 use Rattle.std.proofs.lemmas.List.Elements.{filter_map-append}
 use Rattle.std.proofs.lemmas.List.Sums.{sum_by-append, sum_by-cons}
 use Rattle.std.proofs.Math.Seq.{split_at}
-use Rattle.event_core.specs.Events.{AttachmentText, EventRead}
-use Rattle.event_core.specs.Reading.{entry_attachment}
+use Rattle.capture_frame.specs.Units.{Placed}
+use Rattle.transaction_view.specs.Attachments.{EntryText}
+use Rattle.transaction_view.specs.State.{placed_entry}
+use Rattle.event_core.specs.Events.{EventRead}
 use Rattle.handle_ledger.specs.Held.{Held, held_cmp}
 use Rattle.object_view.specs.Objects.{ObjectText, no_objects, objects_of}
 use Rattle.object_view.proofs.ObjectLaws.{objects_short}
@@ -122,25 +124,25 @@ module _ (entries : List Entry) (few : list_bytes entries ≤ 2 ^ 32) (i : ℕ) 
 -- ---- the events that own the attachments
 
 -- the good objects of an attachment
-abbrev good_of : AttachmentText → List ObjectText
-good_of a = (objects_of a.body a.offset_bytes).good
+abbrev good_of : Placed EntryText → List ObjectText
+good_of a = (objects_of a.unit.body a.unit.offset_bytes).good
 
-good_shown : (entries : List Entry) → flat_map good_in entries ≡ flat_map good_of (map entry_attachment entries)
+good_shown : (entries : List Entry) → flat_map good_in entries ≡ flat_map good_of (map placed_entry entries)
 good_shown [] = refl
 good_shown (e ∷ entries) =
     flat_map-cons good_in e entries ∙ ap (λ (t : List ObjectText). good_in e ++ t) (good_shown entries)
-    ∙ sym (flat_map-cons good_of (entry_attachment e) (map entry_attachment entries))
+    ∙ sym (flat_map-cons good_of (placed_entry e) (map placed_entry entries))
 
 good_carried : (events : List EventRead) → flat_map good_of (carried_by events) ≡ good_objects events
 good_carried [] = refl
 good_carried (e ∷ events) =
     elim e.entry as (λ o. flat_map good_of (cons_option o (carried_by events))
-    ≡ (option_map_or (λ (a : AttachmentText). objects_of a.body a.offset_bytes) o no_objects).good ++ good_objects events) [
+    ≡ (option_map_or (λ (a : Placed EntryText). objects_of a.unit.body a.unit.offset_bytes) o no_objects).good ++ good_objects events) [
       | None ↦ good_carried events
       | Some a ↦ ap (λ (t : List ObjectText). good_of a ++ t) (good_carried events)
     ]
 
 -- entries that show the attachments of events hold what the events hold
-pub held_by_events : (events : List EventRead) (entries : List Entry) → map entry_attachment entries ≡ carried_by events
+pub held_by_events : (events : List EventRead) (entries : List Entry) → map placed_entry entries ≡ carried_by events
     → held_among entries ≡ filter_map reference_of (good_objects events)
 held_by_events events entries show = ap (filter_map reference_of) (good_shown entries ∙ ap (flat_map good_of) show ∙ good_carried events)

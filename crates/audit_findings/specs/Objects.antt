@@ -7,14 +7,16 @@ use Rattle.object_view.specs.declared.sort.Sort.{Sort}
 use Rattle.object_view.specs.declared.sort.Sort.TheVariants.{Binder, WeakBinder, Handle, WeakHandle, Fd, Fda, Ptr}
 use Rattle.object_view.specs.Fields.{sort_number}
 use Rattle.object_view.specs.Objects.{ObjectText, Objects, no_objects, objects_of}
-use Rattle.event_core.specs.Events.{AttachmentText, EventRead}
+use Rattle.capture_frame.specs.Units.{Placed}
+use Rattle.transaction_view.specs.Attachments.{EntryText}
+use Rattle.event_core.specs.Events.{EventRead}
 use Rattle.audit_findings.specs.declared.objects.BadRow.{BadRow}
 use Rattle.audit_findings.specs.declared.sort_counts.SortCounts.{SortCounts}
 
 -- what the objects of an event's attachment come to, by its data and its list of offsets; an event without an
 -- attachment has none
 abbrev pub objects_in : EventRead → Objects
-objects_in e = option_map_or (λ (a : AttachmentText). objects_of a.body a.offset_bytes) e.entry no_objects
+objects_in e = option_map_or (λ (a : Placed EntryText). objects_of a.unit.body a.unit.offset_bytes) e.entry no_objects
 
 -- whether two sorts are the same
 abbrev pub same_sort : Sort → Sort → Bool
