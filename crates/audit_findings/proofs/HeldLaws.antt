@@ -3,7 +3,7 @@ use Rattle.std.proofs.Common.{◌≡◌, ℕ, suc, drop, ◌+◌, ◌<◌, ◌^�
 use Rattle.std.specs.List.{cons_option, filter_map, flat_map}
 use Rattle.std.specs.Option.{option_map_or}
 use Rattle.std.proofs.lemmas.Grind.{flat_map-append}
-use Rattle.std.proofs.lemmas.List.{append-nil, map-append, take_more}
+use Rattle.std.proofs.lemmas.List.{append-nil, length-map, map-append, take_more}
 use Rattle.std.proofs.lemmas.List.Concat.{flat_map-cons}
 use Rattle.std.proofs.lemmas.List.Elements.{filter_map-append}
 use Rattle.std.proofs.lemmas.List.Sums.{sum_by-append, sum_by-cons}
@@ -16,8 +16,8 @@ use Rattle.handle_ledger.specs.Held.{Held, held_cmp}
 use Rattle.object_view.specs.Objects.{ObjectText, no_objects, objects_of}
 use Rattle.object_view.proofs.ObjectLaws.{objects_short}
 use Rattle.summary_law.proofs.ReadLaws.{length-read}
-use Rattle.summary_law.proofs.TallyLaws.{weighted_map}
-use Rattle.summary_law.specs.Tally.{AreWeighted, TallySums}
+use Rattle.summary_law.specs.Fits.{IsShort}
+use Rattle.summary_law.specs.Tally.{TallySums}
 use Rattle.summary_law.specs.declared.tally.Tally.{Tally}
 use Rattle.transaction_view.specs.declared.entry.Entry.{Entry}
 use Rattle.audit_findings.specs.Entries.{carried_by, list_bytes}
@@ -28,8 +28,11 @@ use Rattle.audit_findings.specs.Objects.{good_objects}
 -- ---- one more reference
 
 -- references that there is room for can be tallied
-pub short_unweighed : (held : List Held) → length held ≤ 2 ^ 32 → AreWeighted (unweighed held)
-short_unweighed held short = weighted_map (λ (reference : Held). (reference, 0)) (λ reference. omega arith) held short
+pub short_unweighed : (held : List Held) → length held ≤ 2 ^ 32 → IsShort (unweighed held)
+short_unweighed held short =
+    let pair : Held → Held × ℕ = λ reference. (reference, 0) in
+    let long = length-map held pair in
+    omega (arith, long, short)
 
 -- the last object gives a reference, or none
 pub gives_last : (objects : List ObjectText) (o : ObjectText) (reference : Held) → reference_of o ≡ Some reference
@@ -46,14 +49,14 @@ gives_no_last objects o is =
 
 -- there is room for one more after those of these objects
 pub room_for_last : (held : List Held) (objects : List ObjectText) (reference : Held) (n : ℕ) → length held + n ≤ 2 ^ 32 → length objects + 1 ≤ n
-    → AreWeighted (unweighed (held ++ filter_map reference_of objects) ++ (reference, 0) ∷ [])
+    → IsShort (unweighed (held ++ filter_map reference_of objects) ++ (reference, 0) ∷ [])
 room_for_last held objects reference n room few =
     let more = filter_map reference_of objects in
     let all = held ++ more in
     let long = length-append held more in
     let longer = length-append all (reference ∷ []) in
     let read = length-read reference_of objects in
-    subst AreWeighted (map-append (λ (r : Held). (r, 0)) all (reference ∷ []))
+    subst (λ (items : List (Held × ℕ)). IsShort items) (map-append (λ (r : Held). (r, 0)) all (reference ∷ []))
     (short_unweighed (all ++ reference ∷ []) (omega (arith, long, longer, read, room, few)))
 
 -- the tally with one reference more counts those of the objects with the last one

@@ -1,9 +1,8 @@
 -- The ledger of oneway transactions, by the tally that it keeps.
-use Rattle.std.proofs.Common.{◌≡◌, ℕ, ◌<◌, ◌^◌, List, [], ◌∷◌, ◌++◌, map, All, refl, sym, ap, subst, arith}
+use Rattle.std.proofs.Common.{◌≡◌, ℕ, List, [], ◌∷◌, ◌++◌, map, refl, sym, ap, subst, arith}
 use Rattle.std.specs.Cmp.{IsTotalOrder}
 use Rattle.std.specs.declared.cmp.Ordering.{Ordering}
 use Rattle.std.proofs.lemmas.List.{length-map, map-append}
-use Rattle.std.proofs.lemmas.List.Elements.{All-append, All-cons, All-map, All-nil}
 use Rattle.std.proofs.lemmas.Map.Lookups.{CmpEqualImpliesEq, exact_unsigned}
 use Rattle.event_core.specs.contracts.oneway.OnewayKeyOrd.TheImpl as key_ord
 use Rattle.event_core.specs.contracts.oneway.OnewayKeyOrd.TheImpl.Laws.{total-law}
@@ -13,11 +12,10 @@ use Rattle.event_core.specs.declared.oneway.OnewayKey.TheVariants.{Sent, Receive
 use Rattle.summary_law.proofs.TallyLaws.{tally_is}
 use Rattle.summary_law.specs.Fits.{IsShort}
 use Rattle.summary_law.specs.Summary.{CanAdd, Adds, CanJoin, Joins}
-use Rattle.summary_law.specs.Tally.{TallySums, AreTallyRows, AreWeighted, GivesRows}
+use Rattle.summary_law.specs.Tally.{TallySums, AreTallyRows, GivesRows}
 use Rattle.summary_law.specs.declared.tally.Tally.{Tally}
 use Rattle.process_ledgers.specs.declared.oneway_ledger.OnewayLedger.{OnewayLedger}
-use Rattle.process_ledgers.specs.OnewayLedger.{oneway_cmp, oneway_pair}
-use Rattle.process_ledgers.specs.OnewayLedger.{OnewayLedgerSums, HasSmallSize, GivesTallyRows}
+use Rattle.process_ledgers.specs.OnewayLedger.{oneway_cmp, oneway_pair, OnewayLedgerSums, GivesTallyRows}
 
 -- ---- the order of the keys
 
@@ -56,51 +54,36 @@ by_said tally first second sums =
 
 -- ---- more items
 
--- the pairs of two joined lists can be summarised
-weighted_both : (first second : List OnewayItem) → IsShort (first ++ second) → All HasSmallSize first → All HasSmallSize second
-    → AreWeighted (map oneway_pair first ++ map oneway_pair second)
-weighted_both first second short small more =
-    let both = first ++ second in
-    let long = length-map both oneway_pair in
-    subst AreWeighted (map-append oneway_pair first second)
-    (omega (arith, short, long), All-map (λ (e : _). e.1 < 2 ^ 64) oneway_pair both (All-append HasSmallSize first second small more))
+-- the pairs of two joined lists are few
+few_both : (first second : List OnewayItem) → IsShort (first ++ second) → IsShort (map oneway_pair first ++ map oneway_pair second)
+few_both first second short =
+    let long = length-map (first ++ second) oneway_pair in
+    subst IsShort (map-append oneway_pair first second) (omega (arith, short, long))
 
-one_small : (item : OnewayItem) → HasSmallSize item → All HasSmallSize (item ∷ [])
-one_small item small = All-cons HasSmallSize item [] small (All-nil HasSmallSize)
+pub can_add_pair : (ledger : OnewayLedger) (item : OnewayItem) → CanAdd OnewayLedgerSums IsShort ledger item
+    → CanAdd (TallySums key_cmp) IsShort ledger.tally (oneway_pair item)
+can_add_pair ledger item can = (map oneway_pair can.0, by_derived ledger.tally can.0 can.1, few_both can.0 (item ∷ []) can.2)
 
-pub can_add_pair : (ledger : OnewayLedger) (item : OnewayItem) → HasSmallSize item → CanAdd OnewayLedgerSums IsShort ledger item
-    → CanAdd (TallySums key_cmp) AreWeighted ledger.tally (oneway_pair item)
-can_add_pair ledger item small can =
-    (map oneway_pair can.0, by_derived ledger.tally can.0 can.1.tally, weighted_both can.0 (item ∷ []) can.2 can.1.small (one_small item small))
-
-pub pair_added : (old new : OnewayLedger) (item : OnewayItem) → HasSmallSize item → Adds (TallySums key_cmp) AreWeighted old.tally (oneway_pair item) new.tally
+pub pair_added : (old new : OnewayLedger) (item : OnewayItem) → Adds (TallySums key_cmp) IsShort old.tally (oneway_pair item) new.tally
     → Adds OnewayLedgerSums IsShort old item new
-pair_added old new item small adds items sums short =
-    let one = one_small item small in
-    record {
-      tally = by_said new.tally items (item ∷ [])
-          (adds (map oneway_pair items) (by_derived old.tally items sums.tally) (weighted_both items (item ∷ []) short sums.small one));
-      small = All-append HasSmallSize items (item ∷ []) sums.small one;
-    }
+pair_added old new item adds items sums short =
+    by_said new.tally items (item ∷ []) (adds (map oneway_pair items) (by_derived old.tally items sums) (few_both items (item ∷ []) short))
 
 pub can_join_pairs : (ledger later : OnewayLedger) → CanJoin OnewayLedgerSums IsShort ledger later
-    → CanJoin (TallySums key_cmp) AreWeighted ledger.tally later.tally
+    → CanJoin (TallySums key_cmp) IsShort ledger.tally later.tally
 can_join_pairs ledger later can = (
   map oneway_pair can.0,
   map oneway_pair can.1,
-  by_derived ledger.tally can.0 can.2.tally,
-  by_derived later.tally can.1 can.3.tally,
-  weighted_both can.0 can.1 can.4 can.2.small can.3.small,
+  by_derived ledger.tally can.0 can.2,
+  by_derived later.tally can.1 can.3,
+  few_both can.0 can.1 can.4,
 )
 
-pub pairs_joined : (ledger later joined : OnewayLedger) → Joins (TallySums key_cmp) AreWeighted ledger.tally later.tally joined.tally
+pub pairs_joined : (ledger later joined : OnewayLedger) → Joins (TallySums key_cmp) IsShort ledger.tally later.tally joined.tally
     → Joins OnewayLedgerSums IsShort ledger later joined
-pairs_joined ledger later joined joins first second sums others short = record {
-  tally = by_said joined.tally first second
-      (joins (map oneway_pair first) (map oneway_pair second) (by_derived ledger.tally first sums.tally) (by_derived later.tally second others.tally)
-      (weighted_both first second short sums.small others.small));
-  small = All-append HasSmallSize first second sums.small others.small;
-}
+pairs_joined ledger later joined joins first second sums others short =
+    by_said joined.tally first second
+    (joins (map oneway_pair first) (map oneway_pair second) (by_derived ledger.tally first sums) (by_derived later.tally second others) (few_both first second short))
 
 -- ---- the rows
 
@@ -108,4 +91,4 @@ pub rows_said : (ledger : OnewayLedger) (rows : List (OnewayKey × ℕ × ℕ)) 
 rows_said ledger rows gives items sums =
     tally_is oneway_cmp oneway_cmp_total oneway_cmp_exact (map oneway_pair items) rows
     (subst (λ (cmp : OnewayKey → OnewayKey → Ordering). AreTallyRows cmp (map oneway_pair items) rows) order_is
-    (gives (map oneway_pair items) (by_derived ledger.tally items sums.tally)))
+    (gives (map oneway_pair items) (by_derived ledger.tally items sums)))

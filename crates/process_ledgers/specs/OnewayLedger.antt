@@ -1,5 +1,5 @@
 -- The ledger of the oneway transactions of a process (docs/REPORT.md).
-use Rattle.std.specs.Prelude.{◌≡◌, ℕ, ◌<◌, ◌^◌, List, map, All}
+use Rattle.std.specs.Prelude.{◌≡◌, ℕ, List, map}
 use Rattle.event_core.specs.declared.oneway.OnewayItem.{OnewayItem}
 use Rattle.event_core.specs.declared.oneway.OnewayKey.{OnewayKey}
 use Rattle.event_core.specs.declared.oneway.OnewayKey.TheVariants.{Sent, Received}
@@ -20,14 +20,9 @@ oneway_cmp Received Received = Equal
 abbrev pub oneway_pair : OnewayItem → OnewayKey × ℕ
 oneway_pair item = (item.key, item.data_size)
 
--- the data size is a number of 64 bits
-abbrev pub HasSmallSize : OnewayItem → Type 0
-HasSmallSize item = item.data_size < 2 ^ 64
-
--- the ledger has the tally of these items, whose data sizes are numbers of 64 bits
-pub record OnewayLedgerSums (ledger : OnewayLedger) (items : List OnewayItem) : Type 0 where
-  pub tally : TallySums oneway_cmp ledger.tally (map oneway_pair items)
-  pub small : All HasSmallSize items
+-- the ledger has the tally of these items
+abbrev pub OnewayLedgerSums : OnewayLedger → List OnewayItem → Type 0
+OnewayLedgerSums ledger items = TallySums oneway_cmp ledger.tally (map oneway_pair items)
 
 -- for whatever items the ledger sums, these are the rows
 abbrev pub GivesTallyRows : OnewayLedger → List (OnewayKey × ℕ × ℕ) → Type 0

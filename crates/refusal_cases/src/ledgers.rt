@@ -1,7 +1,7 @@
 //! The calls of the ledgers, and what each gives of its items.
 
 use crate::events::{Whose, events_of};
-use crate::fits::{is_short, is_weighted};
+use crate::fits::is_short;
 use crate::no_answer::{NoAnswer, Printed};
 use crate::sums::{Way, summed};
 use crate::told;
@@ -50,7 +50,7 @@ macro_rules! tell_ledger {
 }
 
 pub(crate) fn tally<W: Write>(alloc: Global, bytes: &[u8], way: Way, out: &mut W) -> Printed {
-    tell_ledger!(alloc, bytes, way, out; code_step, is_weighted, Tally<u32>: rows)
+    tell_ledger!(alloc, bytes, way, out; code_step, is_short, Tally<u32>: rows)
 }
 
 /// The code word of a record, with the length of its payload.
@@ -113,7 +113,7 @@ pub(crate) fn held<W: Write>(alloc: Global, bytes: &[u8], way: Way, out: &mut W)
     let events = events_of(alloc, bytes, Whose::Process)?;
     let items = items!(alloc, &events, handle_step);
     let held = held_items(alloc, events.as_slice())?;
-    if !is_short(items.as_slice()) || !is_weighted(held.as_slice()) {
+    if !is_short(items.as_slice()) || !is_short(held.as_slice()) {
         return Err(NoAnswer::Unfit);
     }
     let ledger: HandleLedger = summed(alloc, items.as_slice(), way)?;
