@@ -7,12 +7,12 @@ use crate::sums::{Way, summed};
 use crate::told;
 use call_stacks::ThreadCalls;
 use event_core::{
-    Event, buffer_step, clear_step, death_step, handle_step, node_step, oneway_step, request_step,
+    Event, OnewayKey, buffer_step, clear_step, death_step, handle_step, node_step, oneway_step,
+    request_step,
 };
 use handle_ledger::{HandleLedger, NodeLedger};
 use object_view::{Objects, held_step};
 use pending_ledger::{Buffers, Clears, Deaths, Requests};
-use process_ledgers::OnewayLedger;
 use std::alloc::{AllocError, Global};
 use std::io::Write;
 use summary_law::Tally;
@@ -83,7 +83,7 @@ pub(crate) fn requests<W: Write>(alloc: Global, bytes: &[u8], way: Way, out: &mu
 }
 
 pub(crate) fn oneway<W: Write>(alloc: Global, bytes: &[u8], way: Way, out: &mut W) -> Printed {
-    tell_ledger!(alloc, bytes, way, out; oneway_step, is_short, OnewayLedger: rows)
+    tell_ledger!(alloc, bytes, way, out; oneway_step, is_short, Tally<OnewayKey>: rows)
 }
 
 /// The references that the objects of the events' attachments carry, each with the weight 0.
