@@ -42,7 +42,7 @@ pub(crate) trait Share: Sized {
     fn join(&self, first: Self::Sum, second: Self::Sum) -> Result<Self::Sum, AllocError>
         requires { fits self.now
             × ((front back : Self) × halved self.now front back × sums front first
-                × sums back second) }
+            × sums back second) }
         ensures { IfOk result (sums self.now) };
 }
 

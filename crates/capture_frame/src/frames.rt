@@ -158,7 +158,7 @@ pub(crate) fn read_frame(
     requires some { 0 < length bytes.now }
     ensures { MatchResult result
         (λ frame. (frame_at (in_version version last) bytes.now ≡ Ok (frame_text frame))
-            × (frame.place ≡ place))
+        × (frame.place ≡ place))
         (λ kind. frame_at (in_version version last) bytes.now ≡ Err kind) }
 {
     if bytes.len() < FRAME_HEADER {

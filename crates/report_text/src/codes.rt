@@ -26,7 +26,8 @@ impl WholeSection for Codes {
     ghost rows_of = { λ kept. kept.events.codes };
 
     ghost keeps = { record {
-        head = λ found rows. refl; rows = λ found. sym (map-id (found.events.codes))
+      head = λ found rows. refl;
+      rows = λ found. sym (map-id (found.events.codes));
     } };
 
     fn head(&self, _sections: &Sections<u64>, rows: usize) -> Row {

@@ -27,9 +27,7 @@ impl EventSection for Frees {
 
     ghost keeps = { record { head = λ found rows. refl; rows = λ found. refl } };
 
-    ghost events = {
-        λ frames. listed_there (is_stray_close buffer_pending_of) (events_of_frames frames)
-    };
+    ghost events = { λ frames. listed_there (is_stray_close buffer_pending_of) (events_of_frames frames) };
 
     ghost kinds = { is_free };
 

@@ -29,7 +29,8 @@ impl WholeSection for Oneway {
     ghost rows_of = { λ kept. kept.processes.oneway };
 
     ghost keeps = { record {
-        head = λ found rows. refl; rows = λ found. sym (map-id (found.processes.oneway))
+      head = λ found rows. refl;
+      rows = λ found. sym (map-id (found.processes.oneway));
     } };
 
     fn head(&self, sections: &Sections<u64>, _rows: usize) -> Row {

@@ -1,10 +1,8 @@
--- The rows of a map of amounts, and sums of weights.
-use Rattle.std.proofs.Common.{◌≡◌, ℕ, ◌*◌, ◌-◌, ◌<◌, ◌≤◌, ◌^◌, Bool, true, List, [], ◌∷◌}
-use Rattle.std.proofs.Common.{length, map, sum, Option, Some, None, is_some, refl, sym, ap, ap₂, subst, ◌∙◌, arith, get_or}
-use Rattle.std.proofs.lemmas.List.{length-map}
+-- The rows of a map of amounts.
+use Rattle.std.proofs.Common.{◌≡◌, ℕ, ◌<◌, true, List, [], ◌∷◌}
+use Rattle.std.proofs.Common.{length, map, Option, Some, None, is_some, refl, sym, ap, ap₂, subst, ◌∙◌, arith}
 use Rattle.std.proofs.lemmas.Cmp.{eq_by_cmp_equiv}
 use Rattle.std.proofs.lemmas.List.Elements.{All-contains, All-map, All-weaker}
-use Rattle.std.proofs.lemmas.List.Sums.{sum_by-le}
 use Rattle.std.proofs.lemmas.Map.Made.{is_some-lookup}
 use Rattle.std.proofs.lemmas.Map.Views.{All-found}
 use Rattle.std.specs.BTreeMap.{BTreeMap, IsOrdered, get}
@@ -16,30 +14,10 @@ use Rattle.std.specs.declared.cmp.Ordering.TheVariants.{Equal}
 use Rattle.summary_law.proofs.GatherLaws.{has_own}
 use Rattle.summary_law.proofs.Members.{In, contained, in-map}
 use Rattle.summary_law.proofs.SortedLaws.{found_in, has_pair, rows_are}
-use Rattle.summary_law.proofs.ReadLaws.{each_short, each_all}
-use Rattle.summary_law.specs.ByKey.{items_of, IsOwn, EachFits, SumsByKey}
-use Rattle.summary_law.specs.Fits.{IsShort}
-use Rattle.summary_law.specs.Amount.{IsAmount, AreWeights}
-use Rattle.summary_law.specs.Tally.{count_of_key, tally_row, tally_rows, AreKeys, IsTallyRow, AreTallyRows, AreWeighted}
+use Rattle.summary_law.specs.ByKey.{items_of, IsOwn, SumsByKey}
+use Rattle.summary_law.specs.Amount.{IsAmount}
+use Rattle.summary_law.specs.Tally.{count_of_key, tally_row, tally_rows, AreKeys, IsTallyRow, AreTallyRows}
 use Rattle.summary_law.specs.declared.amount.Amount.{Amount}
-
--- few weights have a sum far below 2^128
-pub sum_fits : (weights : List ℕ) → AreWeights weights → sum weights < 2 ^ 127
-sum_fits weights few =
-    let short = few.0 in
-    let most : sum weights ≤ length weights * (2 ^ 64 - 1)
-    = sum_by-le (λ w. w) (2 ^ 64 - 1) weights (All-weaker (λ w. w < 2 ^ 64) (λ w. w ≤ 2 ^ 64 - 1) (λ w h. omega arith) weights few.1) in
-    omega arith
-
--- if there are few weights, each key has few
-pub each_weights : {K : Type 0} (eq : K → K → Bool) (items : List (K × ℕ)) → AreWeighted items → EachFits eq AreWeights items
-each_weights eq items few key = (each_short eq items few.0 key, each_all eq (λ weight. weight < 2 ^ 64) items few.1 key)
-
--- few items, each read as a key and a weight of 64 bits
-pub weighted_map : {I K : Type 0} (read : I → K × ℕ) → ((i : I) → (read i).1 < 2 ^ 64) → (items : List I) → IsShort items → AreWeighted (map read items)
-weighted_map {I} {K} read small items short =
-    let long = length-map items read in
-    (omega arith, All-map (λ (e : K × ℕ). e.1 < 2 ^ 64) read items (λ i d within. small (get_or items i d)))
 
 abbrev pub row_of : {K : Type 0} → K × Amount → K × ℕ × ℕ
 row_of e = (e.0, e.1.count, e.1.sum)

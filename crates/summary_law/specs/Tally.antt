@@ -1,5 +1,5 @@
 -- The count and the sum of the weights of each key, over a list of pairs of a key and a weight.
-use Rattle.std.specs.Prelude.{◌≡◌, ℕ, ◌<◌, ◌^◌, true, List, length, map, sum, All}
+use Rattle.std.specs.Prelude.{◌≡◌, ℕ, ◌<◌, true, List, length, map, sum, All}
 use Rattle.std.specs.List.{list_any}
 use Rattle.std.specs.List.Sorted.{IsStrictlySortedBy}
 use Rattle.std.specs.Map.{keys_of}
@@ -9,9 +9,7 @@ use Rattle.summary_law.specs.declared.amount.Amount.{Amount}
 use Rattle.summary_law.specs.declared.tally.Tally.{Tally}
 use Rattle.summary_law.specs.Amount.{IsAmount}
 use Rattle.summary_law.specs.ByKey.{items_of, SumsByKey}
-use Rattle.summary_law.specs.Fits.{IsShort, short_halves, all_halves}
 use Rattle.summary_law.specs.Sorted.{sorted}
-use Rattle.summary_law.specs.Summary.{FitsInHalves}
 
 -- how many items the key has
 abbrev pub count_of_key : {K : Type 0} → (K → K → Ordering) → K → List (K × ℕ) → ℕ
@@ -58,14 +56,3 @@ GivesRows {K} cmp tally rows = (items : List (K × ℕ)) → TallySums cmp tally
 abbrev pub GivesAmount : {K : Type 0} → (K → K → Ordering) → Tally K → K → Amount → Type 0
 GivesAmount {K} cmp tally key amount =
     (items : List (K × ℕ)) → TallySums cmp tally items → IsTallyRow cmp items (key, amount.count, amount.sum)
-
--- at most 2^32 items, each with a weight of 64 bits
-abbrev pub AreWeighted : {K : Type 0} → List (K × ℕ) → Type 0
-AreWeighted items = IsShort items × All (λ item. item.1 < 2 ^ 64) items
-
--- both halves of a list of such items are lists of such items
-pub weighted_halves : {K : Type 0} → FitsInHalves {I = K × ℕ} AreWeighted
-weighted_halves {K} first second weighted =
-    let short = short_halves first second weighted.0 in
-    let small = all_halves (λ (item : K × ℕ). item.1 < 2 ^ 64) first second weighted.1 in
-    ((short.0, small.0), (short.1, small.1))
