@@ -65,7 +65,8 @@ static int compare(const void *one, const void *two)
 static void tell_times(const char *what, u64 *took, u32 rounds)
 {
 	qsort(took, rounds, sizeof *took, compare);
-	printf("%-66s %8.1f %8.1f %8.1f\n", what, (double)took[0] / 1e3, (double)took[rounds / 2] / 1e3, (double)took[rounds * 9 / 10] / 1e3);
+	printf("%-66s %8.1f %8.1f %8.1f\n", what, (double)took[0] / 1e3, (double)took[rounds / 2] / 1e3,
+	       (double)took[rounds * 9 / 10] / 1e3);
 	free(took);
 }
 
@@ -79,8 +80,8 @@ static void measure(const char *what, const struct bpf_program *measured, u32 ro
 		while (ring_drain(&ring, count) > 0)
 			continue;
 		if (error || program->bss->reason_of_loss || run.retval != attachments || seen < bytes)
-			fail("%s: error %d, loss %u, %u attachments, %llu bytes", what, error, program->bss->reason_of_loss, run.retval,
-			     (unsigned long long)seen);
+			fail("%s: error %d, loss %u, %u attachments, %llu bytes", what, error,
+			     program->bss->reason_of_loss, run.retval, (unsigned long long)seen);
 		took[i] = program->bss->took;
 	}
 	tell_times(what, took, rounds);
@@ -180,7 +181,8 @@ static void play_full_ring(const u8 *data, u8 *returns)
 	chunks = others = 0;
 	for (int i = 0; i < READS; i++) {
 		LIBBPF_OPTS(bpf_test_run_opts, options);
-		if (bpf_prog_test_run_opts(bpf_program__fd(program->progs.measure_return), &options) || program->bss->reason_of_loss)
+		if (bpf_prog_test_run_opts(bpf_program__fd(program->progs.measure_return), &options) ||
+		    program->bss->reason_of_loss)
 			fail("read %d: its frame is lost", i);
 	}
 	while (ring_drain(&ring, count_chunks) > 0)
@@ -204,7 +206,8 @@ static void hear_stack(const void *message, u64 bytes)
 }
 
 /* Runs the program in so many calls of this function, which keeps its frame pointer. */
-__attribute__((noinline, optimize("no-omit-frame-pointer", "no-optimize-sibling-calls"))) static long run_deep(u32 depth, union bpf_attr *run)
+__attribute__((noinline, optimize("no-omit-frame-pointer", "no-optimize-sibling-calls")))
+static long run_deep(u32 depth, union bpf_attr *run)
 {
 	long error = depth ? run_deep(depth - 1, run) : syscall(SYS_bpf, BPF_PROG_TEST_RUN, run, sizeof *run);
 	asm volatile("" : "+r"(error));
@@ -221,7 +224,8 @@ static void measure_stack(u32 rounds)
 		long error = run_deep(2 * MOST_OF_STACK, &run);
 		while (ring_drain(&ring, hear_stack) > 0)
 			continue;
-		if (error || run.test.retval || !stack || stack->count != MOST_OF_STACK || stack->process != (u32)getpid() || !stack->start)
+		if (error || run.test.retval || !stack || stack->count != MOST_OF_STACK ||
+		    stack->process != (u32)getpid() || !stack->start)
 			fail("stack: error %ld, %u functions", error, stack ? stack->count : 0);
 		for (u32 at = 2; at < MOST_OF_STACK; at++)
 			if (stack->addresses[at] != stack->addresses[1] || stack->addresses[at] - (u64)run_deep > 256)
@@ -252,9 +256,11 @@ int main(int words, char **word)
 	play_full_ring(data, returns);
 	put_record(commands, BC_TRANSACTION, data, MOST_AT_ONCE);
 	printf("%-66s %8s %8s %8s\n", "microseconds", "least", "median", "of 10, 9");
-	measure("a write's next bytes, and the largest attachment", program->progs.measure_command, rounds, MOST_AT_ONCE + CHUNK * 8, 1);
+	measure("a write's next bytes, and the largest attachment", program->progs.measure_command, rounds,
+		MOST_AT_ONCE + CHUNK * 8, 1);
 	fill_returns(returns, data, MOST_AT_ONCE, 1);
-	measure("the longest read, with the largest attachment", program->progs.measure_return, rounds, MOST_AT_ONCE + MOST_RETURNS, 1);
+	measure("the longest read, with the largest attachment", program->progs.measure_return, rounds,
+		MOST_AT_ONCE + MOST_RETURNS, 1);
 	fill_returns(returns, data, MOST_AT_ONCE / MOST_ATTACHMENTS, MOST_ATTACHMENTS);
 	measure("the longest read, with as many attachments as are taken", program->progs.measure_return, rounds,
 		MOST_AT_ONCE + MOST_RETURNS, MOST_ATTACHMENTS);

@@ -49,8 +49,8 @@ static double mebibytes(void)
 
 static struct message head_of(u32 type, u64 number, u32 thread)
 {
-	return (struct message){ .type = type, .direction = DIRECTION_WRITE, .number = number, .time = now(), .opening = 1,
-				 .thread = thread };
+	return (struct message){ .type = type, .direction = DIRECTION_WRITE, .number = number, .time = now(),
+				 .opening = 1, .thread = thread };
 }
 
 /* The commands of a write: oneway sends with so many bytes of data each. */
@@ -71,7 +71,8 @@ static void hear_commands(u64 number, u32 thread, u32 records, u64 each)
 static void hear_data(u64 number, u32 thread, u32 record, u32 bytes)
 {
 	struct piece *piece = allocate(sizeof *piece + bytes);
-	*piece = (struct piece){ .head = head_of(MESSAGE_PIECE, number, thread), .record = record, .data = bytes, .bytes = bytes };
+	*piece = (struct piece){ .head = head_of(MESSAGE_PIECE, number, thread), .record = record, .data = bytes,
+				 .bytes = bytes };
 	window_hear(piece, sizeof *piece + bytes);
 	free(piece);
 }
@@ -102,7 +103,8 @@ static void many_lines(void)
 	double began = processor_seconds();
 	hear_commands(++last, 1, 1, 0);
 	for (u32 i = 0; i < LINES; i++) {
-		struct event event = { .head = head_of(MESSAGE_ENDED, last, 0), .ended = { .process = i + 1, .is_last = 1 } };
+		struct event event = { .head = head_of(MESSAGE_ENDED, last, 0),
+				       .ended = { .process = i + 1, .is_last = 1 } };
 		window_hear(&event, sizeof event);
 	}
 	hear_written(last, 1, RECORD);
@@ -127,7 +129,8 @@ static void much_memory(void)
 	should(mebibytes() < 320, "MiB of memory at most", mebibytes());
 	should(mebibytes() > 200, "MiB of memory at least", mebibytes());
 	should(window_waiting() == 0 && window_last() == last, "frames that wait", (double)window_waiting());
-	should(window_lost() == 1 && window_lost_because(REASON_HELD_TOO_LONG) == 1, "frames lost", (double)window_lost());
+	should(window_lost() == 1 && window_lost_because(REASON_HELD_TOO_LONG) == 1, "frames lost",
+	       (double)window_lost());
 	should(window_frames() == FRAMES + 2, "frames", (double)window_frames());
 }
 

@@ -1,5 +1,5 @@
-/* maps OUT: gives the recorder's loader stacks, of this process and of others that are not there, and lets it read whole
- * and damaged files. See maps. */
+/* maps OUT: gives the recorder's loader stacks, of this process and of others that are not there, and lets it read
+ * whole and damaged files. See maps. */
 #define _GNU_SOURCE
 #include "code_file.h"
 #include "frame.h"
@@ -110,7 +110,8 @@ static void damaged_files(const char *self)
 	struct code_file good = code_file_read(file_with(whole, bytes));
 	double began = processor_seconds();
 	int same = 0;
-	should(good.build_id_bytes == 20 && good.segment_count == 1, "the build-id of this program", good.build_id_bytes);
+	should(good.build_id_bytes == 20 && good.segment_count == 1, "the build-id of this program",
+	       good.build_id_bytes);
 	srand(7);
 	for (int i = 0; i < DAMAGED; i++) {
 		u64 count = i % 2 ? bytes : (u64)rand() % 4096;
@@ -118,7 +119,8 @@ static void damaged_files(const char *self)
 		for (int change = rand() % 20; change >= 0 && count; change--)
 			made[(u64)rand() % (count < 1024 ? count : 1024)] = (char)(rand() % 3 ? 0xff : rand());
 		struct code_file found = code_file_read(file_with(made, count));
-		should(found.build_id_bytes <= MOST_BUILD_ID && found.segment_count <= MOST_SEGMENTS, "a damaged file", i);
+		should(found.build_id_bytes <= MOST_BUILD_ID && found.segment_count <= MOST_SEGMENTS, "a damaged file",
+		       i);
 		same += is_same(&found, &good);
 	}
 	should(same > 0 && same < DAMAGED, "damaged files like the whole one", same);
@@ -129,10 +131,13 @@ static void damaged_files(const char *self)
 
 static void addresses_of_files(void)
 {
-	struct code_file file = { .segment_count = 2, .segments = { { 0x1040, 0x500, 0x3040 }, { 0x8000, 0x100, 0x20000 } } };
+	struct code_file file = { .segment_count = 2,
+				  .segments = { { 0x1040, 0x500, 0x3040 }, { 0x8000, 0x100, 0x20000 } } };
 	u64 address = 0;
-	should(code_file_address(&file, 0x1000, 0x1000, &address) && address == 0x3000, "a map from before its code", (double)address);
-	should(code_file_address(&file, 0x8000, 0x1000, &address) && address == 0x20000, "a map of the second code", (double)address);
+	should(code_file_address(&file, 0x1000, 0x1000, &address) && address == 0x3000, "a map from before its code",
+	       (double)address);
+	should(code_file_address(&file, 0x8000, 0x1000, &address) && address == 0x20000, "a map of the second code",
+	       (double)address);
 	should(!code_file_address(&file, 0x4000, 0x1000, &address), "a map of no code", (double)address);
 }
 
@@ -154,13 +159,15 @@ static u64 own_start(void)
 
 static struct message head_of(u32 type)
 {
-	return (struct message){ .type = type, .direction = DIRECTION_WRITE, .number = last, .time = now(), .opening = 1, .thread = 1 };
+	return (struct message){ .type = type, .direction = DIRECTION_WRITE, .number = last, .time = now(),
+				 .opening = 1, .thread = 1 };
 }
 
 /* A write with one command and the stack of these addresses; it is finished and written. */
 static void hear_call(u32 process, u64 start, u64 memory, const u64 *addresses, u32 count)
 {
-	struct { struct chunk chunk; u32 word; u64 address; } __attribute__((packed)) write = { .word = BC_FREE_BUFFER };
+	struct { struct chunk chunk; u32 word; u64 address; } __attribute__((packed)) write = {
+		.word = BC_FREE_BUFFER };
 	struct stack stack = { .memory = memory, .start = start, .process = process, .count = count };
 	struct event event;
 	last++;
@@ -186,13 +193,15 @@ static void wait_for_maps(void)
 /* This process calls three times with one stack and once with another: its file and the C library's are told. */
 static void own_stacks(void)
 {
-	u64 first[] = { (u64)(uintptr_t)&memcpy + 1, (u64)(uintptr_t)&own_start + 1, 0x10 }, other[] = { (u64)(uintptr_t)&own_start + 2 };
+	u64 first[] = { (u64)(uintptr_t)&memcpy + 1, (u64)(uintptr_t)&own_start + 1, 0x10 };
+	u64 other[] = { (u64)(uintptr_t)&own_start + 2 };
 	for (int i = 0; i < 3; i++)
 		hear_call((u32)getpid(), own_start(), 1, first, 3);
 	hear_call((u32)getpid(), own_start(), 1, other, 1);
 	wait_for_maps();
 	read_list();
-	should(times(" stack 1 memory=1 ") == 1 && times(" stack 2 memory=1 ") == 1 && times(" stack ") == 2, "stacks of this process", times(" stack "));
+	should(times(" stack 1 memory=1 ") == 1 && times(" stack 2 memory=1 ") == 1 && times(" stack ") == 2,
+	       "stacks of this process", times(" stack "));
 	should(times(" stack=1\n") == 3 && times(" stack=2\n") == 1, "calls with a stack", times(" call "));
 	should(times(" map 1 ") >= 1 && times("build-id=-") == 0, "maps of this process", times(" map 1 "));
 	should(times(" name=/") && times("/loader") == 1, "the path of this program", times("/loader"));
@@ -207,8 +216,10 @@ static void others_stacks(void)
 	hear_call(STRANGER, 1, 3, stack, 1);
 	wait_for_maps();
 	read_list();
-	should(times(" unmapped 2 ") == 1 && times(" unmapped 3 ") == 1 && times(" why=ended\n") == 2, "processes without maps", times(" unmapped "));
-	should(times(" map 2 ") + times(" map 3 ") == 0 && stacks_unmapped() == 2, "maps of processes that are not there", times(" map 2 "));
+	should(times(" unmapped 2 ") == 1 && times(" unmapped 3 ") == 1 && times(" why=ended\n") == 2,
+	       "processes without maps", times(" unmapped "));
+	should(times(" map 2 ") + times(" map 3 ") == 0 && stacks_unmapped() == 2,
+	       "maps of processes that are not there", times(" map 2 "));
 }
 
 /* A caller with ever new stacks takes bounded memory, and each call has its line. */
@@ -224,7 +235,8 @@ static void many_stacks(void)
 		hear_call(STRANGER, 1, 3, stack, MOST_OF_STACK);
 	}
 	read_list();
-	should(times(" call ") - before == 2 * MANY && stacks_forgotten() == 0, "calls with new stacks", times(" call ") - before);
+	should(times(" call ") - before == 2 * MANY && stacks_forgotten() == 0, "calls with new stacks",
+	       times(" call ") - before);
 	should(mebibytes() < 600, "MiB with new stacks", mebibytes());
 	should(processor_seconds() - began < 60, "seconds for new stacks", processor_seconds() - began);
 }
@@ -244,14 +256,16 @@ static void new_list(const char *out)
 	hear_call((u32)getpid(), own_start(), 1, stack, 1);
 	hear_call((u32)getpid(), own_start(), 1, stack, 1);
 	read_list();
-	should(times(" stack ") == 1 && times(" map ") == 1 && times(" call ") == 2, "lines of a new side list", times(" stack "));
+	should(times(" stack ") == 1 && times(" map ") == 1 && times(" call ") == 2, "lines of a new side list",
+	       times(" stack "));
 }
 
-/* While frames wait, more stacks come than are kept, and a new side list begins: each call has its line, or is told as one
- * whose stack was not kept. */
+/* While frames wait, more stacks come than are kept, and a new side list begins: each call has its line, or is told as
+ * one whose stack was not kept. */
 static void forgotten_stacks(const char *out)
 {
-	struct stack stack = { .head = head_of(MESSAGE_STACK), .memory = 3, .start = 1, .process = STRANGER, .count = 2 };
+	struct stack stack = { .head = head_of(MESSAGE_STACK), .memory = 3, .start = 1, .process = STRANGER,
+			       .count = 2 };
 	u32 *numbers = allocate(MANY * sizeof *numbers);
 	char path[4096];
 	for (u32 i = 0; i < MANY; i++) {

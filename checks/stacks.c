@@ -36,8 +36,8 @@ static void *told(void *given)
 
 int pthread_create(pthread_t *thread, const pthread_attr_t *attributes, void *(*body)(void *), void *argument)
 {
-	int (*real)(pthread_t *, const pthread_attr_t *, void *(*)(void *), void *) =
-		(int (*)(pthread_t *, const pthread_attr_t *, void *(*)(void *), void *))dlsym(RTLD_NEXT, "pthread_create");
+	typedef int create(pthread_t *, const pthread_attr_t *, void *(*)(void *), void *);
+	create *real = (create *)dlsym(RTLD_NEXT, "pthread_create");
 	struct start *start = malloc(sizeof *start);
 	if (!start)
 		return EAGAIN;

@@ -40,9 +40,10 @@ void begin_tell(const char *payloads)
 	struct utsname name;
 	struct moment moment = this_moment();
 	uname(&name);
-	snprintf(line, sizeof line, "%llu begin realtime=%lld%09ld boottime=%lld%09ld kernel=%s machine=%s payloads=%s\n",
-		 (unsigned long long)moment.time, (long long)moment.wall.tv_sec, moment.wall.tv_nsec, (long long)moment.boot.tv_sec,
-		 moment.boot.tv_nsec, name.release, name.machine, payloads);
+	snprintf(line, sizeof line,
+		 "%llu begin realtime=%lld%09ld boottime=%lld%09ld kernel=%s machine=%s payloads=%s\n",
+		 (unsigned long long)moment.time, (long long)moment.wall.tv_sec, moment.wall.tv_nsec,
+		 (long long)moment.boot.tv_sec, moment.boot.tv_nsec, name.release, name.machine, payloads);
 	side_text(line);
 }
 

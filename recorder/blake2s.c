@@ -58,7 +58,8 @@ static void mix_block(struct blake2s *hash, int is_last)
 			mix(v, i, i + 4, i + 8, i + 12, m[at[2 * i]], m[at[2 * i + 1]]);
 #pragma GCC unroll 4
 		for (u32 i = 0; i < 4; i++)		/* the diagonals */
-			mix(v, i, (i + 1) % 4 + 4, (i + 2) % 4 + 8, (i + 3) % 4 + 12, m[at[2 * i + 8]], m[at[2 * i + 9]]);
+			mix(v, i, (i + 1) % 4 + 4, (i + 2) % 4 + 8, (i + 3) % 4 + 12, m[at[2 * i + 8]],
+			    m[at[2 * i + 9]]);
 	}
 	for (u32 i = 0; i < 8; i++)
 		hash->state[i] ^= v[i] ^ v[i + 8];

@@ -36,15 +36,17 @@ const char *books_in_the_way(const char *out)
 	return NULL;
 }
 
-/* The books of a binderfs are in its folder, if it is mounted with stats=global. They have the processes of all devices,
- * as those of debugfs have. Writes the path of one of them, and returns whether it can be read. */
+/* The books of a binderfs are in its folder, if it is mounted with stats=global. They have the processes of all
+ * devices, as those of debugfs have. Writes the path of one of them, and returns whether it can be read. */
 static int is_in_binderfs(char *path, const char *name)
 {
 	char line[8192], folder[4096], sort[64];
 	int is_found = 0;
 	FILE *mounts = fopen("/proc/self/mounts", "r");
 	while (mounts && !is_found && fgets(line, sizeof line, mounts)) {
-		if (sscanf(line, "%*s %4095s %63s", folder, sort) != 2 || strcmp(sort, "binder") || strchr(folder, '\\'))
+		if (sscanf(line, "%*s %4095s %63s", folder, sort) != 2)
+			continue;
+		if (strcmp(sort, "binder") || strchr(folder, '\\'))
 			continue;
 		snprintf(path, LONGEST_PATH, "%s/binder_logs/%s", folder, name);
 		is_found = !access(path, R_OK);

@@ -47,6 +47,6 @@ done
   "-I/usr/include/$machine-linux-gnu" "-I/usr/$machine-linux-gnu/include" -Wall -Werror \
   -c record.bpf.c -o "$folder/record.bpf.o")
 bpftool gen skeleton "$folder/record.bpf.o" name record >"$folder/record.skel.h"
-"${CC:-gcc}" "${flags[@]}" -std=gnu11 -Wall -Wextra -Werror "-I$here" -isystem "$folder" "${sources[@]}" -o "$folder/record.new" \
-  "${link[@]}" -lbpf -lelf -lz 2>"$folder/errors" || { cat -- "$folder/errors" >&2; exit 1; }
+"${CC:-gcc}" "${flags[@]}" -std=gnu11 -Wall -Wextra -Werror "-I$here" -isystem "$folder" "${sources[@]}" \
+  -o "$folder/record.new" "${link[@]}" -lbpf -lelf -lz 2>"$folder/errors" || { cat -- "$folder/errors" >&2; exit 1; }
 mv -- "$folder/record.new" "$folder/record"

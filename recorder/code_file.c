@@ -53,8 +53,8 @@ static void find_build_id(struct code_file *found, const u8 *notes, u64 bytes, u
 		u64 next = (data_at + data + align - 1) & ~(align - 1);
 		if (data_at + data > bytes)
 			return;
-		if (load_u32(notes + at + 8) == NT_GNU_BUILD_ID && name == 4 && !memcmp(notes + name_at, "GNU", 4) && data &&
-		    data <= MOST_BUILD_ID) {
+		if (load_u32(notes + at + 8) == NT_GNU_BUILD_ID && name == 4 && !memcmp(notes + name_at, "GNU", 4) &&
+		    data && data <= MOST_BUILD_ID) {
 			memcpy(found->build_id, notes + data_at, data);
 			found->build_id_bytes = (u32)data;
 			return;
@@ -85,16 +85,25 @@ struct code_file code_file_read(int file)
 		if (segment.p_type == PT_NOTE && !found.build_id_bytes)
 			read_notes(file, &found, &segment);
 		if (segment.p_type == PT_LOAD && segment.p_flags & PF_X && found.segment_count < MOST_SEGMENTS)
-			found.segments[found.segment_count++] = (struct segment){ segment.p_offset, segment.p_filesz, segment.p_vaddr };
+			found.segments[found.segment_count++] =
+				(struct segment){ segment.p_offset, segment.p_filesz, segment.p_vaddr };
 	}
 	return found;
+}
+
+/* Whether the segment has some of so many bytes of the file from `offset` on. */
+static int is_in(const struct segment *segment, u64 offset, u64 bytes)
+{
+	if (offset < segment->offset)
+		return segment->offset - offset < bytes;
+	return offset - segment->offset < segment->bytes;
 }
 
 int code_file_address(const struct code_file *file, u64 offset, u64 bytes, u64 *address)
 {
 	for (u32 i = 0; i < file->segment_count; i++) {
 		const struct segment *segment = file->segments + i;
-		if (offset < segment->offset ? segment->offset - offset < bytes : offset - segment->offset < segment->bytes) {
+		if (is_in(segment, offset, bytes)) {
 			*address = segment->address - segment->offset + offset;
 			return 1;
 		}

@@ -17,6 +17,7 @@ struct code_file {
 
 /* Reads an open ELF file. What it does not have, or is damaged, is left out. */
 struct code_file code_file_read(int file);
-/* The address that symbols count for this place in the file, where so many bytes are mapped. Returns 0 if there is none. */
+/* The address that symbols count for this place in the file, where so many bytes are mapped. Returns 0 if there is
+ * none. */
 int code_file_address(const struct code_file *file, u64 offset, u64 bytes, u64 *address);
 #endif

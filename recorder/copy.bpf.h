@@ -1,5 +1,5 @@
-/* Copies the bytes of a frame, and the data of its transactions and replies, into the ring. No run of a program may take
- * long, as it keeps its processor: each copies a few chunks, or one attachment, and the next one goes on. */
+/* Copies the bytes of a frame, and the data of its transactions and replies, into the ring. No run of a program may
+ * take long, as it keeps its processor: each copies a few chunks, or one attachment, and the next one goes on. */
 #ifndef RECORDER_COPY_BPF_H
 #define RECORDER_COPY_BPF_H
 #include "state.bpf.h"
@@ -26,8 +26,8 @@ static __always_inline long read_memory(void *to, u64 bytes, u64 from)
 	return failed;
 }
 
-/* Takes room in the ring from the share of the frame. Returns 0 if there is none. The first bytes of a frame may use the
- * whole ring and the others only half of it: whoever hands over much does not take the room of others. */
+/* Takes room in the ring from the share of the frame. Returns 0 if there is none. The first bytes of a frame may use
+ * the whole ring and the others only half of it: whoever hands over much does not take the room of others. */
 static __always_inline int take_room(struct thread *t, u64 bytes)
 {
 	u64 limit = t->spent < FIRST_BYTES ? ring_limit : ring_limit / 2;
@@ -172,7 +172,8 @@ static long copy_piece(u32 i, void *context)
 	if (!s || !t)
 		return 1;
 	struct attachment *a = &s->attachment;
-	u32 at = a->at, data = a->place.data, both = data + (u32)a->place.offsets, bytes = (at < data ? data : both) - at;
+	u32 at = a->at, data = a->place.data, both = data + (u32)a->place.offsets;
+	u32 bytes = (at < data ? data : both) - at;
 	u64 from = at < data ? a->place.data_from + at : a->place.offsets_from + (at - data);
 	if (at >= both)
 		return 1;
@@ -238,7 +239,8 @@ static __noinline int say_unattached(struct thread *t, int reason)
 	return 0;
 }
 
-static __always_inline void begin_attachment(struct thread *t, struct attachment *a, u64 number, u32 record, u32 direction)
+static __always_inline void begin_attachment(struct thread *t, struct attachment *a, u64 number, u32 record,
+					     u32 direction)
 {
 	a->number = number;
 	a->record = record;
@@ -252,8 +254,8 @@ static __always_inline int has_data(u32 direction, u32 word)
 	u32 number = word & 0xff;
 	if ((word >> 16 & 0x3fff) < TRANSACTION_BYTES)
 		return 0;
-	if (direction == DIRECTION_WRITE)
-		return number == 0 || number == 1 || number == 17 || number == 18;	/* BC_TRANSACTION, BC_REPLY, both with _SG */
+	if (direction == DIRECTION_WRITE)	/* BC_TRANSACTION, BC_REPLY, both with _SG */
+		return number == 0 || number == 1 || number == 17 || number == 18;
 	return number == 2 || number == 3;	/* BR_TRANSACTION, also with a security context, and BR_REPLY */
 }
 
@@ -296,7 +298,8 @@ static long copy_commands(u32 i, void *unused)
 	return have < bytes;
 }
 
-/* Copies the next chunks of the write. The driver has taken the bytes before `taken`. Returns 0, or why the frame is lost. */
+/* Copies the next chunks of the write. The driver has taken the bytes before `taken`. Returns 0, or why the frame is
+ * lost. */
 static __noinline int copy_write(struct thread *t, u64 taken, u32 try_again)
 {
 	struct scratch *s = scratch();
@@ -323,7 +326,8 @@ static __noinline int read_place(struct thread *t, u32 record)
 	if (!s || !t)
 		return 1;
 	begin_attachment(t, &s->attachment, t->write_number, record, DIRECTION_WRITE);
-	return read_memory(&s->attachment.place, sizeof s->attachment.place, t->write_from + record + CODE_WORD + DATA_AT) != 0;
+	u64 from = t->write_from + record + CODE_WORD + DATA_AT;
+	return read_memory(&s->attachment.place, sizeof s->attachment.place, from) != 0;
 }
 
 /* Copies the attachment of a record of a write. If its memory is not there, or if this run has copied enough, the next
@@ -420,7 +424,8 @@ static long copy_returns(u32 i, void *unused)
 		return 1;
 	}
 	w->at = 0;
-	int has_room = take_room(t, w->bytes);		/* before attachments have used up what the call may take at first */
+	/* Before attachments have used up what the call may take at first. */
+	int has_room = take_room(t, w->bytes);
 	if (!t->is_over)
 		bpf_loop(CHUNK / CODE_WORD, copy_record, 0, 0);
 	u32 done = t->is_over || is_last ? w->bytes : w->at;

@@ -50,7 +50,8 @@ void frame_free(struct frame *frame)
 /* Makes a new, empty entry for the record. It replaces an entry that the record has. Mostly it is the last one. */
 static struct entry *new_entry(struct frame *frame, u32 record, u32 data, u32 offsets)
 {
-	struct entry *last = frame->last_entry, **place = last && last->record < record ? &last->next : &frame->entries, *old;
+	struct entry *last = frame->last_entry, *old;
+	struct entry **place = last && last->record < record ? &last->next : &frame->entries;
 	while (*place && (*place)->record < record)
 		place = &(*place)->next;
 	old = *place;
@@ -97,7 +98,8 @@ int frame_add_chunk(struct frame *frame, const struct chunk *chunk)
 
 void frame_add_piece(struct frame *frame, const struct piece *piece)
 {
-	struct entry *entry = piece->at ? find_entry(frame, piece->record) : new_entry(frame, piece->record, piece->data, piece->offsets);
+	struct entry *entry = piece->at ? find_entry(frame, piece->record)
+					: new_entry(frame, piece->record, piece->data, piece->offsets);
 	if (!entry || entry->got != piece->at || entry->data != piece->data || entry->offsets != piece->offsets)
 		return;
 	if (piece->bytes > (u64)entry->data + entry->offsets - entry->got)
@@ -170,8 +172,8 @@ static void write_left_out(const struct frame *frame, u32 record, u64 consumed)
 	u64 count = records_with_data(frame->commands + record, consumed - record);
 	entries_left_out += count;
 	if (count)
-		side_line(frame->time, "unattached %llu from=%u count=%llu why=%s", (unsigned long long)frame->number, record,
-			  (unsigned long long)count, reason_word(REASON_TOO_MANY));
+		side_line(frame->time, "unattached %llu from=%u count=%llu why=%s", (unsigned long long)frame->number,
+			  record, (unsigned long long)count, reason_word(REASON_TOO_MANY));
 }
 
 static void write_lines(const struct frame *frame, u64 consumed, int attachments_left_out)
@@ -189,13 +191,15 @@ static void write_lines(const struct frame *frame, u64 consumed, int attachments
 		if (note->reason == REASON_TOO_MANY)
 			write_left_out(frame, note->record, consumed);
 		else if (note->reason)
-			side_line(frame->time, "unattached %llu at=%u why=%s", number, note->record, reason_word(note->reason));
+			side_line(frame->time, "unattached %llu at=%u why=%s", number, note->record,
+				  reason_word(note->reason));
 		else
 			side_line(frame->time, "late %llu at=%u", number, note->record);
 	}
 	for (const struct entry *entry = frame->entries; entry && attachments_left_out; entry = entry->next)
 		if (entry->record < consumed)
-			side_line(frame->time, "unattached %llu at=%u why=%s", number, entry->record, reason_word(REASON_FILE_TOO_SMALL));
+			side_line(frame->time, "unattached %llu at=%u why=%s", number, entry->record,
+				  reason_word(REASON_FILE_TOO_SMALL));
 }
 
 enum reason frame_write(struct frame *frame, u64 consumed)

@@ -71,7 +71,8 @@ static void name_wanted(const struct options *options)
 	u32 one = 1;
 	for (u32 i = 0; i < options->process_count; i++) {
 		need_process(options->processes[i]);
-		bpf_map__update_elem(program->maps.wanted_processes, &options->processes[i], sizeof one, &one, sizeof one, BPF_ANY);
+		bpf_map__update_elem(program->maps.wanted_processes, &options->processes[i], sizeof one, &one,
+				     sizeof one, BPF_ANY);
 	}
 	for (u32 i = 0; i < options->device_count; i++) {
 		u32 device = need_device(options->devices[i]);
@@ -159,7 +160,8 @@ void kernel_meet_openings(void)
 	struct met_opening met;
 	ssize_t bytes = 0;
 	while (descriptor >= 0 && (bytes = read(descriptor, &met, sizeof met)) == (ssize_t)sizeof met) {
-		names_opening(met.opening, now(), (u32)met.device, (u32)met.process, met.start, met.name, MET_IN_MID_LIFE);
+		names_opening(met.opening, now(), (u32)met.device, (u32)met.process, met.start, met.name,
+			      MET_IN_MID_LIFE);
 		names_space(met.opening, met.space, met.id_there);
 	}
 	if (descriptor < 0 || bytes < 0)

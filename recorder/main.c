@@ -140,7 +140,8 @@ static void add_reasons(char *text, size_t room)
 		size_t used = strlen(text);
 		if (!window_lost_because(reason))
 			continue;
-		snprintf(text + used, room - used, "%s%s %llu", between, reason_word(reason), (unsigned long long)window_lost_because(reason));
+		snprintf(text + used, room - used, "%s%s %llu", between, reason_word(reason),
+			 (unsigned long long)window_lost_because(reason));
 		between = ", ";
 	}
 	if (between[0] == ',')
@@ -159,20 +160,21 @@ static void tell_end(const char *audit)
 {
 	static char commands[65536];
 	char text[1000];
-	snprintf(text, sizeof text, "%llu frames, %llu lost", (unsigned long long)parts_frames(), (unsigned long long)window_lost());
+	snprintf(text, sizeof text, "%llu frames, %llu lost", (unsigned long long)parts_frames(),
+		 (unsigned long long)window_lost());
 	add_reasons(text, sizeof text);
 	add_count(text, sizeof text, "calls without a number", missed_count(MISSED_NUMBERS));
 	add_count(text, sizeof text, "events missed", missed_count(MISSED_EVENTS));
 	add_count(text, sizeof text, "attachments left out", frame_entries_left_out());
 	add_count(text, sizeof text, "calls of 32-bit programs, not recorded", missed_count(MISSED_32_BIT));
-	add_count(text, sizeof text, "stacks not had", missed_count(MISSED_STACK_ROOM) + missed_count(MISSED_STACK_FAILED) +
-		  missed_count(MISSED_STACK_EMPTY) + stacks_forgotten());
+	add_count(text, sizeof text, "stacks not had", missed_count(MISSED_STACK_ROOM) +
+		  missed_count(MISSED_STACK_FAILED) + missed_count(MISSED_STACK_EMPTY) + stacks_forgotten());
 	add_count(text, sizeof text, "processes without maps", stacks_unmapped());
 	parts_commands(audit, commands, sizeof commands);
 	if (parts_kept() < parts_count())
 		add_count(text, sizeof text, "files removed", parts_count() - parts_kept());
-	fprintf(stderr, "record: %s; %u file%s, %llu bytes; next: %s\n", text, parts_kept(), parts_kept() == 1 ? "" : "s",
-		(unsigned long long)parts_bytes(), commands);
+	fprintf(stderr, "record: %s; %u file%s, %llu bytes; next: %s\n", text, parts_kept(),
+		parts_kept() == 1 ? "" : "s", (unsigned long long)parts_bytes(), commands);
 }
 
 /* The auditor is in the folder of the script that was called. In a package both names begin with `binder-`. */
@@ -180,7 +182,8 @@ static const char *audit_beside(const char *self)
 {
 	static char path[4100];
 	const char *slash = strrchr(self, '/'), *name = slash ? slash + 1 : self;
-	snprintf(path, sizeof path, "%.*s%saudit", (int)(name - self), self, strcmp(name, "binder-record") ? "" : "binder-");
+	snprintf(path, sizeof path, "%.*s%saudit", (int)(name - self), self,
+		 strcmp(name, "binder-record") ? "" : "binder-");
 	return path;
 }
 
@@ -239,7 +242,8 @@ int main(int count, char **words)
 	int end_error = parts_end();
 	error = error ? error : end_error;
 	if (error)
-		complain("%s: %s; the recording ends after number %llu", parts_path(), strerror(error), (unsigned long long)parts_last());
+		complain("%s: %s; the recording ends after number %llu", parts_path(), strerror(error),
+			 (unsigned long long)parts_last());
 	tell_end(audit_beside(words[0]));
 	int status = wait_for_program();
 	kernel_unload();

@@ -40,6 +40,8 @@ static u32 file_count;
 /* Whether the process is still the one that began at this time, in nanoseconds of CLOCK_BOOTTIME. */
 static int is_the_same(const struct request *request)
 {
+	static const char fields[] =	/* those after the name, up to the 22nd of all: when it began */
+		" %*c %*s %*s %*s %*s %*s %*s %*s %*s %*s %*s %*s %*s %*s %*s %*s %*s %*s %*s %llu";
 	char path[64], text[1024];
 	unsigned long long began;
 	snprintf(path, sizeof path, "/proc/%u/stat", request->process);
@@ -49,7 +51,7 @@ static int is_the_same(const struct request *request)
 	text[fread(text, 1, sizeof text - 1, file)] = 0;
 	fclose(file);
 	const char *rest = strrchr(text, ')');		/* a name may have brackets and spaces */
-	if (!rest || sscanf(rest + 1, " %*c %*s %*s %*s %*s %*s %*s %*s %*s %*s %*s %*s %*s %*s %*s %*s %*s %*s %*s %llu", &began) != 1)
+	if (!rest || sscanf(rest + 1, fields, &began) != 1)
 		return 0;
 	return began == request->start / (1000000000u / (u64)sysconf(_SC_CLK_TCK));
 }
@@ -66,8 +68,8 @@ static int read_line(struct line *line, char *text)
 	unsigned long long start, end, offset, number;
 	char rights[5];
 	int at = 0;
-	if (sscanf(text, "%llx-%llx %4s %llx %x:%x %llu %n", &start, &end, rights, &offset, &line->major, &line->minor, &number, &at) != 7 ||
-	    !at || strlen(rights) < 3 || rights[2] != 'x')
+	if (sscanf(text, "%llx-%llx %4s %llx %x:%x %llu %n", &start, &end, rights, &offset, &line->major, &line->minor,
+		   &number, &at) != 7 || !at || strlen(rights) < 3 || rights[2] != 'x')
 		return 0;
 	text[strcspn(text, "\n")] = 0;
 	line->start = start;
@@ -142,8 +144,10 @@ static void read_maps(const struct request *request, struct maps_answer *answer,
 		if (!read_line(&line, text))
 			continue;
 		if (!(answer->count & (answer->count - 1)))
-			answer->maps = resize(answer->maps, (answer->count ? 2 * answer->count : 1) * sizeof *answer->maps);
-		answer->maps[answer->count++] = (struct map){ line.start, line.end, line.offset, file_of(request, &line), 0, 0 };
+			answer->maps = resize(answer->maps,
+					      (answer->count ? 2 * answer->count : 1) * sizeof *answer->maps);
+		answer->maps[answer->count++] =
+			(struct map){ line.start, line.end, line.offset, file_of(request, &line), 0, 0 };
 	}
 	free(text);
 }

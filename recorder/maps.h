@@ -28,7 +28,8 @@ struct maps_answer {
 	u32 count;
 };
 
-/* Asks for the maps of a process that began at this time. `memory` says whose the answer is. Returns 0 if too many wait. */
+/* Asks for the maps of a process that began at this time. `memory` says whose the answer is. Returns 0 if too many
+ * wait. */
 int maps_ask(u32 memory, u32 process, u64 start);
 /* The next answer, or NULL if there is none yet. */
 struct maps_answer *maps_take(void);

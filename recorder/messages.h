@@ -8,7 +8,7 @@
 #define MOST_CHUNKS 32u		/* the most chunks of a read: each has at least half its bytes */
 #define MOST_ATTACHMENTS 64u	/* the most attachments of a call */
 #define MOST_ATTACHED (4u << 20)	/* the most bytes of a call's attachments */
-#define MOST_AT_ONCE (1u << 20)	/* the most bytes of attachments that are copied with preemption off: of a record, or a read */
+#define MOST_AT_ONCE (1u << 20)	/* the most bytes of attachments of a record, or of a read: preemption is off */
 #define FIRST_BYTES 65536u	/* so many bytes of a frame may use the whole ring */
 #define MOST_CPUS 512u
 #define NAME_BYTES 16u
@@ -87,13 +87,14 @@ struct event {
 	struct message head;
 	union {
 		unsigned long long words[3];	/* how the BPF program fills in any of these */
-		struct { unsigned long long consumed; } written;		/* how many bytes of the write */
+		struct { unsigned long long consumed; } written;	/* how many bytes of the write */
 		struct { unsigned long long reason; } lost;
-		struct { unsigned long long reason, record; } note;		/* of MESSAGE_UNATTACHED and MESSAGE_LATE */
-		struct { unsigned int device, space, process, id_there; unsigned long long start; } opening;	/* space: the
-			 * namespace of its ids, and its id there; 0 in the first one; start: of the process */
-		struct { unsigned int id, bits, process, unused; unsigned long long start; } thread;	/* bits of its calls, 32
-			 * or 64; also of MESSAGE_NAME, without bits and start */
+		/* of MESSAGE_UNATTACHED and MESSAGE_LATE */
+		struct { unsigned long long reason, record; } note;
+		/* space: the namespace of its ids, and its id there; 0 in the first one; start: of the process */
+		struct { unsigned int device, space, process, id_there; unsigned long long start; } opening;
+		/* bits of its calls, 32 or 64; also of MESSAGE_NAME, without bits and start */
+		struct { unsigned int id, bits, process, unused; unsigned long long start; } thread;
 		struct { unsigned long long id, process, is_last; } ended;	/* is_last: its process ended too */
 	};
 	char name[NAME_BYTES];

@@ -137,7 +137,9 @@ void met_frame(const struct frame *frame, u64 consumed)
 			met_return(&frame->who, word, frame->commands + at + 4);
 		at += 4 + _IOC_SIZE(word);
 	}
-	for (const struct entry *entry = frame->entries; entry && frame->direction == DIRECTION_READ; entry = entry->next)
+	if (frame->direction != DIRECTION_READ)
+		return;
+	for (const struct entry *entry = frame->entries; entry; entry = entry->next)
 		if (entry->got == (u64)entry->data + entry->offsets)
 			met_objects(&frame->who, entry);
 }

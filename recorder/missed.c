@@ -30,8 +30,9 @@ void missed_tell(void)
 		u64 count = kinds[i].counted();
 		if (count == kinds[i].told)
 			continue;
-		side_line(now(), "%s %llu what=%s from=%llu after=%llu", kinds[i].line, (unsigned long long)(count - kinds[i].told),
-			  kinds[i].word, (unsigned long long)number_at_last_look, (unsigned long long)kernel_last_number());
+		side_line(now(), "%s %llu what=%s from=%llu after=%llu", kinds[i].line,
+			  (unsigned long long)(count - kinds[i].told), kinds[i].word,
+			  (unsigned long long)number_at_last_look, (unsigned long long)kernel_last_number());
 		kinds[i].told = count;
 	}
 	number_at_last_look = number;

@@ -112,8 +112,8 @@ static void tell_device(u32 device, u64 time)
 {
 	char name[CLEAN_NAME_BYTES];
 	device_name(devices[device], name);
-	side_line(time, "device %u major=%u minor=%u name=%s", device, device_major(devices[device]), device_minor(devices[device]),
-		  name);
+	side_line(time, "device %u major=%u minor=%u name=%s", device, device_major(devices[device]),
+		  device_minor(devices[device]), name);
 }
 
 void names_bits(u32 thread, u32 bits)
@@ -149,8 +149,8 @@ static void tell_process(u32 opening, const char *met)
 	clean_name(clean, o->name, NAME_BYTES);
 	if (o->space)
 		snprintf(space, sizeof space, " pidns=%u nspid=%u", o->space, o->id_there);
-	side_line(o->told, "process %u %u pid=%u start=%llu opening=%u met=%s%s name=%s", o->device, o->process, o->process_id,
-		  (unsigned long long)o->start, opening, met, space, clean);
+	side_line(o->told, "process %u %u pid=%u start=%llu opening=%u met=%s%s name=%s", o->device, o->process,
+		  o->process_id, (unsigned long long)o->start, opening, met, space, clean);
 	const char *command = command_line(opening, o->device, o->process);
 	if (command)
 		side_line(o->told, "%s", command);
@@ -161,7 +161,8 @@ void names_command(const struct command *command)
 	u32 opening = command->head.opening;
 	const struct known_opening *o = opening_of(opening);
 	if (command_keep(command) && o->numbered)
-		later_line(command->head.time, command->head.number, "%s", command_line(opening, o->device, o->process));
+		later_line(command->head.time, command->head.number, "%s",
+			   command_line(opening, o->device, o->process));
 }
 
 static struct known_opening *numbered(u32 opening, u64 time)
@@ -189,8 +190,8 @@ static void tell_thread(u32 opening, u32 thread, u32 number, u64 time)
 	const struct known_thread *t = thread_of(thread);
 	char clean[CLEAN_NAME_BYTES];
 	clean_name(clean, t->name, NAME_BYTES);
-	side_line(time, "thread %u %u %u pid=%u tid=%u start=%llu%s name=%s", o->device, o->process, number, t->process_id, t->id,
-		  (unsigned long long)t->start, t->bits == 32 ? " bits=32" : "", clean);
+	side_line(time, "thread %u %u %u pid=%u tid=%u start=%llu%s name=%s", o->device, o->process, number,
+		  t->process_id, t->id, (unsigned long long)t->start, t->bits == 32 ? " bits=32" : "", clean);
 }
 
 struct who names_of(u32 opening, u32 thread, u64 time)
@@ -213,7 +214,8 @@ void names_closed(u32 opening, u64 time, u64 after)
 	o->closed = 1;
 	o->after = after;
 	if (o->numbered)
-		later_line(time, after, "end opening %u %u after=%llu", o->device, o->process, (unsigned long long)after);
+		later_line(time, after, "end opening %u %u after=%llu", o->device, o->process,
+			   (unsigned long long)after);
 }
 
 static void remember_ending(u32 opening, u32 thread, u32 number, u64 after)
@@ -265,7 +267,8 @@ void names_changed(u32 thread, const char *name, u64 time, u64 after)
 	char clean[CLEAN_NAME_BYTES];
 	memcpy(t->name, name, NAME_BYTES);
 	clean_name(clean, name, NAME_BYTES);
-	later_line(time, after, "name pid=%u tid=%u after=%llu name=%s", t->process_id, t->id, (unsigned long long)after, clean);
+	later_line(time, after, "name pid=%u tid=%u after=%llu name=%s", t->process_id, t->id,
+		   (unsigned long long)after, clean);
 }
 
 void names_keep_endings(void)

@@ -71,14 +71,16 @@ void need_driver(void)
 	if (!is_in_c)
 		fail("%s", need_driver_words);
 	if (is_in_rust)
-		complain("the kernel has two Binder drivers: calls of the one in C are recorded, and those of the one in Rust are not");
+		complain("the kernel has two Binder drivers: calls of the one in C are recorded,"
+			 " and those of the one in Rust are not");
 }
 
 /* What the programs in record.bpf.c read of each tracepoint, as its `format` file says where that is. */
 static const struct tracepoint {
 	const char *name, *fields[2];
 } tracepoints[] = {
-	{ "binder/binder_ioctl", { "unsigned int cmd;\toffset:8;\tsize:4;", "unsigned long arg;\toffset:16;\tsize:8;" } },
+	{ "binder/binder_ioctl",
+	  { "unsigned int cmd;\toffset:8;\tsize:4;", "unsigned long arg;\toffset:16;\tsize:8;" } },
 	{ "binder/binder_command", { " cmd;\toffset:8;\tsize:4;", "" } },
 	{ "binder/binder_write_done", { "int ret;\toffset:8;\tsize:4;", "" } },
 	{ "binder/binder_ioctl_done", { "int ret;\toffset:8;\tsize:4;", "" } },
@@ -111,8 +113,8 @@ void need_tracepoints(void)
 	char path[80];
 	snprintf(path, sizeof path, "%s/events", tracing_folder());
 	if (access(path, R_OK | X_OK))
-		fail("%s cannot be read: it takes root, or a mount for this user; if it is not there: mount -t tracefs tracefs %s",
-		     path, tracing_folder());
+		fail("%s cannot be read: it takes root, or a mount for this user; if it is not there:"
+		     " mount -t tracefs tracefs %s", path, tracing_folder());
 	for (size_t i = 0; i < sizeof tracepoints / sizeof *tracepoints; i++)
 		need_tracepoint(tracepoints + i);
 }
@@ -140,8 +142,8 @@ void need_no_preemption(enum preemption preemption)
 		return;
 	if (preemption == PREEMPTION_NOT_SEEN)
 		fail("the kernel does not run the recorder's programs at its tracepoints: it is not recorded");
-	fail("this kernel %s its processor from the recorder's programs, which would mix the bytes of calls: it is not recorded",
-	     preemption == PREEMPTION_IS_ON ? "may take" : "does not tell whether it takes");
+	fail("this kernel %s its processor from the recorder's programs, which would mix the bytes of calls:"
+	     " it is not recorded", preemption == PREEMPTION_IS_ON ? "may take" : "does not tell whether it takes");
 }
 
 void need_process(u32 process)

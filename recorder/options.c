@@ -40,7 +40,8 @@ static u64 number(const char *name, const char *text, u64 least, u64 most)
 	errno = 0;
 	u64 value = strtoull(text, &rest, 10);
 	if (errno || !*text || *rest || text[0] == '-' || text[0] == '+' || value < least || value > most)
-		fail("%s takes a number from %llu to %llu, not %s", name, (unsigned long long)least, (unsigned long long)most, text);
+		fail("%s takes a number from %llu to %llu, not %s", name, (unsigned long long)least,
+		     (unsigned long long)most, text);
 	return value;
 }
 
@@ -81,7 +82,8 @@ void options_read(struct options *options, int count, char **words)
 		{ "out", required_argument, NULL, 'o' }, { "size", required_argument, NULL, 's' },
 		{ "files", required_argument, NULL, 'f' },
 		{ "pid", required_argument, NULL, 'p' }, { "device", required_argument, NULL, 'd' },
-		{ "redact", no_argument, NULL, 'x' }, { "no-attachments", no_argument, NULL, 'a' }, { "ring", required_argument, NULL, 'r' },
+		{ "redact", no_argument, NULL, 'x' }, { "no-attachments", no_argument, NULL, 'a' },
+		{ "ring", required_argument, NULL, 'r' },
 		{ "stacks", no_argument, NULL, 't' },
 		{ "help", no_argument, NULL, 'h' }, { NULL, 0, NULL, 0 },
 	};

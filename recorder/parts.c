@@ -281,8 +281,11 @@ void parts_commands(const char *audit, char *text, u64 room)
 	u64 used = 0;
 	for (u32 from = first - 1, to; from < count; from = to) {
 		u64 together = sizes[from];
-		for (to = from + 1; to < count && to - from < MOST_FILES_TOGETHER && together + sizes[to] <= MOST_TOGETHER; to++)
+		for (to = from + 1; to < count && to - from < MOST_FILES_TOGETHER; to++) {
+			if (together + sizes[to] > MOST_TOGETHER)
+				break;
 			together += sizes[to];
+		}
 		if (used && room - used < room / 4) {
 			snprintf(text + used, room - used, "; and so on");
 			return;

@@ -129,7 +129,8 @@ static __noinline int introduce(struct opening *o, struct thread *t, u32 id)
 	if (!o->told && !say(MESSAGE_OPENING, o->born, o->id, last_number, o->device | (u64)o->space << 32,
 			      o->process | (u64)o->id_there << 32, o->start, o->name))
 		o->told = 1;
-	if (!t->told && !say(MESSAGE_THREAD, t->id, o->id, last_number, id | (u64)t->bits << 32, t->process, t->start, t->name))
+	if (!t->told && !say(MESSAGE_THREAD, t->id, o->id, last_number, id | (u64)t->bits << 32, t->process, t->start,
+			      t->name))
 		t->told = 1;
 	return !o->told || !t->told;
 }

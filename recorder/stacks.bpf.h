@@ -23,8 +23,9 @@ struct {
 
 #define BIT_OF(command) (1u << _IOC_NR(command))
 #define BITS_WITH_STACK \
-	(BIT_OF(BC_TRANSACTION) | BIT_OF(BC_TRANSACTION_SG) | BIT_OF(BC_REPLY) | BIT_OF(BC_REPLY_SG) | BIT_OF(BC_FREE_BUFFER) | \
-	 BIT_OF(BC_INCREFS) | BIT_OF(BC_ACQUIRE) | BIT_OF(BC_REQUEST_DEATH_NOTIFICATION) | BIT_OF(BC_CLEAR_DEATH_NOTIFICATION))
+	(BIT_OF(BC_TRANSACTION) | BIT_OF(BC_TRANSACTION_SG) | BIT_OF(BC_REPLY) | BIT_OF(BC_REPLY_SG) | \
+	 BIT_OF(BC_FREE_BUFFER) | BIT_OF(BC_INCREFS) | BIT_OF(BC_ACQUIRE) | BIT_OF(BC_REQUEST_DEATH_NOTIFICATION) | \
+	 BIT_OF(BC_CLEAR_DEATH_NOTIFICATION))
 
 /* Whether the command that the driver begins is the first one of its write for which the stack is taken. */
 static __always_inline int wants_stack(const struct thread *t, u32 word)

@@ -109,7 +109,8 @@ static void add_build_id(char *to, const struct code_file *code)
 static void tell_map(u32 memory, const struct map *map, u64 time)
 {
 	const struct known_memory *m = memories + memory;
-	char text[4 * LONGEST_PATH + 512], name[4 * LONGEST_PATH + 1] = "", build_id[2 * MOST_BUILD_ID + 1] = "-", address[32] = "-";
+	char text[4 * LONGEST_PATH + 512], name[4 * LONGEST_PATH + 1] = "";
+	char build_id[2 * MOST_BUILD_ID + 1] = "-", address[32] = "-";
 	u64 its_address;
 	if (map->file) {
 		clean_name(name, map->file->path, LONGEST_PATH);
@@ -117,7 +118,8 @@ static void tell_map(u32 memory, const struct map *map, u64 time)
 		if (code_file_address(&map->file->code, map->offset, map->end - map->start, &its_address))
 			snprintf(address, sizeof address, "0x%llx", (unsigned long long)its_address);
 	}
-	snprintf(text, sizeof text, "%llu map %u pid=%u start=0x%llx end=0x%llx offset=0x%llx address=%s build-id=%s name=%s\n",
+	snprintf(text, sizeof text,
+		 "%llu map %u pid=%u start=0x%llx end=0x%llx offset=0x%llx address=%s build-id=%s name=%s\n",
 		 (unsigned long long)time, first_memory + memory, m->process, (unsigned long long)map->start,
 		 (unsigned long long)map->end, (unsigned long long)map->offset, address, build_id, name);
 	side_text(text);
@@ -137,8 +139,9 @@ static void tell_maps(const struct known_stack *stack, u64 time)
 static void tell_stack(struct known_stack *stack, u64 time)
 {
 	char text[128 + MOST_OF_STACK * 20], *to = text;
-	to += sprintf(to, "%llu stack %u memory=%u pid=%u pcs=", (unsigned long long)time, first_stack + (u32)(stack - stacks),
-		      first_memory + stack->memory, memories[stack->memory].process);
+	to += sprintf(to, "%llu stack %u memory=%u pid=%u pcs=", (unsigned long long)time,
+		      first_stack + (u32)(stack - stacks), first_memory + stack->memory,
+		      memories[stack->memory].process);
 	for (u32 i = 0; i < stack->count; i++)
 		to += sprintf(to, "%s0x%llx", i ? "," : "", (unsigned long long)stack->addresses[i]);
 	strcpy(to, "\n");
@@ -150,7 +153,8 @@ static void tell_stack(struct known_stack *stack, u64 time)
 void stacks_tell_call(u64 time, u64 number, u32 stack)
 {
 	if (stack < first_stack && stack < first_of_list) {
-		side_line(time, "unstacked 1 what=forgotten from=%llu after=%llu", (unsigned long long)number, (unsigned long long)number);
+		side_line(time, "unstacked 1 what=forgotten from=%llu after=%llu", (unsigned long long)number,
+			  (unsigned long long)number);
 		forgotten++;
 		return;
 	}
@@ -177,6 +181,13 @@ static void ask(u32 memory)
 	m->wants = !m->is_asked;
 }
 
+/* Whether two maps have the same addresses, of the same place in the same file. */
+static int is_equal(const struct map *one, const struct map *other)
+{
+	return one->start == other->start && one->end == other->end && one->offset == other->offset &&
+	       one->file == other->file;
+}
+
 /* Whether two maps have an address in common. */
 static int overlaps(const struct map *one, const struct map *other)
 {
@@ -189,7 +200,8 @@ static void replace_maps(struct known_memory *m, const struct maps_answer *answe
 	struct map *all = allocate((m->map_count + answer->count) * sizeof *all);
 	u32 count = 0, old = 0, new = 0;
 	while (old < m->map_count || new < answer->count) {
-		struct map *before = old < m->map_count ? m->maps + old : NULL, *read = new < answer->count ? answer->maps + new : NULL;
+		struct map *before = old < m->map_count ? m->maps + old : NULL;
+		struct map *read = new < answer->count ? answer->maps + new : NULL;
 		if (!read || (before && before->end <= read->start)) {
 			if (before->told)
 				all[count++] = *before;
@@ -198,8 +210,7 @@ static void replace_maps(struct known_memory *m, const struct maps_answer *answe
 			all[count++] = *read;
 			new++;
 		} else {
-			if (before->start == read->start && before->end == read->end && before->offset == read->offset &&
-			    before->file == read->file)
+			if (is_equal(before, read))
 				read->told = before->told;
 			old++;
 		}
@@ -299,7 +310,8 @@ static u64 hash_of(const struct stack *stack)
 
 static int is_same(const struct known_stack *known, const struct stack *stack)
 {
-	return known->count == stack->count && !memcmp(known->addresses, stack->addresses, stack->count * sizeof *stack->addresses);
+	return known->count == stack->count &&
+	       !memcmp(known->addresses, stack->addresses, stack->count * sizeof *stack->addresses);
 }
 
 static u32 add_stack(u32 memory, const struct stack *stack)

@@ -97,8 +97,8 @@ static void write_lost(const struct slot *slot)
 	u64 time = slot->frame && slot->frame->time ? slot->frame->time : slot->since ? slot->since : now();
 	unsigned long long number = next;
 	if (slot->has_who)
-		side_line(time, "lost %llu device=%u process=%u thread=%u why=%s", number, slot->who.device, slot->who.process,
-			  slot->who.thread, reason_word(slot->reason));
+		side_line(time, "lost %llu device=%u process=%u thread=%u why=%s", number, slot->who.device,
+			  slot->who.process, slot->who.thread, reason_word(slot->reason));
 	else
 		side_line(time, "lost %llu why=%s", number, reason_word(slot->reason));
 	lost++;
@@ -184,7 +184,8 @@ void later_line(u64 time, u64 after, const char *format, ...)
 		slot->lines = resize(slot->lines, slot->line_room);
 		memory += slot->line_room;
 	}
-	slot->line_bytes += (u64)snprintf(slot->lines + slot->line_bytes, more, "%llu %s\n", (unsigned long long)time, line);
+	slot->line_bytes += (u64)snprintf(slot->lines + slot->line_bytes, more, "%llu %s\n",
+					  (unsigned long long)time, line);
 }
 
 static struct frame *frame_of(struct slot *slot, u64 number)
@@ -308,8 +309,8 @@ static void hear_event(const struct event *event)
 	case MESSAGE_LOST: hear_lost(event); break;
 	case MESSAGE_UNATTACHED: case MESSAGE_LATE: hear_note(event); break;
 	case MESSAGE_OPENING:
-		names_opening(head->opening, head->time, event->opening.device, event->opening.process, event->opening.start,
-			      event->name, head->thread ? MET_FROM_START : MET_IN_MID_LIFE);
+		names_opening(head->opening, head->time, event->opening.device, event->opening.process,
+			      event->opening.start, event->name, head->thread ? MET_FROM_START : MET_IN_MID_LIFE);
 		names_space(head->opening, event->opening.space, event->opening.id_there);
 		break;
 	case MESSAGE_THREAD:
@@ -321,7 +322,8 @@ static void hear_event(const struct event *event)
 	case MESSAGE_LEFT: names_left(head->opening, head->thread, head->time, head->number); break;
 	case MESSAGE_ENDED:
 		end_wait(head->thread, 0);
-		names_ended(head->thread, (u32)event->ended.process, (int)event->ended.is_last, head->time, head->number);
+		names_ended(head->thread, (u32)event->ended.process, (int)event->ended.is_last, head->time,
+			    head->number);
 		break;
 	}
 }

@@ -8,7 +8,8 @@
 void window_hear(const void *message, u64 bytes);
 /* All numbers up to `bound` have their messages. If one is silent, the ring had no room for its message. */
 void window_silent_until(u64 bound);
-/* Writes frames that can be written, for a moment: the ring must not get full meanwhile. Returns 1 if there are more. */
+/* Writes frames that can be written, for a moment: the ring must not get full meanwhile. Returns 1 if there are
+ * more. */
 int window_settle(void);
 /* The recording has ended with this number. */
 void window_end(u64 last_number);

@@ -83,7 +83,8 @@ GROUP BY upid, handle"""}
 
 INSERT = """WITH said(upid, what, report, books) AS ({query})
 INSERT INTO disagreement(upid, section, what, report, books)
-SELECT upid, ?, what, report, books FROM said JOIN compared USING (upid) WHERE report IS NOT books ORDER BY upid, what"""
+SELECT upid, ?, what, report, books FROM said JOIN compared USING (upid)
+WHERE report IS NOT books ORDER BY upid, what"""
 
 
 def compare(database: sqlite3.Connection) -> None:

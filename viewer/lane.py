@@ -40,7 +40,8 @@ WANTED = f"JOIN kind k ON k.number = r.kind WHERE r.kind NOT IN {LEFT_OUT} ORDER
 OF_THREAD = "FROM (SELECT * FROM raw_frame WHERE utid = :utid AND records > 0 AND seq BETWEEN"
 ITS_SEQ = "(SELECT seq FROM raw_record WHERE place = :place)"
 BEFORE = (f"{FIELDS} {OF_THREAD} {ITS_SEQ} - {FRAMES} AND {ITS_SEQ} ORDER BY seq DESC LIMIT :count) f"
-          " JOIN raw_record r ON r.place BETWEEN max(f.place + 32, min(f.place + 31 + f.command_length, :place) - :bytes)"
+          " JOIN raw_record r ON r.place"
+          " BETWEEN max(f.place + 32, min(f.place + 31 + f.command_length, :place) - :bytes)"
           f" AND min(f.place + 31 + f.command_length, :place) {WANTED} DESC LIMIT :count")
 AFTER = (f"{FIELDS} {OF_THREAD} {ITS_SEQ} AND {ITS_SEQ} + {FRAMES} ORDER BY seq LIMIT :count) f"
          " JOIN raw_record r ON r.place BETWEEN max(f.place + 32, :place + 1)"

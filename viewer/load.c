@@ -184,7 +184,8 @@ static int close_cursor(sqlite3_vtab_cursor *cursor)
 }
 
 /* Makes the virtual table of the rows that are loaded now, and declares their columns to SQLite. */
-static int connect(sqlite3 *database, void *current, int count, const char *const *words, sqlite3_vtab **table, char **why)
+static int connect(sqlite3 *database, void *current, int count, const char *const *words, sqlite3_vtab **table,
+		   char **why)
 {
 	(void)count, (void)words, (void)why;
 	struct rows *rows = *(struct rows **)current;
@@ -233,7 +234,8 @@ static void load_table(sqlite3 *database, const char *table, const char *folder,
 	rows.bytes = bytes_of(path, &rows.length);
 	*current = &rows;
 	char *statements = sqlite3_mprintf(
-		"CREATE VIRTUAL TABLE temp.rows USING rows; INSERT INTO main.%w SELECT * FROM temp.rows; DROP TABLE temp.rows", table);
+		"CREATE VIRTUAL TABLE temp.rows USING rows; INSERT INTO main.%w SELECT * FROM temp.rows;"
+		" DROP TABLE temp.rows", table);
 	run(database, statements);
 	sqlite3_free(statements);
 	sqlite3_free(path);
@@ -242,8 +244,8 @@ static void load_table(sqlite3 *database, const char *table, const char *folder,
 
 static void load_tables(sqlite3 *database, const char *folder, struct rows **current)
 {
-	sqlite3_stmt *next = prepared(database, "SELECT name FROM main.sqlite_schema WHERE type = 'table' AND name GLOB 'raw_*'"
-						" AND name > ? ORDER BY name LIMIT 1");
+	sqlite3_stmt *next = prepared(database, "SELECT name FROM main.sqlite_schema WHERE type = 'table'"
+						" AND name GLOB 'raw_*' AND name > ? ORDER BY name LIMIT 1");
 	char table[LONGEST_NAME] = "";
 	for (;;) {
 		sqlite3_bind_text(next, 1, table, -1, SQLITE_TRANSIENT);
@@ -323,7 +325,8 @@ int main(int count, char **words)
 		stop("%s: %s", words[1], sqlite3_errmsg(database));
 	sqlite3_create_module(database, "rows", &rows_module, &current);
 	/* The file has no other user, and is made again if it is not whole: no journal, no waiting for the disk. */
-	run(database, "PRAGMA page_size=8192; PRAGMA journal_mode=OFF; PRAGMA synchronous=OFF; PRAGMA locking_mode=EXCLUSIVE; BEGIN");
+	run(database, "PRAGMA page_size=8192; PRAGMA journal_mode=OFF; PRAGMA synchronous=OFF;"
+		      " PRAGMA locking_mode=EXCLUSIVE; BEGIN");
 	run_file(database, words[3]);
 	load_tables(database, words[2], &current);
 	if (count == 5)

@@ -152,7 +152,8 @@ def load_rows(database: pathlib.Path, rows: pathlib.Path, side: str | None) -> b
 def build_programs(root: pathlib.Path) -> None:
     """Builds ./audit and ./listing in one go if they are missing or older than a source: they share most crates."""
     try:
-        built = subprocess.run([root / "crates/run", "view", "binder_audit", "binder_listing"], stdin=subprocess.DEVNULL)
+        built = subprocess.run([root / "crates/run", "view", "binder_audit", "binder_listing"],
+                               stdin=subprocess.DEVNULL)
     except OSError as error:
         raise Stopped(1, f"crates/run: {error.strerror}") from error
     if built.returncode:
@@ -320,10 +321,11 @@ class SideList:
 
     def name_processes(self) -> None:
         """A command line may say more than the name of a process. It is kept with spaces between its words."""
+        told = self.database.execute(
+            "SELECT rowid, name, command FROM side_process WHERE command NOTNULL").fetchall()
         self.database.executemany(
             "UPDATE side_process SET name = ?, command = ? WHERE rowid = ?",
-            [(long_name(name, command), command.replace("\0", " "), row) for row, name, command in self.database.execute(
-                "SELECT rowid, name, command FROM side_process WHERE command NOTNULL").fetchall()])
+            [(long_name(name, command), command.replace("\0", " "), row) for row, name, command in told])
 
     def judge(self) -> None:
         """Refuses a list that certainly belongs to another capture, and keeps the doubt if it may belong to another."""

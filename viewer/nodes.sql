@@ -71,7 +71,8 @@ FROM peer p JOIN node_of n USING (generation)
 WHERE (p.node_upid, p.ptr, p.cookie) <> (n.upid, n.ptr, n.cookie);
 CREATE TEMP TABLE alike AS
 SELECT DISTINCT r.code, r.flags, r.data_size, r.offsets_size
-FROM (SELECT 1 FROM misled LIMIT 1) CROSS JOIN raw_send s JOIN misled m USING (generation) JOIN raw_record r ON r.place = s.place JOIN raw_record e ON e.place = s.delivery
+FROM (SELECT 1 FROM misled LIMIT 1) CROSS JOIN raw_send s JOIN misled m USING (generation)
+  JOIN raw_record r ON r.place = s.place JOIN raw_record e ON e.place = s.delivery
   JOIN raw_thread t ON t.utid = e.utid
 WHERE r.flags & :TF_ONE_WAY AND (t.upid, e.ptr, e.cookie) = (m.node_upid, m.node_ptr, m.node_cookie);
 CREATE TEMP TABLE between_two AS

@@ -191,14 +191,14 @@ class Page:
         held = self.asked("held_before", 21)
         if held:
             yield ("Met in mid-life; by the driver's books of then they had: " + "; ".join(
-                f"{name_of(who)} {counted(handles, 'handle')}, {counted(nodes, 'object')}, {counted(buffers, 'buffer')},"
-                f" {counted(made, 'call')} made and {number_of(served)} served"
+                f"{name_of(who)} {counted(handles, 'handle')}, {counted(nodes, 'object')},"
+                f" {counted(buffers, 'buffer')}, {counted(made, 'call')} made and {number_of(served)} served"
                 for who, handles, nodes, buffers, made, served in held[:20]) + ("; …" if len(held) > 20 else "") + ".")
         calls, handles = self.ask("SELECT (SELECT sum(made + served) FROM side_calls),"
                                   " (SELECT count(*) FROM side_handle)")[0]
         if calls or handles:
-            yield (f"Before the first frame, in files that were removed: {counted(calls or 0, 'call')} that went on, and"
-                   f" {counted(handles, 'handle')} that a process had met.")
+            yield (f"Before the first frame, in files that were removed: {counted(calls or 0, 'call')} that went on,"
+                   f" and {counted(handles, 'handle')} that a process had met.")
         going_on = self.asked("calls_before", 21)
         if going_on:
             yield ("In these calls were: " + ", ".join(f"{name_of(who)} thread {thread} ({made} made, {served} served)"
@@ -277,8 +277,9 @@ class Page:
                 f'<span><b>{title}</b> {name_of(path)}<br><span class="dim">{why}</span></span>'
                 f'<span class="count">{count}{waits}</span><span class="who">{self.who_of(number)}</span>'
                 f'<span class="marks">{marks}<br><span class="of">{span}</span></span>')
+        inner = f"{self.findings(number, found)}{self.stacks_of(number, n)}{self.lane(verdict, found)}"
         return (f'<details class="group {verdict}" id="group-{number}"><summary>{line}</summary><div class="inner">'
-                f"{self.findings(number, found)}{self.stacks_of(number, n)}{self.lane(verdict, found)}</div></details>\n")
+                f"{inner}</div></details>\n")
 
     def findings(self, group: int, found: list[tuple]) -> str:
         more = (f'<p class="of">and more: SELECT * FROM finding JOIN finding_head USING (id) WHERE grp = {group}</p>'
@@ -348,7 +349,8 @@ class Page:
                 continue
             if len(shown) == STACKS:
                 break
-            often = f"; {number_of(how_often[shapes[at]])} of {number_of(count)} have it" if how_often[shapes[at]] else ""
+            same = how_often[shapes[at]]
+            often = f"; {number_of(same)} of {number_of(count)} have it" if same else ""
             head = f"stack of {self.name(upid)} thread {thread} at place {place}, {text_of(whose)}{often}"
             shown[shapes[at]] = (f"<details><summary>The {head}</summary>{self.frames(stack)}</details>" if shown
                                  else f'<p class="of">The {head}:</p>{self.frames(stack)}')
@@ -369,8 +371,8 @@ class Page:
 
     def processes(self) -> str:
         begun = self.facts.get("first_ts")
-        heads = ["process", "#device", "#pid", "#user", "#threads", "met", "#frames", "#first seq", "#last seq", "ended",
-                 "command line"]
+        heads = ["process", "#device", "#pid", "#user", "#threads", "met", "#frames", "#first seq", "#last seq",
+                 "ended", "command line"]
         cells = []
         for upid, device, pid, threads, met, frames, first, last, ended, after, user, command in self.asked(
                 "processes", ROWS):
@@ -463,10 +465,10 @@ class Page:
     def files(self) -> str:
         """The files that the frames of stacks are in; nothing if there are no stacks."""
         rows = self.asked("files", ROWS) if self.stacks.are_there else []
-        cells = [[Cell(name_of(path)), Cell(f"<code>{text_of(build_id)}</code>"), number_cell(frames), number_cell(named)]
-                 for path, build_id, frames, named in rows]
-        return ('<details class="fold"><summary>Files that the stacks are in</summary><p class="dim">--symbols names the'
-                " functions in a file if it finds one with the same build-id that has symbols"
+        cells = [[Cell(name_of(path)), Cell(f"<code>{text_of(build_id)}</code>"), number_cell(frames),
+                  number_cell(named)] for path, build_id, frames, named in rows]
+        return ('<details class="fold"><summary>Files that the stacks are in</summary><p class="dim">--symbols names'
+                " the functions in a file if it finds one with the same build-id that has symbols"
                 " (docs/VIEW.md#stacks).</p>" + table_of("files", ["file", "build-id", "#frames", "#named"], cells)
                 + "</details>") if rows else ""
 

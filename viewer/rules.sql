@@ -240,8 +240,8 @@ FROM (SELECT 1 FROM finding f JOIN raw_generation g ON g.id = f.generation
     WHERE f.section = 'handles' AND f.handle <> 0 AND g.given_by IS NULL LIMIT 1)
   CROSS JOIN raw_delivery d JOIN raw_record r USING (place) JOIN raw_thread t ON t.utid = d.utid
 WHERE r.offsets_size <> 0 AND r.attachment IS NULL GROUP BY 1;
--- What a process held when the recording began is in the driver's books. What it named only after the copy was there, it
--- had not let go of before.
+-- What a process held when the recording began is in the driver's books. What it named only after the copy was there,
+-- it had not let go of before.
 CREATE TEMP TABLE handle_row AS
 SELECT f.id, f.upid, f.handle, f.generation, f.what,
   coalesce((SELECT b.quiet FROM begun b WHERE b.upid = f.upid) OR (SELECT r.seq > b.after FROM begun b
@@ -299,16 +299,19 @@ UPDATE finding SET rule = 'H3', note = 'told at ' || m.place FROM mourned m
 WHERE rule IS NULL AND m.id = finding.id AND m.long;
 -- The most that a generation that is held had at once, if one thread took and let go of all. Records of several threads
 -- say nothing of that: one may write late that it let go, when another has taken it again. By these a generation has
--- more only if it has three now.
+-- more only if it has three now. A handle may have very many generations, of which at most one is held.
+CREATE TEMP TABLE taken_again AS
+SELECT id, upid, handle, begin, strong, weak FROM raw_generation
+WHERE strong + weak > 0 AND (acquired > 1 OR increfs > 1);
+CREATE INDEX temp.taken_again_of ON taken_again(upid, handle, begin);
 CREATE TEMP TABLE most_held AS
 SELECT generation, iif(min(utid) = max(utid), max(strong), max(now_strong) - 1) AS strong,
   iif(min(utid) = max(utid), max(weak), max(now_weak) - 1) AS weak
 FROM (SELECT g.id AS generation, g.strong AS now_strong, g.weak AS now_weak, r.utid,
     sum((r.kind = :BC_ACQUIRE) - (r.kind = :BC_RELEASE)) OVER changes AS strong,
     sum((r.kind = :BC_INCREFS) - (r.kind = :BC_DECREFS)) OVER changes AS weak
-  FROM (SELECT 1 FROM raw_generation WHERE strong + weak > 0 AND (acquired > 1 OR increfs > 1) LIMIT 1)
-    CROSS JOIN raw_record r JOIN raw_thread t USING (utid) JOIN raw_generation g ON g.upid = t.upid
-    AND g.handle = r.handle AND g.begin <= r.place AND g.strong + g.weak > 0 AND (g.acquired > 1 OR g.increfs > 1)
+  FROM (SELECT 1 FROM taken_again LIMIT 1) CROSS JOIN raw_record r CROSS JOIN raw_thread t USING (utid)
+    CROSS JOIN taken_again g ON g.upid = t.upid AND g.handle = r.handle AND g.begin <= r.place
   WHERE r.kind IN (:BC_INCREFS, :BC_ACQUIRE, :BC_RELEASE, :BC_DECREFS)
   WINDOW changes AS (PARTITION BY g.id ORDER BY r.place)) GROUP BY 1;
 CREATE UNIQUE INDEX temp.most_held_of ON most_held(generation);

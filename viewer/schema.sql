@@ -271,8 +271,8 @@ CREATE TABLE book_call(id INTEGER PRIMARY KEY, moment TEXT NOT NULL, upid INTEGE
   tid INTEGER NOT NULL, side TEXT NOT NULL, number INTEGER, code INTEGER) STRICT;
 CREATE TABLE disagreement(id INTEGER PRIMARY KEY, upid INTEGER NOT NULL, section TEXT NOT NULL, what TEXT NOT NULL,
   report INTEGER NOT NULL, books INTEGER NOT NULL) STRICT;
--- The stacks of calls. A memory is that of a process, from its start or from exec on; idx 0 is the innermost function, and
--- pc is where it goes on. A map is told with the address that the symbols of its file have where it starts.
+-- The stacks of calls. A memory is that of a process, from its start or from exec on; idx 0 is the innermost function,
+-- and pc is where it goes on. A map is told with the address that the symbols of its file have where it starts.
 CREATE TABLE side_call(seq INTEGER PRIMARY KEY, stack INTEGER NOT NULL) STRICT;
 CREATE TABLE side_pc(stack INTEGER, idx INTEGER, memory INTEGER NOT NULL, pid INTEGER NOT NULL, pc INTEGER NOT NULL,
   PRIMARY KEY(stack, idx)) STRICT, WITHOUT ROWID;
@@ -280,8 +280,8 @@ CREATE TABLE side_map(memory INTEGER, start INTEGER, end INTEGER NOT NULL, addre
   path TEXT NOT NULL, PRIMARY KEY(memory, start)) STRICT, WITHOUT ROWID;
 CREATE TABLE side_unstacked(id INTEGER PRIMARY KEY, what TEXT NOT NULL, count INTEGER NOT NULL,
   from_seq INTEGER NOT NULL, after INTEGER NOT NULL) STRICT;
--- What the files of --symbols say of these addresses. `inlined` is 0 for the innermost function at an address, and rises
--- to the one into which the others were put.
+-- What the files of --symbols say of these addresses. `inlined` is 0 for the innermost function at an address, and
+-- rises to the one into which the others were put.
 CREATE TABLE symbol(build_id TEXT, address INTEGER, inlined INTEGER, function TEXT NOT NULL, source TEXT,
   PRIMARY KEY(build_id, address, inlined)) STRICT, WITHOUT ROWID;
 CREATE TABLE capture(key TEXT PRIMARY KEY, value) WITHOUT ROWID;
@@ -446,7 +446,8 @@ CREATE TABLE about(name TEXT PRIMARY KEY, rests_on TEXT NOT NULL
 INSERT INTO about VALUES
   ('capture', 'bytes', 'what the capture is: a key and a value each'),
   ('device', 'side', 'a Binder device of the capture; its name is from the side list'),
-  ('process', 'side', 'a device and a process number, as upid; pid, name, command, uid, opening, ends: of the side list'),
+  ('process', 'side',
+    'a device and a process number, as upid; pid, name, command, uid, opening, ends: of the side list'),
   ('thread', 'side', 'a thread of a process, as utid; tid, name and end are from the side list'),
   ('side_lost', 'side', 'a frame that the recorder lost, and why'),
   ('side_missed', 'side', 'what the recorder missed without giving it a number, of whatever process'),

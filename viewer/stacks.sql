@@ -1,6 +1,7 @@
 -- Which stacks tell of a finding, and whose they are: first that of the call that its record comes of, then that of the
--- call that wrote its record. A record that was read has no stack of its own, and what libbinder has to say of handles and
--- buffers its threads write later, in whatever call comes next. After groups.sql, and after rules.sql for `dead_record`.
+-- call that wrote its record. A record that was read has no stack of its own, and what libbinder has to say of handles
+-- and buffers its threads write later, in whatever call comes next. After groups.sql, and after rules.sql for
+-- `dead_record`.
 BEGIN;
 
 CREATE TEMP TABLE tells AS

@@ -153,10 +153,12 @@ HOLDING = {"handles": (3, 5, 7, 8), "nodes": (4, 6, 8, 9)}
 
 
 def check_in_use(name: str, database: sqlite3.Connection, fail: Fail) -> None:
-    """Checks that what a process let go of is not said to be in use. If it held some before, more counts than the row."""
+    """Checks that what a process let go of is not said to be in use. If it held some before, more counts than the
+    row."""
     for section, text, rule in database.execute("SELECT f.section, r.text, rule FROM finding f JOIN report r"
-                                                " ON r.id = f.report WHERE rule IN ('H6', 'H7') AND coalesce(f.note, '')"
-                                                " NOT LIKE 'before the recording: %'").fetchall():
+                                                " ON r.id = f.report WHERE rule IN ('H6', 'H7')"
+                                                " AND coalesce(f.note, '') NOT LIKE 'before the recording: %'"
+                                                ).fetchall():
         words = text.split()
         held = any(words[at] != "0" for at in HOLDING[section])
         compare(f"{name}, the rule of {section} {text}", rule, "H6" if held else "H7", fail)

@@ -171,8 +171,9 @@ def check_symbols(folder: pathlib.Path, room: pathlib.Path, program: Program, se
         text = text_of(shown)
         compare(f"{what}: what is not named", [one for one in due if one not in text], [], fail)
         compare(f"{what}: how many have it", "5 of 6 have it" in text, True, fail)
-    for symbols_in, tools, line in ((other, None, ""), (program.path.parent, (), "view: llvm-symbolizer and addr2line are"
-                                     " missing, so functions have no names; this installs one: apt-get install llvm\n")):
+    missing = ("view: llvm-symbolizer and addr2line are missing, so functions have no names; this installs one:"
+               " apt-get install llvm\n")
+    for symbols_in, tools, line in ((other, None, ""), (program.path.parent, (), missing)):
         status, told, shown = shown_with(folder, room, side, "--symbols", symbols_in, tools=tools)
         compare(f"symbols in {symbols_in.name}, {tools}", (status, told, "refresh_settings" in text_of(shown)),
                 (0, line, False), fail)

@@ -32,8 +32,8 @@ REPLY = Sent(None, 0, 0, b"", b"").record(BC_REPLY)
 
 
 def begun(s, client="", service="", early=False, **given):
-    """A service and a client that the recorder met, and what the book has of them. Without `early` they do nothing until
-    the copy is certain."""
+    """A service and a client that the recorder met, and what the book has of them. Without `early` they do nothing
+    until the copy is certain."""
     s.books("begin", of_200=client, of_100=service)
     s.wait(0 if early else 200)
     return s.two("in-mid-life", **given)
