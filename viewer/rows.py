@@ -112,7 +112,7 @@ def received(pipe: BinaryIO) -> Iterator[list[tuple]]:
 
 
 class Rows:
-    """The rows, stretch after stretch, each in a list. The process that reads them ends with the block that it is for."""
+    """The rows, stretch after stretch, each in a list. The process that reads them ends with the block."""
 
     def __init__(self, database: sqlite3.Connection):
         path = next(file for _, name, file in database.execute("PRAGMA database_list") if name == "main")
