@@ -33,6 +33,7 @@ PAGES = (
          {"RECORDER": ("./record", "The side list of record")}),
     Page(FIRST, 1, "shows a capture as a page, a database or a timeline",
          {"../README": ("A leak, from a running system to its record",), "VIEW": ()}),
+    Page("binder-methods", 1, "makes a table of the methods of interfaces", {"VIEW": ("Names of methods",)}),
     Page("binder-capture", 5, "captures of Binder traffic", {"ENVELOPE": (), "COMMANDS": ()}),
 )
 
@@ -48,7 +49,7 @@ def escaped(text: str) -> str:
 def as_installed(text: str) -> str:
     """A text in which the programs are called as in a package."""
     text = re.sub(r"\./(audit|listing|record|view)\b", r"binder-\1", text)
-    return text.replace("viewer/methods", "/usr/share/binder-audit/viewer/methods")
+    return text.replace("viewer/methods", "binder-methods")
 
 
 def marked(text: str) -> str:
@@ -220,8 +221,8 @@ def sections_under(document: str, headings: tuple[str, ...]) -> Iterator[Section
 
 
 def heading_lines(section: Section) -> Iterator[str]:
-    heading = "Notes" if section.heading.startswith("./") else escaped(section.heading.replace("`", ""))
-    yield f".SH {heading.upper()}" if section.level == 2 else f".SS {heading}"
+    heading = "Notes" if section.heading.startswith("./") else section.heading.replace("`", "")
+    yield f".SH {escaped(heading.upper())}" if section.level == 2 else f".SS {escaped(heading)}"
 
 
 def section_lines(section: Section) -> Iterator[str]:
@@ -273,7 +274,7 @@ def place_lines() -> Iterator[str]:
     """Where the other pages and the samples are."""
     yield ".SH FILES"
     pages = ("The pages that are named here in capital letters. They call the programs as the repository does, from its"
-             " folder and without `binder-`.")
+             " folder and without `binder-`; `methods` is in the folder `viewer` there.")
     samples = (f"Captures. A line that begins with `$` is a command, after `ln -s {DOCUMENTS}/samples`, and below it is"
                " what it prints. What is in `crates` or `checks` is in the repository alone.")
     yield from tagged(f"{DOCUMENTS}/docs", [pages])

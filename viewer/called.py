@@ -9,12 +9,15 @@ FOLDER = pathlib.Path(__file__).resolve().parent
 PACKED = not (FOLDER / "load.c").exists()
 LIBRARY = FOLDER.parents[2] / "lib/binder-audit"
 
+# The programs that the repository has at its top. Others are in viewer/.
+PROGRAMS = ("audit", "listing", "record", "view")
+
 
 def called(program: str) -> str:
     """The command by which a user calls a program."""
-    return f"binder-{program}" if PACKED else f"./{program}"
+    return f"binder-{program}" if PACKED else f"./{program}" if program in PROGRAMS else f"viewer/{program}"
 
 
 def as_called(text: str) -> str:
     """A text in which the programs are called as here."""
-    return re.sub(r"\./(audit|listing|record|view)\b", lambda found: called(found[1]), text)
+    return re.sub(rf"\./({'|'.join(PROGRAMS)})\b|viewer/(methods)\b", lambda found: called(found[1] or found[2]), text)

@@ -53,16 +53,23 @@ def missed_of(database: sqlite3.Connection) -> Iterator[Row]:
                                                               "after": after})
 
 
+# The frames after a number that no frame has, each with the number of the frame before. A number of 2**63 or more is
+# stored less 2**64. Looking each number up takes a tenth of the time in which the frames are sorted.
+AFTER_GAPS = """
+SELECT g.place, g.before, g.seq, (SELECT count(*) FROM side_lost l WHERE l.seq > g.before AND l.seq < g.seq)
+FROM (SELECT f.place, f.seq, coalesce((SELECT max(b.seq) FROM raw_frame b WHERE b.seq < f.seq AND (b.seq < 0) =
+    (f.seq < 0)), iif(f.seq < 0, (SELECT max(b.seq) FROM raw_frame b WHERE b.seq >= 0), NULL)) AS before
+  FROM raw_frame f WHERE NOT EXISTS (SELECT 1 FROM raw_frame p WHERE p.seq = f.seq - 1)) g
+WHERE g.before NOTNULL ORDER BY g.place"""
+
+
 def gaps_of(database: sqlite3.Connection) -> Iterator[Row]:
     """Numbers that no frame has and of which the side list says nothing."""
     missing, lost = database.execute("SELECT missing, (SELECT count(*) FROM side_lost WHERE seq BETWEEN first_seq AND"
                                      " last_seq) FROM raw_capture").fetchone()
     if missing % 2**64 == lost:
         return
-    for place, before, seq, told in database.execute(
-            "SELECT place, before, seq, (SELECT count(*) FROM side_lost l WHERE l.seq > before AND l.seq < g.seq) FROM"
-            " (SELECT place, seq, lag(seq) OVER (ORDER BY place) AS before FROM raw_frame) g"
-            " WHERE before NOTNULL AND seq <> before + 1"):
+    for place, before, seq, told in database.execute(AFTER_GAPS):
         count = (seq - before - 1) % 2**64 - told
         if count:
             yield place, MARK, Mark(before, None, "missing frames", "lost", {"after": before % 2**64, "count": count})

@@ -7,63 +7,30 @@ oneway transactions, references that are held. docs/VIEW.md says what the events
 import functools
 import heapq
 import json
-import operator
+import math
 import pathlib
 import sqlite3
 import zlib
-from typing import Callable, Iterable, Iterator, NamedTuple
+from concurrent.futures import Future, ThreadPoolExecutor
+from typing import Callable, Iterator
 
 from viewer import loading
 from viewer.ends import Mark, ends_of, gaps_of, lost_of, missed_of
 from viewer.names import Names
+from viewer.rows import BY_PLACE, DELIVERY, FINDING, RECORD, SEND, Ahead, Rows
 from viewer.tracks import MARK, Axis, Track, Tracks, Window
-
-# What a row is about, and its order among rows of one place.
-SEND, DELIVERY, RECORD, FINDING = range(MARK + 1, MARK + 5)
 
 # The counters of a process: the name, and what is counted.
 COUNTERS = (("buffers", "held"), ("bytes", "held"), ("async bytes", "held"), ("references", "strong"),
             ("calls", "open"), ("threads", "busy"))
-BUFFERS, BYTES, ASYNC, REFERENCES, CALLS, BUSY = range(len(COUNTERS))
+BUFFERS, BYTES, ASYNC, REFERENCES, CALLS, BUSY = ALL_COUNTERS = range(len(COUNTERS))
 
 MADE, SERVED, ONEWAY = range(3)
-
-# How many events are packed at a time.
-AT_ONCE = 4096
 
 # A flow ends at the slice around it.
 ENCLOSING = ',"bp":"e"'
 VERDICTS = ("open", "answered", "replied", "failed", "crossed")
 TF_ONE_WAY = 1
-
-QUERIES = {
-    # A send, its call, its delivery if each names the other, and the node that its handle leads to.
-    SEND: """
-SELECT s.place, :what, s.seq, x.ts, s.utid, r.code, r.flags, r.data_size, r.handle, c.verdict, c.closer,
-  s.refused, s.certain, s.fits, e.place, e.utid, e.seq, n.upid, n.certain, n.ptr, r.interface
-FROM raw_send s CROSS JOIN raw_record r ON r.place = s.place LEFT JOIN side_time x ON x.seq = s.seq
-  LEFT JOIN raw_call c ON c.place = s.place LEFT JOIN raw_delivery e ON e.place = s.delivery AND e.send = s.place
-  LEFT JOIN node_of n ON n.generation = s.generation ORDER BY s.place""",
-    # A delivery, its call, and its send if each names the other.
-    DELIVERY: """
-SELECT d.place, :what, d.seq, x.ts, d.utid, r.kind, r.code, r.flags, r.data_size, r.ptr, r.cookie, r.sender_pid,
-  d.freed_by, c.verdict, c.closer, p.place, p.utid, p.seq, p.certain, p.fits,
-  iif(r.flags & :TF_ONE_WAY, (SELECT y.ts FROM side_time y WHERE y.seq = p.seq), NULL), r.interface
-FROM raw_delivery d CROSS JOIN raw_record r ON r.place = d.place LEFT JOIN side_time x ON x.seq = d.seq
-  LEFT JOIN raw_call c ON c.place = d.place LEFT JOIN raw_send p ON p.place = d.send AND p.delivery = d.place
-ORDER BY d.place""",
-    RECORD: """
-SELECT r.place, :what, r.seq, x.ts, r.utid, r.kind, r.handle, r.cookie, r.value,
-  iif(r.kind IN (:BR_DEAD_REPLY, :BR_FAILED_REPLY, :BR_FROZEN_REPLY),
-    (SELECT q.place FROM raw_send q WHERE q.refused = r.place), NULL)
-FROM raw_record r LEFT JOIN side_time x ON x.seq = r.seq
-WHERE r.kind IN (:BC_FREE_BUFFER, :BC_ACQUIRE, :BC_RELEASE, :BR_ERROR, :BR_DEAD_REPLY, :BR_FAILED_REPLY,
-  :BR_FROZEN_REPLY, :BR_DEAD_BINDER, :BR_ONEWAY_SPAM_SUSPECT) ORDER BY r.place""",
-    FINDING: """
-SELECT f.place, :what, f.seq, x.ts, f.utid, u.verdict, g.title, f.section, f.path, f.rule, u.text, f.note
-FROM finding f JOIN rule u ON u.id = f.rule JOIN finding_head h ON h.id = f.id JOIN finding_group g ON g.grp = h.grp
-  LEFT JOIN side_time x ON x.seq = f.seq
-WHERE f.utid NOTNULL AND f.place NOTNULL AND u.verdict <> 'normal' ORDER BY f.place, f.id"""}
 
 
 class Open:
@@ -104,16 +71,28 @@ def hexadecimal(value: int | None) -> str:
 
 
 class Out:
-    """The events, which go through gzip some thousands at a time."""
+    """The events, which go through gzip some thousands at a time, in a thread of its own: while it packs some, the next
+    ones are made."""
 
     def __init__(self, path: pathlib.Path):
         self.file = open(path, "xb", opener=loading.for_owner)
         self.packer = zlib.compressobj(2, zlib.DEFLATED, 31)
+        self.thread = ThreadPoolExecutor(1)
+        self.packing: Future[None] | None = None
         self.events: list[str] = []
         self.between = ""
 
-    def text(self, text: str) -> None:
+    def pack(self, text: str) -> None:
         self.file.write(self.packer.compress(text.encode("ascii")))
+
+    def wait(self) -> None:
+        """Waits until what was handed over is written."""
+        if self.packing is not None:
+            self.packing.result()
+
+    def text(self, text: str) -> None:
+        self.wait()
+        self.packing = self.thread.submit(self.pack, text)
 
     def flush(self) -> None:
         if self.events:
@@ -122,23 +101,24 @@ class Out:
             self.between = ",\n"
 
     def close(self) -> None:
-        self.file.write(self.packer.flush())
-        self.file.close()
+        with self.file, self.thread:
+            self.wait()
+            self.file.write(self.packer.flush())
 
 
 class Timeline:
     """Walks through a capture and writes its events. Times are in nanoseconds, or in thousandths of a frame."""
 
-    def __init__(self, database: sqlite3.Connection, out: Out, window: Window):
-        self.database, self.out, self.events, self.window = database, out, out.events, window
+    def __init__(self, database: sqlite3.Connection, rows: Iterator[list[tuple]], out: Out, window: Window):
+        self.database, self.rows, self.out, self.events, self.window = database, rows, out, out.events, window
         self.axis = Axis(database, window)
         self.tracks = Tracks(database, window)
         self.call_names = Names(database)
         self.services = {to: f',"service":{json.dumps(name)}' for to, name in self.call_names.services.items()}
-        self.label = functools.lru_cache(4096)(self.label_of)
-        self.numbers = loading.named_numbers(database)
-        self.reply, self.free_buffer = self.numbers["BR_REPLY"], self.numbers["BC_FREE_BUFFER"]
-        self.names = {number: name for name, number in self.numbers.items()}
+        self.labels = functools.lru_cache(4096)(self.label_of)
+        numbers = loading.named_numbers(database)
+        self.reply, self.free_buffer = numbers["BR_REPLY"], numbers["BC_FREE_BUFFER"]
+        self.names = {number: name for name, number in numbers.items()}
         self.at_end = "after --to" if self.axis.is_cut else "open at the end"
         self.told: dict[str, int] = {name: 0 for name in (
             "slices", "queue_slices", "flows", "counter_events", "instants", "pairs_without_flow")}
@@ -152,9 +132,8 @@ class Timeline:
         # The deliveries that a record frees, by its place.
         self.frees: dict[int, list[tuple[int, int, int, int]]] = {}
         self.changed: dict[Process, None] = {}
-        self.seq: int | None = None
         self.is_whole, self.live, self.entered = window.is_whole(), False, 0
-        self.handlers: dict[int, Callable[[tuple], None]] = {
+        self.handlers: dict[int, Callable[[Thread, tuple], None]] = {
             SEND: self.send, DELIVERY: self.deliver, RECORD: self.record, FINDING: self.finding}
 
     # -- events
@@ -169,13 +148,18 @@ class Timeline:
         self.events.append(f'{{"ph":"{phase}",{thread.head}{self.axis.text},"cat":"flow","name":"{name}",'
                            f'"id":{ident}{"" if phase == "s" else ENCLOSING}}}')
 
-    def has_flow(self, certain: int | None, thread: Thread, other: int | None, seq: int | None) -> bool:
-        """Whether the flow between a record of a thread here and another one is shown."""
-        return bool(certain and self.live and other is not None and thread.head and self.threads[other].head) \
+    def has_flow(self, thread: Thread, other: int | None, seq: int | None) -> bool:
+        """Whether the flow between a record of a thread here and another one is shown, if their pair is certain."""
+        return self.live and other is not None and thread.head != "" and self.threads[other].head != "" \
             and (self.is_whole or self.window.has(seq))
 
-    def label_of(self, code: int, upid: int, ptr: int, interface: int | None) -> str:
+    def label(self, code: int, upid: int, ptr: int, interface: int | None) -> str:
         """The name of a call as part of a name, within the quotes of JSON."""
+        if interface is None and (code, upid, ptr) not in self.call_names.called:
+            return self.labels(code, None, None, None)
+        return self.labels(code, upid, ptr, interface)
+
+    def label_of(self, code: int, upid: int | None, ptr: int | None, interface: int | None) -> str:
         return json.dumps(self.call_names.call(code, upid, ptr, interface))[1:-1]
 
     def queue(self, head: str, label: str, place: int, begin: int, end: int, fields: str) -> None:
@@ -246,25 +230,25 @@ class Timeline:
         """Writes the counters that were changed."""
         if not self.live:
             return
-        before = len(self.events)
+        events = self.events
+        before = len(events)
         for process in self.changed:
-            now, shown = process.now, process.shown
-            if now != shown and process.heads:
+            heads, now, shown = process.heads, process.now, process.shown
+            if now != shown and heads:
                 tail = f'}},"ts":{self.axis.text_on(process, ns)}}}'
-                for head, value, old in zip(process.heads, now, shown):
-                    if value != old:
-                        self.events.append(f"{head}{value}{tail}")
-                shown[:] = now
-        self.told["counter_events"] += len(self.events) - before
+                for at in ALL_COUNTERS:
+                    if now[at] != shown[at]:
+                        events.append(f"{heads[at]}{now[at]}{tail}")
+                process.shown = now.copy()
+        self.told["counter_events"] += len(events) - before
         self.changed.clear()
 
     # -- rows
 
-    def send(self, row: tuple) -> None:
-        (place, _, seq, _, utid, code, _, size, handle, verdict, closer, refused, certain, fits, delivery,
-         receiver, receiver_seq, node, node_certain, ptr, interface) = row
-        thread = self.threads[utid]
-        flow = self.has_flow(certain, thread, receiver, receiver_seq)
+    def send(self, thread: Thread, row: tuple) -> None:
+        (place, _, seq, _, _, code, size, handle, verdict, closer, refused, certain, fits, delivery, receiver,
+         receiver_seq, node, node_certain, ptr, interface) = row
+        flow = certain and self.has_flow(thread, receiver, receiver_seq)
         if delivery is not None and not certain:
             self.told["pairs_without_flow"] += self.live
         if handle is None:
@@ -310,16 +294,15 @@ class Timeline:
             self.queue(self.tracks.first_heads.get(node, ""), label, place, self.axis.ns,
                        min(self.axis.end, self.tracks.ended.get(node, self.axis.end)), '"end":"never seen to come"')
 
-    def deliver(self, row: tuple) -> None:
+    def deliver(self, thread: Thread, row: tuple) -> None:
         (place, _, seq, _, utid, kind, code, flags, size, ptr, cookie, sender_pid, freed_by, verdict, closer, send,
          sender, send_seq, certain, fits, send_ts, interface) = row
-        thread = self.threads[utid]
         is_reply = kind == self.reply
         oneway = not is_reply and flags & TF_ONE_WAY
         self.hold(thread.process, size % 2**64, oneway)
         if freed_by is not None:
             self.frees.setdefault(freed_by, []).append((utid, place, size % 2**64, oneway))
-        flow = self.has_flow(certain, thread, sender, send_seq)
+        flow = certain and self.has_flow(thread, sender, send_seq)
         if is_reply:
             if self.closes(thread, place):
                 self.arrive(flow, thread, "reply", send)
@@ -345,7 +328,7 @@ class Timeline:
                                    f'"args":{{{fields},"verdict":"{VERDICTS[verdict]}"{closed}'))
         self.arrive(flow, thread, "oneway" if oneway else "call", send)
 
-    def arrive(self, flow: bool, thread: Thread, name: str, send: int) -> None:
+    def arrive(self, flow: bool | int | None, thread: Thread, name: str, send: int) -> None:
         """The end of a flow, if it is shown."""
         if flow:
             self.flow("f", thread, name, send)
@@ -369,14 +352,14 @@ class Timeline:
             else:
                 self.freed.add(place)
 
-    def record(self, row: tuple) -> None:
+    def record(self, thread: Thread, row: tuple) -> None:
         """A record that is neither a send nor a delivery."""
         place, _, _, _, utid, kind, handle, cookie, value, refused = row
         if kind == self.free_buffer:
             for freed in self.frees.pop(place, ()):
                 self.free(*freed)
             return
-        thread, name = self.threads[utid], self.names[kind]
+        name = self.names[kind]
         if handle is not None:
             self.refer(thread.process, handle, name == "BC_ACQUIRE")
         elif name == "BR_DEAD_BINDER":
@@ -398,7 +381,7 @@ class Timeline:
         if strong + change:
             process.strong[handle] = strong + change
 
-    def finding(self, row: tuple) -> None:
+    def finding(self, _: Thread, row: tuple) -> None:
         place, _, _, _, utid, verdict, title, section, path, rule, text, note = row
         told = {"place": place, "section": section, "path": path, "rule": rule, "why": text, "note": note}
         self.instant(utid, f"finding,{verdict}", f"{verdict}: {title}",
@@ -406,18 +389,15 @@ class Timeline:
 
     # -- all of it
 
-    def next_frame(self, seq: int, ts: int | None, utid: int) -> bool:
+    def next_frame(self, seq: int, ts: int | None, thread: Thread) -> bool:
         """Goes on to a frame. Returns whether it is past the window."""
         if self.changed:
             self.count(self.axis.ns)
-        self.seq = seq
         if not self.is_whole and self.window.is_past(seq):
             return True
-        self.axis.go_to(seq, ts, self.threads[utid])
+        self.axis.go_to(seq, ts, thread)
         if not self.live and self.window.has(seq):
             self.enter()
-        if len(self.events) > AT_ONCE:
-            self.out.flush()
         return False
 
     def enter(self) -> None:
@@ -449,22 +429,39 @@ class Timeline:
                                f'"cat":"{mark.category}","name":"{mark.name}","args":{json.dumps(mark.fields)}}}')
             self.told["instants"] += 1
 
-    def sources(self) -> Iterator[Iterable[tuple]]:
-        yield heapq.merge(ends_of(self.database, self.tracks), lost_of(self.database, self.tracks),
-                          missed_of(self.database), gaps_of(self.database), key=operator.itemgetter(0))
-        for what, query in QUERIES.items():
-            yield self.database.execute(query, {**self.numbers, "what": what})
+    def marks(self) -> Iterator[tuple]:
+        yield from heapq.merge(ends_of(self.database, self.tracks), lost_of(self.database, self.tracks),
+                               missed_of(self.database), gaps_of(self.database), key=BY_PLACE)
+
+    def with_marks(self) -> Iterator[list[tuple]]:
+        """The rows with the marks, which come first among those of one place."""
+        marks = Ahead(self.marks())
+        for rows in self.rows:
+            if rows and (new := [*marks.before(rows[-1][0] + 1)]):
+                rows = sorted(new + rows, key=BY_PLACE)
+            yield rows
+        yield [*marks.before(math.inf)]
+
+    def walk_rows(self) -> None:
+        """Goes through the rows, up to the end of the window."""
+        seq = thread = None
+        for rows in self.with_marks():
+            for row in rows:
+                what = row[1]
+                if what == MARK:
+                    if self.window.is_past(row[2].seq):
+                        return
+                    self.mark(row[2])
+                    continue
+                if row[2] != seq:
+                    seq, thread = row[2], self.threads[row[4]]
+                    if self.next_frame(seq, row[3], thread):
+                        return
+                self.handlers[what](thread, row)
+            self.out.flush()
 
     def walk(self) -> None:
-        for row in heapq.merge(*self.sources()):
-            if row[1] == MARK:
-                if self.window.is_past(row[2].seq):
-                    break
-                self.mark(row[2])
-            elif row[2] == self.seq or not self.next_frame(row[2], row[3], row[4]):
-                self.handlers[row[1]](row)
-            else:
-                break
+        self.walk_rows()
         self.count(self.axis.ns)
         if not self.live and self.window.begins_within(self.axis.last):
             self.enter()
@@ -493,14 +490,14 @@ def facts_of(database: sqlite3.Connection) -> dict[str, object]:
 
 
 def write(database: sqlite3.Connection, path: pathlib.Path, window: Window) -> bool:
-    """Writes the timeline into a new file, for its owner only. Sorting goes to the disk. Returns whether any thread
-    is in it."""
+    """Writes the timeline into a new file, for its owner only. Returns whether any thread is in it."""
     for setting in ("cache_size=-16384", "temp_store=FILE"):
         database.execute(f"PRAGMA {setting}")
-    out = Out(path)
-    try:
-        timeline = Timeline(database, out, window)
-        timeline.write(facts_of(database))
-        return bool(timeline.tracks.heads)
-    finally:
-        out.close()
+    with Rows(database) as rows:
+        out = Out(path)
+        try:
+            timeline = Timeline(database, rows, out, window)
+            timeline.write(facts_of(database))
+            return bool(timeline.tracks.heads)
+        finally:
+            out.close()

@@ -84,7 +84,7 @@ class Axis:
 
     def text_of(self, ns: int) -> str:
         """Nanoseconds of the side list as the microseconds of a trace."""
-        digits = f"{ns + self.shift:04d}"
+        digits = str(ns + self.shift).zfill(4)
         return digits[:-3] if digits[-3:] == "000" else f"{digits[:-3]}.{digits[-3:]}"
 
     def at(self, seq: int, ts: int | None) -> int:
@@ -94,9 +94,10 @@ class Axis:
 
     def go_to(self, seq: int, ts: int | None, track: Track) -> None:
         """Goes to a frame of a thread."""
-        ns = ts if ts is not None else self.at(seq, ts)
-        if ts is None and self.timed:
-            self.untimed += 1
+        ns = ts
+        if ns is None:
+            ns = self.at(seq, ts)
+            self.untimed += self.timed
         if ns < track.latest:
             self.raised += 1
             ns = track.latest
@@ -105,7 +106,8 @@ class Axis:
 
     def text_on(self, track: Track, ns: int) -> str:
         """A time on a track, no earlier than the last one there."""
-        track.latest = max(ns, track.latest)
+        if ns > track.latest:
+            track.latest = ns
         return self.text if track.latest == self.ns else self.text_of(track.latest)
 
     def facts(self) -> dict[str, object]:

@@ -88,7 +88,7 @@ def without_numbers(path: str) -> str:
 def groups_of(database: sqlite3.Connection) -> list[tuple[str, ...]]:
     found = []
     for line in page.group_lines(database):
-        verdict, title, n, n_all, _, _, path, rule, _ = line.rstrip("\n").split("\t")
+        verdict, title, n, n_all, _, _, path, rule, *_ = line.rstrip("\n").split("\t")
         if verdict in ("real", "maybe"):
             found.append((verdict, title, n, n_all, without_numbers(path), rule))
     return sorted(found)

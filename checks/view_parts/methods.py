@@ -127,7 +127,7 @@ def check_tables(folder: pathlib.Path, room: pathlib.Path, fail: Fail) -> None:
     compare("hostile methods: the page stays small", len(text) < 2**18, True, fail)
     json.loads(gzip.decompress((room / "harm.gz").read_bytes()))
     _, lines, _ = view(folder, room, *words, "--groups")
-    compare("hostile methods: fields of a line", {line.count("\t") for line in lines.splitlines()}, {8}, fail)
+    compare("hostile methods: fields of a line", {line.count("\t") for line in lines.splitlines()}, {9}, fail)
 
 
 def check_unnamed(folder: pathlib.Path, room: pathlib.Path, fail: Fail) -> None:

@@ -8,7 +8,7 @@ import subprocess
 
 import tokens
 from tokens import MANAGER, ended, marked, numbers, string16
-from view_parts.common import DRIVER, HERE, ROOT, Fail, compare, texts_of, view
+from view_parts.common import DRIVER, ROOT, Fail, compare, texts_of, view
 from view_parts.reports import shown_of
 from view_rules.session import Session
 
@@ -86,7 +86,7 @@ def check_hostile_names(folder: pathlib.Path, room: pathlib.Path, fail: Fail) ->
 
 # ---- clients on libgbinder
 
-SOURCES = HERE / "driver_guest/names"
+SOURCES = DRIVER.parent / "interfaces"
 CAPTURES = sorted(path for path in DRIVER.glob("hello-*"))
 HEALTHY = ("hello-9", "hello-10", "hello-11", "hello-hidl")
 SERVICES = [("hello", "org.example.IHello"), ("org.example.IClock/default", "org.example.IClock")]

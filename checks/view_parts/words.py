@@ -180,5 +180,5 @@ def check_hostile(folder: pathlib.Path, room: pathlib.Path, fail: Fail) -> pathl
     compare("hostile names: the page stays small", len(text) < 2**20, True, fail)
     status, lines, _ = view(folder, room, named.name, "--side", "hostile.side", "--groups")
     tabs = {line.count("\t") for line in lines.splitlines()}
-    compare("hostile names: fields of a line", (status, tabs), (0, {8}), fail)
+    compare("hostile names: fields of a line", (status, tabs), (0, {9}), fail)
     return room / "hostile.html"
