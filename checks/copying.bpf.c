@@ -80,6 +80,17 @@ SEC("raw_tp/played") int play_write_done(void *unused)
 	return end_write(t, t->consumed);
 }
 
+/* ---- the command line of the caller */
+
+static struct opening looked_at;
+
+/* A second has passed, so that it is looked at. */
+SEC("raw_tp/played") int play_look(void *unused)
+{
+	looked_at.look_at = 0;
+	return look_at_command(&looked_at);
+}
+
 /* ---- the longest runs */
 
 /* The stack of the call that runs this is taken. */

@@ -1,10 +1,11 @@
-/* copying ROUNDS: plays a write, and prints how long the recorder's programs in the kernel copy without a pause, at the
- * most. See copying. */
+/* copying ROUNDS: plays a write and a command line, and prints how long the recorder's programs in the kernel copy
+ * without a pause, at the most. See copying. */
 #include "common.h"
 #include "messages.h"
 #include <bpf/bpf.h>
 #include <bpf/libbpf.h>
 #include <linux/android/binder.h>
+#include <pthread.h>
 #include <stdio.h>
 #include <stdlib.h>
 #include <string.h>
@@ -191,6 +192,48 @@ static void play_full_ring(const u8 *data, u8 *returns)
 		fail("of %d reads %u came, and %u attachments were left out", READS, chunks, others);
 }
 
+/* ---- a command line */
+
+static char line[COMMAND_BYTES];	/* that came last; empty if none came */
+
+static void hear_line(const void *message, u64 bytes)
+{
+	const struct command *heard = message;
+	if (heard->head.type != MESSAGE_COMMAND || bytes < sizeof *heard || !heard->bytes)
+		fail("a message that is no command line");
+	memcpy(line, heard->text, sizeof line);
+}
+
+/* Looks at the command line of this process. */
+static void look(const char *what, const char *due)
+{
+	LIBBPF_OPTS(bpf_test_run_opts, run);
+	line[0] = 0;
+	if (bpf_prog_test_run_opts(bpf_program__fd(program->progs.play_look), &run))
+		fail("a command line: the program did not run");
+	while (ring_drain(&ring, hear_line) > 0)
+		continue;
+	if (strcmp(line, due))
+		fail("a command line %s: '%s' came, and not '%s'", what, line, due);
+}
+
+/* The page of the command line is taken away, as if it was swapped out. It may also have what the first thread needs,
+ * which therefore waits for this thread. */
+static void *play_lines(void *own_line)
+{
+	u8 *page = (u8 *)((uintptr_t)own_line & ~(uintptr_t)4095);
+	strcpy(own_line, "first");
+	look("at first", "first");
+	look("that is the same", "");
+	mprotect(page, 4096, PROT_NONE);
+	look("that is away", "");
+	mprotect(page, 4096, PROT_READ | PROT_WRITE);
+	look("that is there again", "");
+	strcpy(own_line, "second");
+	look("that is another one", "second");
+	return NULL;
+}
+
 /* ---- the stack of a call */
 
 static const struct stack *stack;
@@ -254,6 +297,10 @@ int main(int words, char **word)
 	program->bss->first_word = BC_TRANSACTION;
 	play(commands);
 	play_full_ring(data, returns);
+	pthread_t thread;
+	if (strlen(word[0]) < sizeof "second" || pthread_create(&thread, NULL, play_lines, word[0]) ||
+	    pthread_join(thread, NULL))
+		fail("no command line that can be written over, or no thread");
 	put_record(commands, BC_TRANSACTION, data, MOST_AT_ONCE);
 	printf("%-66s %8s %8s %8s\n", "microseconds", "least", "median", "of 10, 9");
 	measure("a write's next bytes, and the largest attachment", program->progs.measure_command, rounds,

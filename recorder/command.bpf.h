@@ -15,7 +15,8 @@ static __always_inline u64 sum_of(const struct command *c)
 	return sum;
 }
 
-static __always_inline void read_command(struct command *c, struct task_struct *task)
+/* Returns 0 if it could be read. */
+static __always_inline long read_command(struct command *c, struct task_struct *task)
 {
 	u64 from = BPF_CORE_READ(task, mm, arg_start), bytes = BPF_CORE_READ(task, mm, arg_end) - from;
 	__builtin_memset(c->text, 0, sizeof c->text);
@@ -23,12 +24,14 @@ static __always_inline void read_command(struct command *c, struct task_struct *
 		bytes = COMMAND_BYTES;
 	BOUND(bytes, 0x1ff);
 	c->user = BPF_CORE_READ(task, cred, euid.val);
-	c->bytes = bytes && !read_memory(c->text, bytes, from) ? bytes : 0;
+	long failed = bytes ? read_memory(c->text, bytes, from) : 0;
+	c->bytes = failed ? 0 : bytes;
+	return failed;
 }
 
 /* Reports the command line and the user of the caller, the process that opened the device, if they are others than it
  * reported. It looks at the first call, and then at most once a second, or after exec, or when the first thread has
- * another name. */
+ * another name. A command line that was read before and is away now, for example swapped out, counts as the same. */
 static __noinline int look_at_command(struct opening *o)
 {
 	struct scratch *s = scratch();
@@ -37,9 +40,9 @@ static __noinline int look_at_command(struct opening *o)
 	if (!s || !o || (time < o->look_at && memory == o->looked_in))
 		return 0;
 	struct command *c = &s->command;
-	read_command(c, task);
+	int is_away = read_command(c, task) && o->has_command && memory == o->looked_in;
 	u64 sum = sum_of(c);
-	if (!o->has_command || sum != o->command) {
+	if (!is_away && (!o->has_command || sum != o->command)) {
 		c->head.type = MESSAGE_COMMAND;
 		c->head.direction = 0;
 		c->head.number = last_number;
