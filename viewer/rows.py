@@ -107,8 +107,12 @@ def send(path: str, into: int) -> NoReturn:
 
 
 def received(pipe: BinaryIO) -> Iterator[list[tuple]]:
+    """What comes from the pipe, up to its end, or to a stretch that is cut off because the other process was killed."""
     while head := pipe.read(8):
-        yield marshal.loads(pipe.read(int.from_bytes(head, "little")))
+        length = int.from_bytes(head, "little")
+        if len(data := pipe.read(length)) < length:
+            return
+        yield marshal.loads(data)
 
 
 class Rows:

@@ -46,6 +46,37 @@ def write_traffic(capture: pathlib.Path, side: pathlib.Path, most: int) -> None:
             times.write(f"{1_000_000 + 5000 * number} frame {int.from_bytes(frame[:8], 'little')}\n")
 
 
+# The tables of which a timeline is made, and what their columns rise by when the capture comes once more.
+REPEATED = ("raw_record", "raw_send", "raw_delivery", "raw_call", "raw_frame", "side_time", "finding", "finding_head")
+RISES = {**dict.fromkeys(("place", "freed_by", "call", "send", "delivery", "confirmed", "refused", "parent", "closer",
+                          "attachment"), "bytes"), "seq": "last", "ts": "time", "id": "findings"}
+
+
+def repeat(made: pathlib.Path, times: int) -> None:
+    """Makes a database in which the records, the times and the findings of this one come so many times, one after
+    another."""
+    database = sqlite3.connect(made, isolation_level=None)
+    for setting in ("journal_mode=OFF", "synchronous=OFF", "cache_size=-65536"):
+        database.execute(f"PRAGMA {setting}")
+    names = ("bytes", "last", "time", "findings")
+    rise = dict(zip(names, database.execute(
+        "SELECT bytes, last_seq, (SELECT max(ts) - min(ts) + 5000 FROM side_time), (SELECT max(id) FROM finding)"
+        " FROM raw_capture").fetchone()))
+    database.execute("BEGIN")
+    for table in REPEATED:
+        columns = [name for _, name, *_ in database.execute(f"PRAGMA table_info({table})")]
+        most, = database.execute(f"SELECT max(rowid) FROM {table}").fetchone()
+        risen = ", ".join(f"{name} + :{RISES[name]}" if name in RISES else name for name in columns)
+        for number in range(1, times):
+            database.execute(f"INSERT INTO {table} SELECT {risen} FROM {table} WHERE rowid <= :most",
+                             {"most": most, **{name: number * by for name, by in rise.items()}})
+    database.execute("UPDATE raw_capture SET bytes = bytes * :times, last_seq = last_seq * :times,"
+                     " records = records * :times, frames = frames * :times", {"times": times})
+    database.execute("UPDATE capture SET value = value + ? WHERE key = 'until_ts'", ((times - 1) * rise["time"],))
+    database.execute("COMMIT")
+    database.close()
+
+
 def took(what: str, words: list[object]) -> None:
     status, used = measured_run(list(map(str, words)), stdout=subprocess.DEVNULL)
     if status:
@@ -61,14 +92,16 @@ def text_bytes(path: pathlib.Path) -> int:
     return sum(map(len, iter(lambda: packed.stdout.read(2**20), b"")))
 
 
-def print_cost(room: pathlib.Path, most: int) -> None:
-    """Prints what a timeline of so many bytes of traffic takes, and what it has."""
+def print_cost(room: pathlib.Path, most: int, times: int) -> None:
+    """Prints what a timeline of so many bytes of traffic takes, and what it has. The traffic comes so many times."""
     capture, side, made, out = (room / name for name in ("traffic.cap", "traffic.side", "traffic.db", "trace.gz"))
     write_traffic(capture, side, most)
     took("the database, by ./view", [ROOT / "view", capture, "--side", side, "--groups", "--database", made])
+    if times > 1:
+        repeat(made, times)
     took("the timeline of it", [sys.executable, "-c", TIMELINE, ROOT, made, out])
     database = sqlite3.connect(made)
     sends, = database.execute("SELECT count(*) FROM send WHERE kind LIKE 'BC_TRANSACTION%'").fetchone()
     records, = database.execute("SELECT records FROM raw_capture").fetchone()
-    print(f"{capture.stat().st_size} bytes, {records} records, {sends} transactions;"
+    print(f"{times} times {capture.stat().st_size} bytes, {records} records, {sends} transactions;"
           f" a timeline of {text_bytes(out)} bytes, {out.stat().st_size} packed")
