@@ -564,7 +564,7 @@ def group_lines(database: sqlite3.Connection) -> Iterator[str]:
     for number, *fields in database.execute(
             "SELECT grp, verdict, title, n, n_all, path, rules, note FROM finding_group"
             " ORDER BY CASE verdict WHEN 'real' THEN 1 WHEN 'maybe' THEN 2 WHEN 'explained' THEN 3 ELSE 4 END,"
-            " waiting DESC, n DESC, first, grp").fetchall():
+            " waiting DESC, rules GLOB 'C3*' DESC, n DESC, first, grp").fetchall():
         verdict, title, n, n_all, path, rules, note = fields
         of = database.execute("SELECT DISTINCT p.device, p.process FROM finding_head h JOIN finding f USING (id)"
                               " JOIN raw_process p USING (upid) WHERE h.grp = ? AND f.lead IS NULL ORDER BY 1, 2",

@@ -43,8 +43,8 @@ INSERT INTO ring SELECT n.next FROM waits_for n JOIN ring r ON r.id = n.id WHERE
 -- ---- the pools of threads of processes that should get what waits
 
 -- The threads that serve a call from before the capture, as the side list of a flight recorder or the driver's books
--- say: they have not replied to as many calls as they served then, and have not ended. A thread without a frame has no
--- utid.
+-- say: they have not replied to as many calls as they served then, and had not ended at the last frame. A thread
+-- without a frame has no utid.
 CREATE TEMP TABLE serves_on AS
 SELECT p.upid, t.utid FROM (SELECT device, process, thread, served FROM side_calls
     UNION ALL SELECT p.device, p.process, coalesce(t.thread, b.tid), count(*)
@@ -53,7 +53,7 @@ SELECT p.upid, t.utid FROM (SELECT device, process, thread, served FROM side_cal
   JOIN raw_process p USING (device, process) JOIN process_life l USING (upid)
   LEFT JOIN raw_thread t ON t.upid = p.upid AND t.thread = c.thread
   LEFT JOIN side_thread s ON (s.device, s.process, s.thread) = (c.device, c.process, c.thread), last
-WHERE l.ended_after IS NULL AND (s.ended_after IS NULL OR s.ended_after > last.seq)
+WHERE coalesce(l.ended_after = last.seq, 1) AND coalesce(s.ended_after >= last.seq, 1)
   AND c.served > (SELECT count(*) FROM finding f JOIN raw_record r USING (place)
     WHERE f.section = 'strays' AND f.utid = t.utid AND r.kind IN (:BC_REPLY, :BC_REPLY_SG));
 
@@ -64,9 +64,9 @@ WHERE w.delivery IS NULL AND w.server_upid NOTNULL
   AND NOT EXISTS (SELECT 1 FROM waits x WHERE x.server = w.utid AND x.upid = w.server_upid)
 UNION ALL SELECT id, place, target FROM finding WHERE section = 'oneway';
 CREATE INDEX temp.queued_at ON queued(upid);
--- The threads of such a process that may take calls and have not ended: those that said that they are loopers, those
--- that were seen to take one, and those that serve one from before the capture. How many there may be at most is not in
--- a capture.
+-- The threads of such a process that may take calls and had not ended at the last frame: those that said that they are
+-- loopers, those that were seen to take one, and those that serve one from before the capture. How many there may be at
+-- most is not in a capture.
 CREATE TEMP TABLE loop AS
 SELECT r.utid, r.kind, max(r.place)
 FROM (SELECT 1 FROM queued LIMIT 1) CROSS JOIN raw_record r JOIN raw_thread t USING (utid)
@@ -74,9 +74,10 @@ WHERE r.kind IN (:BC_ENTER_LOOPER, :BC_REGISTER_LOOPER, :BC_EXIT_LOOPER) AND t.u
 GROUP BY 1;
 CREATE TEMP TABLE taker AS
 SELECT t.utid, t.upid, t.last_record, 0 AS earlier
-FROM raw_thread t JOIN life l USING (utid) LEFT JOIN loop o USING (utid)
-WHERE t.upid IN (SELECT upid FROM queued) AND l.ended_after IS NULL AND CASE WHEN o.kind IS NULL THEN EXISTS (
-  SELECT 1 FROM raw_call c WHERE c.utid = t.utid AND c.served AND c.depth = 1) ELSE o.kind <> :BC_EXIT_LOOPER END;
+FROM raw_thread t JOIN life l USING (utid) LEFT JOIN loop o USING (utid), last
+WHERE t.upid IN (SELECT upid FROM queued) AND coalesce(l.ended_after = last.seq, 1) AND CASE WHEN o.kind IS NULL
+  THEN EXISTS (SELECT 1 FROM raw_call c WHERE c.utid = t.utid AND c.served AND c.depth = 1)
+  ELSE o.kind <> :BC_EXIT_LOOPER END;
 UPDATE taker SET earlier = 1 WHERE utid IN (SELECT utid FROM serves_on);
 INSERT INTO taker SELECT s.utid, s.upid, NULL, 1 FROM serves_on s
 WHERE s.upid IN (SELECT upid FROM queued) AND NOT EXISTS (SELECT 1 FROM taker t WHERE t.utid = s.utid);
@@ -84,10 +85,12 @@ WHERE s.upid IN (SELECT upid FROM queued) AND NOT EXISTS (SELECT 1 FROM taker t 
 -- call from before the capture.
 CREATE TEMP TABLE taken AS
 SELECT k.utid, k.upid, k.earlier, coalesce(c.place, o.place) AS place, c.served, x.ts,
+  coalesce(l.ended, last.ts) AS until,
   coalesce((SELECT call_name(v.code, v.upid, v.ptr) FROM came_to v WHERE v.place = r.place),
     (SELECT call_name(v.code, v.upid, v.ptr) FROM sent_to v WHERE v.place = r.place), call_name(r.code, NULL, NULL))
   AS call
-FROM taker k LEFT JOIN raw_call c ON c.place = (SELECT place FROM raw_call i WHERE i.utid = k.utid AND i.verdict = 0
+FROM last, taker k LEFT JOIN life l ON l.utid = k.utid
+  LEFT JOIN raw_call c ON c.place = (SELECT place FROM raw_call i WHERE i.utid = k.utid AND i.verdict = 0
     ORDER BY place DESC LIMIT 1)
   LEFT JOIN raw_record o ON o.place = k.last_record AND o.kind IN (:BR_TRANSACTION, :BR_TRANSACTION_SEC_CTX)
     AND o.flags & :TF_ONE_WAY AND c.place IS NULL
@@ -107,9 +110,10 @@ SELECT t.upid, count(*) AS threads, sum(t.place NOTNULL OR t.earlier) AS busy,
       iif(count(*) = 1, 'a looper is', count(*) || ' loopers are')) || ' in '
     || group_concat(DISTINCT iif(t.place IS NULL, iif(t.earlier, 'a call from before the capture', NULL),
       iif(t.served, '', iif(t.served IS NULL, 'oneway ', 'a call of its own, ')) || t.call))
-    || iif(max(t.earlier AND t.place IS NULL), '', coalesce(' since ' || duration(max(0, last.ts - min(t.ts))), ''))
+    || iif(max(t.earlier AND t.place IS NULL), '',
+      coalesce(' since ' || duration(max(0, max(t.until) - min(t.ts))), ''))
   AS doing
-FROM taken t JOIN process_life p USING (upid), last GROUP BY t.upid;
+FROM taken t JOIN process_life p USING (upid) GROUP BY t.upid;
 CREATE UNIQUE INDEX temp.pool_of ON pool(upid);
 -- A pool of which all threads are in something that is a finding too.
 CREATE TEMP TABLE full_pool AS
@@ -118,7 +122,8 @@ WHERE threads = busy AND upid IN (SELECT upid FROM holder);
 CREATE UNIQUE INDEX temp.full_pool_of ON full_pool(upid);
 
 -- How many wait for a call, directly or not. The steps go from a full pool to what its threads are in, from a call that
--- nobody got to the pool, and from a call to the one that it waits for. A pool is a step for all that wait there.
+-- nobody got to the pool, and from a call to the one that it waits for. A pool is a step for all that wait there; in a
+-- ring, a call that is one of these does not wait for itself.
 CREATE TEMP TABLE step AS
 SELECT -h.upid AS id, h.id AS next FROM holder h JOIN full_pool USING (upid)
 UNION SELECT w.id, -w.server_upid FROM waits w JOIN full_pool p ON p.upid = w.server_upid WHERE w.delivery IS NULL
@@ -128,7 +133,9 @@ CREATE TEMP TABLE waited AS
 WITH RECURSIVE begin(id, n) AS (SELECT -upid, n FROM full_pool
     UNION ALL SELECT w.id, 1 FROM waits w WHERE w.delivery NOTNULL),
   reach(begin, at) AS (SELECT id, id FROM begin UNION SELECT r.begin, s.next FROM reach r JOIN step s ON s.id = r.at)
-SELECT r.at AS id, sum(b.n) AS n, max(r.begin < 0) AS by_pool FROM reach r JOIN begin b ON b.id = r.begin
+SELECT r.at AS id, sum(b.n - (r.begin IN (SELECT -q.upid FROM queued q WHERE q.id = r.at))) AS n,
+  max(r.begin < 0) AS by_pool
+FROM reach r JOIN begin b ON b.id = r.begin
 WHERE r.at > 0 AND r.at <> r.begin GROUP BY 1;
 CREATE UNIQUE INDEX temp.waited_for ON waited(id);
 

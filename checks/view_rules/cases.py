@@ -47,9 +47,11 @@ def never_answered(s, wait):
 @case("U6:1 C7:2 A1:2", wait=20)
 @case("U6:1 C7:2 A1:2", wait=1100, took=150)
 @case("C6:1 C7:2 A1:2", "its only looper is in code 10 since", wait=1100, enters=False)
-def others_queue(s, wait, took=0, enters=True):
+@case("C6:1 C7:2 A1:2", "its only looper is in code 10 since", "2 wait for it", wait=1100, killed=True)
+def others_queue(s, wait, took=0, enters=True, killed=False):
     """The only looper of a service never answers, and two more calls wait for it. Earlier calls of the first one's code
-    took as long; or the looper has not said that it is one, but takes calls."""
+    took as long; or the looper has not said that it is one, but takes calls; or the service is killed after the last
+    frame."""
     service, client = s.two(enters=enters)
     for _ in range(5):
         client.main.asks(service.main, 2)
@@ -59,6 +61,8 @@ def others_queue(s, wait, took=0, enters=True):
     for number in 300, 301:
         s.process(number, "other").main.sends(0, 1)
     s.wait(wait)
+    if killed:
+        service.ends()
 
 
 @case("C3:2 A1:4", mains=True)
@@ -73,6 +77,23 @@ def embrace_of_mains(s, mains, wait=300):
     looper.gets(client.main.sends(0, 11))
     back.gets((service.main if mains else service.looper(2)).sends(7, 2), 0x500)
     s.wait(wait)
+
+
+@case("C3:2 C6:1 C7:1 A1:4", "3 wait for it; not got: its only looper is in code 3 since")
+def embrace_through_a_pool(s):
+    """A looper of the client serves a call, and waits for its main thread. That one calls the service, whose looper
+    waits for its own main thread, which calls back and gets no thread of the client. Another call waits at the
+    service."""
+    service, client = s.two(enters=False)
+    other = s.process(300, "other")
+    client.main.gives(service.main, 7)
+    other.main.is_given(service.main, 1, server_handle=7)
+    looper, back = service.looper(1), client.looper(1)
+    back.gets(other.main.sends(1, 3), 0x9700)
+    looper.gets(client.main.sends(0, 2))
+    service.main.sends(7, 4)
+    s.process(301, "late").main.sends(0, 1)
+    s.wait(1100)
 
 
 @case("C6:2 A1:4 C7:1", "its 2 loopers are in", free=False)

@@ -1,3 +1,4 @@
--- The groups of a verdict: those that most wait for, then the largest. ?1: the verdict, ?2: the most rows.
+-- The groups of a verdict: those that most wait for, rings before others, then the largest. ?1: the verdict, ?2: the
+-- most rows.
 SELECT grp, verdict, title, path, n, n_all, first, last, waiting, rules, note
-FROM finding_group WHERE verdict = ?1 ORDER BY waiting DESC, n DESC, first LIMIT ?2
+FROM finding_group WHERE verdict = ?1 ORDER BY waiting DESC, rules GLOB 'C3*' DESC, n DESC, first LIMIT ?2
