@@ -104,13 +104,27 @@ def compare(database: sqlite3.Connection) -> None:
 NAMED = 8
 
 
+# Why no opening is in the books of the end that are there.
+NOTHING = """SELECT CASE
+  WHEN NOT EXISTS (SELECT 1 FROM process p WHERE p.met NOTNULL AND coalesce(p.ended > b.ts, 1))
+  THEN 'all processes had ended before the copy of them was made'
+  WHEN c.last_seq IS NULL OR EXISTS (SELECT 1 FROM side_time s WHERE s.seq < c.first_seq
+    OR s.seq > c.last_seq AND s.seq <= b.from_seq) THEN 'the capture was cut'
+  ELSE 'it is not certain which of the openings in them are those of the capture' END
+FROM book b, raw_capture c WHERE b.moment = 'end' AND b.what = 'state'"""
+
+
 def line_of(database: sqlite3.Connection) -> str | None:
-    """Says that both agree, or where not; None if there is nothing to compare."""
+    """Says that both agree, or where not, or why nothing is compared; None if there are no books of the end."""
     known = dict(database.execute("SELECT key, value FROM capture WHERE key GLOB 'books_*'"))
-    if "books_compared" not in known:
-        return None
+    left = known.get("books_left_out", 0)
+    if not known.get("books_compared"):
+        nothing = database.execute(NOTHING).fetchone()
+        if nothing is None:
+            return None
+        why = f"of {counted(left, 'opening')} it is not certain what was held then" if left else nothing[0]
+        return f"The driver's books at the end are not compared with the report: {why}."
     of = counted(known["books_compared"], "opening")
-    left = known["books_left_out"]
     more = f"; {counted(left, 'other')} cannot be compared" if left else ""
     rows = database.execute("SELECT who, what, report, books FROM disagreement JOIN who USING (upid)"
                             " ORDER BY disagreement.id").fetchall()

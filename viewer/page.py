@@ -387,7 +387,7 @@ class Page:
 
     def talk(self) -> str:
         heads = ["caller", "#handle", "served by", "node", "#code", "kind", "#sends", "#failed", "#open", "#bytes",
-                 "#buffers not freed", "#at the peak", "#longest", "one send fits"]
+                 "#requests not freed", "#at the peak", "#longest", "one send fits"]
         cells = []
         for upid, handle, node, ptr, code, oneway, delivered, one_fits, *numbers, longest, frames in self.asked(
                 "talk", ROWS):
@@ -507,8 +507,9 @@ class Page:
         yield ('<h2>Who talks to whom</h2><p class="dim">Which process and node a handle leads to is inferred from'
                " sends and deliveries that fit. The last column says for how many deliveries only one send fits. For"
                " the others the sums are right, but which send is which is not certain. Failed sends are those that an"
-               " error reply ended. Open calls, and buffers that are not freed, also count those of ended processes."
-               f" Buffers at the peak are those of all callers.{of_nodes}</p>" + self.talk())
+               " error reply ended. Open calls, and requests that are not freed, also count those of ended processes. A"
+               " request is the buffer of what was sent, in the receiver; replies are not counted here. Requests at the"
+               f" peak are those of all callers.{of_nodes}</p>" + self.talk())
         yield ('<h2>Growth</h2><p class="dim">Each step is the most that a process held in one of 16 slices of the'
                " capture, of as many frames each, and as wide as the slice took. So what it let go of in a slice only"
                " makes the next step lower. The numbers below the steps are the most of all, and what the process held"

@@ -18,10 +18,13 @@ CLIENT = thread(200, transaction_of("outgoing")) + REQUESTED
 SERVICE = (thread(100, transaction_of("incoming")) + own(0x100) + buffer(0x7238).replace("size 28", "size 4")
            + "  buffer 102: 0000000000007300 size 0:0:0 active\n")
 AGREED = "The driver's books at the end agree with the report on 2 openings."
+NOT_COMPARED = "The driver's books at the end are not compared with the report"
 
 
-def play(s: Session, client: str = CLIENT, service: str = SERVICE, later: bool = False, had: bool = False) -> None:
-    """What the book of the end has. `had`: the client was met with two more references."""
+def play(s: Session, client: str = CLIENT, service: str = SERVICE, later: int = 0, had: bool = False,
+         ended: bool = False, absent: bool = False) -> None:
+    """What the book of the end has. `later`: so many of both go on after it; `had`: the client was met with two more
+    references; `ended`: both have ended before; `absent`: the book has neither."""
     if had:
         s.books("begin", of_200=ref(1, 2), of_100="")
         s.wait(200)
@@ -34,9 +37,12 @@ def play(s: Session, client: str = CLIENT, service: str = SERVICE, later: bool =
     theirs.main.answered(ours.main.replies())
     ours.main.gets(theirs.main.sends(0, 3))
     s.wait(200)
-    s.books("end", of_200=client, of_100=service)
-    if later:
-        theirs.main.writes(ENTER)
+    if ended:
+        ours.ends()
+        theirs.ends()
+    s.books("end", **({} if ended or absent else {"of_200": client, "of_100": service}))
+    for one in (theirs, ours)[:later]:
+        one.main.writes(ENTER)
     s.wait(10)
 
 
@@ -70,7 +76,10 @@ LINES: list[tuple[dict, str]] = [
      differ("service 100: buffers 2 by the report and 3 by the books")),
     ({"service": SERVICE + buffer(0x7400, 103) + "  " + transaction_of("pending async").replace("102", "103") + "\n"},
      AGREED),
-    ({"later": True}, "The driver's books at the end agree with the report on 1 opening; 1 other cannot be compared."),
+    ({"later": 1}, "The driver's books at the end agree with the report on 1 opening; 1 other cannot be compared."),
+    ({"later": 2}, f"{NOT_COMPARED}: of 2 openings it is not certain what was held then."),
+    ({"ended": True}, f"{NOT_COMPARED}: all processes had ended before the copy of them was made."),
+    ({"absent": True}, f"{NOT_COMPARED}: it is not certain which of the openings in them are those of the capture."),
     ({"had": True, "client": CLIENT.replace(" s 1 ", " s 3 ")}, AGREED),
     ({"had": True}, differ("client 200: handle 1 3 by the report and 1 by the books"))]
 
@@ -138,8 +147,9 @@ def check_copies(folder: pathlib.Path, room: pathlib.Path, fail: Fail) -> None:
     whole = session.capture()
     (room / "cut.cap").write_bytes(whole[:16] + whole[frames_of(whole)[1].place:])
     view(folder, room, "cut.cap", "--side", side, "-o", "cut.html")
-    compare("books of a capture that was cut", says(room / "cut.html", "Met in mid-life, so that what came before is"
-                                                    " not known: client 200, service 100."), True, fail)
+    for due in ("Met in mid-life, so that what came before is not known: client 200, service 100.",
+                f"{NOT_COMPARED}: the capture was cut."):
+        compare(f"books of a capture that was cut: {due!r}", says(room / "cut.html", due), True, fail)
 
 
 # ---- command lines
