@@ -324,9 +324,17 @@ UPDATE finding SET rule = 'H4',
 FROM raw_generation g JOIN most_held m ON m.generation = g.id
 WHERE rule IS NULL AND section = 'handles' AND what = 'held' AND g.id = finding.generation
   AND (m.strong > 1 AND g.strong > 0 OR m.weak > 1 AND g.weak > 0);
--- One handle from each of many is registration, many from one may be a leak.
+-- One handle from each of many is registration, many from one may be a leak. What others keep that get replies to the
+-- same code says more.
+CREATE TEMP TABLE kept_elsewhere AS
+SELECT w.upid, w.way, w.sender, (SELECT group_concat(who || ' keeps ' || kept || ' of ' || n, ', ')
+  FROM (SELECT x.who, o.kept, o.n FROM given_way o JOIN who x USING (upid)
+    WHERE o.way = w.way AND o.sender = w.sender AND o.upid <> w.upid ORDER BY o.n DESC, o.upid LIMIT 4)) AS told
+FROM given_way w WHERE w.kept >= 4;
+CREATE INDEX temp.kept_elsewhere_of ON kept_elsewhere(upid, way);
 UPDATE finding SET rule = 'H5', code = g.code,
-  path = g.way || iif(g.reply, '', ' from ' || (SELECT who FROM who WHERE who.upid = g.sender))
+  path = g.way || iif(g.reply, '', ' from ' || (SELECT who FROM who WHERE who.upid = g.sender)),
+  note = (SELECT e.told FROM kept_elsewhere e WHERE g.reply AND (e.upid, e.way, e.sender) = (g.upid, g.way, g.sender))
 FROM given g JOIN given_way w ON w.upid = g.upid AND w.way = g.way AND w.sender IS g.sender
 WHERE rule IS NULL AND section = 'handles' AND what = 'held' AND g.generation = finding.generation
   AND w.kept >= 4 AND w.kept >= 0.8 * w.n AND coalesce(g.asked, 1) <> 0 AND (g.reply OR g.sender NOTNULL)

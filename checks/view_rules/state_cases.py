@@ -112,12 +112,20 @@ def handles_and_nodes(s):
 @case("H5:4", "given by replies to code 5 of server 300 node 0x9000", kept=4, let_go=0)
 @case("", kept=3, let_go=0)
 @case("H5:4", kept=4, let_go=1)
+@case("H5:4", "other 400 keeps 1 of 3", kept=4, let_go=1, others=3)
 @case("", kept=4, let_go=2)
-def sessions_kept(s, kept, let_go):
-    _, client, server = with_server(s)
+def sessions_kept(s, kept, let_go, others=0):
+    """A client keeps what replies gave it, or some of it; another one lets go of all but one."""
+    manager, client, server = with_server(s)
     for handle in range(2, 2 + kept + let_go):
         client.main.is_given(server.main, handle, via=1, ptr=0x9000)
     client.main.writes(*each(BC_RELEASE, *range(2, 2 + let_go)))
+    if others:
+        other = s.process(400, "other")
+        other.main.is_given(manager.main, 1, server_handle=3)
+        for handle in range(2, 2 + others):
+            other.main.is_given(server.main, handle, via=1, ptr=0x9000, node=0xA00 + 0x100 * handle)
+        other.main.writes(*each(BC_RELEASE, *range(2, 1 + others)))
     s.wait(300)
 
 
