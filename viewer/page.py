@@ -1,6 +1,7 @@
 """The page of a capture: the answers of queries over its database, as HTML that needs no network and no script."""
 
 import base64
+import functools
 import hashlib
 import html
 import json
@@ -24,8 +25,8 @@ FOLDER = pathlib.Path(__file__).resolve().parent
 # The most rows of a block, findings of a group and lanes of a page. The rest is counted.
 ROWS, FINDINGS, LANES = 1000, 100, 300
 
-# The frames of a stack that are not folded, and the most stacks of a group.
-FRAMES, STACKS = 12, 4
+# The frames of a stack that are not folded, the most stacks of a group, and the most functions that others have.
+FRAMES, STACKS, INSTEAD = 12, 4, 4
 
 VERDICTS = ("real", "maybe", "explained", "normal")
 
@@ -317,6 +318,34 @@ class Page:
                           for line, bold in lane_of(self.database, self.names, *at))
         return f'<p class="of">What its thread did around place {at[1]}:</p><pre class="lane" tabindex=0>{lines}</pre>'
 
+    @functools.cached_property
+    def freed(self) -> dict[int, Counter[int]]:
+        """For each group of buffers that were not freed, the stacks of others of their paths that were."""
+        found: dict[int, Counter[int]] = {}
+        for group, stack, count in self.asked("freed_stacks"):
+            found.setdefault(group, Counter())[stack] = count
+        return found
+
+    def apart(self, group: int, kept: Counter[int]) -> str:
+        """Which function tells the stacks of a group of buffers from those of others of their path that were freed."""
+        freed = self.freed.get(group)
+        if freed is None:
+            return ""
+        others = f"{counted(freed.total(), 'other')} of this path that the same process freed"
+        if (one := self.stacks.difference(kept, freed)) is None:
+            return f'<p class="of">The stacks of the {others} have the same functions.</p>'
+        said = [f"{number_of(count)} {'has' if count == 1 else 'have'} {self.short(frame)}"
+                for frame, count in one.instead[:INSTEAD]]
+        left = len(one.instead) - len(said)
+        more = f"; and {counted(left, 'other function')}" if left else ""
+        told = f"; in its place {', '.join(said)}{more}" if said else ""
+        return (f'<p class="of"><b>{self.short(one.frame)}</b> is in the stacks of {number_of(one.first)} of these'
+                f" {number_of(kept.total())}, and of {number_of(one.second)} of the {others}{told}.</p>")
+
+    def short(self, frame: Frame) -> str:
+        """The name of a function in a file, or else its place there."""
+        return name_of(frame.function or f"{frame.file}+0x{frame.address or 0:x}")
+
     def frame(self, frame: Frame) -> str:
         """A function of a stack, or the place in a file."""
         file = name_of(frame.file) if frame.path else "code in no file" if frame.path == "" else "not mapped"
@@ -355,7 +384,9 @@ class Page:
             shown[shapes[at]] = (f"<details><summary>The {head}</summary>{self.frames(stack)}</details>" if shown
                                  else f'<p class="of">The {head}:</p>{self.frames(stack)}')
         left = len(how_often.keys() - shown.keys())
-        return "".join(shown.values()) + (f'<p class="of">and {counted(left, "other stack")}</p>' if left else "")
+        more = f'<p class="of">and {counted(left, "other stack")}</p>' if left else ""
+        apart = self.apart(group, Counter(rows[at][2] for at in firsts)) if rows else ""
+        return apart + "".join(shown.values()) + more
 
     def groups(self, *verdicts: str) -> str:
         """The groups of some verdicts, one after another."""

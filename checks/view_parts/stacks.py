@@ -14,6 +14,7 @@ from typing import NamedTuple
 
 from view_parts.common import DRIVER, Fail, compare
 from view_parts.reports import shown_of
+from view_rules.session import Session
 from viewer import symbols
 
 # Two functions of a program, one of which is put into the other, and one that is called by a hostile name.
@@ -238,8 +239,58 @@ def check_recorded(folder: pathlib.Path, room: pathlib.Path, fail: Fail) -> None
         compare(f"{name}: the most functions of a stack", max(open_frames(shown.read_text())), most, fail)
 
 
+def play_freed(program: Program, refreshed: int, printed: int) -> Session:
+    """Four replies to one code are never freed; refresh_settings asked for all of them. Others are freed that it asked
+    for, and some that another function asked for: it is called by the hostile name. So are such of another process, and
+    a reply to another code."""
+    s = Session()
+    service, client = s.two()
+    other = s.process(300, "other")
+    s.tell(f"map 1 pid=200 start=0x{FIRST:x} end=0x{FIRST + 2**20:x} offset=0x0 address=0x0"
+           f" build-id={program.build_id} name=/lib/libleak.so")
+    s.tell(f"map 1 pid=200 start=0x{PLAIN:x} end=0x{PLAIN + 2**20:x} offset=0x0 address=- build-id=- name=/libplain.so")
+    for stack, name in (1, "refresh_settings"), (2, HOSTILE):
+        within = [PLAIN + 0x100, *(FIRST + program.inside[one] for one in (name, "main")), 0x90 + stack]
+        s.tell(f"stack {stack} memory=1 pid=200 pcs=" + ",".join(f"0x{pc:x}" for pc in within))
+    for thread, stack, code, times, free in ((client, 1, 7, 4, False), (client, 1, 7, refreshed, True),
+                                             (client, 2, 7, printed, True), (other, 2, 7, 5, True),
+                                             (client, 2, 8, 5, True)):
+        s.with_stack(stack)
+        for _ in range(times):
+            thread.main.asks(service.main, code, free=free)
+    s.wait(300)
+    return s
+
+
+def check_freed(folder: pathlib.Path, room: pathlib.Path, program: Program, fail: Fail) -> None:
+    """The page says which function tells the stacks of what was not freed from those of others of that path, of the
+    same process, that were freed."""
+    place, other = (f"libleak.so+0x{program.inside[name]:x}" for name in ("refresh_settings", HOSTILE))
+    shown = "".join("U+202E" if one == "\u202e" else one for one in HOSTILE).replace("<", "&lt;").replace(">", "&gt;")
+    for number, (refreshed, printed, words, due) in enumerate((
+            (1, 3, (), f"{place} is in the stacks of 4 of these 4, and of 1 of the 4 others of this path that the same"
+                       f" process freed; in its place 3 have {other}."),
+            (0, 1, (), f"{place} is in the stacks of 4 of these 4, and of 0 of the 1 other of this path that the same"
+                       f" process freed; in its place 1 has {other}."),
+            (2, 0, (), "The stacks of the 2 others of this path that the same process freed have the same functions."),
+            (0, 0, (), ""),
+            (1, 3, ("--symbols", program.path.parent),
+             "keep_reply is in the stacks of 4 of these 4, and of 1 of the 4 others of this path that the same process"
+             f" freed; in its place 3 have {shown}."))):
+        session = play_freed(program, refreshed, printed)
+        (room / f"freed-{number}.cap").write_bytes(session.capture())
+        (room / f"freed-{number}.side").write_text(session.side())
+        made = room / f"freed-{number}.html"
+        subprocess.run([folder / "view", room / f"freed-{number}.cap", "--side", room / f"freed-{number}.side", "-o",
+                        made, *words], cwd=room, check=True)
+        told = [line for line in text_of(made).replace("</p>", "\n").splitlines() if "the same process freed" in line]
+        compare(f"freed: {refreshed} and {printed} others, {words}", [due in line for line in told], [True] * bool(due),
+                fail)
+
+
 def check_stacks(folder: pathlib.Path, room: pathlib.Path, fail: Fail) -> None:
     program, seqs = built_program(room), calls_of(folder, room)
+    check_freed(folder, room, program, fail)
     check_recorded(folder, room, fail)
     check_page(folder, room, program, seqs, fail)
     check_symbols(folder, room, program, seqs, fail)
