@@ -18,7 +18,7 @@ CREATE TABLE rule(id TEXT PRIMARY KEY, verdict TEXT NOT NULL, text TEXT NOT NULL
 INSERT INTO rule VALUES
   ('A1', 'explained', 'The other end, or the buffer, of a call: one finding with it.'),
   ('M1', 'explained', 'Frames of its process are missing, and the one that it lacks may be among them.'),
-  ('M2', 'maybe', 'It has lasted as what is real does, but frames of its process are missing.'),
+  ('M2', 'maybe', 'It has lasted as what is real does, but frames of its process, or of whom it calls, are missing.'),
   ('M3', 'maybe', 'An error reply ended a send, and it need not be this one: frames of its process are missing.'),
   ('P1', 'explained', 'Not all that came before is known: before the capture, or in data that it does not have.'),
   ('P2', 'explained', 'It began before the recording: the driver had it in its books then.'),
@@ -119,7 +119,9 @@ UPDATE finding SET rule = 'U1' WHERE rule IS NULL AND section IN ('calls', 'serv
 UPDATE finding SET rule = iif(upid IN (SELECT upid FROM lossy), 'M2', 'C6')
 WHERE rule IS NULL AND finding.id IN (SELECT id FROM old) AND finding.id IN (SELECT w.id FROM waited w WHERE w.by_pool)
   AND EXISTS (SELECT 1 FROM finding q JOIN old o ON o.id = q.id WHERE q.rule = 'C7' AND q.age > 1000000000);
-UPDATE finding SET rule = iif(upid IN (SELECT upid FROM lossy), 'M2', 'U2')
+-- If frames of its target are missing, it may wait for another call there.
+UPDATE finding SET rule = iif(upid IN (SELECT upid FROM lossy) OR coalesce(target, 0) IN (SELECT upid FROM lossy), 'M2',
+  'U2')
 WHERE rule IS NULL AND section IN ('calls', 'served') AND what = 'open' AND n_good >= 3
   AND coalesce(age > max(100000000, 10 * longest), age_seq > 10 * longest_seq);
 UPDATE finding SET rule = 'U6' WHERE rule IS NULL AND section IN ('calls', 'served') AND what = 'open' AND later = 0

@@ -423,13 +423,15 @@ def few_frames(s, wait, held):
 @case("U2:1 A1:2", good=3, took=100, wait=1100)
 @case("U6:1 A1:2", good=3, took=100, wait=900)
 @case("C4:1 A1:2", good=2, took=100, wait=1100)
-@case("M2:1 A1:2", good=3, took=100, wait=1100, lost=True)
-def slow_answers(s, good, took, wait, lost=False):
+@case("M2:1 A1:2", good=3, took=100, wait=1100, lost=1)
+@case("M2:1 A1:2", good=3, took=100, wait=1100, lost=0)
+def slow_answers(s, good, took, wait, lost=None):
+    """A call takes long. `lost`: a frame of the service, 0, or of the client, 1, is lost."""
     service, client = s.two()
     for _ in range(good):
         client.main.asks(service.main, took=took)
-    if lost:
-        s.loses(client)
+    if lost is not None:
+        s.loses((service, client)[lost])
     service.main.gets(client.main.sends(0, 1))
     s.wait(wait)
 

@@ -13,4 +13,4 @@ FROM (SELECT 1 FROM kept LIMIT 1) CROSS JOIN raw_delivery d CROSS JOIN raw_threa
   CROSS JOIN kept k ON k.upid = t.upid AND k.reply = (d.call NOTNULL) AND k.code = iif(k.reply, c.code, r.code)
     AND iif(k.reply, k.target IS n.upid AND iif(k.target IS NULL, c.handle = k.handle, n.ptr = k.ptr), r.ptr = k.ptr)
   JOIN raw_record w ON w.place = coalesce(d.call, v.closer) JOIN side_call x ON x.seq = w.seq
-WHERE d.freed_by NOTNULL GROUP BY 1, 2
+WHERE d.freed_by NOTNULL AND t.upid IN (SELECT upid FROM kept) GROUP BY 1, 2
