@@ -47,11 +47,13 @@ ROOTS, the definitions that this names, those that they name, and so on to the e
 proofs show that the program does what these definitions say. Whether they say what you mean, no proof can show: that
 you must read.
 
-Each definition is given by its comment, which says it in words, and its text, which is what counts. The two should say
-the same. A chapter goes from the whole to its parts: in it, a definition comes before those that it names. A heading
-names a file of `specs/` in a crate, for the definitions below it. A type or a constant of the code, from `src/`, comes
-after the first definition that names it. There a number of any width stands for a number without bounds, and `Vec<T>`
-for `List T`. The words of the toolchain come last. `checks/definitions.py` makes this page from the sources.
+Each definition has its comment before it, which says it in words. What counts is its text. The two should say the same.
+A chapter goes from the whole to its parts: in it, a definition comes before those that it names. A heading names a file
+of `specs/` in a crate, for the definitions below it. A type or a constant of the code, from `src/`, comes after the
+first definition that names it. There a number of any width means a number without bounds, and `Vec<T>` means `List T`.
+A case may have the name of a case of another type, or of a type: the type at hand tells which is meant. Only what the
+headline needs is shown; the sentence under a heading may speak of more of its file. The words of the toolchain come
+last. `checks/definitions.py` makes this page from the sources.
 
 | sign | what it says |
 |---|---|
@@ -61,19 +63,22 @@ for `List T`. The words of the toolchain come last. `checks/definitions.py` make
 | `let x = a in e` | e, where x is a |
 | `elim x [ \| p ↦ a \| q ↦ b ]` | a if x is p, and b if x is q |
 | `P : A → Type 0` | P is a statement about an A, which is true or not |
-| `a ≡ b`, `a ≢ b` | a is b; a is not b |
-| `P × Q`, `P ⊎ Q`, `¬ P`, `P → Q` | P and Q; P or Q, or both; not P; if P, then Q |
+| `a ≡ b` | a is b |
+| `P × Q`, `P → Q` | P and Q; if P, then Q |
 | `(x : A) → P`, `(x : A) × P` | for each x of A, P; for some x of A, P |
-| `⊤` or `Unit {0}`, and `⊥` | what is always true, by `tt`; what is never true |
+| `⊤`, `⊥` | what is always true; what is never true |
+| `Unit {0}` | the type that has only `tt` |
 | `A × B`, `(a, b)`, `p.0`, `p.1` | the type of pairs, a pair, and the two parts of a pair |
+| `T : Type 0` | T is a type |
 | `{A : Type 0}` | for each type A; which one is meant is seen from the rest |
 | `record` | a type with these fields; as a statement: there is something for each field |
-| `p.a`, `record p { a = b }` | the field a of p; p, but with b as its field a |
+| `p.a`, `record { a = b }` | the field a of p; what has b as its field a |
 | `data` | a type with these cases; as a statement: it is true in each of these cases, and in no other |
 | `[]`, `x ∷ xs`, `xs ++ ys` | the empty list; x and then the list xs; the list xs and then the list ys |
 | `a - b`, `a / b`, `a % b` | of `ℕ`: the difference, or 0 if b is larger; the quotient, rounded down; the rest |
 | `a -ℤ b` | the difference, of `ℤ` |
 | `a == b`, `a && b`, `a \|\| b` | a is b; a and b; a or b: as a `Bool` that is computed |
+| `requires { P }`, `ensures { Q }` | the caller sees to P; after the call Q is true, where `result` is what it returned |
 | `x.old`, `x.new`, `v.items` | in a contract: x before the call and after it; the elements of a `Vec` |
 """
 
@@ -105,7 +110,7 @@ WORDS = {
     "int_min": "the lesser of two numbers of `ℤ`",
     "is_some": "whether there is a value",
     "keys_of": "the first part of each pair",
-    "last_or": "the last element, or the given one if the list is empty",
+    "last_or": "the last element, or what is given if the list is empty: some element or none",
     "length": "how many elements a list has",
     "list_any": "whether some element passes the test",
     "little_number": "the number in the first n bytes, the lowest first",
@@ -128,7 +133,7 @@ WORDS = {
     "sum_by": "the sum of the numbers that are made of the elements",
     "take": "the first n elements, or all if there are fewer",
     "then_cmp": "by the first order, and by the second where the first has `Equal`",
-    "twos_complement": "the signed number that this number of n bytes stands for",
+    "twos_complement": "the signed number that has this number of n bytes as its two's complement",
     "unwrap_or": "the value, or the given one if there is none",
     "vec_len": "how many elements a `Vec` has",
 }
@@ -209,7 +214,7 @@ def declared_in(crate, file, name):
         line = rest[:rest.index("\n")]
         model = re.search(rf"(?s)\bModel for {name}\b.*?\bValue = {{ (.*?) }};", rest)
         text = members(rest[:rest.index("\n}")]) if line.endswith("{") and not model else line.rstrip(" {;")
-        text += f"  // stands for {model[1]}" if model else ""
+        text += f"  // means {model[1]}" if model else ""
     return Definition(crate, file, name, plain(head[1]), text)
 
 
@@ -464,11 +469,12 @@ def linked(comment):
 
 
 def shown(one):
-    """The lines of a definition: its name and comment, then its text."""
-    of = f", of `{one.crate}/src/{one.file}`" if one.is_declared() else ""
-    says = f": {linked(one.comment)}" if one.comment else ""
-    comment = textwrap.wrap(f"**`{one.name}`**{of}{says}", WIDTH, break_long_words=False, break_on_hyphens=False)
-    return [*comment, "", *textwrap.indent(one.text, "    ").splitlines(), ""]
+    """The lines of a definition: its comment, then its text."""
+    of = f"of {one.crate}/src/{one.file}: " if one.is_declared() else ""
+    mark = "    -- "
+    comment = textwrap.wrap(f"{of}{one.comment}", WIDTH, initial_indent=mark, subsequent_indent=mark,
+                            break_long_words=False, break_on_hyphens=False)
+    return [*comment, *textwrap.indent(one.text, "    ").splitlines(), ""]
 
 
 def chapter_lines(title, ordered):

@@ -2,14 +2,12 @@
 use Rattle.std.proofs.Common.{◌≡◌, ◌+◌, ◌<◌, ◌≤◌, ◌^◌, inl, inr, ℕ, Bool, true, false, cond, List, [], ◌∷◌, ◌++◌, length, map, filter, get_or, sym, ap, subst, ◌∙◌, append-nil, length-append, arith}
 use Rattle.std.proofs.Math.ListN.{set}
 use Rattle.std.proofs.lemmas.Bool.{cases_eq}
-use Rattle.std.proofs.lemmas.List.{get_or-set_same, get_or-set_other, map-append}
+use Rattle.std.proofs.lemmas.List.{get_or-set_same, get_or-set_other, length-map, map-append}
 use Rattle.std.proofs.lemmas.List.Sums.{sum_by-append, count_by-le-length, length-filter}
 use Rattle.std.proofs.lemmas.List.Elements.{filter-append}
 use Rattle.binder_code.specs.Commands.{is_word_of}
 use Rattle.binder_code.specs.declared.record_kind.Kind.{Kind}
 use Rattle.summary_law.specs.Fits.{IsShort}
-use Rattle.summary_law.specs.Tally.{AreWeighted}
-use Rattle.summary_law.proofs.TallyLaws.{weighted_map}
 use Rattle.audit_findings.specs.declared.codes.CodeRow.{CodeRow}
 use Rattle.audit_findings.specs.CodeCounts.{IsKindRow, CountListed, is_opaque_word, no_record, word_item}
 use Rattle.audit_findings.specs.RecordCounts.{times}
@@ -98,8 +96,9 @@ no_item words word not =
     items-append words (word ∷ []) ∙ ap (λ (t : List (ℕ × ℕ)). opaque_items words ++ t) none ∙ append-nil (opaque_items words)
 
 -- the opaque ones among few words can be tallied
-pub weighted_items : (words : List ℕ) → IsShort words → AreWeighted (opaque_items words)
-weighted_items words short =
+pub opaque_few : (words : List ℕ) → IsShort words → IsShort (opaque_items words)
+opaque_few words short =
     let long = length-filter is_opaque_word words in
     let fewer = count_by-le-length is_opaque_word words in
-    weighted_map word_item (λ w. omega arith) (filter is_opaque_word words) (omega (arith, long, fewer, short))
+    let made = length-map (filter is_opaque_word words) word_item in
+    omega (arith, long, fewer, made, short)

@@ -22,7 +22,7 @@ use Rattle.binder_code.specs.Commands.{is_word_of}
 use Rattle.binder_code.specs.declared.record_kind.Kind.{Kind}
 use Rattle.summary_law.proofs.Members.{In, Rises, contained, in-map, in_list, map-in, rises-map, rises_sorted}
 use Rattle.summary_law.proofs.SortedLaws.{rows_are}
-use Rattle.summary_law.specs.Tally.{count_of, AreTallyRows, IsTallyRow}
+use Rattle.summary_law.specs.Tally.{count_of_key, AreTallyRows, IsTallyRow}
 use Rattle.audit_findings.specs.declared.code_counts.CodeCounts.{CodeCounts}
 use Rattle.audit_findings.specs.declared.codes.CodeRow.{CodeRow}
 use Rattle.audit_findings.specs.CodeCounts.{CountListed, CountWords, IsKindRow, has_records, is_opaque_word, no_record, row_of, word_item}
@@ -76,20 +76,20 @@ same_key key word = elim (cases_eq word key) [
 
 -- how many items of a word there are in a tally of words
 one_more : (key word : ℕ) (words : List ℕ) (b : Bool) → eq_by_cmp nat_cmp key word ≡ b → eqb word key ≡ b
-    → count_of nat_cmp key (map word_item words) ≡ count_by (λ w. eqb w key) words
-    → count_of nat_cmp key (map word_item (word ∷ words)) ≡ count_by (λ w. eqb w key) (word ∷ words)
+    → count_of_key nat_cmp key (map word_item words) ≡ count_by (λ w. eqb w key) words
+    → count_of_key nat_cmp key (map word_item (word ∷ words)) ≡ count_by (λ w. eqb w key) (word ∷ words)
 one_more key word words true found is others =
     let split = sum_by-append (λ (x : ℕ). cond (eqb x key) 1 0) (word ∷ []) words in
     let first : sum_by (λ (x : ℕ). cond (eqb x key) 1 0) (word ∷ []) ≡ 1 = rw is refl in
-    let item : count_of nat_cmp key (map word_item (word ∷ words)) ≡ 1 + count_of nat_cmp key (map word_item words) = rw found (omega arith) in
+    let item : count_of_key nat_cmp key (map word_item (word ∷ words)) ≡ 1 + count_of_key nat_cmp key (map word_item words) = rw found (omega arith) in
     omega (arith, split, first, item, others)
 one_more key word words false found is others =
     let split = sum_by-append (λ (x : ℕ). cond (eqb x key) 1 0) (word ∷ []) words in
     let first : sum_by (λ (x : ℕ). cond (eqb x key) 1 0) (word ∷ []) ≡ 0 = rw is refl in
-    let item : count_of nat_cmp key (map word_item (word ∷ words)) ≡ count_of nat_cmp key (map word_item words) = rw found refl in
+    let item : count_of_key nat_cmp key (map word_item (word ∷ words)) ≡ count_of_key nat_cmp key (map word_item words) = rw found refl in
     omega (arith, split, first, item, others)
 
-items_of_word : (key : ℕ) (words : List ℕ) → count_of nat_cmp key (map word_item words) ≡ count_by (λ w. eqb w key) words
+items_of_word : (key : ℕ) (words : List ℕ) → count_of_key nat_cmp key (map word_item words) ≡ count_by (λ w. eqb w key) words
 items_of_word key [] = refl
 items_of_word key (word ∷ words) = one_more key word words (eqb word key) (same_key key word) refl (items_of_word key words)
 
@@ -180,7 +180,7 @@ module _ (words : List ℕ) where
   opaque = filter is_opaque_word words
 
   abbrev Comes : ℕ → Type 0
-  Comes key = 0 < count_of nat_cmp key (map word_item opaque)
+  Comes key = 0 < count_of_key nat_cmp key (map word_item opaque)
 
   comes_opaque : (key : ℕ) → Comes key → is_opaque_word key ≡ true
   comes_opaque key came =

@@ -11,7 +11,7 @@ use Rattle.std.proofs.lemmas.Option.{get_or_from_slice_get}
 use Rattle.capture_frame.specs.Envelope.{PlacedFrame}
 use Rattle.capture_frame.specs.Lookup.{AreApart, IsSplitAt, span_of}
 use Rattle.event_core.specs.Events.{EventRead, events_of, events_of_frames}
-use Rattle.event_core.specs.Reading.{entry_attachment}
+use Rattle.transaction_view.specs.State.{placed_entry}
 use Rattle.transaction_view.specs.Grammar.{IsGood}
 use Rattle.transaction_view.specs.declared.entry.Entry.{Entry}
 use Rattle.audit_findings.specs.Entries.{AddsEntries, AreChosen, AreEntriesAt, ShowAttachments, carried_by, list_bytes}
@@ -87,7 +87,7 @@ read_none frames ahead places entries all none = record {
   are = sym all;
   few = let no_bytes = ap list_bytes none in omega (arith, no_bytes);
   told = λ choice chosen.
-      (chosen ∙ append-nil (places_of (chosen_in choice frames)) ∙ ap (λ fs. places_of (chosen_in choice fs)) (sym all), ap (map entry_attachment) none);
+      (chosen ∙ append-nil (places_of (chosen_in choice frames)) ∙ ap (λ fs. places_of (chosen_in choice fs)) (sym all), ap (map placed_entry) none);
 }
 
 module _ (frames : List PlacedFrame) (places : List ℕ) (ahead : List PlacedFrame) (left : List ℕ) (entries : List Entry) (good : AreGoodFrames frames)

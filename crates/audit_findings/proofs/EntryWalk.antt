@@ -8,8 +8,11 @@ use Rattle.std.proofs.lemmas.List.Elements.{All-append, All-filter, All-head, Al
 use Rattle.std.proofs.lemmas.List.Sums.{sum_by-append}
 use Rattle.capture_frame.specs.Envelope.{PlacedFrame}
 use Rattle.capture_frame.specs.Lookup.{span_of}
-use Rattle.event_core.specs.Events.{AttachmentText, EventRead, events_of}
-use Rattle.event_core.specs.Reading.{entry_attachment, event_text}
+use Rattle.capture_frame.specs.Units.{Placed}
+use Rattle.transaction_view.specs.Attachments.{EntryText}
+use Rattle.transaction_view.specs.State.{placed_entry}
+use Rattle.event_core.specs.Events.{EventRead, events_of}
+use Rattle.event_core.specs.Reading.{event_text}
 use Rattle.event_core.specs.declared.event.Event.{Event}
 use Rattle.event_core.proofs.FrameEvents.{events_rise, events_within, lists_fit}
 use Rattle.summary_law.specs.Fits.{PlacesRise, all_halves, rising_halves}
@@ -35,13 +38,13 @@ abbrev list_long : Entry → ℕ
 list_long entry = length entry.offsets.now
 
 one_carried : (e : Event) (entry : Option Entry) → e.entry ≡ entry
-    → (map entry_attachment (entry_list entry) ≡ carried_by (event_text e ∷ [])) × (list_bytes (entry_list entry) ≡ offset_bytes_of (event_text e))
+    → (map placed_entry (entry_list entry) ≡ carried_by (event_text e ∷ [])) × (list_bytes (entry_list entry) ≡ offset_bytes_of (event_text e))
 one_carried e None is =
     let none : carried_by (event_text e ∷ []) ≡ [] = rw is refl in
     let no_bytes : offset_bytes_of (event_text e) ≡ 0 = rw is refl in
     (sym none, sym no_bytes)
 one_carried e (Some entry) is =
-    let one : carried_by (event_text e ∷ []) ≡ entry_attachment entry ∷ [] = rw is refl in
+    let one : carried_by (event_text e ∷ []) ≡ placed_entry entry ∷ [] = rw is refl in
     let bytes : offset_bytes_of (event_text e) ≡ length entry.offsets.now = rw is refl in
     (sym one, omega (arith, bytes))
 
@@ -54,7 +57,7 @@ pub record IsRead (old : List Entry) (frame : PlacedFrame) (places : List ℕ) (
   pub are : events_of frame ≡ done ++ ahead
   pub grows : list_bytes new ≤ list_bytes old + sum_by offset_bytes_of done
   pub told : (choice : EventRead → Bool) (others : List ℕ) → All (λ p. frame.place + span_of frame ≤ p) others → AreChosen choice (events_of frame) others places
-      → (left ≡ places_of (filter choice ahead) ++ others) × ShowAttachments new (map entry_attachment old ++ carried_by (filter choice done))
+      → (left ≡ places_of (filter choice ahead) ++ others) × ShowAttachments new (map placed_entry old ++ carried_by (filter choice done))
 
 pub none_read : (entries : List Entry) (frame : PlacedFrame) (places : List ℕ) (ahead : List EventRead) → ahead ≡ events_of frame
     → IsRead entries frame places ahead entries places
@@ -63,7 +66,7 @@ none_read entries frame places ahead is = record {
   are = sym is;
   grows = omega arith;
   told = λ choice others after chosen.
-      (chosen ∙ ap (λ es. places_of (filter choice es) ++ others) (sym is), sym (append-nil (map entry_attachment entries)));
+      (chosen ∙ ap (λ es. places_of (filter choice es) ++ others) (sym is), sym (append-nil (map placed_entry entries)));
 }
 
 module _ (old middle : List Entry) (frame : PlacedFrame) (places left : List ℕ) (ahead rest : List EventRead) (found : Event)
@@ -119,10 +122,10 @@ module _ (old middle : List Entry) (frame : PlacedFrame) (places left : List ℕ
             (left_is ∙ ap (λ es. places_of es ++ others) (kept_first choice E rest yes)) in
             let kept : filter choice (done ++ E ∷ []) ≡ before ++ E ∷ [] = filter_more choice ∙ ap (λ es. before ++ es) (kept_first choice E [] yes) in (
               same.1,
-              ap (map entry_attachment) added ∙ map-append entry_attachment middle (entries_in found)
-                  ∙ ap₂ (λ (us vs : List AttachmentText). us ++ vs) i.1 one.0
-                  ∙ append_assoc (map entry_attachment old) (carried_by before) (carried_by (E ∷ []))
-                  ∙ ap (λ us. map entry_attachment old ++ us) (sym (filter_map-append (λ (e : EventRead). e.entry) before (E ∷ [])) ∙ ap carried_by (sym kept)),
+              ap (map placed_entry) added ∙ map-append placed_entry middle (entries_in found)
+                  ∙ ap₂ (λ (us vs : List (Placed EntryText)). us ++ vs) i.1 one.0
+                  ∙ append_assoc (map placed_entry old) (carried_by before) (carried_by (E ∷ []))
+                  ∙ ap (λ us. map placed_entry old ++ us) (sym (filter_map-append (λ (e : EventRead). e.entry) before (E ∷ [])) ∙ ap carried_by (sym kept)),
             ))
             (λ (no : choice E ≡ false).
             let higher = All-head (λ p. E.place < p) E.place others_left
@@ -150,7 +153,7 @@ module _ (old middle : List Entry) (frame : PlacedFrame) (places left : List ℕ
             let kept : filter choice (done ++ E ∷ []) ≡ before =
             filter_more choice ∙ ap (λ es. before ++ es) (left_out choice E [] no) ∙ append-nil before in (
               left_is ∙ ap (λ es. places_of es ++ others) (left_out choice E rest no),
-              i.1 ∙ ap (λ es. map entry_attachment old ++ carried_by es) (sym kept),
+              i.1 ∙ ap (λ es. map placed_entry old ++ carried_by es) (sym kept),
             ))
             (cases_Bool (choice E));
       }
@@ -172,5 +175,5 @@ module _ (old new : List Entry) (frame : PlacedFrame) (places left : List ℕ) (
   adds_frame choice others after chosen =
       let i = is_read.told choice others after chosen in (
         i.0 ∙ ap (λ es. places_of (filter choice es) ++ others) none,
-        i.1 ∙ ap (λ es. map entry_attachment old ++ carried_by (filter choice es)) (sym all_done),
+        i.1 ∙ ap (λ es. map placed_entry old ++ carried_by (filter choice es)) (sym all_done),
       )

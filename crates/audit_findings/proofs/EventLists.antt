@@ -18,7 +18,7 @@ use Rattle.record_view.specs.Records.{records_of}
 use Rattle.event_core.specs.declared.pending.PendingChange.{PendingChange}
 use Rattle.event_core.specs.declared.pending.PendingChange.TheVariants.{Open, Close}
 use Rattle.event_core.specs.declared.pending.PendingItem.{PendingItem}
-use Rattle.pending_ledger.specs.Pending.{changes_of, closes, is_close, is_left_open, is_open, is_stray}
+use Rattle.pending_ledger.specs.Pending.{changes_of, closes, is_close, is_unclosed_item, was_open, is_stray_item}
 use Rattle.process_ledgers.specs.Items.{KeepsPlace}
 use Rattle.process_ledgers.specs.Processes.{process_of_placed, processes_of}
 use Rattle.summary_law.specs.Readings.{by_key, chosen, read_all, read_each, with_key}
@@ -29,7 +29,7 @@ use Rattle.summary_law.proofs.ReadingLaws.{chosen-is, read-both, read-made, read
 use Rattle.audit_findings.proofs.TurnLaws.{flat_lists}
 use Rattle.audit_findings.specs.declared.open_and_stray.OpenAndStray.{OpenAndStray}
 use Rattle.audit_findings.specs.Kept.{pairs_at_places, places_of}
-use Rattle.audit_findings.specs.Places.{EventTest, RiseInPlace, either, is_stray_close, is_unclosed, item_is, listed, open_and_stray, places_in}
+use Rattle.audit_findings.specs.Places.{EventTest, RiseInPlace, either, is_stray_close, is_unclosed, item_is, passing_events, open_and_stray, places_in}
 
 abbrev pub place_of_event : EventRead → ℕ
 place_of_event e = e.place
@@ -101,7 +101,7 @@ abbrev beside : EventRead → List EventRead → List EventRead
 beside e others = with_key same_process process_of (process_of e) others
 
 -- the places of listed events rise
-pub listed_rises : (test : EventTest) (events : List EventRead) → RiseInPlace events → Rises place_of_event (listed test events)
+pub listed_rises : (test : EventTest) (events : List EventRead) → RiseInPlace events → Rises place_of_event (passing_events test events)
 listed_rises test events rise =
     read-rises (by_key same_process process_of (chosen test)) place_of_event place_of_event
     (λ b e l y is. ap place_of_event (chosen-is test (beside e b) e (beside e l) y is)) events rise
@@ -109,7 +109,7 @@ listed_rises test events rise =
 -- the lists of all processes, gathered and sorted
 pub lists_sorted : (test : EventTest) (frames : List PlacedFrame) → RiseInPlace (events_of_frames frames) → (lists : List (List ℕ))
     → lists ≡ map (places_in test (events_of_frames frames)) (processes_of frames) → (places : List ℕ)
-    → IsPermutation (flat_map (λ (own : List ℕ). own) lists) places → IsSorted nat_cmp places → places ≡ places_of (listed test (events_of_frames frames))
+    → IsPermutation (flat_map (λ (own : List ℕ). own) lists) places → IsSorted nat_cmp places → places ≡ places_of (passing_events test (events_of_frames frames))
 lists_sorted test frames rise lists are places moved sorted =
     let events = events_of_frames frames in
     let processes = processes_of frames in
@@ -132,8 +132,8 @@ module _ (read : EventRead → Option (PendingItem ℕ)) where
   abbrev Apart : Bool → Bool → Type 0
   Apart first second = (first ≡ false) ⊎ (second ≡ false)
 
-  change_apart : (b l : List (PendingItem ℕ)) (i : PendingItem ℕ) → Apart (is_left_open (eq_by_cmp nat_cmp) b i l) (is_stray (eq_by_cmp nat_cmp) b i l)
-  change_apart b l i = one_way i.change (not (list_any (closes (eq_by_cmp nat_cmp) i.key) l)) (not (is_open (last_or None (changes_of (eq_by_cmp nat_cmp) i.key b))))
+  change_apart : (b l : List (PendingItem ℕ)) (i : PendingItem ℕ) → Apart (is_unclosed_item (eq_by_cmp nat_cmp) b i l) (is_stray_item (eq_by_cmp nat_cmp) b i l)
+  change_apart b l i = one_way i.change (not (list_any (closes (eq_by_cmp nat_cmp) i.key) l)) (not (was_open (last_or None (changes_of (eq_by_cmp nat_cmp) i.key b))))
     where
       one_way : (change : PendingChange) (stays goes : Bool) → Apart (not (is_close change) && stays) (is_close change && goes)
       one_way Open stays goes = inr refl
@@ -143,8 +143,8 @@ module _ (read : EventRead → Option (PendingItem ℕ)) where
   tests_apart b e l =
       let before = filter_map read b in
       let later = filter_map read l in
-      elim (read e) as (λ o. Apart (option_map_or (λ i. is_left_open (eq_by_cmp nat_cmp) before i later) o false)
-      (option_map_or (λ i. is_stray (eq_by_cmp nat_cmp) before i later) o false)) [
+      elim (read e) as (λ o. Apart (option_map_or (λ i. is_unclosed_item (eq_by_cmp nat_cmp) before i later) o false)
+      (option_map_or (λ i. is_stray_item (eq_by_cmp nat_cmp) before i later) o false)) [
         | None ↦ inl refl
         | Some i ↦ change_apart before later i
       ]
@@ -161,9 +161,9 @@ module _ (read : EventRead → Option (PendingItem ℕ)) where
 
   -- the unclosed opens followed by the stray closes are all of both, but for the order
   both_listed : (events : List EventRead)
-      → IsPermutation (listed (is_unclosed read) events ++ listed (is_stray_close read) events) (listed (either (is_unclosed read) (is_stray_close read)) events)
+      → IsPermutation (passing_events (is_unclosed read) events ++ passing_events (is_stray_close read) events) (passing_events (either (is_unclosed read) (is_stray_close read)) events)
   both_listed events =
-      subst (IsPermutation (listed (is_unclosed read) events ++ listed (is_stray_close read) events))
+      subst (IsPermutation (passing_events (is_unclosed read) events ++ passing_events (is_stray_close read) events))
       (ap (λ (r : List EventRead → EventRead → List EventRead → Option EventRead). read_each r [] events)
       (λ i b e l. chosen_either (is_unclosed read (beside e b) e (beside e l)) (is_stray_close read (beside e b) e (beside e l)) e i))
       (read-both (reads (is_unclosed read)) (reads (is_stray_close read))
@@ -171,13 +171,13 @@ module _ (read : EventRead → Option (PendingItem ℕ)) where
       (tests_apart (beside e b) e (beside e l))) [] events)
 
   -- what is kept of both
-  pub both_kept : (events : List EventRead) → RiseInPlace events → (opens closes rows : List ℕ) → opens ≡ places_of (listed (is_unclosed read) events)
-      → closes ≡ places_of (listed (is_stray_close read) events) → IsPermutation (opens ++ closes) rows → IsSorted nat_cmp rows → (found : OpenAndStray ℕ)
+  pub both_kept : (events : List EventRead) → RiseInPlace events → (opens closes rows : List ℕ) → opens ≡ places_of (passing_events (is_unclosed read) events)
+      → closes ≡ places_of (passing_events (is_stray_close read) events) → IsPermutation (opens ++ closes) rows → IsSorted nat_cmp rows → (found : OpenAndStray ℕ)
       → found.unclosed ≡ length opens → found.strays ≡ length closes → found.rows ≡ rows → found ≡ pairs_at_places (open_and_stray read events)
   both_kept events rise opens closes rows opened closed moved sorted found many_opens many_closes same =
-      let Unclosed = listed (is_unclosed read) events in
-      let Strays = listed (is_stray_close read) events in
-      let all = listed (either (is_unclosed read) (is_stray_close read)) events in
+      let Unclosed = passing_events (is_unclosed read) events in
+      let Strays = passing_events (is_stray_close read) events in
+      let all = passing_events (either (is_unclosed read) (is_stray_close read)) events in
       let parts : opens ++ closes ≡ places_of (Unclosed ++ Strays)
       = ap (λ (t : List ℕ). t ++ closes) opened ∙ ap (λ (t : List ℕ). places_of Unclosed ++ t) closed
       ∙ sym (map-append place_of_event Unclosed Strays) in

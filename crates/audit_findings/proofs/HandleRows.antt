@@ -22,7 +22,7 @@ use Rattle.summary_law.proofs.Members.{In, Rises, in_middle, rises_from_pairs, s
 use Rattle.summary_law.proofs.ReadingLaws.{chosen-is, read-at, read-rises}
 use Rattle.audit_findings.specs.declared.in_turn.ProcessRow.{ProcessRow}
 use Rattle.audit_findings.specs.Entries.{AreChosen}
-use Rattle.audit_findings.specs.Places.{EventTest, RiseInPlace, listed_in, places_in}
+use Rattle.audit_findings.specs.Places.{EventTest, RiseInPlace, passing_in, places_in}
 use Rattle.audit_findings.proofs.EventLists.{place_of_event}
 use Rattle.audit_findings.proofs.Kept.{in_kept, kept_in, one_there}
 use Rattle.audit_findings.proofs.Rising.{rising_kept}
@@ -60,7 +60,7 @@ module _ (events : List EventRead) (rise : RiseInPlace events) (some : List Even
       (in_any (λ (other : EventRead). eqb other.place e.place) some e here (eq-eqb e.place e.place refl)))
 
 module _ (test : EventTest) (process : Process) (events : List EventRead) (rise : RiseInPlace events) where
-  pub listed_there : (e : EventRead) → In e (listed_in test process events) → In e events
+  pub listed_there : (e : EventRead) → In e (passing_in test process events) → In e events
   listed_there e here =
       let own = events_in process events in
       let at = read-at (chosen test) [] own e here in
@@ -69,19 +69,19 @@ module _ (test : EventTest) (process : Process) (events : List EventRead) (rise 
       let kept = in_kept (λ (x : EventRead). same_process process (process_of x)) events at.1 among in
       subst (λ (x : EventRead). In x events) (sym is) kept.0
 
-  own_rises : Rises place_of_event (listed_in test process events)
+  own_rises : Rises place_of_event (passing_in test process events)
   own_rises =
       read-rises (chosen test) place_of_event place_of_event (λ b e l y is. ap place_of_event (chosen-is test b e l y is)) (events_in process events)
       (rising_kept place_of_event (λ (x : EventRead). same_process process (process_of x)) events rise)
 
   -- choosing the listed events of a process from all events gives them again
-  pub listed_again : filter (is_among (listed_in test process events)) events ≡ listed_in test process events
-  listed_again = chosen_again events rise (listed_in test process events) own_rises listed_there
+  pub listed_again : filter (is_among (passing_in test process events)) events ≡ passing_in test process events
+  listed_again = chosen_again events rise (passing_in test process events) own_rises listed_there
 
   -- the listed events of a process, chosen from all events
-  pub listed_chosen : AreChosen (is_among (listed_in test process events)) events [] (places_in test events process)
+  pub listed_chosen : AreChosen (is_among (passing_in test process events)) events [] (places_in test events process)
   listed_chosen =
-      let some = listed_in test process events in
+      let some = passing_in test process events in
       ap (map place_of_event) (sym listed_again)
       ∙ sym (append-nil (map place_of_event (filter (is_among some) events)))
 

@@ -1,33 +1,38 @@
 -- The references that attachments hold, and tallies of them.
 use Rattle.std.proofs.Common.{◌≡◌, ℕ, suc, drop, ◌+◌, ◌<◌, ◌^◌, ◌≤◌, List, [], ◌∷◌, ◌++◌, length, map, Some, None, refl, sym, ap, subst, ◌∙◌, append_assoc, length-append, arith, get_or, take}
 use Rattle.std.specs.List.{cons_option, filter_map, flat_map}
-use Rattle.std.specs.Option.{option_map}
+use Rattle.std.specs.Option.{option_map_or}
 use Rattle.std.proofs.lemmas.Grind.{flat_map-append}
-use Rattle.std.proofs.lemmas.List.{append-nil, map-append, take_more}
+use Rattle.std.proofs.lemmas.List.{append-nil, length-map, map-append, take_more}
 use Rattle.std.proofs.lemmas.List.Concat.{flat_map-cons}
 use Rattle.std.proofs.lemmas.List.Elements.{filter_map-append}
 use Rattle.std.proofs.lemmas.List.Sums.{sum_by-append, sum_by-cons}
 use Rattle.std.proofs.Math.Seq.{split_at}
-use Rattle.event_core.specs.Events.{AttachmentText, EventRead}
-use Rattle.event_core.specs.Reading.{entry_attachment}
+use Rattle.capture_frame.specs.Units.{Placed}
+use Rattle.transaction_view.specs.Attachments.{EntryText}
+use Rattle.transaction_view.specs.State.{placed_entry}
+use Rattle.event_core.specs.Events.{EventRead}
 use Rattle.handle_ledger.specs.Held.{Held, held_cmp}
-use Rattle.object_view.specs.Objects.{ObjectText, objects_of}
+use Rattle.object_view.specs.Objects.{ObjectText, no_objects, objects_of}
 use Rattle.object_view.proofs.ObjectLaws.{objects_short}
 use Rattle.summary_law.proofs.ReadLaws.{length-read}
-use Rattle.summary_law.proofs.TallyLaws.{weighted_map}
-use Rattle.summary_law.specs.Tally.{AreWeighted, TallySums}
+use Rattle.summary_law.specs.Fits.{IsShort}
+use Rattle.summary_law.specs.Tally.{TallySums}
 use Rattle.summary_law.specs.declared.tally.Tally.{Tally}
 use Rattle.transaction_view.specs.declared.entry.Entry.{Entry}
 use Rattle.audit_findings.specs.Entries.{carried_by, list_bytes}
 use Rattle.audit_findings.specs.Held.{reference_of, unweighed}
 use Rattle.audit_findings.specs.HeldCounts.{good_in, CountsEntries, CountsHeld, CountsMore, CountsObjects, HasRoom}
-use Rattle.audit_findings.specs.Objects.{Attached, attachments_of, good_objects}
+use Rattle.audit_findings.specs.Objects.{good_objects}
 
 -- ---- one more reference
 
 -- references that there is room for can be tallied
-pub short_unweighed : (held : List Held) → length held ≤ 2 ^ 32 → AreWeighted (unweighed held)
-short_unweighed held short = weighted_map (λ (reference : Held). (reference, 0)) (λ reference. omega arith) held short
+pub short_unweighed : (held : List Held) → length held ≤ 2 ^ 32 → IsShort (unweighed held)
+short_unweighed held short =
+    let pair : Held → Held × ℕ = λ reference. (reference, 0) in
+    let long = length-map held pair in
+    omega (arith, long, short)
 
 -- the last object gives a reference, or none
 pub gives_last : (objects : List ObjectText) (o : ObjectText) (reference : Held) → reference_of o ≡ Some reference
@@ -44,14 +49,14 @@ gives_no_last objects o is =
 
 -- there is room for one more after those of these objects
 pub room_for_last : (held : List Held) (objects : List ObjectText) (reference : Held) (n : ℕ) → length held + n ≤ 2 ^ 32 → length objects + 1 ≤ n
-    → AreWeighted (unweighed (held ++ filter_map reference_of objects) ++ (reference, 0) ∷ [])
+    → IsShort (unweighed (held ++ filter_map reference_of objects) ++ (reference, 0) ∷ [])
 room_for_last held objects reference n room few =
     let more = filter_map reference_of objects in
     let all = held ++ more in
     let long = length-append held more in
     let longer = length-append all (reference ∷ []) in
     let read = length-read reference_of objects in
-    subst AreWeighted (map-append (λ (r : Held). (r, 0)) all (reference ∷ []))
+    subst (λ (items : List (Held × ℕ)). IsShort items) (map-append (λ (r : Held). (r, 0)) all (reference ∷ []))
     (short_unweighed (all ++ reference ∷ []) (omega (arith, long, longer, read, room, few)))
 
 -- the tally with one reference more counts those of the objects with the last one
@@ -122,26 +127,25 @@ module _ (entries : List Entry) (few : list_bytes entries ≤ 2 ^ 32) (i : ℕ) 
 -- ---- the events that own the attachments
 
 -- the good objects of an attachment
-abbrev good_of : AttachmentText → List ObjectText
-good_of a = (objects_of a.body a.offset_bytes).good
+abbrev good_of : Placed EntryText → List ObjectText
+good_of a = (objects_of a.unit.body a.unit.offset_bytes).good
 
-good_shown : (entries : List Entry) → flat_map good_in entries ≡ flat_map good_of (map entry_attachment entries)
+good_shown : (entries : List Entry) → flat_map good_in entries ≡ flat_map good_of (map placed_entry entries)
 good_shown [] = refl
 good_shown (e ∷ entries) =
     flat_map-cons good_in e entries ∙ ap (λ (t : List ObjectText). good_in e ++ t) (good_shown entries)
-    ∙ sym (flat_map-cons good_of (entry_attachment e) (map entry_attachment entries))
+    ∙ sym (flat_map-cons good_of (placed_entry e) (map placed_entry entries))
 
 good_carried : (events : List EventRead) → flat_map good_of (carried_by events) ≡ good_objects events
 good_carried [] = refl
 good_carried (e ∷ events) =
     elim e.entry as (λ o. flat_map good_of (cons_option o (carried_by events))
-    ≡ flat_map (λ (a : Attached). good_of a.attachment) (cons_option (option_map (λ (x : AttachmentText). record { owner = e; attachment = x }) o) (attachments_of events))) [
+    ≡ (option_map_or (λ (a : Placed EntryText). objects_of a.unit.body a.unit.offset_bytes) o no_objects).good ++ good_objects events) [
       | None ↦ good_carried events
-      | Some a ↦ flat_map-cons good_of a (carried_by events) ∙ ap (λ (t : List ObjectText). good_of a ++ t) (good_carried events)
-          ∙ sym (flat_map-cons (λ (x : Attached). good_of x.attachment) (record { owner = e; attachment = a }) (attachments_of events))
+      | Some a ↦ ap (λ (t : List ObjectText). good_of a ++ t) (good_carried events)
     ]
 
 -- entries that show the attachments of events hold what the events hold
-pub held_by_events : (events : List EventRead) (entries : List Entry) → map entry_attachment entries ≡ carried_by events
+pub held_by_events : (events : List EventRead) (entries : List Entry) → map placed_entry entries ≡ carried_by events
     → held_among entries ≡ filter_map reference_of (good_objects events)
 held_by_events events entries show = ap (filter_map reference_of) (good_shown entries ∙ ap (flat_map good_of) show ∙ good_carried events)

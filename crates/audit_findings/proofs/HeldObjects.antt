@@ -19,7 +19,7 @@ use Rattle.audit_findings.specs.Buffers.{is_leaked}
 use Rattle.audit_findings.specs.HandleRows.{held_objects, is_outstanding}
 use Rattle.audit_findings.specs.Held.{held_of_process, reference_of, unweighed}
 use Rattle.audit_findings.specs.Objects.{good_objects, same_sort}
-use Rattle.audit_findings.specs.Places.{RiseInPlace, listed_in}
+use Rattle.audit_findings.specs.Places.{RiseInPlace, passing_in}
 use Rattle.audit_findings.proofs.CodeLaws.{same_key}
 use Rattle.audit_findings.proofs.HandleRows.{is_among, listed_again}
 use Rattle.audit_findings.proofs.KeyRows.{count_read}
@@ -104,7 +104,7 @@ module _ (events : List EventRead) (rise : RiseInPlace events) (process : Proces
   held_among =
       ap (λ (es : List EventRead). filter_map reference_of (good_objects es))
       (sym (listed_again is_leaked process events rise)
-      ∙ filter_same (is_among (listed_in is_leaked process events)) (is_outstanding events process) events (among_leaked events rise process))
+      ∙ filter_same (is_among (passing_in is_leaked process events)) (is_outstanding events process) events (among_leaked events rise process))
 
   held_objects_of : (weak : Bool) (sort : Sort) (handle : ℕ)
       → ((o : ObjectText) → option_map_or (is_to handle weak) (reference_of o) false ≡ (same_sort o.sort sort && eqb (number_at 4 8 o.bytes) handle))

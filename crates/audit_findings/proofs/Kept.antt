@@ -1,8 +1,8 @@
 -- What is kept of a list, and what is in a list that is filtered, joined or rising.
-use Rattle.std.proofs.Common.{◌≡◌, ℕ, ◌+◌, ◌⊎◌, inl, inr, Bool, true, false, cond, List, [], ◌∷◌, ◌++◌, map, Option, Some, None, refl, sym, ap, ◌∙◌, arith}
+use Rattle.std.proofs.Common.{◌≡◌, ℕ, ◌+◌, inl, inr, Bool, true, false, cond, List, [], ◌∷◌, ◌++◌, map, Option, Some, None, refl, sym, ap, ◌∙◌, arith}
 use Rattle.std.specs.Prelude.{count_by, filter}
 use Rattle.std.proofs.lemmas.List.Sums.{sum_by-cons}
-use Rattle.std.specs.List.{cons_option, filter_map, flat_map}
+use Rattle.std.specs.List.{cons_option, filter_map}
 use Rattle.summary_law.proofs.Members.{In, Rises}
 
 pub in_kept : {X : Type 0} (test : X → Bool) (xs : List X) (x : X) → In x (filter test xs) → In x xs × (test x ≡ true)
@@ -77,18 +77,6 @@ in_front x (z ∷ xs) ys (inr there) = inr (in_front x xs ys there)
 pub in_back : {X : Type 0} (x : X) (xs ys : List X) → In x ys → In x (xs ++ ys)
 in_back x [] ys here = here
 in_back x (z ∷ xs) ys here = inr (in_back x xs ys here)
-
-in_either : {X : Type 0} (x : X) (xs ys : List X) → In x (xs ++ ys) → In x xs ⊎ In x ys
-in_either x [] ys here = inr here
-in_either x (z ∷ xs) ys (inl is) = inl (inl is)
-in_either x (z ∷ xs) ys (inr there) = elim (in_either x xs ys there) [ inl front ↦ inl (inr front) | inr back ↦ inr back ]
-
-pub in_flat : {X Y : Type 0} (lists : Y → List X) (ys : List Y) (x : X) → In x (flat_map lists ys) → (y : Y) × In y ys × In x (lists y)
-in_flat lists [] x here = absurd here
-in_flat lists (y ∷ ys) x here = elim (in_either x (lists y) (flat_map lists ys) here) [
-  | inl first ↦ (y, inl refl, first)
-  | inr later ↦ let found = in_flat lists ys x later in (found.0, inr found.1, found.2)
-]
 
 -- what is read of a list is read of one of its elements
 pub read_from : {X Y : Type 0} (read : X → Option Y) (xs : List X) (y : Y) → In y (filter_map read xs) → (x : X) × In x xs × (read x ≡ Some y)

@@ -9,7 +9,7 @@ use Rattle.binder_code.specs.declared.record_kind.Kind.TheVariants.{BcTransactio
 use Rattle.transaction_view.specs.Transaction.{has_transaction_data}
 use Rattle.event_core.specs.Events.{EventRead}
 use Rattle.event_core.specs.Oneway.{oneway_item}
-use Rattle.event_core.specs.declared.oneway.OnewayItem.{OnewayItem}
+use Rattle.event_core.specs.declared.oneway.OnewayKey.{OnewayKey}
 use Rattle.process_ledgers.specs.Items.{oneway_item_of}
 use Rattle.audit_findings.specs.Flags.{flagged, has_unknown_flags}
 use Rattle.audit_findings.specs.Ledgers.{ListsFlagged}
@@ -39,10 +39,10 @@ counts_stay counts events e is same =
     let items = filter_map oneway_item_of events in
     let stay : filter_map oneway_item_of (events ++ e ∷ []) ≡ items
     = filter_map-append oneway_item_of events (e ∷ [])
-    ∙ ap (λ (o : Option OnewayItem). items ++ cons_option o []) (no_item e.kind e.payload is)
+    ∙ ap (λ (o : Option (OnewayKey × ℕ)). items ++ cons_option o []) (no_item e.kind e.payload is)
     ∙ append-nil items in
     same
-    ∙ ap (λ (all : List OnewayItem). record { sent = count_by is_sent all; received = count_by (λ item. not (is_sent item)) all }) (sym stay)
+    ∙ ap (λ (all : List (OnewayKey × ℕ)). record { sent = count_by is_sent all; received = count_by (λ item. not (is_sent item)) all }) (sym stay)
 
 no_flags : (e : EventRead) → has_transaction_data e.kind ≡ false → has_unknown_flags e ≡ false
 no_flags e is = rw is refl

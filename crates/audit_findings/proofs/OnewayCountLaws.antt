@@ -5,7 +5,6 @@ use Rattle.std.specs.List.{filter_map, cons_option}
 use Rattle.std.proofs.lemmas.List.Elements.{filter_map-append}
 use Rattle.std.proofs.lemmas.List.Sums.{sum_by-append, count_by-le-length}
 use Rattle.event_core.specs.Events.{EventRead}
-use Rattle.event_core.specs.declared.oneway.OnewayItem.{OnewayItem}
 use Rattle.event_core.specs.declared.oneway.OnewayKey.{OnewayKey}
 use Rattle.summary_law.proofs.ReadLaws.{length-read}
 use Rattle.summary_law.specs.Fits.{IsShort}
@@ -14,15 +13,15 @@ use Rattle.process_ledgers.specs.Items.{oneway_item_of}
 use Rattle.audit_findings.specs.Oneway.{is_sent, is_sent_key, oneway_counts, received_count, sent_count}
 
 -- how many oneway transactions of a sort there are
-abbrev count_of : (OnewayItem → Bool) → List EventRead → ℕ
+abbrev count_of : (OnewayKey × ℕ → Bool) → List EventRead → ℕ
 count_of is events = count_by is (filter_map oneway_item_of events)
 
-count_of-append : (is : OnewayItem → Bool) (first second : List EventRead) → count_of is (first ++ second) ≡ count_of is first + count_of is second
+count_of-append : (is : OnewayKey × ℕ → Bool) (first second : List EventRead) → count_of is (first ++ second) ≡ count_of is first + count_of is second
 count_of-append is first second =
     ap (count_by is) (filter_map-append oneway_item_of first second)
-    ∙ sum_by-append (λ (item : OnewayItem). cond (is item) 1 0) (filter_map oneway_item_of first) (filter_map oneway_item_of second)
+    ∙ sum_by-append (λ (item : OnewayKey × ℕ). cond (is item) 1 0) (filter_map oneway_item_of first) (filter_map oneway_item_of second)
 
-count_of-short : (is : OnewayItem → Bool) (events : List EventRead) → count_of is events ≤ length events
+count_of-short : (is : OnewayKey × ℕ → Bool) (events : List EventRead) → count_of is events ≤ length events
 count_of-short is events =
     let counted = count_by-le-length is (filter_map oneway_item_of events) in
     let read = length-read oneway_item_of events in
@@ -32,9 +31,9 @@ count_of-short is events =
 abbrev one_if : Bool → ℕ
 one_if b = cond b 1 0
 
-count_of-one : (is : OnewayItem → Bool) (e : EventRead) (item : OnewayItem) → Some item ≡ oneway_item_of e → count_of is (e ∷ []) ≡ one_if (is item)
+count_of-one : (is : OnewayKey × ℕ → Bool) (e : EventRead) (item : OnewayKey × ℕ) → Some item ≡ oneway_item_of e → count_of is (e ∷ []) ≡ one_if (is item)
 count_of-one is e item read =
-    let one : filter_map oneway_item_of (e ∷ []) ≡ item ∷ [] = ap (λ (o : Option OnewayItem). cons_option o []) (sym read) in
+    let one : filter_map oneway_item_of (e ∷ []) ≡ item ∷ [] = ap (λ (o : Option (OnewayKey × ℕ)). cons_option o []) (sym read) in
     ap (count_by is) one ∙ (omega arith)
 
 same_counts : (counts : OnewayCounts) (events : List EventRead) → counts.sent ≡ sent_count events → counts.received ≡ received_count events
@@ -47,10 +46,10 @@ sent_is counts events is = ap (λ (c : OnewayCounts). c.sent) is
 received_is : (counts : OnewayCounts) (events : List EventRead) → counts ≡ oneway_counts events → counts.received ≡ received_count events
 received_is counts events is = ap (λ (c : OnewayCounts). c.received) is
 
-pub counts_one : (counts : OnewayCounts) (e : EventRead) (item : OnewayItem) (key : OnewayKey) → Some item ≡ oneway_item_of e → item.key ≡ key
+pub counts_one : (counts : OnewayCounts) (e : EventRead) (item : OnewayKey × ℕ) (key : OnewayKey) → Some item ≡ oneway_item_of e → item.0 ≡ key
     → counts.sent ≡ one_if (is_sent_key key) → counts.received ≡ one_if (not (is_sent_key key)) → counts ≡ oneway_counts (e ∷ [])
 counts_one counts e item key read same sent received =
-    let given : (f : OnewayKey → Bool) → one_if (f item.key) ≡ one_if (f key) = λ f. ap (λ (k : OnewayKey). one_if (f k)) same in
+    let given : (f : OnewayKey → Bool) → one_if (f item.0) ≡ one_if (f key) = λ f. ap (λ (k : OnewayKey). one_if (f k)) same in
     same_counts counts (e ∷ []) (sent ∙ sym (count_of-one is_sent e item read ∙ given is_sent_key))
     (received ∙ sym (count_of-one (λ item. not (is_sent item)) e item read ∙ given (λ k. not (is_sent_key k))))
 
@@ -63,7 +62,7 @@ counts_both counts more both first second a b sent received =
     (received ∙ ap₂ ◌+◌ (received_is counts first a) (received_is more second b) ∙ sym (count_of-append (λ item. not (is_sent item)) first second))
 
 -- and they are small if the events are few
-small_sum : (is : OnewayItem → Bool) (a b : ℕ) (first second : List EventRead) → IsShort (first ++ second) → a ≡ count_of is first → b ≡ count_of is second
+small_sum : (is : OnewayKey × ℕ → Bool) (a b : ℕ) (first second : List EventRead) → IsShort (first ++ second) → a ≡ count_of is first → b ≡ count_of is second
     → a + b < 2 ^ 64
 small_sum is a b first second short counted more =
     let here = count_of-short is first in

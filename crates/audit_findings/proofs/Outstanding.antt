@@ -22,7 +22,7 @@ use Rattle.summary_law.specs.Readings.{chosen, read_all}
 use Rattle.transaction_view.specs.Transaction.{buffer}
 use Rattle.audit_findings.specs.Buffers.{is_leaked}
 use Rattle.audit_findings.specs.HandleRows.{delivers, frees, frees_after, is_outstanding}
-use Rattle.audit_findings.specs.Places.{RiseInPlace, listed_in}
+use Rattle.audit_findings.specs.Places.{RiseInPlace, passing_in}
 use Rattle.audit_findings.proofs.CodeLaws.{same_key}
 use Rattle.audit_findings.proofs.EventLists.{place_of_event}
 use Rattle.audit_findings.proofs.HandleRows.{among_at, is_among, listed_there}
@@ -179,12 +179,12 @@ module _ (events : List EventRead) (rise : RiseInPlace events) (process : Proces
   first_part false b is = is
 
   -- an event is among the leaked deliveries of the process, by its place, if it is an outstanding one
-  pub among_leaked : (e : EventRead) → In e events → is_among (listed_in is_leaked process events) e ≡ is_outstanding events process e
-  among_leaked e there = both_ways (is_among (listed_in is_leaked process events) e) (is_outstanding events process e) to from
+  pub among_leaked : (e : EventRead) → In e events → is_among (passing_in is_leaked process events) e ≡ is_outstanding events process e
+  among_leaked e there = both_ways (is_among (passing_in is_leaked process events) e) (is_outstanding events process e) to from
     where
-      to : is_among (listed_in is_leaked process events) e ≡ true → is_outstanding events process e ≡ true
+      to : is_among (passing_in is_leaked process events) e ≡ true → is_outstanding events process e ≡ true
       to is =
-          let other = among_at (listed_in is_leaked process events) e is in
+          let other = among_at (passing_in is_leaked process events) e is in
           let same : other.0 ≡ e = one_there place_of_event events (rises_from_pairs place_of_event events rise) other.0 e
           (listed_there is_leaked process events rise other.0 other.1) there other.2 in
           let at = read-at (chosen is_leaked) [] own other.0 other.1 in
@@ -198,13 +198,13 @@ module _ (events : List EventRead) (rise : RiseInPlace events) (process : Proces
           passed true x y is = refl
           passed false x y is = let no : ⊥ = cc in absurd no
 
-      from : is_outstanding events process e ≡ true → is_among (listed_in is_leaked process events) e ≡ true
+      from : is_outstanding events process e ≡ true → is_among (passing_in is_leaked process events) e ≡ true
       from is =
           let here : in_process e ≡ true
           = first_part (in_process e) (delivers e.kind && not (list_any (frees_after process (buffer e.payload) e.place) events)) is in
           let split = in_split own e (kept_in in_process events e there here) in
           let leaked : is_leaked split.0 e split.1 ≡ true = leaked_there split.0 e split.1 split.2 here ∙ is in
           let chooses : chosen is_leaked split.0 e split.1 ≡ Some e = ap (λ (b : Bool). cond b (Some e) None) leaked in
-          let listed : In e (listed_in is_leaked process events)
+          let listed : In e (passing_in is_leaked process events)
           = subst (λ (t : List EventRead). In e (read_all (chosen is_leaked) t)) (sym split.2) (at-read (chosen is_leaked) [] split.0 e split.1 e chooses) in
-          in_any (λ (x : EventRead). eqb x.place e.place) (listed_in is_leaked process events) e listed (eq-eqb e.place e.place refl)
+          in_any (λ (x : EventRead). eqb x.place e.place) (passing_in is_leaked process events) e listed (eq-eqb e.place e.place refl)

@@ -9,10 +9,10 @@ use Rattle.capture_frame.specs.Parts.{joined_frames}
 use Rattle.capture_frame.specs.declared.fault.PartFault.{PartFault}
 use Rattle.object_view.specs.declared.bad_object.BadObject.{BadObject}
 use Rattle.transaction_view.specs.Grammar.{frames_of_parts, unless, wholes_of}
-use Rattle.event_core.specs.Events.{AttachmentText, EventRead, events_of_frames}
+use Rattle.event_core.specs.Events.{EventRead, events_of_frames}
 use Rattle.process_ledgers.proofs.ItemPlaces.{made_there}
 use Rattle.audit_findings.specs.Flags.{has_unknown_flags, flagged}
-use Rattle.audit_findings.specs.Objects.{Attached, attached_to, attachments_of, objects_in, bad_of, bad_objects}
+use Rattle.audit_findings.specs.Objects.{objects_in, bad_of, bad_objects}
 use Rattle.audit_findings.specs.Places.{RiseInPlace}
 use Rattle.audit_findings.specs.declared.objects.BadRow.{BadRow}
 use Rattle.capture_frame.proofs.ReadOnLaws.{placed_apart}
@@ -44,12 +44,8 @@ pub objects_rise : (parts : List (List ℕ)) (frames : List PlacedFrame) → fra
     → IsStrictlyIncreasing (map (λ (b : BadRow EventRead). b.owner.place) (bad_objects (events_of_frames frames)))
 objects_rise parts frames is =
     let events = events_of_frames frames in
-    let owner : Attached → ℕ = λ a. a.owner.place in
     let place : BadRow EventRead → ℕ = λ b. b.owner.place in
-    let attachments = rising_made (λ (e : EventRead). e.place) owner attached_to
-    (λ e a made. made_there owner (λ (x : AttachmentText). record { owner = e; attachment = x }) e.place (λ x. refl) e.entry a made) events
-    (events_rise parts frames is) in
     increasing_places place (bad_objects events)
-    (rising_made owner place bad_of
-    (λ a b made. made_there place (λ (x : BadObject). record { owner = a.owner; bad = x }) a.owner.place (λ x. refl) (objects_in a).bad b made)
-    (attachments_of events) attachments)
+    (rising_made (λ (e : EventRead). e.place) place bad_of
+    (λ e b made. made_there place (λ (x : BadObject). record { owner = e; bad = x }) e.place (λ x. refl) (objects_in e).bad b made)
+    events (events_rise parts frames is))

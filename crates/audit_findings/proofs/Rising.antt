@@ -8,8 +8,8 @@ use Rattle.std.proofs.lemmas.List.Concat.{flat_map-cons}
 use Rattle.std.proofs.lemmas.List.Elements.{All-append, All-cons, All-head, All-nil, All-tail}
 use Rattle.std.proofs.lemmas.List.Kept.{AllPairs-filter}
 use Rattle.capture_frame.proofs.Pairs.{pairs_append, pairs_head, pairs_map, pairs_nil, pairs_tail}
-use Rattle.summary_law.specs.Fits.{IsPlaced, PlacesRise, all_halves}
-use Rattle.summary_law.proofs.ReadLaws.{length-read, rising_read}
+use Rattle.summary_law.specs.Fits.{PlacesRise, all_halves}
+use Rattle.summary_law.proofs.ReadLaws.{rising_read}
 
 -- ---- each element, and every later one
 
@@ -55,13 +55,6 @@ pairs_flat R of (x ∷ xs) each between =
 pub rising_made : {E I : Type 0} (place : E → ℕ) (place_of : I → ℕ) (read : E → Option I) → ((e : E) (i : I) → read e ≡ Some i → place_of i ≡ place e)
     → (things : List E) → PlacesRise place things → PlacesRise place_of (filter_map read things)
 rising_made place place_of read keeps things rise = rising_read read place_of place keeps things rise
-
-pub placed_made : {E I : Type 0} (place : E → ℕ) (place_of : I → ℕ) (read : E → Option I) → ((e : E) (i : I) → read e ≡ Some i → place_of i ≡ place e)
-    → (things : List E) → IsPlaced place things → IsPlaced place_of (filter_map read things)
-placed_made place place_of read keeps things placed =
-    let fewer = length-read read things in
-    let short = placed.0 in
-    (omega (arith, fewer, short), rising_made place place_of read keeps things placed.1)
 
 -- and so do those that pass a test
 pub rising_kept : {E : Type 0} (place : E → ℕ) (test : E → Bool) (things : List E) → PlacesRise place things → PlacesRise place (filter test things)

@@ -25,7 +25,7 @@ use Rattle.call_stacks.specs.Calls.{as_bracketed, bracket_read, bracketed_of, br
 use Rattle.call_stacks.specs.Matching.{is_opener}
 use Rattle.call_stacks.specs.Verdicts.{lacks_reply, side_of}
 use Rattle.call_stacks.specs.declared.opener.Opener.{Opener}
-use Rattle.pending_ledger.specs.Pending.{changes_of, closes, is_close, is_left_open, is_open, is_stray}
+use Rattle.pending_ledger.specs.Pending.{changes_of, closes, is_close, is_unclosed_item, was_open, is_stray_item}
 use Rattle.pending_ledger.specs.Requests.{is_standing}
 use Rattle.process_ledgers.specs.Items.{buffer_pending_of, clear_item_of, death_item_of, request_item_of}
 use Rattle.summary_law.proofs.GatherLaws.{all_in}
@@ -33,7 +33,7 @@ use Rattle.summary_law.proofs.ReadingLaws.{chosen-is, read-at}
 use Rattle.summary_law.specs.Readings.{by_key, chosen, with_key}
 use Rattle.audit_findings.specs.Buffers.{is_leaked, leaked, stray_frees}
 use Rattle.audit_findings.specs.Calls.{openers}
-use Rattle.audit_findings.specs.Places.{EventTest, either, is_stray_close, is_unclosed, item_is, listed, open_and_stray}
+use Rattle.audit_findings.specs.Places.{EventTest, either, is_stray_close, is_unclosed, item_is, passing_events, open_and_stray}
 use Rattle.audit_findings.specs.Requests.{is_standing_request, standing_requests}
 use Rattle.audit_findings.specs.TextReads.{text_reads}
 use Rattle.audit_findings.proofs.CallEvents.{opener_event}
@@ -49,9 +49,9 @@ chosen-passes test b e l y = elim (test b e l) as (λ t. cond t (Some e) None �
 -- if each event that passes a test is of some kinds, so are those that are listed by it
 listed_kinds : (kinds : Kind → Bool) (test : EventTest)
     → ((b : List EventRead) (e : EventRead) (l : List EventRead) → test b e l ≡ true → kinds e.kind ≡ true) → (events : List EventRead)
-    → All (λ e. IsTrue (kinds e.kind)) (listed test events)
+    → All (λ e. IsTrue (kinds e.kind)) (passing_events test events)
 listed_kinds kinds test each events =
-    all_in (λ (e : EventRead). IsTrue (kinds e.kind)) (listed test events)
+    all_in (λ (e : EventRead). IsTrue (kinds e.kind)) (passing_events test events)
     (λ y here.
     let at = read-at (by_key same_process process_of (chosen test)) [] events y here in
     let before = with_key same_process process_of (process_of at.1) at.0 in
@@ -83,15 +83,15 @@ is_closed_by Close rest is = refl
 unclosed_opens : (read : EventRead → Option (PendingItem ℕ)) (b : List EventRead) (e : EventRead) (l : List EventRead) → is_unclosed read b e l ≡ true
     → (item : PendingItem ℕ) × (read e ≡ Some item) × (item.change ≡ Open)
 unclosed_opens read b e l passes =
-    let found = item_passes read (is_left_open (eq_by_cmp nat_cmp)) b e l passes in
+    let found = item_passes read (is_unclosed_item (eq_by_cmp nat_cmp)) b e l passes in
     let rest = not (list_any (closes (eq_by_cmp nat_cmp) found.0.key) (filter_map read l)) in
     (found.0, found.1, is_opened found.0.change rest found.2)
 
 stray_closes : (read : EventRead → Option (PendingItem ℕ)) (b : List EventRead) (e : EventRead) (l : List EventRead) → is_stray_close read b e l ≡ true
     → (item : PendingItem ℕ) × (read e ≡ Some item) × (item.change ≡ Close)
 stray_closes read b e l passes =
-    let found = item_passes read (is_stray (eq_by_cmp nat_cmp)) b e l passes in
-    let rest = not (is_open (last_or None (changes_of (eq_by_cmp nat_cmp) found.0.key (filter_map read b)))) in
+    let found = item_passes read (is_stray_item (eq_by_cmp nat_cmp)) b e l passes in
+    let rest = not (was_open (last_or None (changes_of (eq_by_cmp nat_cmp) found.0.key (filter_map read b)))) in
     (found.0, found.1, is_closed_by found.0.change rest found.2)
 
 -- ---- the kinds of each section

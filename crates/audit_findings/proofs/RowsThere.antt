@@ -1,11 +1,11 @@
 -- The rows of sections have events of the frames.
-use Rattle.std.proofs.Common.{◌≡◌, ℕ, List, [], ◌∷◌, ◌++◌, map, filter, Bool, Option, Some, None, sym, ap, subst, ◌∙◌}
+use Rattle.std.proofs.Common.{◌≡◌, ℕ, List, [], ◌∷◌, ◌++◌, map, filter, Bool, Option, Some, None, sym, ap, subst}
 use Rattle.std.specs.Prelude.{All, Contains}
 use Rattle.std.specs.List.{fold}
 use Rattle.std.specs.Option.{option_map}
 use Rattle.std.proofs.lemmas.List.Elements.{All-contains_itself, All-filter, All-map}
 use Rattle.capture_frame.specs.Process.{same_process, same_thread}
-use Rattle.event_core.specs.Events.{AttachmentText, EventRead, process_of, thread_of}
+use Rattle.event_core.specs.Events.{EventRead, process_of, thread_of}
 use Rattle.call_stacks.specs.Calls.{Bracketed, as_bracketed, bracket_read, bracketed_with, bracketed_of, mark_after, opener_read, stray_read, with_verdict}
 use Rattle.call_stacks.specs.Verdicts.{lacks_reply}
 use Rattle.call_stacks.specs.declared.findings.RefusedSend.{RefusedSend}
@@ -17,9 +17,9 @@ use Rattle.summary_law.proofs.ReadingLaws.{chosen-is, read-at}
 use Rattle.summary_law.specs.Readings.{by_key, chosen, read_all, with_key}
 use Rattle.audit_findings.specs.Calls.{openers, refused_sends, stray_closers}
 use Rattle.audit_findings.specs.Flags.{flagged, has_unknown_flags}
-use Rattle.audit_findings.specs.Objects.{Attached, attached_to, attachments_of, objects_in, bad_objects, bad_of}
+use Rattle.audit_findings.specs.Objects.{objects_in, bad_objects, bad_of}
 use Rattle.audit_findings.specs.declared.objects.BadRow.{BadRow}
-use Rattle.audit_findings.specs.Places.{EventTest, either, is_stray_close, is_unclosed, listed, open_and_stray}
+use Rattle.audit_findings.specs.Places.{EventTest, either, is_stray_close, is_unclosed, passing_events, open_and_stray}
 use Rattle.event_core.specs.declared.pending.PendingItem.{PendingItem}
 use Rattle.audit_findings.specs.TextReads.{text_reads}
 use Rattle.audit_findings.specs.Threads.{in_threads}
@@ -38,7 +38,7 @@ read_there {Y} read owner own events =
     (subst (In (owner y)) (sym at.3) (subst (λ (e : EventRead). In e (at.0 ++ at.1 ∷ at.2)) (sym (own at.0 at.1 at.2 y at.4)) (in_middle at.0 at.1 at.2))))
 
 -- the listed events of each process
-pub listed_there : (test : EventTest) (events : List EventRead) → All (Contains events) (listed test events)
+pub listed_there : (test : EventTest) (events : List EventRead) → All (Contains events) (passing_events test events)
 listed_there test events =
     read_there (by_key same_process process_of (chosen test)) (λ e. e)
     (λ b e l y is.
@@ -84,22 +84,15 @@ lacking_there test events =
 pub flagged_there : (events : List EventRead) → All (Contains events) (flagged events)
 flagged_there events = All-filter has_unknown_flags (Contains events) events (All-contains_itself events)
 
-bad_owner : (a : Attached) (bad : Option BadObject) (b : BadRow EventRead)
-    → option_map (λ (x : BadObject). let made : BadRow EventRead = record { owner = a.owner; bad = x } in made) bad ≡ Some b → b.owner ≡ a.owner
-bad_owner a None b is = let wrong : None ≡ Some b = is in cc
-bad_owner a (Some x) b is = let made : BadRow EventRead = record { owner = a.owner; bad = x } in let same : b ≡ made = cc in ap (λ (y : BadRow EventRead). y.owner) same
-
-attached_owner : (e : EventRead) (entry : Option AttachmentText) (a : Attached)
-    → option_map (λ (x : AttachmentText). let made : Attached = record { owner = e; attachment = x } in made) entry ≡ Some a → a.owner ≡ e
-attached_owner e None a is = let wrong : None ≡ Some a = is in cc
-attached_owner e (Some x) a is = let made : Attached = record { owner = e; attachment = x } in let same : a ≡ made = cc in ap (λ (y : Attached). y.owner) same
+bad_owner : (e : EventRead) (bad : Option BadObject) (b : BadRow EventRead)
+    → option_map (λ (x : BadObject). let made : BadRow EventRead = record { owner = e; bad = x } in made) bad ≡ Some b → b.owner ≡ e
+bad_owner e None b is = let wrong : None ≡ Some b = is in cc
+bad_owner e (Some x) b is = let made : BadRow EventRead = record { owner = e; bad = x } in let same : b ≡ made = cc in ap (λ (y : BadRow EventRead). y.owner) same
 
 -- the owners of bad objects
 pub owners_there : (events : List EventRead) → All (λ b. Contains events b.owner) (bad_objects events)
 owners_there events =
     all_in (λ b. Contains events b.owner) (bad_objects events)
     (λ b here.
-    let a = read_from bad_of (attachments_of events) b here in
-    let owner = bad_owner a.0 (objects_in a.0).bad b a.2 in
-    let e = read_from attached_to events a.0 a.1 in
-    contained events b.owner (subst (λ (x : EventRead). In x events) (sym (owner ∙ attached_owner e.0 e.0.entry a.0 e.2)) e.1))
+    let e = read_from bad_of events b here in
+    contained events b.owner (subst (λ (x : EventRead). In x events) (sym (bad_owner e.0 (objects_in e.0).bad b e.2)) e.1))

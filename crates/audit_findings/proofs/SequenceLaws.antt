@@ -10,10 +10,6 @@ pub frame_count : (s : Sequences) (frames : List PlacedFrame) → SumsFrames s f
 frame_count s [] sums = sums
 frame_count s (f ∷ frames) sums = let n = sums.0 in omega (arith, n)
 
-pub no_frames : (s : Sequences) (frames : List PlacedFrame) → SumsFrames s frames → s.frames ≡ 0 → frames ≡ []
-no_frames s [] sums none = refl
-no_frames s (f ∷ frames) sums none = let n = sums.0 in absurd (omega (arith, n, none))
-
 -- the last frame of some followed by others is the last of the others
 last_of-append : (first : PlacedFrame) (frames : List PlacedFrame) (next : PlacedFrame) (others : List PlacedFrame)
     → last_sequence first (frames ++ next ∷ others) ≡ last_sequence next others

@@ -7,7 +7,7 @@ use Rattle.binder_code.specs.declared.record_kind.Kind.TheVariants.{Opaque}
 use Rattle.event_core.specs.Events.{EventRead}
 use Rattle.audit_findings.specs.declared.codes.CodeRow.{CodeRow}
 
--- whether the kind is that of opaque records, which the table of commands does not list
+-- whether the kind is that of opaque records, whose number the header does not list
 abbrev pub is_opaque_kind : Kind → Bool
 is_opaque_kind Opaque = true
 is_opaque_kind _ = false
@@ -20,7 +20,7 @@ is_opaque e = is_opaque_kind e.kind
 abbrev pub code_words : List EventRead → List ℕ
 code_words events = map (λ e. e.code) events
 
--- the row of a code word: the word, and how many of these words it is
+-- the row of a code word: the word, and how often it is among these
 abbrev pub code_row : List ℕ → ℕ → CodeRow
 code_row words word = record { word = word; count = count_by (λ other. other == word) words }
 

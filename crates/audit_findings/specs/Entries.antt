@@ -3,8 +3,10 @@ use Rattle.std.specs.Prelude.{◌≡◌, ℕ, ◌+◌, ◌≤◌, Bool, List, []
 use Rattle.std.specs.List.{filter_map, sum_by}
 use Rattle.capture_frame.specs.Envelope.{PlacedFrame}
 use Rattle.capture_frame.specs.Lookup.{span_of}
-use Rattle.event_core.specs.Events.{AttachmentText, EventRead, events_of, events_of_frames}
-use Rattle.event_core.specs.Reading.{entry_attachment}
+use Rattle.capture_frame.specs.Units.{Placed}
+use Rattle.transaction_view.specs.Attachments.{EntryText}
+use Rattle.transaction_view.specs.State.{placed_entry}
+use Rattle.event_core.specs.Events.{EventRead, events_of, events_of_frames}
 use Rattle.event_core.specs.declared.event.Event.{Event}
 use Rattle.transaction_view.specs.declared.entry.Entry.{Entry}
 use Rattle.audit_findings.specs.Kept.{places_of}
@@ -23,12 +25,12 @@ abbrev pub entries_in : Event → List Entry
 entries_in event = entry_list event.entry
 
 -- the attachments of these events, in their order
-abbrev pub carried_by : List EventRead → List AttachmentText
+abbrev pub carried_by : List EventRead → List (Placed EntryText)
 carried_by events = filter_map (λ e. e.entry) events
 
 -- the entries show these attachments
-abbrev pub ShowAttachments : List Entry → List AttachmentText → Type 0
-ShowAttachments entries attachments = map entry_attachment entries ≡ attachments
+abbrev pub ShowAttachments : List Entry → List (Placed EntryText) → Type 0
+ShowAttachments entries attachments = map placed_entry entries ≡ attachments
 
 -- the places are those of the chosen events, followed by others
 abbrev pub AreChosen : (EventRead → Bool) → List EventRead → List ℕ → List ℕ → Type 0
@@ -40,7 +42,7 @@ abbrev pub AddsEntries : List Entry → PlacedFrame → List ℕ → List Entry 
 AddsEntries old frame places new left =
     (choice : EventRead → Bool) (others : List ℕ) → All (λ place. frame.place + span_of frame ≤ place) others
     → AreChosen choice (events_of frame) others places
-    → (left ≡ others) × ShowAttachments new (map entry_attachment old ++ carried_by (filter choice (events_of frame)))
+    → (left ≡ others) × ShowAttachments new (map placed_entry old ++ carried_by (filter choice (events_of frame)))
 
 -- whatever events of these frames the places belong to, the entries show the attachments of those events
 abbrev pub AreEntriesAt : List PlacedFrame → List ℕ → List Entry → Type 0

@@ -58,7 +58,7 @@ process_sections frames =
       oneway = in_turn (oneway_of events) (processes_of frames);
     }
 
--- The findings: what the report says of these frames. A listed event is the event itself.
+-- The findings: what the report says of these frames. What is kept of a listed record is its event.
 abbrev pub findings_of : List PlacedFrame → Sections EventRead
 findings_of frames = record {
   frames = length frames;

@@ -4,7 +4,9 @@ use Rattle.capture_frame.specs.Envelope.{PlacedFrame}
 use Rattle.std.proofs.Common.{subst}
 use Rattle.std.proofs.lemmas.List.{map-append}
 use Rattle.std.specs.Option.{option_map_or}
-use Rattle.event_core.specs.Events.{AttachmentText, EventRead}
+use Rattle.capture_frame.specs.Units.{Placed}
+use Rattle.transaction_view.specs.Attachments.{EntryText}
+use Rattle.event_core.specs.Events.{EventRead}
 use Rattle.summary_law.specs.Fits.{IsShort, IsPlaced, all_halves, placed_halves}
 use Rattle.audit_findings.specs.declared.event_ledgers.EventLedgers.{EventLedgers}
 use Rattle.audit_findings.specs.declared.findings.Sections.{Sections}
@@ -23,7 +25,7 @@ use Rattle.audit_findings.specs.declared.in_turn.ProcessRow.{ProcessRow}
 use Rattle.handle_ledger.specs.declared.held_row.HeldRow.{HeldRow}
 use Rattle.event_core.specs.Events.{events_of_frames}
 use Rattle.audit_findings.specs.Kept.{at_places, bad_at_place}
-use Rattle.audit_findings.specs.Objects.{bad_objects, count_of, good_objects, times_of}
+use Rattle.audit_findings.specs.Objects.{bad_objects, sort_count, good_objects, times_of}
 use Rattle.audit_findings.specs.Oneway.{oneway_counts}
 use Rattle.audit_findings.specs.Places.{places_in}
 use Rattle.object_view.specs.declared.sort.Sort.{Sort}
@@ -45,7 +47,7 @@ use Rattle.audit_findings.specs.ThreadLedger.{SumsThreadCalls}
 
 -- how many bytes the list of offsets of an event's attachment has; 0 without an attachment
 abbrev pub offset_bytes_of : EventRead → ℕ
-offset_bytes_of e = option_map_or (λ (a : AttachmentText). length a.offset_bytes) e.entry 0
+offset_bytes_of e = option_map_or (λ (a : Placed EntryText). length a.unit.offset_bytes) e.entry 0
 
 -- few events: at most 2^32, whose places rise and whose lists of offsets each have fewer than 2^32 bytes
 abbrev pub AreFewEvents : List EventRead → Type 0
@@ -57,7 +59,7 @@ ListsFlagged ledger events = ledger.places.items ≡ map (λ e. e.place) (flagge
 
 -- the ledger counts the good objects of the events' attachments by sort, and keeps the bad ones
 pub record SumsObjects (ledger : ObjectLedger) (events : List EventRead) : Type 0 where
-  pub counted : (sort : Sort) → count_of ledger.counts sort ≡ times_of sort (good_objects events)
+  pub counted : (sort : Sort) → sort_count ledger.counts sort ≡ times_of sort (good_objects events)
   pub kept : ledger.bad.items ≡ map bad_at_place (bad_objects events)
 
 -- the ledgers are the sums of these events

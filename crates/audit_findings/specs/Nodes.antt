@@ -1,4 +1,4 @@
--- The section `nodes`: the references that the driver asks each process to hold to its nodes (docs/REPORT.md).
+-- The section `nodes`: the references that the driver asks each process to keep to its nodes (docs/REPORT.md).
 use Rattle.std.specs.Prelude.{◌||◌, Bool, List}
 use Rattle.capture_frame.specs.declared.process.Process.{Process}
 use Rattle.capture_frame.specs.Envelope.{PlacedFrame}

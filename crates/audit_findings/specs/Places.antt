@@ -7,7 +7,7 @@ use Rattle.capture_frame.specs.Process.{same_process}
 use Rattle.capture_frame.specs.declared.process.Process.{Process}
 use Rattle.event_core.specs.Events.{EventRead, process_of}
 use Rattle.event_core.specs.declared.pending.PendingItem.{PendingItem}
-use Rattle.pending_ledger.specs.Pending.{is_left_open, is_stray}
+use Rattle.pending_ledger.specs.Pending.{is_unclosed_item, is_stray_item}
 use Rattle.process_ledgers.specs.Processes.{events_in}
 use Rattle.summary_law.specs.Fits.{PlacesRise}
 use Rattle.summary_law.specs.Readings.{by_key, chosen, read_all}
@@ -23,24 +23,24 @@ item_is read test before e later =
     option_map_or (λ item. test (filter_map read before) item (filter_map read later)) (read e) false
 
 -- the events of this process that pass the test among the events of the process, in order
-abbrev pub listed_in : EventTest → Process → List EventRead → List EventRead
-listed_in test process events = read_all (chosen test) (events_in process events)
+abbrev pub passing_in : EventTest → Process → List EventRead → List EventRead
+passing_in test process events = read_all (chosen test) (events_in process events)
 
 -- the places of those events
 abbrev pub places_in : EventTest → List EventRead → Process → List ℕ
-places_in test events process = map (λ e. e.place) (listed_in test process events)
+places_in test events process = map (λ e. e.place) (passing_in test process events)
 
 -- the events that pass the test among the events of their own process, in order
-abbrev pub listed : EventTest → List EventRead → List EventRead
-listed test events = read_all (by_key same_process process_of (chosen test)) events
+abbrev pub passing_events : EventTest → List EventRead → List EventRead
+passing_events test events = read_all (by_key same_process process_of (chosen test)) events
 
 -- whether the event is an open, and no later close has its key
 abbrev pub is_unclosed : (EventRead → Option (PendingItem ℕ)) → EventTest
-is_unclosed read = item_is read (is_left_open (eq_by_cmp nat_cmp))
+is_unclosed read = item_is read (is_unclosed_item (eq_by_cmp nat_cmp))
 
 -- whether the event is a stray close: no earlier open or close has its key, or the latest one that has it is a close
 abbrev pub is_stray_close : (EventRead → Option (PendingItem ℕ)) → EventTest
-is_stray_close read = item_is read (is_stray (eq_by_cmp nat_cmp))
+is_stray_close read = item_is read (is_stray_item (eq_by_cmp nat_cmp))
 
 -- whether an event passes one test or the other
 abbrev pub either : EventTest → EventTest → EventTest
@@ -50,9 +50,9 @@ either test other before e later = test before e later || other before e later
 -- order
 abbrev pub open_and_stray : (EventRead → Option (PendingItem ℕ)) → List EventRead → OpenAndStray EventRead
 open_and_stray read events = record {
-  unclosed = length (listed (is_unclosed read) events);
-  strays = length (listed (is_stray_close read) events);
-  rows = listed (either (is_unclosed read) (is_stray_close read)) events;
+  unclosed = length (passing_events (is_unclosed read) events);
+  strays = length (passing_events (is_stray_close read) events);
+  rows = passing_events (either (is_unclosed read) (is_stray_close read)) events;
 }
 
 -- the places of these events rise

@@ -23,7 +23,7 @@ pub struct Calls<E> {
     pub failed: u64,
     /// How many are crossed or open.
     pub unanswered: u64,
-    /// Those that are not answered, in rising place.
+    /// Those that lack their reply: failed, crossed or open, in rising place.
     pub rows: Rows<Opener<E>>,
 }
 

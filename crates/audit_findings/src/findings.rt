@@ -9,8 +9,8 @@ use capture_frame::{Frame, FrameList, FrameSlice};
 use event_core::{Event, event_without_attachment_at};
 use std::marker::Model;
 
-/// The numbers and the rows of the report. `E` is what is kept of a listed record: its place in the
-/// code, its event in the definitions.
+/// The numbers and the rows of the report. `E` is what is kept of a listed record: in the code its
+/// place, in the definitions its event.
 #[derive(Drop)]
 pub struct Sections<E> {
     /// How many frames there are.

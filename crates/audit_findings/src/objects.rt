@@ -5,7 +5,7 @@ ghost use Rattle.event_core.specs.Reading.{event_text};
 ghost use Rattle.object_view.specs.declared.sort.Sort.{Sort};
 ghost use Rattle.object_view.specs.Objects.{objects_of};
 ghost use Rattle.summary_law.specs.Summary.{CanAdd, Adds, CanJoin, Joins};
-ghost use Rattle.audit_findings.specs.Objects.{count_of, times_of, good_objects, bad_objects, owned_by};
+ghost use Rattle.audit_findings.specs.Objects.{sort_count, times_of, good_objects, bad_objects, owned_by};
 ghost use Rattle.audit_findings.specs.Ledgers.{SumsObjects, AreFewEvents, offset_bytes_of};
 
 use crate::sort_counts::SortCounts;
@@ -72,10 +72,11 @@ impl ObjectLedger {
 /// Counts the objects of an event's attachment up to the first bad one, and gives that one.
 fn count_attachment(counts: &mut SortCounts, event: Event<'_>) -> Option<BadObject>
     requires { (sort : Sort) →
-        count_of counts.old sort + offset_bytes_of (event_text event) < 2 ^ 64 }
-    ensures counted { (sort : Sort) → count_of counts.new sort ≡ count_of counts.old sort
+        sort_count counts.old sort + offset_bytes_of (event_text event) < 2 ^ 64 }
+    ensures counted { (sort : Sort) → sort_count counts.new sort ≡ sort_count counts.old sort
         + times_of sort (good_objects (event_text event.entry ∷ [])) }
-    ensures bad { bad_objects (event_text event.entry ∷ []) ≡ owned_by (event_text event.entry) result }
+    ensures bad { bad_objects (event_text event.entry ∷ [])
+        ≡ owned_by (event_text event.entry) result }
 {
     match event.entry {
         Some(entry) => count_entry(counts, entry),
@@ -85,8 +86,8 @@ fn count_attachment(counts: &mut SortCounts, event: Event<'_>) -> Option<BadObje
 
 /// Counts the objects of an attachment up to the first bad one, and gives that one.
 fn count_entry(counts: &mut SortCounts, entry: Entry<'_>) -> Option<BadObject>
-    requires { (sort : Sort) → count_of counts.old sort + length entry.offsets.now < 2 ^ 64 }
-    ensures counted { (sort : Sort) → count_of counts.new sort ≡ count_of counts.old sort
+    requires { (sort : Sort) → sort_count counts.old sort + length entry.offsets.now < 2 ^ 64 }
+    ensures counted { (sort : Sort) → sort_count counts.new sort ≡ sort_count counts.old sort
         + times_of sort (objects_of entry.entry.body.now entry.entry.offsets.now).good }
     ensures bad { result ≡ (objects_of entry.entry.body.now entry.entry.offsets.now).bad }
 {

@@ -38,7 +38,7 @@ impl OnewayCounts {
         let Some(item) = oneway_step(event) else {
             return OnewayCounts::NONE;
         };
-        match item.key {
+        match item.0 {
             OnewayKey::Sent(_) => OnewayCounts::SENT,
             OnewayKey::Received => OnewayCounts::RECEIVED,
         }

@@ -6,7 +6,7 @@ ghost use Rattle.event_core.specs.Events.{events_of_frames};
 ghost use Rattle.process_ledgers.specs.EachProcess.{SumsEach};
 ghost use Rattle.process_ledgers.specs.Processes.{processes_of};
 ghost use Rattle.audit_findings.specs.Kept.{places_of};
-ghost use Rattle.audit_findings.specs.Places.{RiseInPlace, listed, places_in};
+ghost use Rattle.audit_findings.specs.Places.{RiseInPlace, passing_events, places_in};
 
 use process_ledgers::{ProcessLedgers, Processes};
 use std::alloc::{AllocError, Global};
@@ -59,7 +59,7 @@ pub(crate) fn gathered<L: ListsPlaces>(
         RiseInPlace (events_of_frames frames) →
         map (λ list. list.items) lists.now
         ≡ map (places_in L.test (events_of_frames frames)) (processes_of frames) →
-        places.items ≡ places_of (listed L.test (events_of_frames frames))) }
+        places.items ≡ places_of (passing_events L.test (events_of_frames frames))) }
 {
     let mut places = Vec::new(alloc);
     for list in lists {
@@ -76,7 +76,7 @@ pub(crate) fn places_of<L: ListsPlaces>(
 ) -> Result<Vec<u64>, AllocError>
     ensures { IfOk result (λ places. (frames : List PlacedFrame) →
         SumsEach processes.entry frames → RiseInPlace (events_of_frames frames) →
-        places.items ≡ places_of (listed L.test (events_of_frames frames))) }
+        places.items ≡ places_of (passing_events L.test (events_of_frames frames))) }
 {
     let lists = lists_of::<L>(alloc, processes)?;
     gathered::<L>(alloc, lists.as_slice())

@@ -23,7 +23,7 @@ pub struct Served<E> {
     pub crossed: u64,
     /// How many are open: nothing closed them.
     pub left_open: u64,
-    /// Those that are not replied to, in rising place.
+    /// Those that lack their reply: crossed or open, in rising place.
     pub rows: Rows<Opener<E>>,
 }
 

@@ -2,7 +2,7 @@
 
 ghost use Rattle.std.specs.Prelude.{◌≡◌, ◌+◌, ◌<◌, ◌^◌, if◌then◌else◌};
 ghost use Rattle.object_view.specs.declared.sort.Sort.{Sort};
-ghost use Rattle.audit_findings.specs.Objects.{count_of, same_sort};
+ghost use Rattle.audit_findings.specs.Objects.{sort_count, same_sort};
 
 use object_view::Sort;
 
@@ -31,9 +31,9 @@ impl SortCounts {
 
     /// Adds an object of the sort.
     pub fn add(&mut self, sort: Sort)
-        requires { count_of self.old sort + 1 < 2 ^ 64 }
+        requires { sort_count self.old sort + 1 < 2 ^ 64 }
         ensures { (other : Sort)
-            → count_of self.new other ≡ count_of self.old other
+            → sort_count self.new other ≡ sort_count self.old other
             + (if same_sort sort other then 1 else 0) }
     {
         match sort {
@@ -49,8 +49,9 @@ impl SortCounts {
 
     /// The sum of these numbers and others, sort by sort.
     pub(crate) fn plus(self, other: Self) -> Self
-        requires { (sort : Sort) → count_of self sort + count_of other sort < 2 ^ 64 }
-        ensures { (sort : Sort) → count_of result sort ≡ count_of self sort + count_of other sort }
+        requires { (sort : Sort) → sort_count self sort + sort_count other sort < 2 ^ 64 }
+        ensures { (sort : Sort)
+            → sort_count result sort ≡ sort_count self sort + sort_count other sort }
     {
         SortCounts {
             binder: self.binder + other.binder,

@@ -41,7 +41,8 @@ pub(crate) trait Share: Sized {
     /// The sum of all, from the sums of its halves.
     fn join(&self, first: Self::Sum, second: Self::Sum) -> Result<Self::Sum, AllocError>
         requires { fits self.now
-            × ((front back : Self) × halved self.now front back × sums front first × sums back second) }
+            × ((front back : Self) × halved self.now front back × sums front first
+            × sums back second) }
         ensures { IfOk result (sums self.now) };
 }
 

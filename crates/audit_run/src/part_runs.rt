@@ -28,12 +28,13 @@ use std::thread::Threads;
 use transaction_view::first_fault_parts;
 
 /// Reads the parts of a capture in order, each to its end, and writes the report on the joined
-/// capture, or the line that names the first fault. Without a reader, the joined capture has no
-/// frames. The workers share the frames of all parts, a piece at a time, and the gate is told
-/// before and after each piece.
-///
+/// capture, or the line that names the first fault. The joined capture is one file header and then
+/// the frames of all parts, in order. The number of a part is a `u32`, so there may be any number of
+/// readers below 2^32, also none; a command line names 1 to 256 files. The workers share the frames,
+/// a piece at a time, and the gate is told before and after each piece that is judged.
 /// The contract names neither workers nor piece nor gate, and the answer is a function of the parts.
-/// So two runs on the same parts that are both Ok have written the same text.
+/// So two runs that are both Ok, whose readers have the same known bytes and whose writers have
+/// known bytes, have written the same text.
 pub fn run_parts<T: Threads + Sync, R: Read + Drop, W: Write, G: Gate + Sync>(
     rt: &T,
     alloc: Global,

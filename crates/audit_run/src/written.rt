@@ -2,7 +2,8 @@
 
 use capture_frame::{Fault, PartFault};
 
-/// What a run has written about a capture.
+/// What a run has written about a capture. `PartsWritten`, of a capture in parts, is
+/// `Written<PartFault>`.
 #[derive(Clone, Copy, Debug, PartialEq, Eq)]
 pub enum Written<F = Fault> {
     /// The report.

@@ -4,8 +4,9 @@ ghost use Rattle.audit_streams.specs.RunError.{error_line};
 
 use thiserror::Error;
 
-/// What ended a run without an answer. It is displayed as its line without the line feed; no clause
-/// says so.
+/// What ended a run without an answer. Contracts allow `Memory` at any time and `Read` while a
+/// capture is read. An error is displayed as the line that the program prints for it, without the
+/// line feed; no contract says so.
 #[derive(Clone, Copy, Debug, PartialEq, Eq, Error)]
 #[error("{}", self.line().trim_end())]
 pub enum RunError {

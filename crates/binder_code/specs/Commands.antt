@@ -71,7 +71,7 @@ row_of BrOnewaySpamSuspect = return_row 19 0 (codes "BR_ONEWAY_SPAM_SUSPECT")
 row_of BrTransactionPendingFrozen = return_row 20 0 (codes "BR_TRANSACTION_PENDING_FROZEN")
 row_of Opaque = None
 
--- the kinds of `linux/android/binder.h`, in the order of the table of codes (docs/COMMANDS.md)
+-- the kinds that `linux/android/binder.h` of Linux 6.11 lists, in the order of the table of codes (docs/COMMANDS.md)
 abbrev pub listed : List Kind
 listed =
     BcTransaction ∷
@@ -166,7 +166,7 @@ same_protocol Command Command = true
 same_protocol Return Return = true
 same_protocol _ _ = false
 
--- whether a code word is of the protocol (`asm-generic/ioctl.h`)
+-- whether a code word has the protocol's letter, and the direction bits that go with its size (`asm-generic/ioctl.h`)
 abbrev pub is_of : Protocol → ℕ → Bool
 is_of protocol code = (letter code == letter_of protocol) && (direction code == direction_of protocol (size code))
 
@@ -212,6 +212,6 @@ abbrev pub is_word_of : Kind → ℕ → Bool
 is_word_of kind word = option_map_or (λ row. word == word_of row) (row_of kind) false
 
 -- the kind of a record with this code word: the listed kind whose code word it is, or Opaque, if no listed kind has it.
--- A good code word names its protocol, so this is what it means in its frame (`laws::code_words`: `alone`).
+-- The code word of a good record has the letter of its protocol, so `kind_of` gives the same kind in its frame.
 abbrev pub kind_of_word : ℕ → Kind
 kind_of_word word = unwrap_or (find (λ kind. is_word_of kind word) listed) Opaque

@@ -1,7 +1,8 @@
 ghost use Rattle.std.specs.Prelude.{◌≡◌, ◌≤◌, length, IsAscii};
 
-/// What a record is: one of the 41 commands and returns that the header `linux/android/binder.h`
-/// lists (protocol 8), in its order, or a record whose number it does not list.
+/// What a record is: one of the 41 commands and returns that the header `linux/android/binder.h` of
+/// Linux 6.11 lists (protocol version 8), commands first, by their numbers, or a record whose
+/// number it does not list.
 #[derive(Clone, Copy, Debug, PartialEq, Eq)]
 pub enum Kind {
     BcTransaction,
@@ -45,7 +46,8 @@ pub enum Kind {
     BrFrozenReply,
     BrOnewaySpamSuspect,
     BrTransactionPendingFrozen,
-    /// A record whose number the header does not list for its protocol.
+    /// A record whose number this header does not list for its protocol, for example one that Linux
+    /// 6.12 added.
     Opaque,
 }
 

@@ -12,10 +12,10 @@ use Rattle.capture_frame.specs.Tests.{tested, at_place, is_above}
 
 -- the direction that a byte names: 1 a write, 2 a read. Any other byte counts as a read, which does not matter, since
 -- no good frame has one.
-abbrev pub direction_of : ℕ → Direction
-direction_of zero = Read
-direction_of (suc zero) = Write
-direction_of (suc (suc n)) = Read
+abbrev pub frame_direction : ℕ → Direction
+frame_direction zero = Read
+frame_direction (suc zero) = Write
+frame_direction (suc (suc n)) = Read
 
 -- the frame that these bytes begin with, field by field
 abbrev pub frame_at_start : List ℕ → FrameText
@@ -24,7 +24,7 @@ frame_at_start bytes = record {
   device = device_at bytes;
   process = number_at 4 8 bytes;
   thread = number_at 4 12 bytes;
-  direction = direction_of (direction_at bytes);
+  direction = frame_direction (direction_at bytes);
   commands = take (command_length bytes) (drop frame_header_length bytes);
   attachments = take (attachment_length bytes) (drop (frame_header_length + command_length bytes) bytes);
 }

@@ -30,7 +30,7 @@ header_tests bytes =
 abbrev pub header_at : List ℕ → Result Version Fault
 header_at part = tested (header_tests part) (version_at part)
 
--- the frames that follow a file header that was judged
+-- the frames of a part whose file header has this version, or the fault of that header
 abbrev pub frames_if : Parser Before FrameText → Option ℕ → List ℕ → Result Version Fault → Parsed FrameText
 frames_if parser last part (Ok version) =
     parsed_by parser (in_version version last) file_header_length (drop file_header_length part)
@@ -55,7 +55,7 @@ pub record ParsedParts : Type 0 where
 abbrev pub one_part_on : PartFault → PartFault
 one_part_on found = record { part = suc found.part; fault = found.fault }
 
--- what a part comes to that has these frames and this fault, if it has one, together with the later parts
+-- what parts come to, where the first has these frames and this fault, if any, and the others come to `later`
 abbrev pub part_and_later : List FrameText → Option Fault → ParsedParts → ParsedParts
 part_and_later frames (Some fault) later = record { frames = frames; fault = Some (record { part = 1; fault = fault }) }
 part_and_later frames None later = record {
@@ -70,7 +70,7 @@ parts_read parser last (part ∷ parts) =
     let first = frames_of_part parser last part in
     part_and_later (units_of first.units) first.fault (parts_read parser (last_of last (units_of first.units)) parts)
 
--- frames one after another, each at its place in the joined capture
+-- these frames, each at its place in the joined capture, where they follow a file header, one after another
 abbrev pub joined_frames : List FrameText → List PlacedFrame
 joined_frames frames = placed frame_width file_header_length frames
 

@@ -34,7 +34,7 @@ abbrev pub unit_or_fault : {U : Type 0} → ℕ → Result U Fault → (U → Pa
 unit_or_fault place (Ok unit) later = with_unit (placed_at place unit) (later unit)
 unit_or_fault place (Err fault) later = at_fault fault
 
--- what these bytes come to, which begin at this place; the first `skip` bytes belong to the unit before
+-- what bytes that begin at this place come to; the first `skip` of them belong to the unit before
 abbrev pub read_on : {S U : Type 0} → Parser S U → S → (place skip : ℕ) → List ℕ → Parsed U
 read_on parser state place skip [] = at_end
 read_on parser state place (suc skip) (byte ∷ bytes) = read_on parser state (place + 1) skip bytes
@@ -42,6 +42,6 @@ read_on parser state place zero (byte ∷ bytes) =
     unit_or_fault place (parser.first state place (byte ∷ bytes))
     (λ unit. read_on parser (parser.after state unit) (place + 1) (parser.width unit - 1) bytes)
 
--- what these bytes come to, which begin at this place
+-- what bytes that begin at this place come to
 abbrev pub parsed_by : {S U : Type 0} → Parser S U → S → ℕ → List ℕ → Parsed U
 parsed_by parser state place bytes = read_on parser state place 0 bytes

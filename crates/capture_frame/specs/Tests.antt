@@ -12,12 +12,12 @@ tested (test ∷ tests) unit = if test.0 then tested tests unit else Err test.1
 abbrev pub fault_at : FaultKind → ℕ → Fault
 fault_at kind place = record { kind = kind; place = place }
 
--- what was read at this place, or its fault there
+-- what was read, or a fault of this kind at this place
 abbrev pub at_place : {U : Type 0} → ℕ → Result U FaultKind → Result U Fault
 at_place place (Ok unit) = Ok unit
 at_place place (Err kind) = Err (fault_at kind place)
 
--- whether the number is above the one before, if there is one before
+-- whether the number is above the one before; true if there is none before
 abbrev pub is_above : Option ℕ → ℕ → Bool
 is_above None number = true
 is_above (Some last) number = nat_lt last number

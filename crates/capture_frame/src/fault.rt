@@ -1,16 +1,15 @@
 //! What makes a capture malformed.
 
-/// The fifteen kinds of fault, in the order of their numbers. The crates above judge those of
-/// records and entries. Where several apply at one place, the first is named, with one exception: a
-/// payload that passes the command bytes is judged after the direction and the size of the code
-/// word. The program prints these names.
+/// The fifteen kinds of fault, in the order of their numbers. Where several apply at one place, the
+/// first is named, with one exception: a payload that passes the command bytes is judged after the
+/// direction and the size of the code word. The program prints these names.
 #[derive(Clone, Copy, Debug, PartialEq, Eq)]
 pub enum FaultKind {
-    /// The file has fewer than 16 bytes.
+    /// The part has fewer than 16 bytes.
     HeaderShort,
-    /// The file begins neither with `BNDRCAP1` nor with `BNDRCAP2`.
+    /// The part begins neither with `BNDRCAP1` nor with `BNDRCAP2`.
     HeaderMagic,
-    /// The protocol is not 8.
+    /// The protocol version is not 8.
     HeaderProtocol,
     /// The last field of the file header is not 0.
     HeaderReserved,
@@ -45,15 +44,15 @@ pub enum FaultKind {
 pub struct Fault {
     /// What is wrong.
     pub kind: FaultKind,
-    /// Where the unit begins, in bytes from the capture's first.
+    /// Where the unit begins, in bytes from the first byte of what is read: a capture, or a part.
     pub place: u64,
 }
 
-/// A malformed unit of one of several parts of a capture.
+/// A malformed unit of a part of a capture.
 #[derive(Clone, Copy, Debug, PartialEq, Eq)]
 pub struct PartFault {
     /// Which part it is in, counted from 1.
     pub part: u32,
-    /// What is wrong, and where: in bytes from the part's first.
+    /// What is wrong, and where in this part.
     pub fault: Fault,
 }

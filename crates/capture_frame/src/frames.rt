@@ -135,7 +135,8 @@ fn is_above(sequence: u64, before: Option<u64>) -> bool
 /// Whether the reserved fields of a frame header are 0.
 fn are_zero(bytes: &[u8], version: Version) -> bool
     requires { 32 ≤ length bytes.now }
-    ensures { result ≡ (number_at 3 17 bytes.now == 0 && is_device_in version (device_at bytes.now)) }
+    ensures { result
+        ≡ (number_at 3 17 bytes.now == 0 && is_device_in version (device_at bytes.now)) }
 {
     let zeros = u24_at(bytes, 17) == 0;
     match version {
@@ -156,7 +157,8 @@ pub(crate) fn read_frame(
     requires fits { place + length bytes.now < 2 ^ 64 }
     requires some { 0 < length bytes.now }
     ensures { MatchResult result
-        (λ frame. (frame_at (in_version version last) bytes.now ≡ Ok (frame_text frame)) × (frame.place ≡ place))
+        (λ frame. (frame_at (in_version version last) bytes.now ≡ Ok (frame_text frame))
+        × (frame.place ≡ place))
         (λ kind. frame_at (in_version version last) bytes.now ≡ Err kind) }
 {
     if bytes.len() < FRAME_HEADER {

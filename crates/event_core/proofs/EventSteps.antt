@@ -1,5 +1,5 @@
 -- One call of a reader of events, by what its readers of records and of entries give.
-use Rattle.std.proofs.Common.{◌≡◌, List, [], ◌∷◌, Option, Some, None, Result, Ok, Err, refl, sym, ap, ◌∙◌}
+use Rattle.std.proofs.Common.{◌≡◌, List, [], ◌∷◌, Option, Some, None, Result, Ok, Err, sym, ap, ◌∙◌}
 use Rattle.std.specs.Option.{option_map}
 use Rattle.std.specs.Result.{result_unwrap_or}
 use Rattle.capture_frame.specs.declared.fault.Fault.{Fault}
@@ -8,12 +8,11 @@ use Rattle.capture_frame.specs.ReadOn.{Parsed}
 use Rattle.capture_frame.specs.Units.{Placed}
 use Rattle.record_view.specs.declared.record.Record.{Record}
 use Rattle.record_view.specs.Records.{RecordText}
-use Rattle.record_view.specs.State.{IsRecordView, Steps, placed_record}
+use Rattle.record_view.specs.State.{Steps, placed_record}
 use Rattle.transaction_view.specs.declared.entry.Entry.{Entry}
 use Rattle.transaction_view.specs.Attachments.{EntryText}
 use Rattle.transaction_view.specs.State.{StepsGood, placed_entry}
-use Rattle.event_core.specs.Events.{EventRead, attachment_text, event_with}
-use Rattle.event_core.specs.Reading.{entry_attachment}
+use Rattle.event_core.specs.Events.{event_with}
 use Rattle.event_core.specs.State.{entries_after, entries_left, entry_taken, events_beside}
 
 -- what is left after one more entry is what was ahead
@@ -33,16 +32,11 @@ steps_units ahead new (Ok (Some found)) steps =
 steps_units ahead new (Ok None) steps = (ap (λ (p : Parsed RecordText). p.units) steps.0, ap (λ (p : Parsed RecordText). p.units) steps.1)
 steps_units ahead new (Err fault) steps = (ap (λ (p : Parsed RecordText). p.units) steps.0, ap (λ (p : Parsed RecordText). p.units) steps.1)
 
-attachment_is : (found : Option Entry) → option_map attachment_text (option_map placed_entry found) ≡ option_map entry_attachment found
-attachment_is None = refl
-attachment_is (Some found) = refl
-
 -- the first event is that of the first record, with the entry that is taken
 pub event_given : (frame : FrameText) (records later : List (Placed RecordText)) (old new : List (Placed EntryText)) (found : Record) (taken : Option Entry)
     → records ≡ placed_record found ∷ later → option_map placed_entry taken ≡ entry_taken found.place old → new ≡ entries_after found.place old
-    → events_beside frame records old ≡ event_with frame (placed_record found) (option_map entry_attachment taken) ∷ events_beside frame later new
+    → events_beside frame records old ≡ event_with frame (placed_record found) (option_map placed_entry taken) ∷ events_beside frame later new
 event_given frame records later old new found taken records_are taken_is left =
-    let attached = ap (option_map attachment_text) (sym taken_is) ∙ attachment_is taken in
     ap (λ (l : List (Placed RecordText)). events_beside frame l old) records_are
-    ∙ ap (λ a. event_with frame (placed_record found) a ∷ events_beside frame later (entries_after found.place old)) attached
-    ∙ ap (λ l. event_with frame (placed_record found) (option_map entry_attachment taken) ∷ events_beside frame later l) (sym left)
+    ∙ ap (λ a. event_with frame (placed_record found) a ∷ events_beside frame later (entries_after found.place old)) (sym taken_is)
+    ∙ ap (λ l. event_with frame (placed_record found) (option_map placed_entry taken) ∷ events_beside frame later l) (sym left)

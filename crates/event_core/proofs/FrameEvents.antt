@@ -1,17 +1,17 @@
 -- The events of a frame: where they are, how many, and how long their lists of offsets are. This holds of every frame.
-use Rattle.std.proofs.Common.{◌≡◌, ℕ, ◌+◌, ◌-◌, ◌*◌, ◌<◌, ◌≤◌, Bool, true, false, cond, List, [], ◌∷◌, length, map, get_or, Option, Some, None, refl, sym, ap, ◌∙◌, arith}
+use Rattle.std.proofs.Common.{ℕ, ◌+◌, ◌-◌, ◌*◌, ◌<◌, ◌≤◌, Bool, true, false, cond, List, [], ◌∷◌, length, map, get_or, Option, Some, None, ap, arith}
 use Rattle.std.specs.Prelude.{All, AllPairs}
 use Rattle.std.specs.List.{sum_by}
-use Rattle.std.specs.Option.{option_map, option_map_or}
+use Rattle.std.specs.Option.{option_map_or}
 use Rattle.std.proofs.lemmas.List.{length-map}
-use Rattle.std.proofs.lemmas.List.Elements.{All-map, All-weaker}
+use Rattle.std.proofs.lemmas.List.Elements.{All-map}
 use Rattle.std.proofs.lemmas.List.Sums.{get_or-le-sum_by, sum_by-cons, sum_by-le-sum_by}
 use Rattle.capture_frame.specs.Envelope.{FrameText, PlacedFrame, commands_place}
 use Rattle.capture_frame.specs.Units.{Placed}
 use Rattle.record_view.specs.Records.{RecordText, record_width, records_of}
 use Rattle.record_view.proofs.RecordLaws.{records_apart, records_fit, records_there}
 use Rattle.transaction_view.specs.Attachments.{EntryText, entries_of, entry_width}
-use Rattle.event_core.specs.Events.{AttachmentText, EventRead, attachment_text, belongs_to, event_of, event_with, events_of}
+use Rattle.event_core.specs.Events.{EventRead, belongs_to, event_of, event_with, events_of}
 use Rattle.event_core.specs.State.{entries_after, entry_taken, events_beside}
 use Rattle.transaction_view.proofs.EntryLaws.{entries_fit}
 use Rattle.capture_frame.proofs.Pairs.{pairs_map}
@@ -41,11 +41,11 @@ events_few frame =
 -- ---- their lists of offsets
 
 -- how many bytes the list of offsets of an attachment has, and with them the 12 bytes that its entry begins with
-abbrev list_of : Option AttachmentText → ℕ
-list_of attachment = option_map_or (λ (a : AttachmentText). length a.offset_bytes) attachment 0
+abbrev list_of : Option (Placed EntryText) → ℕ
+list_of attachment = option_map_or (λ (a : Placed EntryText). length a.unit.offset_bytes) attachment 0
 
-abbrev taken_of : Option AttachmentText → ℕ
-taken_of attachment = option_map_or (λ (a : AttachmentText). 12 + length a.offset_bytes) attachment 0
+abbrev taken_of : Option (Placed EntryText) → ℕ
+taken_of attachment = option_map_or (λ (a : Placed EntryText). 12 + length a.unit.offset_bytes) attachment 0
 
 abbrev pub list_length : EventRead → ℕ
 list_length e = list_of e.entry
@@ -58,11 +58,11 @@ width_of e = entry_width e.unit
 
 -- an entry is taken once
 one_taken : (place : ℕ) (entries : List (Placed EntryText))
-    → taken_of (option_map attachment_text (entry_taken place entries)) + sum_by width_of (entries_after place entries) ≤ sum_by width_of entries
+    → taken_of (entry_taken place entries) + sum_by width_of (entries_after place entries) ≤ sum_by width_of entries
 one_taken place [] = omega arith
 one_taken place (e ∷ entries) = by_test (belongs_to place e)
   where
-    by_test : (b : Bool) → taken_of (option_map attachment_text (cond b (Some e) None)) + sum_by width_of (cond b entries (e ∷ entries))
+    by_test : (b : Bool) → taken_of (cond b (Some e) None) + sum_by width_of (cond b entries (e ∷ entries))
         ≤ sum_by width_of (e ∷ entries)
     by_test true = omega (arith, sum_by-cons width_of e entries)
     by_test false = omega arith
@@ -72,7 +72,7 @@ all_taken : (frame : FrameText) (records : List (Placed RecordText)) (entries : 
 all_taken frame [] entries = omega arith
 all_taken frame (r ∷ records) entries =
     let rest = entries_after r.place entries in
-    let e = event_with frame r (option_map attachment_text (entry_taken r.place entries)) in
+    let e = event_with frame r (entry_taken r.place entries) in
     omega (arith, one_taken r.place entries, all_taken frame records rest, sum_by-cons bytes_taken e (events_beside frame records rest))
 
 taken_fit : (frame : PlacedFrame) → sum_by bytes_taken (events_of frame) ≤ length frame.unit.attachments
@@ -80,7 +80,7 @@ taken_fit frame =
     let taken = all_taken frame.unit (records_of frame).units (entries_of frame).units in
     omega (arith, taken, ap (sum_by bytes_taken) (side_by_side frame), entries_fit frame)
 
-list_shorter : (attachment : Option AttachmentText) → (list_of attachment ≤ taken_of attachment) × (list_of attachment ≤ taken_of attachment - 12)
+list_shorter : (attachment : Option (Placed EntryText)) → (list_of attachment ≤ taken_of attachment) × (list_of attachment ≤ taken_of attachment - 12)
 list_shorter None = (omega arith, omega arith)
 list_shorter (Some a) = (omega arith, omega arith)
 

@@ -1,26 +1,22 @@
 -- The record at a place of a frame, and its event.
-use Rattle.std.proofs.Common.{◌≡◌, ℕ, zero, suc, ◌+◌, ◌-◌, ◌≤◌, inl, inr, true, List, [], ◌∷◌, length, drop, map, Option, Some, None, Result, Ok, Err, refl, sym, ap, subst, ◌∙◌, arith}
-use Rattle.std.specs.Prelude.{Contains, IsOk, IsSome, ◌↔◌, is_some}
+use Rattle.std.proofs.Common.{◌≡◌, ℕ, zero, suc, ◌-◌, inl, inr, true, List, [], ◌∷◌, length, drop, map, Option, Some, None, Result, Ok, Err, refl, sym, ap, subst, ◌∙◌, arith}
+use Rattle.std.specs.Prelude.{Contains, IsSome, ◌↔◌, is_some}
 use Rattle.std.specs.Option.{option_map}
 use Rattle.std.proofs.lemmas.Bool.{cases_eq, eq-eqb, ne_eqb}
-use Rattle.std.proofs.lemmas.List.Elements.{All-contains, Contains-append_right}
-use Rattle.capture_frame.specs.declared.direction.Direction.{Direction}
+use Rattle.std.proofs.lemmas.List.Elements.{Contains-append_right}
 use Rattle.capture_frame.specs.declared.fault.Fault.{Fault}
-use Rattle.capture_frame.specs.declared.fault.FaultKind.{FaultKind}
-use Rattle.capture_frame.specs.declared.fault.FaultKind.TheVariants.{RecordShort}
 use Rattle.capture_frame.specs.declared.frame.Frame.{Frame}
 use Rattle.capture_frame.specs.Envelope.{PlacedFrame, commands_place, placed_frame}
-use Rattle.capture_frame.specs.ReadOn.{Parsed, parsed_by, read_on, unit_or_fault, with_unit}
+use Rattle.capture_frame.specs.ReadOn.{Parsed, with_unit}
 use Rattle.capture_frame.specs.Tests.{at_place}
 use Rattle.capture_frame.specs.Units.{Placed, placed_at}
 use Rattle.capture_frame.proofs.ReadOnLaws.{unit_here}
 use Rattle.record_view.specs.declared.record.Record.{Record}
-use Rattle.record_view.specs.Records.{RecordText, protocol_of, record_at, record_parser, record_width, records_of}
+use Rattle.record_view.specs.Records.{RecordText, protocol_of, record_parser, records_from, records_of}
 use Rattle.record_view.specs.State.{Steps, placed_record}
 use Rattle.record_view.proofs.RecordLaws.{begin_with, records_there}
 use Rattle.event_core.specs.declared.event.Event.{Event}
-use Rattle.event_core.specs.Events.{EventRead, HasRecordAt, RecordIsAtPlace, event_at_place, event_of, events_of}
-use Rattle.event_core.specs.Lookup.{IsCutAt}
+use Rattle.event_core.specs.Events.{HasRecordAt, RecordIsAtPlace, event_at_place, event_of, events_of}
 use Rattle.event_core.specs.Reading.{IsEventAt, event_text}
 
 -- ---- an event is at a place exactly if a record is
@@ -66,14 +62,13 @@ gives_first there later new (Ok None) steps = absurd (omega (arith, ap (λ (p : 
 gives_first there later new (Err fault) steps = absurd (omega (arith, ap (λ (p : Parsed RecordText). length p.units) steps.0))
 
 -- what a reader gives that begins there
-pub first_given : (frame cut : Frame) (place : ℕ) (found : RecordText) → RecordIsAtPlace (placed_frame frame) place found → IsCutAt frame place cut
-    → (result : Result (Option Record) Fault) (new : Parsed RecordText) → Steps (records_of (placed_frame cut)) result new
+pub first_given : (frame : Frame) (place : ℕ) (found : RecordText) → RecordIsAtPlace (placed_frame frame) place found
+    → (result : Result (Option Record) Fault) (new : Parsed RecordText) → Steps (records_from (placed_frame frame) place) result new
     → (given : Record) × (result ≡ Ok (Some given)) × (placed_record given ≡ placed_at place found)
-first_given frame cut place found is_at is result new steps =
+first_given frame place found is_at result new steps =
     let there = rw is_at.2 at (records_there (placed_frame frame) is_at.0 (placed_at place found) is_at.1) in
     let parser = record_parser frame.direction in
     let bytes = drop (place - commands_place frame.place) frame.commands.now in
     let some = (begin_with (protocol_of frame.direction) bytes found there.2).whole in
-    let same : records_of (placed_frame cut) ≡ parsed_by parser tt place bytes = rw (is.begins, is.commands, is.direction) refl in
     let ahead = unit_here parser tt place bytes found (omega (arith, some)) (ap (at_place place) there.2) (omega arith) in
-    gives_first (placed_at place found) _ new result (subst (λ (p : Parsed RecordText). Steps p result new) (same ∙ ahead) steps)
+    gives_first (placed_at place found) _ new result (subst (λ (p : Parsed RecordText). Steps p result new) ahead steps)

@@ -1,7 +1,6 @@
 -- The events of the records of a frame beside its entries are the events of the frame.
 use Rattle.std.proofs.Common.{◌≡◌, ℕ, ◌<◌, inl, inr, List, [], ◌∷◌, map, get_or, Some, None, refl, sym, ap, ◌∙◌, arith}
 use Rattle.std.specs.Prelude.{All, AllPairs, Contains, find}
-use Rattle.std.specs.Option.{option_map}
 use Rattle.std.proofs.lemmas.Bool.{cases_eq, eq-eqb, ne_eqb}
 use Rattle.std.proofs.lemmas.List.Elements.{All-cons, All-contains, All-head, All-map, All-nil, All-tail}
 use Rattle.std.proofs.lemmas.Map.Made.{Contains-tail}
@@ -10,7 +9,7 @@ use Rattle.capture_frame.specs.Units.{Placed}
 use Rattle.record_view.specs.Records.{RecordText, records_of}
 use Rattle.record_view.proofs.RecordLaws.{records_apart}
 use Rattle.transaction_view.specs.Attachments.{EntryText, entries_of}
-use Rattle.event_core.specs.Events.{EventRead, attachment_text, belongs_to, event_with, events_of}
+use Rattle.event_core.specs.Events.{EventRead, belongs_to, event_with, events_of}
 use Rattle.event_core.specs.State.{events_beside}
 use Rattle.transaction_view.proofs.EntryLaws.{owners_rise, owners_there}
 use Rattle.capture_frame.proofs.Pairs.{pairs_head, pairs_tail}
@@ -27,7 +26,7 @@ Belong records entries = All (λ e. Contains (map place_of records) (owner_of e)
 
 -- the event of a record of a frame that has these entries
 abbrev event_among : FrameText → List (Placed EntryText) → Placed RecordText → EventRead
-event_among frame entries there = event_with frame there (option_map attachment_text (find (belongs_to there.place) entries))
+event_among frame entries there = event_with frame there (find (belongs_to there.place) entries)
 
 none_found : (place : ℕ) (entries : List (Placed EntryText)) → All (λ e. place < owner_of e) entries → find (belongs_to place) entries ≡ None
 none_found place [] above = refl
@@ -68,7 +67,7 @@ beside frame (r ∷ records) (e ∷ entries) rise owners belong =
           let rest = beside frame records entries rise_later (pairs_tail (λ a b. owner_of a < owner_of b) e entries owners)
           (belong_later r records entries above (All-tail (λ x. Contains (map place_of (r ∷ records)) (owner_of x)) e entries belong)) in
           rw (eq-eqb (owner_of e) r.place same)
-          (ap (λ (l : List EventRead). event_with frame r (option_map attachment_text (Some e)) ∷ l) (rest ∙ same_events frame e entries records above_owner))
+          (ap (λ (l : List EventRead). event_with frame r (Some e) ∷ l) (rest ∙ same_events frame e entries records above_owner))
       | inr other ↦
           let own = All-head (λ x. Contains (map place_of (r ∷ records)) (owner_of x)) e entries belong in
           let first : r.place < owner_of e = All-contains (λ p. r.place < p) (map place_of records) (owner_of e)

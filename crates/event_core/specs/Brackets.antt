@@ -17,7 +17,8 @@ is_oneway BrTransaction payload = has_one_way payload
 is_oneway BrTransactionSecCtx payload = has_one_way payload
 is_oneway _ payload = false
 
--- the mark of a transaction that the thread sends: Oneway for a oneway one, which can be refused, and Other for a call
+-- the mark of a transaction that the thread sends: Oneway for a oneway one, after which an error reply closes nothing,
+-- and Other for a call
 abbrev pub sent_mark : Bool → Option Mark
 sent_mark oneway = Some (if oneway then Oneway else Other)
 
@@ -26,8 +27,8 @@ abbrev pub received_mark : Bool → Option Mark
 received_mark oneway = if oneway then None else Some Other
 
 -- the mark that a record leaves in its thread, by its kind and by whether it is a oneway transaction: Oneway for a
--- oneway send, SentReply for a sent reply, Other for a call made or got, a reply got, an error reply or a confirmation.
--- Every other record leaves none.
+-- oneway send, SentReply for a sent reply, Other for a call made or got, a reply got, an error reply or a
+-- confirmation of a send. Every other record leaves none.
 abbrev pub mark_of : Kind → Bool → Option Mark
 mark_of BcTransaction oneway = sent_mark oneway
 mark_of BcTransactionSg oneway = sent_mark oneway
@@ -45,8 +46,8 @@ mark_of BrFrozenReply oneway = Some Other
 mark_of _ oneway = None
 
 -- the bracket of a transaction: this opener, or Neither for a oneway one
-abbrev pub opener : Bracket → Bool → Bracket
-opener bracket oneway = if oneway then Neither else bracket
+abbrev pub unless_oneway : Bracket → Bool → Bracket
+unless_oneway bracket oneway = if oneway then Neither else bracket
 
 -- the bracket of an error reply, by the latest mark before it: after a oneway send or a sent reply it reports a refused
 -- send; after any other mark, or none, it closes a call
@@ -58,10 +59,10 @@ error_reply _ = Error
 -- the bracket of a record: what it is among the calls of its thread, by the latest mark before it. A call made or got
 -- opens. A reply got or sent closes. An error reply closes, or reports a refused send. Every other record is neither.
 abbrev pub bracket_of : Option Mark → Kind → Bool → Bracket
-bracket_of last BcTransaction oneway = opener Call oneway
-bracket_of last BcTransactionSg oneway = opener Call oneway
-bracket_of last BrTransaction oneway = opener Served oneway
-bracket_of last BrTransactionSecCtx oneway = opener Served oneway
+bracket_of last BcTransaction oneway = unless_oneway Call oneway
+bracket_of last BcTransactionSg oneway = unless_oneway Call oneway
+bracket_of last BrTransaction oneway = unless_oneway Served oneway
+bracket_of last BrTransactionSecCtx oneway = unless_oneway Served oneway
 bracket_of last BrReply oneway = Reply
 bracket_of last BcReply oneway = Sent
 bracket_of last BcReplySg oneway = Sent

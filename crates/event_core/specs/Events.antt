@@ -1,7 +1,6 @@
 -- The events of a capture: one for each record, with its process, its thread and its attachment (docs/REPORT.md).
 use Rattle.std.specs.Prelude.{ℕ, ◌==◌, Bool, List, map, find, Contains, Option, None}
 use Rattle.std.specs.List.{flat_map}
-use Rattle.std.specs.Option.{option_map}
 use Rattle.binder_code.specs.declared.record_kind.Kind.{Kind}
 use Rattle.binder_code.specs.Commands.{kind_of_word}
 use Rattle.capture_frame.specs.declared.process.Process.{Process}
@@ -11,14 +10,8 @@ use Rattle.capture_frame.specs.Envelope.{FrameText, PlacedFrame}
 use Rattle.record_view.specs.Records.{RecordText, records_of}
 use Rattle.transaction_view.specs.Attachments.{EntryText, entries_of}
 
--- the attachment of a record: its place in the capture, the body bytes, and the offset bytes
-pub record AttachmentText : Type 0 where
-  pub place : ℕ
-  pub body : List ℕ
-  pub offset_bytes : List ℕ
-
 -- what an event says: the place of its record, the device, the process and the thread of its frame, its kind, its code
--- word, its payload, and its attachment if it has one
+-- word, its payload, and its attachment if it has one: the entry that belongs to it, at its place
 pub record EventRead : Type 0 where
   pub place : ℕ
   pub device : ℕ
@@ -27,7 +20,7 @@ pub record EventRead : Type 0 where
   pub kind : Kind
   pub code : ℕ
   pub payload : List ℕ
-  pub entry : Option AttachmentText
+  pub entry : Option (Placed EntryText)
 
 -- the process of an event: its device and its process number together
 abbrev pub process_of : EventRead → Process
@@ -38,7 +31,7 @@ abbrev pub thread_of : EventRead → Thread
 thread_of e = record { process = process_of e; number = e.thread }
 
 -- the event of a record of a frame, with this attachment. The record's code word says its kind.
-abbrev pub event_with : FrameText → Placed RecordText → Option AttachmentText → EventRead
+abbrev pub event_with : FrameText → Placed RecordText → Option (Placed EntryText) → EventRead
 event_with frame there attachment = record {
   place = there.place;
   device = frame.device;
@@ -54,17 +47,13 @@ event_with frame there attachment = record {
 abbrev pub bare_event : FrameText → Placed RecordText → EventRead
 bare_event frame there = event_with frame there None
 
--- an entry with its place, as the attachment of its record
-abbrev pub attachment_text : Placed EntryText → AttachmentText
-attachment_text there = record { place = there.place; body = there.unit.body; offset_bytes = there.unit.offset_bytes }
-
 -- whether an entry belongs to the record at this place
 abbrev pub belongs_to : ℕ → Placed EntryText → Bool
 belongs_to place there = there.unit.owner == place
 
 -- the attachment of the record at a place: the entry of the frame that belongs to it, if there is one
-abbrev pub attachment_of : PlacedFrame → ℕ → Option AttachmentText
-attachment_of frame place = option_map attachment_text (find (belongs_to place) (entries_of frame).units)
+abbrev pub attachment_of : PlacedFrame → ℕ → Option (Placed EntryText)
+attachment_of frame place = find (belongs_to place) (entries_of frame).units
 
 -- the event of a record of a frame
 abbrev pub event_of : PlacedFrame → Placed RecordText → EventRead

@@ -9,4 +9,3 @@ pub mod Brackets
 pub mod Events
 pub mod Reading
 pub mod State
-pub mod Lookup

@@ -1,4 +1,4 @@
--- References that the driver holds to a node of a process: what a record does to the counts of a node
+-- References that the driver asks a process to keep to its nodes: what a record does to the counts of a node
 -- (docs/REPORT.md).
 use Rattle.std.specs.Prelude.{ℕ, List, Option, Some, None}
 use Rattle.std.specs.Option.{option_map}

@@ -3,13 +3,9 @@ use Rattle.std.specs.Prelude.{◌≡◌, ℕ, List, [], ◌∷◌, Option, Some,
 use Rattle.std.specs.Option.{option_map}
 use Rattle.capture_frame.specs.Calls.{GiveInOrder}
 use Rattle.capture_frame.specs.Envelope.{PlacedFrame}
-use Rattle.transaction_view.specs.declared.entry.Entry.{Entry}
+use Rattle.transaction_view.specs.State.{placed_entry}
 use Rattle.event_core.specs.declared.event.Event.{Event}
-use Rattle.event_core.specs.Events.{AttachmentText, EventRead, events_of, event_at_place}
-
--- what an attachment that was read says
-abbrev pub entry_attachment : Entry → AttachmentText
-entry_attachment found = record { place = found.place; body = found.body.now; offset_bytes = found.offsets.now }
+use Rattle.event_core.specs.Events.{EventRead, events_of, event_at_place}
 
 -- what an event that was read says
 abbrev pub event_text : Event → EventRead
@@ -21,7 +17,7 @@ event_text found = record {
   kind = found.kind;
   code = found.code.0;
   payload = found.payload.now;
-  entry = option_map entry_attachment found.entry;
+  entry = option_map placed_entry found.entry;
 }
 
 -- One call of a reader. It gives the first event ahead, and the others are left ahead; at the end it gives `None`.

@@ -26,7 +26,7 @@ request_change BcClearDeathNotification payload = Some (Clear (request_key paylo
 request_change BrDeadBinder payload = Some (Dead (cookie_alone payload))
 request_change _ payload = None
 
--- the same, with the place of the record
+-- what a record at this place does to the requests of its process
 abbrev pub request_item : ℕ → Kind → List ℕ → Option RequestItem
 request_item place kind payload =
     option_map (λ change. record { place = place; change = change }) (request_change kind payload)

@@ -1,13 +1,12 @@
 -- The reader of events. It passes the records of a frame and its entries side by side.
 use Rattle.std.specs.Prelude.{ℕ, if◌then◌else◌, List, [], ◌∷◌, Option, Some, None}
-use Rattle.std.specs.Option.{option_map}
 use Rattle.capture_frame.specs.Envelope.{FrameText}
 use Rattle.capture_frame.specs.Units.{Placed}
 use Rattle.record_view.specs.Records.{RecordText}
 use Rattle.transaction_view.specs.declared.entry.Entry.{Entry}
 use Rattle.transaction_view.specs.Attachments.{EntryText}
 use Rattle.transaction_view.specs.State.{placed_entry}
-use Rattle.event_core.specs.Events.{EventRead, attachment_text, belongs_to, event_with}
+use Rattle.event_core.specs.Events.{EventRead, belongs_to, event_with}
 
 -- the entries that are left: the one ahead and those after it, or none if none is ahead
 abbrev pub entries_left : Option Entry → List (Placed EntryText) → List (Placed EntryText)
@@ -28,5 +27,5 @@ entries_after place (e ∷ entries) = if belongs_to place e then entries else e 
 abbrev pub events_beside : FrameText → List (Placed RecordText) → List (Placed EntryText) → List EventRead
 events_beside frame [] entries = []
 events_beside frame (there ∷ records) entries =
-    event_with frame there (option_map attachment_text (entry_taken there.place entries))
+    event_with frame there (entry_taken there.place entries)
     ∷ events_beside frame records (entries_after there.place entries)

@@ -1,7 +1,7 @@
 //! The marks and the brackets of a thread.
 
 ghost use Rattle.std.specs.Prelude.{◌≡◌};
-ghost use Rattle.event_core.specs.Brackets.{is_oneway, mark_of, bracket_of, sent_mark, received_mark, opener, error_reply};
+ghost use Rattle.event_core.specs.Brackets.{is_oneway, mark_of, bracket_of, sent_mark, received_mark, unless_oneway, error_reply};
 
 use crate::event::Event;
 use crate::marks::{Bracket, Mark};
@@ -92,7 +92,7 @@ pub fn bracket_of(last: Option<Mark>, kind: Kind, oneway: bool) -> Bracket
 
 /// The bracket of a transaction: this opener, unless it is a oneway one.
 fn opener(oneway: bool, bracket: Bracket) -> Bracket
-    ensures { result ≡ opener bracket oneway }
+    ensures { result ≡ unless_oneway bracket oneway }
 {
     if oneway { Bracket::Neither } else { bracket }
 }

@@ -1,13 +1,12 @@
 //! The event at a place of the capture.
 
-ghost use Rattle.std.specs.Prelude.{◌≡◌, ◌≤◌, ◌+◌, ◌↔◌, length, IsSome};
+ghost use Rattle.std.specs.Prelude.{◌≡◌, ◌↔◌, IsSome};
 ghost use Rattle.capture_frame.specs.Units.{placed_at};
-ghost use Rattle.capture_frame.specs.Envelope.{frame_text, placed_frame, commands_place};
+ghost use Rattle.capture_frame.specs.Envelope.{frame_text, placed_frame};
 ghost use Rattle.record_view.specs.Records.{RecordText};
 ghost use Rattle.transaction_view.specs.Grammar.{IsGood};
 ghost use Rattle.event_core.specs.Events.{bare_event, RecordIsAtPlace, HasRecordAt};
 ghost use Rattle.event_core.specs.Reading.{event_text, IsEventAt};
-ghost use Rattle.event_core.specs.Lookup.{IsCutAt};
 
 use crate::event::Event;
 use crate::events::Events;
@@ -39,27 +38,8 @@ pub fn event_without_attachment_at<'c>(frame: Frame<'c>, place: u64) -> Event<'c
     ensures { (found : RecordText) → RecordIsAtPlace (placed_frame frame.entry) place found →
         event_text result ≡ bare_event (frame_text frame.entry) (placed_at place found) }
 {
-    let mut records = Records::of(from_place(frame, place));
+    let mut records = Records::at(frame, place);
     // A record begins there, so there is one to give, and no fault.
     let record = records.next_record().unwrap().unwrap();
     event_of(frame, record, None)
-}
-
-/// The frame from a place on, without its attachments: a reader of its records begins at the place.
-fn from_place<'c>(frame: Frame<'c>, place: u64) -> Frame<'c>
-    requires from { commands_place frame.place ≤ place }
-    requires to { place ≤ commands_place frame.place + length frame.commands.now }
-    ensures { IsCutAt frame.entry place result }
-{
-    let offset = place - frame.commands_place();
-    Frame {
-        place: frame.place + offset,
-        sequence: frame.sequence,
-        device: frame.device,
-        process: frame.process,
-        thread: frame.thread,
-        direction: frame.direction,
-        commands: &frame.commands[offset as usize..],
-        attachments: &[],
-    }
 }

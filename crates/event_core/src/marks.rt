@@ -8,7 +8,7 @@ pub enum Mark {
     Oneway,
     /// A reply that the thread has sent.
     SentReply,
-    /// Something else: no send that could be refused.
+    /// Something else: an error reply after it is a closer.
     Other,
 }
 

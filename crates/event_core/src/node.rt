@@ -1,4 +1,4 @@
-//! What an event does to the references that the driver holds to a node of a process.
+//! What an event does to the references that the driver asks a process to keep to a node.
 
 ghost use Rattle.std.specs.Prelude.{◌≡◌, ◌≤◌, length};
 ghost use Rattle.event_core.specs.Nodes.{node_effect, node_item, node_key};
@@ -28,14 +28,15 @@ impl NodeKey {
     }
 }
 
-/// What a record does to the references of one strength that the driver holds to a node.
+/// What a record does to the references to a node. The driver asks the node's process to keep them,
+/// and they are all of one strength.
 #[derive(Clone, Copy, Debug, PartialEq, Eq)]
 pub enum NodeChange {
-    /// The driver asks the process to take one: they are one more, and one more is due.
+    /// The driver asks the process to keep one: they are one more, and one more is due.
     Raise,
-    /// The driver gives one back: they are one fewer.
+    /// The driver no longer needs one: they are one fewer.
     Lower,
-    /// The process has taken one that it was asked for: one fewer is due.
+    /// The process acknowledges one that it was asked to keep: one fewer is due.
     Done,
 }
 

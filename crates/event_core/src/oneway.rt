@@ -17,13 +17,6 @@ pub enum OnewayKey {
     Received,
 }
 
-/// A oneway transaction, and how many bytes of data it says that it has.
-#[derive(Clone, Copy)]
-pub struct OnewayItem {
-    pub key: OnewayKey,
-    pub data_size: u64,
-}
-
 /// Whether the flags have TF_ONE_WAY.
 pub(crate) fn has_one_way(transaction: Transaction<'_>) -> bool
     ensures { result ≡ has_one_way transaction.entry.carrier.payload.now }
@@ -31,23 +24,20 @@ pub(crate) fn has_one_way(transaction: Transaction<'_>) -> bool
     transaction.flags() & ONE_WAY != 0
 }
 
-/// The item of a transaction under this key, if it is a oneway one.
-fn item_of(transaction: Transaction<'_>, key: OnewayKey) -> Option<OnewayItem>
+/// This key and how many bytes of data the transaction says that it has, if it is a oneway one.
+fn item_of(transaction: Transaction<'_>, key: OnewayKey) -> Option<(OnewayKey, u64)>
     ensures { result ≡ oneway_under key transaction.entry.carrier.payload.now }
 {
     if has_one_way(transaction) {
-        Some(OnewayItem {
-            key,
-            data_size: transaction.data_size(),
-        })
+        Some((key, transaction.data_size()))
     } else {
         None
     }
 }
 
-/// The item of a transaction that is sent or received with TF_ONE_WAY; None for every other event,
-/// replies among them.
-pub fn oneway_step(event: Event<'_>) -> Option<OnewayItem>
+/// What a transaction that is sent or received with TF_ONE_WAY is counted under, and its data_size;
+/// None for every other event, replies among them.
+pub fn oneway_step(event: Event<'_>) -> Option<(OnewayKey, u64)>
     ensures { result ≡ oneway_item event.entry.kind event.entry.payload.now }
 {
     match event.kind {

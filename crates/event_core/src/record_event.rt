@@ -4,8 +4,9 @@ ghost use Rattle.std.specs.Prelude.{◌≡◌};
 ghost use Rattle.std.specs.Option.{ForSome, option_map};
 ghost use Rattle.capture_frame.specs.Envelope.{frame_text};
 ghost use Rattle.record_view.specs.State.{placed_record};
+ghost use Rattle.transaction_view.specs.State.{placed_entry};
 ghost use Rattle.event_core.specs.Events.{event_with};
-ghost use Rattle.event_core.specs.Reading.{event_text, entry_attachment};
+ghost use Rattle.event_core.specs.Reading.{event_text};
 
 use crate::event::Event;
 use capture_frame::Frame;
@@ -21,7 +22,7 @@ pub(crate) fn event_of<'c>(
 ) -> Event<'c>
     requires { ForSome attachment (λ found. found.owner ≡ carrier.place) }
     ensures { event_text result ≡ event_with (frame_text frame.entry)
-        (placed_record carrier.entry) (option_map entry_attachment attachment.entry) }
+        (placed_record carrier.entry) (option_map placed_entry attachment.entry) }
 {
     Event {
         place: carrier.place,

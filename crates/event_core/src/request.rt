@@ -35,7 +35,8 @@ pub enum RequestChange {
     Request(RequestKey),
     /// The process takes back those of this handle and cookie.
     Clear(RequestKey),
-    /// The driver reports a death, and so answers those of this cookie, whatever their handle.
+    /// The driver reports a death. The record names no handle, so every request of this cookie
+    /// counts as answered.
     Dead { cookie: u64 },
 }
 

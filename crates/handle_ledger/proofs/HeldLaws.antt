@@ -20,12 +20,11 @@ use Rattle.event_core.specs.declared.handle.HandleItem.{HandleItem}
 use Rattle.handle_ledger.specs.Handles.{handle_of, by_handle, HandleCountsSum}
 use Rattle.handle_ledger.specs.Held.{Held, held_cmp}
 use Rattle.handle_ledger.specs.declared.handle_counts.HandleCounts.{HandleCounts}
-use Rattle.handle_ledger.specs.declared.held_row.HeldRow.{HeldRow}
 use Rattle.summary_law.proofs.GatherLaws.{has_own, in_any}
 use Rattle.summary_law.proofs.Members.{In, in-map, map-in}
 use Rattle.summary_law.proofs.SortedLaws.{found_in, has_pair, keys_are, sorted_any}
 use Rattle.summary_law.specs.ByKey.{SumsByKey, items_of}
-use Rattle.summary_law.specs.Tally.{AreTallyRows, count_of}
+use Rattle.summary_law.specs.Tally.{AreTallyRows, count_of_key}
 
 held_cmp_total : IsTotalOrder held_cmp
 held_cmp_total = then_total (on_total (λ (held : Held). held.0) nat_cmp_total) (on_total (λ (held : Held). held.1) bool_cmp_total)
@@ -138,11 +137,11 @@ held_handles held rows are q =
     some_length [] some = absurd (some refl)
     some_length (i ∷ is) some = omega arith
 
-    held_among : (q : ℕ) (rows : List HeldTallyRow) → All (λ key. 0 < count_of held_cmp key held) (map (λ (r : HeldTallyRow). r.0) rows)
+    held_among : (q : ℕ) (rows : List HeldTallyRow) → All (λ key. 0 < count_of_key held_cmp key held) (map (λ (r : HeldTallyRow). r.0) rows)
         → list_any (is_of q) rows ≡ true → list_any (eq_by_cmp nat_cmp q) (map (λ reference. reference.0.0) held) ≡ true
     held_among q [] came any = let none : ⊥ = cc in absurd none
     held_among q (r ∷ rs) came any =
-        let Came : Held → Type 0 = λ key. 0 < count_of held_cmp key held in
+        let Came : Held → Type 0 = λ key. 0 < count_of_key held_cmp key held in
         ⊎_elim
         (λ (same : is_of q r ≡ true).
         let here = All-head Came r.0 (map (λ (r : HeldTallyRow). r.0) rs) came in
@@ -154,6 +153,3 @@ held_handles held rows are q =
         (λ (other : is_of q r ≡ false).
         held_among q rs (All-tail Came r.0 (map (λ (r : HeldTallyRow). r.0) rs) came) (ap (λ b. b || list_any (is_of q) rs) (sym other) ∙ any))
         (cases_Bool (is_of q r))
-
-abbrev pub handle_of_row : HeldRow → ℕ
-handle_of_row row = row.taken.handle

@@ -10,7 +10,7 @@ use Rattle.handle_ledger.specs.declared.handles.HandleLedger.{HandleLedger}
 use Rattle.handle_ledger.specs.declared.held_row.HeldRow.{HeldRow}
 use Rattle.handle_ledger.specs.Handles.{handle_of, handle_row, HandleLedgerSums}
 use Rattle.summary_law.specs.Sorted.{sorted}
-use Rattle.summary_law.specs.Tally.{count_of, TallySums}
+use Rattle.summary_law.specs.Tally.{count_of_key, TallySums}
 use Rattle.summary_law.specs.declared.tally.Tally.{Tally}
 
 -- a held reference: its handle, and whether it is a weak one
@@ -23,7 +23,7 @@ held_cmp one other = ordering_then (nat_cmp one.0 other.0) (bool_cmp one.1 other
 
 -- how many strong references to the handle are held, or how many weak ones; their weights do not matter
 abbrev pub held_count : List (Held × ℕ) → ℕ → Bool → ℕ
-held_count held handle weak = count_of held_cmp (handle, weak) held
+held_count held handle weak = count_of_key held_cmp (handle, weak) held
 
 -- the row of a handle: its counts, and how many strong and weak references to it are held
 abbrev pub held_row : List HandleItem → List (Held × ℕ) → ℕ → HeldRow
@@ -37,7 +37,7 @@ held_row items held handle = record {
 abbrev pub handles_of : List HandleItem → List (Held × ℕ) → List ℕ
 handles_of items held = map handle_of items ++ map (λ reference. reference.0.0) held
 
--- a row for each of these handles, handles rising
+-- a row for each handle that an item names or to which a reference is held, handles rising
 abbrev pub held_rows : List HandleItem → List (Held × ℕ) → List HeldRow
 held_rows items held = map (held_row items held) (sorted nat_cmp (handles_of items held))
 

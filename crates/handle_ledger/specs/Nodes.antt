@@ -1,4 +1,4 @@
--- The references that the driver holds to the nodes of a process: the counts of each node, and a row for each
+-- The references that the driver asks a process to keep to its nodes: the counts of each node, and a row for each
 -- (docs/REPORT.md).
 use Rattle.std.specs.Prelude.{◌≡◌, ℤ, List, map}
 use Rattle.std.specs.Ordering.{nat_cmp, on, then_cmp}
@@ -56,7 +56,8 @@ IsSumOf change sum items = sum ≡ total (map change items)
 abbrev pub node_count : List NodeItem → NodeKey → Strength → Count
 node_count items key strength = count_of (map (change_at node_cmp node_of (node_change strength) key) items)
 
--- how many references of this strength to this node are due, over all items
+-- how many references of this strength to this node are due, over all items; below 0 if more are acknowledged than the
+-- driver asked for
 abbrev pub due_count : List NodeItem → NodeKey → Strength → ℤ
 due_count items key strength = total (map (change_at node_cmp node_of (node_due_change strength) key) items)
 

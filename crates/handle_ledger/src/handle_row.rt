@@ -2,7 +2,8 @@
 
 use summary_law::Count;
 
-/// A handle that a process named, and the counts of its references to it.
+/// A handle, and the counts of a process's references to it, by the BC_ACQUIRE, BC_RELEASE,
+/// BC_INCREFS and BC_DECREFS that name it.
 #[derive(Clone, Copy, Debug, PartialEq, Eq)]
 pub struct HandleRow {
     pub handle: u32,

@@ -2,13 +2,15 @@
 
 use crate::handle_row::HandleRow;
 
-/// A handle that a process named, or that is held by a delivery which the process never frees.
+/// A handle of a process: a BC_ACQUIRE, BC_RELEASE, BC_INCREFS or BC_DECREFS of the process names
+/// it, or a leaked delivery to the process holds it. A delivery is leaked if no later free of its
+/// process has its address.
 #[derive(Clone, Copy, Debug, PartialEq, Eq)]
 pub struct HeldRow {
     /// The references that the process itself took and let go.
     pub taken: HandleRow,
-    /// How many strong references are held by deliveries that the process never frees.
+    /// How many strong references the leaked deliveries hold.
     pub held_strong: u64,
-    /// How many weak references they hold.
+    /// How many weak references the leaked deliveries hold.
     pub held_weak: u64,
 }

@@ -1,4 +1,4 @@
-//! The references that the driver holds to the nodes of a process.
+//! The references that the driver asks a process to keep to its nodes.
 
 ghost use Rattle.handle_ledger.specs.Nodes.{NodeLedgerSums, GivesNodeRows};
 ghost use Rattle.std.specs.Prelude.{IfOk};

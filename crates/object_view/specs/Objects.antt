@@ -14,7 +14,8 @@ pub record ObjectText : Type 0 where
   pub sort : Sort
   pub bytes : List ℕ
 
--- the object of a sort at this offset of the data, which has the sort's bytes there; if fewer are left, the cause Short
+-- the object of this sort at this offset of the data, with all the bytes that the sort has; UnknownSort if there is no
+-- sort, and Short if fewer bytes are left
 abbrev pub object_of : List ℕ → ℕ → Option Sort → Result ObjectText Cause
 object_of body offset None = Err UnknownSort
 object_of body offset (Some sort) =

@@ -1,4 +1,4 @@
--- What one call of a reader of an attachment's objects does. A reader stands for the objects that are ahead of it.
+-- What one call of a reader of an attachment's objects does. A reader has the objects that are ahead of it.
 use Rattle.std.specs.Prelude.{◌≡◌, ℕ, List, Option, Some, None, Result, Ok, Err}
 use Rattle.std.specs.Option.{option_map}
 use Rattle.transaction_view.specs.Calls.{GiveInOrder}

@@ -112,7 +112,8 @@ fn first_offset(list: &[u8]) -> u64
 /// The object that begins at an offset of the data, after one that ends at `end`; or the first
 /// cause that applies.
 fn object_at(body: &[u8], offset: u64, end: usize) -> Result<Object<'_>, Cause>
-    ensures found { IfOk result (λ found. object_at body.now end offset ≡ Ok (object_text offset found)) }
+    ensures found { IfOk result
+        (λ found. object_at body.now end offset ≡ Ok (object_text offset found)) }
     ensures fails { IfErr result (λ cause. object_at body.now end offset ≡ Err cause) }
 {
     if offset % 4 != 0 {

@@ -8,7 +8,7 @@ use Rattle.event_core.specs.declared.pending.PendingChange.TheVariants.{Open, Cl
 use Rattle.pending_ledger.proofs.LastLaws.{after_last-append, after_last-anew, after_last-none}
 use Rattle.pending_ledger.specs.declared.key_event.KeyEvent.{KeyEvent}
 use Rattle.pending_ledger.specs.KeyEvents.{event_place, event_change, is_closing, after_last, open_places, is_unmet, unmet_places, first_change, met_count}
-use Rattle.pending_ledger.specs.Pending.{is_close, is_open}
+use Rattle.pending_ledger.specs.Pending.{is_close, was_open}
 use Rattle.summary_law.specs.Readings.{chosen, read_each}
 
 -- opens followed by events without a close
@@ -60,7 +60,7 @@ pub unmet_after : (before : Option PendingChange) (events : List KeyEvent)
 unmet_after before [] = ap (λ (n : ℕ). drop {A = ℕ} n []) (sym (met_none before))
 unmet_after before (event ∷ events) = unmet_at before event.place event.change (unmet_places (Some event.change) events)
 
-unmet_is : (before : Option PendingChange) (change : PendingChange) → is_unmet before change ≡ (is_close change && not (is_open before))
+unmet_is : (before : Option PendingChange) (change : PendingChange) → is_unmet before change ≡ (is_close change && not (was_open before))
 unmet_is (Some Open) Open = refl
 unmet_is (Some Open) Close = refl
 unmet_is (Some Close) Open = refl
@@ -77,7 +77,7 @@ module _ {X : Type 0} (event : X → KeyEvent) where
 
   -- whether it is a close, and no open comes right before it
   abbrev pub is_unmet_close : List X → X → List X → Bool
-  is_unmet_close before x later = is_closing (event x) && not (is_open (last_or None (map (λ y. event_change (event y)) before)))
+  is_unmet_close before x later = is_closing (event x) && not (was_open (last_or None (map (λ y. event_change (event y)) before)))
 
   any_closing : (xs : List X) → list_any is_closing (map event xs) ≡ list_any (λ y. is_closing (event y)) xs
   any_closing [] = refl
@@ -116,7 +116,7 @@ module _ {X : Type 0} (event : X → KeyEvent) where
       = ap (last_or None) (map-append change before (x ∷ [])) ∙ last_or-append None (map change before) (change x ∷ []) in
       let rest : after ≡ map place later = ap (λ (o : Option PendingChange). unmet_places o (map event xs)) (sym next) ∙ unmet_read (before ++ x ∷ []) xs in
       ap (λ (b : Bool). cond b (place x ∷ after) after) (unmet_is last (change x))
-      ∙ elim (is_closing (event x) && not (is_open last))
+      ∙ elim (is_closing (event x) && not (was_open last))
       as (λ b. cond b (place x ∷ after) after ≡ map place (cons_option (cond b (Some x) None) later)) [
         | true ↦ ap (λ (t : List ℕ). place x ∷ t) rest
         | false ↦ rest

@@ -40,10 +40,3 @@ module _ {X : Type 0} (test : X → Bool) where
       let rest = after_last-suffix xs in
       elim (list_any test (x ∷ xs)) as (λ b. (front : List X) × (x ∷ xs ≡ front ++ cond b (after_last test xs) (x ∷ xs)))
       [ true ↦ (x ∷ rest.0, ap (λ t. x ∷ t) rest.1) | false ↦ ([], refl) ]
-
-  -- none of them passes
-  pub after_last-clear : (xs : List X) → list_any test (after_last test xs) ≡ false
-  after_last-clear [] = refl
-  after_last-clear (x ∷ xs) =
-      elim (list_any test (x ∷ xs)) as (λ b. (list_any test (x ∷ xs) ≡ b) → list_any test (cond b (after_last test xs) (x ∷ xs)) ≡ false)
-      [ true ↦ λ is. after_last-clear xs | false ↦ λ is. is ] refl

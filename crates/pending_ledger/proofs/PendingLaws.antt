@@ -20,7 +20,7 @@ use Rattle.pending_ledger.specs.declared.key_event.KeyEvent.{KeyEvent}
 use Rattle.pending_ledger.specs.declared.pending.Pending.{Pending}
 use Rattle.pending_ledger.specs.KeyEvents.{event_change, is_closing}
 use Rattle.pending_ledger.specs.Ledgers.{buffer_place}
-use Rattle.pending_ledger.specs.Pending.{is_close, is_open, closes, changes_of, is_left_open, is_stray, place_of, places_if}
+use Rattle.pending_ledger.specs.Pending.{is_close, was_open, closes, changes_of, is_unclosed_item, is_stray_item, place_of, places_if}
 use Rattle.pending_ledger.specs.Sums.{gather, keyed, KeySums, PendingSums}
 use Rattle.summary_law.proofs.GatherLaws.{as_it_is, entries_sorted, map_each, map_none}
 use Rattle.summary_law.proofs.ReadingLaws.{chosen-is, read-rises}
@@ -81,11 +81,11 @@ module _ {K : Type 0} (eq : K → K → Bool) where
       as (λ b. cons_option (cond b (Some item.change) None) (changes_of eq key items) ≡ map (λ i. event_change (event_of i)) (cond b (item ∷ own) own))
       [ true ↦ ap (λ t. item.change ∷ t) (changes_under key items) | false ↦ changes_under key items ]
 
-  left_open_by_key : chosen (is_left_open eq) ≡ by_key eq key_of (chosen (is_last_open event_of))
+  left_open_by_key : chosen (is_unclosed_item eq) ≡ by_key eq key_of (chosen (is_last_open event_of))
   left_open_by_key = λ t before item later. cond (not (is_close item.change) && not (closes_under item.key later t)) (Some item) None
 
-  stray_by_key : chosen (is_stray eq) ≡ by_key eq key_of (chosen (is_unmet_close event_of))
-  stray_by_key = λ t before item later. cond (is_close item.change && not (is_open (last_or None (changes_under item.key before t)))) (Some item) None
+  stray_by_key : chosen (is_stray_item eq) ≡ by_key eq key_of (chosen (is_unmet_close event_of))
+  stray_by_key = λ t before item later. cond (is_close item.change && not (was_open (last_or None (changes_under item.key before t)))) (Some item) None
 
 -- the lists of one key's ledger
 abbrev pub opens_of : KeyLedger → List ℕ
@@ -113,14 +113,14 @@ module _ {K : Type 0} (cmp : K → K → Ordering) (laws : IsTotalOrder cmp) (pe
 
   -- the gathered opens, sorted
   pub outstanding_sorted : (places : List ℕ) → IsPermutation (gather opens_of pending.keys.entries.entries) places → IsSorted nat_cmp places
-      → places ≡ places_if (is_left_open (eq_by_cmp cmp)) items
+      → places ≡ places_if (is_unclosed_item (eq_by_cmp cmp)) items
   outstanding_sorted places moved sorted =
       of_keys (is_last_open event_of) opens_of (λ ledger own holds. holds.0.places ∙ opens_read event_of [] own) places moved sorted
       ∙ ap (λ read. map place_of (read_all read items)) (sym (left_open_by_key (eq_by_cmp cmp)))
 
   -- the gathered strays, sorted
   pub strays_sorted : (places : List ℕ) → IsPermutation (gather strays_of pending.keys.entries.entries) places → IsSorted nat_cmp places
-      → places ≡ places_if (is_stray (eq_by_cmp cmp)) items
+      → places ≡ places_if (is_stray_item (eq_by_cmp cmp)) items
   strays_sorted places moved sorted =
       of_keys (is_unmet_close event_of) strays_of (λ ledger own holds. holds.1.places ∙ unmet_read event_of [] own) places moved sorted
       ∙ ap (λ read. map place_of (read_all read items)) (sym (stray_by_key (eq_by_cmp cmp)))

@@ -13,10 +13,10 @@ is_close Open = false
 is_close Close = true
 
 -- whether there is a change, and it is an open
-abbrev pub is_open : Option PendingChange → Bool
-is_open (Some Open) = true
-is_open (Some Close) = false
-is_open None = false
+abbrev pub was_open : Option PendingChange → Bool
+was_open (Some Open) = true
+was_open (Some Close) = false
+was_open None = false
 
 -- whether an item closes the key
 abbrev pub closes : {K : Type 0} → (K → K → Bool) → K → PendingItem K → Bool
@@ -26,13 +26,13 @@ closes eq key item = eq key item.key && is_close item.change
 abbrev pub changes_of : {K : Type 0} → (K → K → Bool) → K → List (PendingItem K) → List PendingChange
 changes_of eq key items = filter_map (λ item. if eq key item.key then Some item.change else None) items
 
--- whether the item is outstanding: it is an open, and no later close has its key
-abbrev pub is_left_open : {K : Type 0} → (K → K → Bool) → List (PendingItem K) → PendingItem K → List (PendingItem K) → Bool
-is_left_open eq before item later = not (is_close item.change) && not (list_any (closes eq item.key) later)
+-- whether the item is an unclosed open: no later close has its key
+abbrev pub is_unclosed_item : {K : Type 0} → (K → K → Bool) → List (PendingItem K) → PendingItem K → List (PendingItem K) → Bool
+is_unclosed_item eq before item later = not (is_close item.change) && not (list_any (closes eq item.key) later)
 
 -- whether the item is a stray: it is a close, and the latest earlier item of its key, if there is one, is not an open
-abbrev pub is_stray : {K : Type 0} → (K → K → Bool) → List (PendingItem K) → PendingItem K → List (PendingItem K) → Bool
-is_stray eq before item later = is_close item.change && not (is_open (last_or None (changes_of eq item.key before)))
+abbrev pub is_stray_item : {K : Type 0} → (K → K → Bool) → List (PendingItem K) → PendingItem K → List (PendingItem K) → Bool
+is_stray_item eq before item later = is_close item.change && not (was_open (last_or None (changes_of eq item.key before)))
 
 -- the place of an item
 abbrev pub place_of : {K : Type 0} → PendingItem K → ℕ

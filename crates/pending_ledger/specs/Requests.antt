@@ -13,7 +13,7 @@ change_ends key (Request other) = false
 change_ends key (Clear other) = key.cookie == other.cookie && key.handle == other.handle
 change_ends key (Dead cookie) = key.cookie == cookie
 
--- whether an item ends such a request
+-- whether an item ends a request of this handle and cookie
 abbrev pub ends : RequestKey → RequestItem → Bool
 ends key item = change_ends key item.change
 

@@ -20,7 +20,7 @@ use Rattle.pending_ledger.specs.declared.requests.Requests.{Requests}
 use Rattle.pending_ledger.specs.declared.strays.Strays.{Strays}
 use Rattle.pending_ledger.specs.KeyEvents.{event_change, is_closing, after_last, open_places, unmet_places, first_change}
 use Rattle.pending_ledger.specs.Ledgers.{leaked_places, stray_free_places}
-use Rattle.pending_ledger.specs.Pending.{is_left_open, is_stray, place_of, places_if}
+use Rattle.pending_ledger.specs.Pending.{is_unclosed_item, is_stray_item, place_of, places_if}
 use Rattle.pending_ledger.specs.Requests.{request_place, standing_request_places}
 use Rattle.summary_law.specs.ByKey.{SumsByKey}
 use Rattle.summary_law.specs.Fits.{IsPlaced}
@@ -52,12 +52,12 @@ PendingSums cmp pending items = SumsByKey cmp KeySums pending.keys.entries (map 
 -- for whatever items the value sums, these are the places of the outstanding opens
 abbrev pub GivesOutstanding : {K : Type 0} → (K → K → Ordering) → Pending K → List ℕ → Type 0
 GivesOutstanding {K} cmp pending places =
-    (items : List (PendingItem K)) → PendingSums cmp pending items → places ≡ places_if (is_left_open (eq_by_cmp cmp)) items
+    (items : List (PendingItem K)) → PendingSums cmp pending items → places ≡ places_if (is_unclosed_item (eq_by_cmp cmp)) items
 
 -- for whatever items the value sums, these are the places of the strays
 abbrev pub GivesStrays : {K : Type 0} → (K → K → Ordering) → Pending K → List ℕ → Type 0
 GivesStrays {K} cmp pending places =
-    (items : List (PendingItem K)) → PendingSums cmp pending items → places ≡ places_if (is_stray (eq_by_cmp cmp)) items
+    (items : List (PendingItem K)) → PendingSums cmp pending items → places ≡ places_if (is_stray_item (eq_by_cmp cmp)) items
 
 -- the value sums these deliveries and frees, as opens and closes of their addresses
 abbrev pub BuffersSums : Buffers → List BufferItem → Type 0

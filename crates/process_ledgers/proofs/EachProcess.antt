@@ -25,7 +25,7 @@ use Rattle.process_ledgers.specs.declared.process_ledgers.ProcessLedgers.{Proces
 use Rattle.process_ledgers.specs.Concerns.{concerns, concerned}
 use Rattle.process_ledgers.specs.Items.{buffer_item_of, clear_item_of, death_item_of, handle_item_of, node_item_of, oneway_item_of, request_item_of}
 use Rattle.process_ledgers.specs.EachProcess.{AreLedgersOf, SumsEach, SumsOrder, ledgers_in, order_item}
-use Rattle.process_ledgers.specs.OnewayLedger.{OnewayLedgerSums}
+use Rattle.process_ledgers.specs.Oneway.{OnewaySums}
 use Rattle.process_ledgers.specs.ProcessLedgers.{SumsProcess, picked_by}
 use Rattle.process_ledgers.specs.Processes.{events_in, items_of_process}
 
@@ -107,7 +107,7 @@ own_ledgers ledgers q events sums = record {
   requests = subst (RequestsSums ledgers.requests.own) (own_items request_item_of (λ e is. (none_else e is).requests) q events) sums.requests;
   deaths = subst (PendingSums nat_cmp ledgers.deaths.own) (own_items death_item_of (λ e is. (none_else e is).deaths) q events) sums.deaths;
   clears = subst (PendingSums nat_cmp ledgers.clears.own) (own_items clear_item_of (λ e is. (none_else e is).clears) q events) sums.clears;
-  oneway = subst (OnewayLedgerSums ledgers.oneway.own) (own_items oneway_item_of (λ e is. (none_else e is).oneway) q events) sums.oneway;
+  oneway = subst (OnewaySums ledgers.oneway.own) (own_items oneway_item_of (λ e is. (none_else e is).oneway) q events) sums.oneway;
 }
 
 part_sums : {S I : Type 0} (Sums : S → List I → Type 0) (none : S) (part : Option S) (items : List I) → Sums none [] → IsOwn Sums part items → Sums (unwrap_or part none) items

@@ -15,7 +15,7 @@ use Rattle.handle_ledger.specs.Nodes.{NodeLedgerSums}
 use Rattle.pending_ledger.specs.Sums.{BuffersSums, PendingSums, RequestsSums}
 use Rattle.process_ledgers.specs.declared.process_ledgers.ProcessLedgers.{ProcessLedgers}
 use Rattle.process_ledgers.specs.Items.{buffer_item_of, clear_item_of, death_item_of, handle_item_of, node_item_of, oneway_item_of, request_item_of}
-use Rattle.process_ledgers.specs.OnewayLedger.{OnewayLedgerSums}
+use Rattle.process_ledgers.specs.Oneway.{OnewaySums}
 use Rattle.process_ledgers.specs.Processes.{items_of_process, process_of_placed, processes_of}
 
 -- the ledgers are those of this process among these events: each sums the items that it reads from the events of the
@@ -27,7 +27,7 @@ pub record AreLedgersOf (ledgers : ProcessLedgers) (events : List EventRead) (pr
   pub requests : RequestsSums ledgers.requests.own (items_of_process request_item_of process events)
   pub deaths : PendingSums nat_cmp ledgers.deaths.own (items_of_process death_item_of process events)
   pub clears : PendingSums nat_cmp ledgers.clears.own (items_of_process clear_item_of process events)
-  pub oneway : OnewayLedgerSums ledgers.oneway.own (items_of_process oneway_item_of process events)
+  pub oneway : OnewaySums ledgers.oneway.own (items_of_process oneway_item_of process events)
 
 -- the ledgers of this process, or those of no event if it has none
 abbrev pub ledgers_in : Processes → Process → ProcessLedgers

@@ -12,7 +12,7 @@ use Rattle.event_core.specs.Requests.{request_item}
 use Rattle.event_core.specs.declared.buffer.BufferItem.{BufferItem}
 use Rattle.event_core.specs.declared.handle.HandleItem.{HandleItem}
 use Rattle.event_core.specs.declared.node.NodeItem.{NodeItem}
-use Rattle.event_core.specs.declared.oneway.OnewayItem.{OnewayItem}
+use Rattle.event_core.specs.declared.oneway.OnewayKey.{OnewayKey}
 use Rattle.event_core.specs.declared.pending.PendingItem.{PendingItem}
 use Rattle.event_core.specs.declared.request.RequestItem.{RequestItem}
 
@@ -28,7 +28,7 @@ node_item_of e = node_item e.kind e.payload
 abbrev pub buffer_item_of : EventRead → Option BufferItem
 buffer_item_of e = buffer_item e.place e.kind e.payload
 
--- the delivery as an open of its address, or the free as a close of it
+-- what an event does to the address of a buffer: a delivery opens it, and a free closes it
 abbrev pub buffer_pending_of : EventRead → Option (PendingItem ℕ)
 buffer_pending_of e = option_map buffer_pending (buffer_item_of e)
 
@@ -45,7 +45,7 @@ abbrev pub clear_item_of : EventRead → Option (PendingItem ℕ)
 clear_item_of e = clear_item e.place e.kind e.payload
 
 -- the oneway transaction, sent or received, that an event is
-abbrev pub oneway_item_of : EventRead → Option OnewayItem
+abbrev pub oneway_item_of : EventRead → Option (OnewayKey × ℕ)
 oneway_item_of e = oneway_item e.kind e.payload
 
 -- each item that is read from an event has the place of the event

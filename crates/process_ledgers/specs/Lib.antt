@@ -1,6 +1,6 @@
 pub mod Items
 pub mod Processes
-pub mod OnewayLedger
+pub mod Oneway
 pub mod Concerns
 pub mod ProcessLedgers
 pub mod EachProcess

@@ -11,7 +11,7 @@ use Rattle.summary_law.specs.Fed.{SumsPicked}
 use Rattle.summary_law.specs.Fits.{IsPlaced}
 use Rattle.process_ledgers.specs.declared.process_ledgers.ProcessLedgers.{ProcessLedgers}
 use Rattle.process_ledgers.specs.Items.{buffer_item_of, clear_item_of, death_item_of, handle_item_of, node_item_of, oneway_item_of, request_item_of}
-use Rattle.process_ledgers.specs.OnewayLedger.{OnewayLedgerSums}
+use Rattle.process_ledgers.specs.Oneway.{OnewaySums}
 
 -- the place of an event
 abbrev pub event_place : Event → ℕ
@@ -33,4 +33,4 @@ pub record SumsProcess (ledgers : ProcessLedgers) (events : List Event) : Type 0
   pub requests : SumsPicked (picked_by request_item_of) RequestsSums ledgers.requests.own events
   pub deaths : SumsPicked (picked_by death_item_of) (PendingSums nat_cmp) ledgers.deaths.own events
   pub clears : SumsPicked (picked_by clear_item_of) (PendingSums nat_cmp) ledgers.clears.own events
-  pub oneway : SumsPicked (picked_by oneway_item_of) OnewayLedgerSums ledgers.oneway.own events
+  pub oneway : SumsPicked (picked_by oneway_item_of) OnewaySums ledgers.oneway.own events

@@ -2,13 +2,11 @@
 #![tactic(auto)]
 
 mod concerned;
-mod oneway_ledger;
 mod process_ledgers;
 mod processes;
 mod readers;
 
 pub use concerned::concerns;
-pub use oneway_ledger::OnewayLedger;
 pub use process_ledgers::ProcessLedgers;
 pub use processes::Processes;
 pub use readers::{

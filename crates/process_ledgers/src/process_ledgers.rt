@@ -4,15 +4,14 @@ ghost use Rattle.event_core.specs.Reading.{event_text};
 ghost use Rattle.summary_law.specs.Fits.{placed_halves};
 ghost use Rattle.process_ledgers.specs.ProcessLedgers.{SumsProcess, ArePlaced, event_place};
 
-use crate::oneway_ledger::OnewayLedger;
 use crate::readers::{
     BufferItems, ClearItems, DeathItems, HandleItems, NodeItems, OnewayItems, RequestItems,
 };
-use event_core::Event;
+use event_core::{Event, OnewayKey};
 use handle_ledger::{HandleLedger, NodeLedger};
 use pending_ledger::{Buffers, Clears, Deaths, Requests};
 use std::alloc::{AllocError, Global};
-use summary_law::{Fed, Summary};
+use summary_law::{Fed, Summary, Tally};
 
 /// The ledgers of one process. The caller feeds them events of that process only. Rows and places
 /// come from the calls of each ledger.
@@ -24,7 +23,9 @@ pub struct ProcessLedgers<'c> {
     pub requests: Fed<RequestItems<'c>, Requests>,
     pub deaths: Fed<DeathItems<'c>, Deaths>,
     pub clears: Fed<ClearItems<'c>, Clears>,
-    pub oneway: Fed<OnewayItems<'c>, OnewayLedger>,
+    /// How many oneway transactions the process sends to each handle and how many it receives, with
+    /// their data sizes added up.
+    pub oneway: Fed<OnewayItems<'c>, Tally<OnewayKey>>,
 }
 
 impl<'c> Summary for ProcessLedgers<'c> {

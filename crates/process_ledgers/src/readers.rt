@@ -4,7 +4,7 @@ ghost use Rattle.event_core.specs.Reading.{event_text};
 ghost use Rattle.process_ledgers.specs.Items.{handle_item_of, node_item_of, buffer_item_of, request_item_of, death_item_of, clear_item_of, oneway_item_of};
 
 use event_core::{
-    BufferItem, Event, HandleItem, NodeItem, OnewayItem, PendingItem, RequestItem, buffer_step,
+    BufferItem, Event, HandleItem, NodeItem, OnewayKey, PendingItem, RequestItem, buffer_step,
     clear_step, death_step, handle_step, node_step, oneway_step, request_step,
 };
 use std::marker::PhantomData;
@@ -126,12 +126,12 @@ pub struct OnewayItems<'c> {
 impl<'c> Picks for OnewayItems<'c> {
     type Thing = Event<'c>;
 
-    type Item = OnewayItem;
+    type Item = (OnewayKey, u64);
 
     ghost picks = { λ event. oneway_item_of (event_text event) };
 
     #[inline(always)]
-    fn pick(event: Event<'c>) -> Option<OnewayItem> {
+    fn pick(event: Event<'c>) -> Option<(OnewayKey, u64)> {
         oneway_step(event)
     }
 }

@@ -9,9 +9,9 @@ use binder_code::Kind;
 use capture_frame::{Frame, Frames, Process, Thread};
 use captures::{COMMANDS, DEVICE, RETURNS, WITH_ATTACHMENTS};
 use event_core::{
-    BufferItem, Event, Events, Mark, OnewayItem, PendingChange, PendingItem, bracket, buffer_step,
-    clear_step, death_step, event_at, event_without_attachment_at, handle_step, mark, node_step,
-    oneway_step, request_step,
+    BufferItem, Event, Events, Mark, PendingChange, PendingItem, bracket, buffer_step, clear_step,
+    death_step, event_at, event_without_attachment_at, handle_step, mark, node_step, oneway_step,
+    request_step,
 };
 use rows::{Buffer, COMMAND_ROWS, COOKIE, DATA_SIZE, HANDLE, NODE, RETURN_ROWS, Row};
 use std::process::Abort;
@@ -134,10 +134,10 @@ fn expect_counts(rt: &impl Abort, event: Event<'_>, row: &Row) {
     if let Some(item) = node_step(event) {
         same(rt, item.node, NODE);
     }
-    let oneway = oneway_step(event).map(|item| item.key);
+    let oneway = oneway_step(event).map(|item| item.0);
     same_at(rt, row.place, oneway, row.oneway);
     if let Some(item) = oneway_step(event) {
-        same(rt, item.data_size, DATA_SIZE);
+        same(rt, item.1, DATA_SIZE);
     }
 }
 

@@ -1,6 +1,6 @@
 -- The records of a frame's command bytes: each a code word and its payload (`linux/android/binder.h`,
 -- BINDER_WRITE_READ; docs/COMMANDS.md).
-use Rattle.std.specs.Prelude.{ℕ, ◌+◌, nat_le, Bool, true, false, List, [], ◌∷◌, ◌++◌, length, take, drop, Result, Ok, Err}
+use Rattle.std.specs.Prelude.{ℕ, ◌+◌, ◌-◌, nat_le, Bool, true, false, List, [], ◌∷◌, ◌++◌, length, take, drop, Result, Ok, Err}
 use Rattle.byteorder.specs.Endian.{little_bytes}
 use Rattle.binder_code.specs.declared.protocol.Protocol.{Protocol}
 use Rattle.binder_code.specs.declared.protocol.Protocol.TheVariants.{Command, Return}
@@ -75,6 +75,11 @@ record_parser direction = record {
   width = record_width;
   after = λ _ r. tt;
 }
+
+-- the records of a frame from a place of its command bytes on, up to the first fault
+abbrev pub records_from : PlacedFrame → ℕ → Parsed RecordText
+records_from frame place =
+    parsed_by (record_parser frame.unit.direction) tt place (drop (place - commands_place frame.place) frame.unit.commands)
 
 -- the records of a frame, up to the first fault
 abbrev pub records_of : PlacedFrame → Parsed RecordText

@@ -17,7 +17,8 @@ ghost use Rattle.record_view.specs.State.{IsRecordView, Steps};
 pub fn records_there()
     ensures { (frame : PlacedFrame) → All
         (λ there. (commands_place frame.place ≤ there.place)
-        × (there.place + record_width there.unit ≤ commands_place frame.place + length frame.unit.commands)
+        × (there.place + record_width there.unit
+        ≤ commands_place frame.place + length frame.unit.commands)
         × (record_at (protocol_of frame.unit.direction)
         (drop (there.place - commands_place frame.place) frame.unit.commands) ≡ Ok there.unit))
         (records_of frame).units }

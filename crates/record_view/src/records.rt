@@ -43,8 +43,9 @@ impl<'c> Model for Records<'c> {
 }
 
 impl<'c> Records<'c> {
-    ghost use Rattle.capture_frame.specs.Envelope.{placed_frame};
-    ghost use Rattle.record_view.specs.Records.{records_of};
+    ghost use Rattle.std.specs.Prelude.{◌≤◌};
+    ghost use Rattle.capture_frame.specs.Envelope.{commands_place, placed_frame};
+    ghost use Rattle.record_view.specs.Records.{records_from, records_of};
     ghost use Rattle.record_view.specs.State.{Steps};
 
     /// A reader before the frame's first record.
@@ -54,6 +55,22 @@ impl<'c> Records<'c> {
         Records {
             frame,
             state: State::At { offset: 0 },
+        }
+    }
+
+    /// A reader before the record that begins at a place of the capture. The place must be within
+    /// the frame's command bytes, or at their end.
+    pub fn at(frame: Frame<'c>, place: u64) -> Records<'c>
+        requires from { commands_place frame.place ≤ place }
+        requires to { place ≤ commands_place frame.place + length frame.commands.now }
+        ensures { result ≡ records_from (placed_frame frame.entry) place }
+    {
+        let offset = place - frame.commands_place();
+        Records {
+            frame,
+            state: State::At {
+                offset: offset as usize,
+            },
         }
     }
 

@@ -1,18 +1,18 @@
 //! The calls of the ledgers, and what each gives of its items.
 
 use crate::events::{Whose, events_of};
-use crate::fits::{is_short, is_weighted};
+use crate::fits::is_short;
 use crate::no_answer::{NoAnswer, Printed};
 use crate::sums::{Way, summed};
 use crate::told;
 use call_stacks::ThreadCalls;
 use event_core::{
-    Event, buffer_step, clear_step, death_step, handle_step, node_step, oneway_step, request_step,
+    Event, OnewayKey, buffer_step, clear_step, death_step, handle_step, node_step, oneway_step,
+    request_step,
 };
 use handle_ledger::{HandleLedger, NodeLedger};
 use object_view::{Objects, held_step};
 use pending_ledger::{Buffers, Clears, Deaths, Requests};
-use process_ledgers::OnewayLedger;
 use std::alloc::{AllocError, Global};
 use std::io::Write;
 use summary_law::Tally;
@@ -50,7 +50,7 @@ macro_rules! tell_ledger {
 }
 
 pub(crate) fn tally<W: Write>(alloc: Global, bytes: &[u8], way: Way, out: &mut W) -> Printed {
-    tell_ledger!(alloc, bytes, way, out; code_step, is_weighted, Tally<u32>: rows)
+    tell_ledger!(alloc, bytes, way, out; code_step, is_short, Tally<u32>: rows)
 }
 
 /// The code word of a record, with the length of its payload.
@@ -83,7 +83,7 @@ pub(crate) fn requests<W: Write>(alloc: Global, bytes: &[u8], way: Way, out: &mu
 }
 
 pub(crate) fn oneway<W: Write>(alloc: Global, bytes: &[u8], way: Way, out: &mut W) -> Printed {
-    tell_ledger!(alloc, bytes, way, out; oneway_step, is_short, OnewayLedger: rows)
+    tell_ledger!(alloc, bytes, way, out; oneway_step, is_short, Tally<OnewayKey>: rows)
 }
 
 /// The references that the objects of the events' attachments carry, each with the weight 0.
@@ -113,7 +113,7 @@ pub(crate) fn held<W: Write>(alloc: Global, bytes: &[u8], way: Way, out: &mut W)
     let events = events_of(alloc, bytes, Whose::Process)?;
     let items = items!(alloc, &events, handle_step);
     let held = held_items(alloc, events.as_slice())?;
-    if !is_short(items.as_slice()) || !is_weighted(held.as_slice()) {
+    if !is_short(items.as_slice()) || !is_short(held.as_slice()) {
         return Err(NoAnswer::Unfit);
     }
     let ledger: HandleLedger = summed(alloc, items.as_slice(), way)?;

@@ -26,7 +26,7 @@ closer_field (Some place) = decimal place
 abbrev pub record_fields : (List ℕ → List ℕ) → List ℕ → List ℕ
 record_fields other_side payload = codes " " ++ other_side payload ++ codes " " ++ decimal (code payload)
 
--- a row: place, device, process, thread, these fields, verdict, closer
+-- a row: place, device, process, thread, the field of the other side, code, verdict, closer
 abbrev pub call_row : (List ℕ → List ℕ) → Opener EventRead → List ℕ
 call_row other_side call =
     thread_start call.event ++ record_fields other_side call.event.payload

@@ -21,7 +21,7 @@ target_field payload = decimal (target_handle payload)
 abbrev pub calls_row : Opener EventRead → List ℕ
 calls_row call = call_row target_field call
 
--- the section: its head, and a row for each call that is not answered
+-- the section: its head, and a row for each call that lacks its reply
 abbrev pub calls_section : SectionText (Opener EventRead)
 calls_section = record {
   head = λ found rows.

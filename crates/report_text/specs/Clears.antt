@@ -28,7 +28,8 @@ clears_row e = open_and_stray_row (clear_word e.kind) (clear_cookie e.kind e.pay
 -- the section: its head, and a row for each unconfirmed clear and each stray confirmation
 abbrev pub clears_section : SectionText EventRead
 clears_section = record {
-  head = λ found rows. clears_head found.events.counts.clears found.processes.clears.unclosed found.processes.clears.strays;
+  head = λ found rows. clears_head found.events.counts.clears
+      found.processes.clears.unclosed found.processes.clears.strays;
   rows = λ found. found.processes.clears.rows;
   line = clears_row;
 }

@@ -23,7 +23,8 @@ deaths_row e = open_and_stray_row (death_word e.kind) (cookie_alone e.payload) e
 -- the section: its head, and a row for each unacknowledged death and each stray acknowledgement
 abbrev pub deaths_section : SectionText EventRead
 deaths_section = record {
-  head = λ found rows. deaths_head found.events.counts.deaths found.processes.deaths.unclosed found.processes.deaths.strays;
+  head = λ found rows. deaths_head found.events.counts.deaths
+      found.processes.deaths.unclosed found.processes.deaths.strays;
   rows = λ found. found.processes.deaths.rows;
   line = deaths_row;
 }

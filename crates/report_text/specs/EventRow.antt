@@ -9,7 +9,7 @@ use Rattle.report_text.specs.Process.{process_field, thread_field}
 abbrev pub row_start : EventRead → List ℕ
 row_start e = codes "  " ++ decimal e.place ++ codes " " ++ process_field (process_of e)
 
--- the same, with the thread
+-- the beginning of a row: place, device, process and thread of the event's record
 abbrev pub thread_start : EventRead → List ℕ
 thread_start e = row_start e ++ codes " " ++ thread_field e.thread
 

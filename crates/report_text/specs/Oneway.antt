@@ -14,14 +14,14 @@ oneway_head sent received refused =
     ++ codes " refused " ++ decimal refused
 
 -- `sent` and the handle, or `received`
-abbrev pub key_fields : OnewayKey → List ℕ
-key_fields (Sent handle) = codes "sent " ++ decimal handle
-key_fields Received = codes "received"
+abbrev pub oneway_fields : OnewayKey → List ℕ
+oneway_fields (Sent handle) = codes "sent " ++ decimal handle
+oneway_fields Received = codes "received"
 
--- a row: device, process, these fields, the count, the sum of data_size
+-- a row: device, process, `sent` and the handle or `received`, the count, the sum of data_size
 abbrev pub oneway_row : ProcessRow (OnewayKey × ℕ × ℕ) → List ℕ
 oneway_row of =
-    process_start of.process ++ codes " " ++ key_fields of.row.0 ++ codes " " ++ decimal of.row.1
+    process_start of.process ++ codes " " ++ oneway_fields of.row.0 ++ codes " " ++ decimal of.row.1
     ++ codes " " ++ decimal of.row.2
 
 -- the section: its head, and the rows of each process in turn

@@ -7,6 +7,6 @@ use Rattle.capture_frame.specs.declared.process.Process.{Process}
 abbrev pub process_field : Process → List ℕ
 process_field process = decimal process.device ++ codes " " ++ decimal process.number
 
--- a thread: its number, after the fields of its process
+-- a thread: its number; a row has its process before it
 abbrev pub thread_field : ℕ → List ℕ
 thread_field thread = decimal thread

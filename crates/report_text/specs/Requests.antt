@@ -13,12 +13,12 @@ abbrev pub requests_head : ℕ → ℕ → List ℕ
 requests_head requests standing = codes "requests " ++ decimal requests ++ codes " standing " ++ decimal standing
 
 -- what a row says of a request: handle, cookie
-abbrev pub key_fields : RequestKey → List ℕ
-key_fields key = codes " " ++ decimal key.handle ++ codes " " ++ hex_number key.cookie
+abbrev pub request_fields : RequestKey → List ℕ
+request_fields key = codes " " ++ decimal key.handle ++ codes " " ++ hex_number key.cookie
 
--- a row: place, device, process, and these fields
+-- a row: place, device, process, handle, cookie
 abbrev pub requests_row : EventRead → List ℕ
-requests_row e = row_start e ++ key_fields (request_key e.payload)
+requests_row e = row_start e ++ request_fields (request_key e.payload)
 
 -- the section: its head, and a row for each standing request
 abbrev pub requests_section : SectionText EventRead

@@ -21,7 +21,7 @@ sender_field payload = signed_decimal (sender_pid payload)
 abbrev pub served_row : Opener EventRead → List ℕ
 served_row call = call_row sender_field call
 
--- the section: its head, and a row for each served call that is not replied
+-- the section: its head, and a row for each served call that lacks its reply
 abbrev pub served_section : SectionText (Opener EventRead)
 served_section = record {
   head = λ found rows.

@@ -25,7 +25,10 @@ impl WholeSection for Codes {
 
     ghost rows_of = { λ kept. kept.events.codes };
 
-    ghost keeps = { record { head = λ found rows. refl; rows = λ found. sym (map-id (found.events.codes)) } };
+    ghost keeps = { record {
+      head = λ found rows. refl;
+      rows = λ found. sym (map-id (found.events.codes));
+    } };
 
     fn head(&self, _sections: &Sections<u64>, rows: usize) -> Row {
         let mut line = Row::new();

@@ -26,7 +26,10 @@ impl WholeSection for Handles {
 
     ghost rows_of = { λ kept. kept.processes.handles.rows };
 
-    ghost keeps = { record { head = λ found rows. refl; rows = λ found. sym (map-id (found.processes.handles.rows)) } };
+    ghost keeps = { record {
+      head = λ found rows. refl;
+      rows = λ found. sym (map-id (found.processes.handles.rows));
+    } };
 
     fn head(&self, sections: &Sections<u64>, rows: usize) -> Row {
         unbalanced_head("handles", rows, sections.processes.handles.unbalanced)

@@ -26,7 +26,10 @@ impl WholeSection for Nodes {
 
     ghost rows_of = { λ kept. kept.processes.nodes.rows };
 
-    ghost keeps = { record { head = λ found rows. refl; rows = λ found. sym (map-id (found.processes.nodes.rows)) } };
+    ghost keeps = { record {
+      head = λ found rows. refl;
+      rows = λ found. sym (map-id (found.processes.nodes.rows));
+    } };
 
     fn head(&self, sections: &Sections<u64>, rows: usize) -> Row {
         unbalanced_head("nodes", rows, sections.processes.nodes.unbalanced)

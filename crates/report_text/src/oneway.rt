@@ -2,7 +2,7 @@
 
 ghost use Rattle.std.specs.Prelude.{◌≡◌, ◌≤◌, ◌+◌, ◌++◌};
 ghost use Rattle.arrayvec.specs.ArrayString.{array_string_len};
-ghost use Rattle.report_text.specs.Oneway.{key_fields};
+ghost use Rattle.report_text.specs.Oneway.{oneway_fields};
 
 use crate::line::{Row, push_counted, push_wide};
 use crate::process_row::process_start;
@@ -28,7 +28,10 @@ impl WholeSection for Oneway {
 
     ghost rows_of = { λ kept. kept.processes.oneway };
 
-    ghost keeps = { record { head = λ found rows. refl; rows = λ found. sym (map-id (found.processes.oneway)) } };
+    ghost keeps = { record {
+      head = λ found rows. refl;
+      rows = λ found. sym (map-id (found.processes.oneway));
+    } };
 
     fn head(&self, sections: &Sections<u64>, _rows: usize) -> Row {
         let mut line = Row::new();
@@ -57,7 +60,7 @@ impl WholeSection for Oneway {
 /// Pushes `sent` and the handle, or `received`.
 fn push_key(line: &mut Row, key: OnewayKey)
     requires { array_string_len line.old + 25 ≤ 256 }
-    ensures text { line.new.bytes ≡ line.old.bytes ++ key_fields key }
+    ensures text { line.new.bytes ≡ line.old.bytes ++ oneway_fields key }
     ensures short { array_string_len line.new ≤ array_string_len line.old + 25 }
 {
     match key {

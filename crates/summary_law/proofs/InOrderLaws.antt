@@ -1,8 +1,8 @@
 -- What a map of summaries in the order of first items says, and which keys it has.
-use Rattle.std.proofs.Common.{◌≡◌, ◌≢◌, Bool, true, false, not, List, [], ◌∷◌, ◌++◌, map, filter, Option, Some, None, is_some, All, slice_index_or, refl, sym, ap, subst, ◌∙◌, ⊎_elim}
+use Rattle.std.proofs.Common.{◌≡◌, ◌≢◌, Bool, true, false, not, List, [], ◌∷◌, ◌++◌, filter, Option, Some, None, is_some, All, slice_index_or, sym, subst, ◌∙◌, ⊎_elim}
 use Rattle.std.proofs.lemmas.Bool.{cases_Bool, true≢false}
 use Rattle.std.proofs.lemmas.List.{append-nil}
-use Rattle.std.proofs.lemmas.List.Elements.{All-cons, All-head, All-tail, All-filter, All-weaker, Contains-get_or}
+use Rattle.std.proofs.lemmas.List.Elements.{All-weaker, Contains-get_or}
 use Rattle.std.proofs.lemmas.Map.Made.{is_some-lookup, All-is_member}
 use Rattle.std.proofs.lemmas.Map.Steps.{list_any_congr}
 use Rattle.std.proofs.lemmas.Map.Views.{lookup-from_Contains}
@@ -33,28 +33,6 @@ IsDistinct-filter eq p (key ∷ keys) distinct =
     (λ (e : p key ≡ true). rw e (still_apart eq p key keys distinct.0, IsDistinct-filter eq p keys distinct.1))
     (λ (e : p key ≡ false). rw e (IsDistinct-filter eq p keys distinct.1))
     (cases_Bool (p key))
-
--- the firsts of keys under a function that keeps which keys are equal
-pub firsts-map : {K J : Type 0} (eq : K → K → Bool) (like : J → J → Bool) (f : K → J) → ((a b : K) → eq a b ≡ like (f a) (f b)) → (keys : List K)
-    → map f (firsts eq keys) ≡ firsts like (map f keys)
-firsts-map {K} {J} eq like f same [] = refl
-firsts-map {K} {J} eq like f same (key ∷ keys) =
-    ap (λ t. f key ∷ t) (others (firsts eq keys) ∙ ap (filter (λ other. not (like other (f key)))) (firsts-map eq like f same keys))
-  where
-    others : (rest : List K) → map f (filter (λ other. not (eq other key)) rest) ≡ filter (λ other. not (like other (f key))) (map f rest)
-    others [] = refl
-    others (other ∷ rest) =
-        ⊎_elim
-        (λ (e : eq other key ≡ true). rw (sym (same other key), e) (others rest))
-        (λ (e : eq other key ≡ false). rw (sym (same other key), e) (ap (λ t. f other ∷ t) (others rest)))
-        (cases_Bool (eq other key))
-
-module _ {K : Type 0} (eq : K → K → Bool) where
-  -- what is true of each key of a list is true of each of its firsts
-  pub All-firsts : (P : K → Type 0) (keys : List K) → All P keys → All P (firsts eq keys)
-  All-firsts P [] all = all
-  All-firsts P (key ∷ keys) all =
-      All-cons P key _ (All-head P key keys all) (All-filter (λ other. not (eq other key)) P (firsts eq keys) (All-firsts P keys (All-tail P key keys all)))
 
 module _ {K : Type 0} {eq : K → K → Bool} (laws : IsEquivalence eq) where
   -- each key of the list equals one of the firsts

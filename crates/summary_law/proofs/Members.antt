@@ -144,14 +144,6 @@ listed rank Is xs rises sound whole = record {
   exact = λ x. (λ has. sound x (in_list xs x has), λ is. contained xs x (whole x is));
 }
 
--- only one list has, in rising order, everything that `Is` holds of
-pub only_list : {X : Type 0} (rank : X → ℕ) (Is : X → Type 0) (xs ys : List X)
-    → ListsInOrder rank Is xs → ListsInOrder rank Is ys → xs ≡ ys
-only_list rank Is xs ys first second =
-    same_lists rank xs ys (rises_from_pairs rank xs first.rising) (rises_from_pairs rank ys second.rising)
-    (λ x there. in_list ys x ((second.exact x).1 ((first.exact x).0 (contained xs x there))))
-    (λ x there. in_list xs x ((first.exact x).1 ((second.exact x).0 (contained ys x there))))
-
 -- ---- the same elements, sorted
 
 -- a list that does not fall rises if all ranks differ

@@ -45,21 +45,11 @@ module _ {E I : Type 0} (read : E → Option I) where
       ] (same e)
 
 module _ {K I : Type 0} (eq : K → K → Bool) where
-  -- the item under a key is the pair's item
-  under-some : (key : K) (e : K × I) (i : I) → under eq key e ≡ Some i → i ≡ e.1
-  under-some key e i = elim (eq key e.0) as (λ b. cond b (Some e.1) None ≡ Some i → i ≡ e.1) [ true ↦ λ is. cc | false ↦ λ is. cc ]
-
   -- if there are few items, each key has few
   pub each_short : (items : List (K × I)) → IsShort items → EachFits eq IsShort items
   each_short items short key =
       let shorter = length-read (under eq key) items in
       omega arith
-
-  -- what holds of all items holds of the items of each key
-  pub each_all : (P : I → Type 0) (items : List (K × I)) → All (λ (e : K × I). P e.1) items → EachFits eq (All P) items
-  each_all P items all key =
-      all_read (under eq key) P items
-      (All-weaker (λ (e : K × I). P e.1) (λ e. (i : I) → under eq key e ≡ Some i → P i) (λ e h i is. subst P (sym (under-some key e i is)) h) items all)
 
 -- places that rise, rise under each key
 pub items_rise : {K I : Type 0} (eq : K → K → Bool) (key : K) (place : I → ℕ) (items : List (K × I)) → PlacesRise (λ (e : K × I). place e.1) items

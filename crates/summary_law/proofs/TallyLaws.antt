@@ -1,10 +1,8 @@
--- The rows of a map of amounts, and sums of weights.
-use Rattle.std.proofs.Common.{◌≡◌, ℕ, ◌*◌, ◌-◌, ◌<◌, ◌≤◌, ◌^◌, Bool, true, List, [], ◌∷◌}
-use Rattle.std.proofs.Common.{length, map, sum, Option, Some, None, is_some, refl, sym, ap, ap₂, subst, ◌∙◌, arith, get_or}
-use Rattle.std.proofs.lemmas.List.{length-map}
+-- The rows of a map of amounts.
+use Rattle.std.proofs.Common.{◌≡◌, ℕ, ◌<◌, true, List, [], ◌∷◌}
+use Rattle.std.proofs.Common.{length, map, Option, Some, None, is_some, refl, sym, ap, ap₂, subst, ◌∙◌, arith}
 use Rattle.std.proofs.lemmas.Cmp.{eq_by_cmp_equiv}
 use Rattle.std.proofs.lemmas.List.Elements.{All-contains, All-map, All-weaker}
-use Rattle.std.proofs.lemmas.List.Sums.{sum_by-le}
 use Rattle.std.proofs.lemmas.Map.Made.{is_some-lookup}
 use Rattle.std.proofs.lemmas.Map.Views.{All-found}
 use Rattle.std.specs.BTreeMap.{BTreeMap, IsOrdered, get}
@@ -16,30 +14,10 @@ use Rattle.std.specs.declared.cmp.Ordering.TheVariants.{Equal}
 use Rattle.summary_law.proofs.GatherLaws.{has_own}
 use Rattle.summary_law.proofs.Members.{In, contained, in-map}
 use Rattle.summary_law.proofs.SortedLaws.{found_in, has_pair, rows_are}
-use Rattle.summary_law.proofs.ReadLaws.{each_short, each_all}
-use Rattle.summary_law.specs.ByKey.{items_of, IsOwn, EachFits, SumsByKey}
-use Rattle.summary_law.specs.Fits.{IsShort}
-use Rattle.summary_law.specs.Amount.{IsAmount, AreWeights}
-use Rattle.summary_law.specs.Tally.{count_of, tally_row, tally_rows, AreKeys, IsTallyRow, AreTallyRows, AreWeighted}
+use Rattle.summary_law.specs.ByKey.{items_of, IsOwn, SumsByKey}
+use Rattle.summary_law.specs.Amount.{IsAmount}
+use Rattle.summary_law.specs.Tally.{count_of_key, tally_row, tally_rows, AreKeys, IsTallyRow, AreTallyRows}
 use Rattle.summary_law.specs.declared.amount.Amount.{Amount}
-
--- few weights have a sum far below 2^128
-pub sum_fits : (weights : List ℕ) → AreWeights weights → sum weights < 2 ^ 127
-sum_fits weights few =
-    let short = few.0 in
-    let most : sum weights ≤ length weights * (2 ^ 64 - 1)
-    = sum_by-le (λ w. w) (2 ^ 64 - 1) weights (All-weaker (λ w. w < 2 ^ 64) (λ w. w ≤ 2 ^ 64 - 1) (λ w h. omega arith) weights few.1) in
-    omega arith
-
--- if there are few weights, each key has few
-pub each_weights : {K : Type 0} (eq : K → K → Bool) (items : List (K × ℕ)) → AreWeighted items → EachFits eq AreWeights items
-each_weights eq items few key = (each_short eq items few.0 key, each_all eq (λ weight. weight < 2 ^ 64) items few.1 key)
-
--- few items, each read as a key and a weight of 64 bits
-pub weighted_map : {I K : Type 0} (read : I → K × ℕ) → ((i : I) → (read i).1 < 2 ^ 64) → (items : List I) → IsShort items → AreWeighted (map read items)
-weighted_map {I} {K} read small items short =
-    let long = length-map items read in
-    (omega arith, All-map (λ (e : K × ℕ). e.1 < 2 ^ 64) read items (λ i d within. small (get_or items i d)))
 
 abbrev pub row_of : {K : Type 0} → K × Amount → K × ℕ × ℕ
 row_of e = (e.0, e.1.count, e.1.sum)
@@ -65,8 +43,8 @@ module _ {K : Type 0} (cmp : K → K → Ordering) (laws : IsTotalOrder cmp) (m 
   pub map_keys : AreKeys cmp items (keys_of m.entries)
   map_keys = record {
     rising = ordered;
-    came = All-map (λ key. 0 < count_of cmp key items) (λ (e : K × Amount). e.0) m.entries
-        (All-weaker (λ (e : K × Amount). get cmp m e.0 ≡ Some e.1) (λ e. 0 < count_of cmp e.0 items)
+    came = All-map (λ key. 0 < count_of_key cmp key items) (λ (e : K × Amount). e.0) m.entries
+        (All-weaker (λ (e : K × Amount). get cmp m e.0 ≡ Some e.1) (λ e. 0 < count_of_key cmp e.0 items)
         (λ e found. came (items_of (eq_by_cmp cmp) e.0 items) (entry_part e found).0) m.entries (All-found laws m ordered));
     whole = λ key h.
         sym (is_some-lookup (eq_by_cmp cmp key) m.entries) ∙ some_came (items_of (eq_by_cmp cmp) key items) (get cmp m key) (sums key) h;
@@ -98,10 +76,10 @@ module _ {K : Type 0} (cmp : K → K → Ordering) (laws : IsTotalOrder cmp) (ex
       let keys = map (λ (row : K × ℕ × ℕ). row.0) rows in
       rows_are cmp laws exact (λ row. row.0) (tally_row cmp items) (keys_of items) rows are.keys.rising row_made
       (λ key there.
-      let some = All-contains (λ key. 0 < count_of cmp key items) keys key are.keys.came (contained keys key there) in
+      let some = All-contains (λ key. 0 < count_of_key cmp key items) keys key are.keys.came (contained keys key there) in
       has_pair cmp exact key items (λ none. let empty = ap length none in absurd (omega (arith, some, empty))))
       (λ key there.
       let pair = in-map (λ (e : K × ℕ). e.0) items key there in
       found_in cmp exact key keys
       (are.keys.whole key
-      (subst (λ (k : K). 0 < count_of cmp k items) (sym pair.2) (came (items_of (eq_by_cmp cmp) pair.0.0 items) (has_own (eq_by_cmp_equiv laws) items pair.0 pair.1)))))
+      (subst (λ (k : K). 0 < count_of_key cmp k items) (sym pair.2) (came (items_of (eq_by_cmp cmp) pair.0.0 items) (has_own (eq_by_cmp_equiv laws) items pair.0 pair.1)))))

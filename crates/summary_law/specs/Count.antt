@@ -33,12 +33,12 @@ pub record IsCount (count : Count) (changes : List Change) : Type 0 where
   pub reached : (n : ℕ) × (n ≤ length changes) × (count.low ≡ total (take n changes))
   pub least : (n : ℕ) → n ≤ length changes → count.low ≤ℤ total (take n changes)
 
--- the least sum of those prefixes of both lists joined that have at least the first list
+-- the least sum of a prefix of both lists joined, of those that have the whole first list
 abbrev pub least_total : List Change → List Change → ℤ
 least_total before [] = total before
 least_total before (change ∷ later) = int_min (total before) (least_total (before ++ change ∷ []) later)
 
--- the one count that changes have
+-- the sum and the low of these changes
 abbrev pub count_of : List Change → Count
 count_of changes = record { sum = total changes; low = least_total [] changes }
 

@@ -1,5 +1,5 @@
 -- The count and the sum of the weights of each key, over a list of pairs of a key and a weight.
-use Rattle.std.specs.Prelude.{◌≡◌, ℕ, ◌<◌, ◌^◌, true, List, length, map, sum, All}
+use Rattle.std.specs.Prelude.{◌≡◌, ℕ, ◌<◌, true, List, length, map, sum, All}
 use Rattle.std.specs.List.{list_any}
 use Rattle.std.specs.List.Sorted.{IsStrictlySortedBy}
 use Rattle.std.specs.Map.{keys_of}
@@ -9,13 +9,11 @@ use Rattle.summary_law.specs.declared.amount.Amount.{Amount}
 use Rattle.summary_law.specs.declared.tally.Tally.{Tally}
 use Rattle.summary_law.specs.Amount.{IsAmount}
 use Rattle.summary_law.specs.ByKey.{items_of, SumsByKey}
-use Rattle.summary_law.specs.Fits.{IsShort, short_halves, all_halves}
 use Rattle.summary_law.specs.Sorted.{sorted}
-use Rattle.summary_law.specs.Summary.{FitsInHalves}
 
 -- how many items the key has
-abbrev pub count_of : {K : Type 0} → (K → K → Ordering) → K → List (K × ℕ) → ℕ
-count_of cmp key items = length (items_of (eq_by_cmp cmp) key items)
+abbrev pub count_of_key : {K : Type 0} → (K → K → Ordering) → K → List (K × ℕ) → ℕ
+count_of_key cmp key items = length (items_of (eq_by_cmp cmp) key items)
 
 -- the sum of the weights of the key
 abbrev pub sum_of : {K : Type 0} → (K → K → Ordering) → K → List (K × ℕ) → ℕ
@@ -23,7 +21,7 @@ sum_of cmp key items = sum (items_of (eq_by_cmp cmp) key items)
 
 -- the row of a key: the key, how many items it has, and the sum of their weights
 abbrev pub tally_row : {K : Type 0} → (K → K → Ordering) → List (K × ℕ) → K → K × ℕ × ℕ
-tally_row cmp items key = (key, count_of cmp key items, sum_of cmp key items)
+tally_row cmp items key = (key, count_of_key cmp key items, sum_of cmp key items)
 
 -- a row for each key that has items, in rising order of the keys
 abbrev pub tally_rows : {K : Type 0} → (K → K → Ordering) → List (K × ℕ) → List (K × ℕ × ℕ)
@@ -32,12 +30,12 @@ tally_rows cmp items = map (tally_row cmp items) (sorted cmp (keys_of items))
 -- the keys that have items, each once and in rising order
 pub record AreKeys {K : Type 0} (cmp : K → K → Ordering) (items : List (K × ℕ)) (keys : List K) : Type 0 where
   pub rising : IsStrictlySortedBy cmp keys
-  pub came : All (λ key. 0 < count_of cmp key items) keys
-  pub whole : (key : K) → 0 < count_of cmp key items → list_any (eq_by_cmp cmp key) keys ≡ true
+  pub came : All (λ key. 0 < count_of_key cmp key items) keys
+  pub whole : (key : K) → 0 < count_of_key cmp key items → list_any (eq_by_cmp cmp key) keys ≡ true
 
 -- the row has the count and the sum of its key
 pub record IsTallyRow {K : Type 0} (cmp : K → K → Ordering) (items : List (K × ℕ)) (row : K × ℕ × ℕ) : Type 0 where
-  pub count : row.1 ≡ count_of cmp row.0 items
+  pub count : row.1 ≡ count_of_key cmp row.0 items
   pub sum : row.2 ≡ sum_of cmp row.0 items
 
 -- a row for each key that has items, in rising order of the keys, each with the count and the sum of its key
@@ -58,14 +56,3 @@ GivesRows {K} cmp tally rows = (items : List (K × ℕ)) → TallySums cmp tally
 abbrev pub GivesAmount : {K : Type 0} → (K → K → Ordering) → Tally K → K → Amount → Type 0
 GivesAmount {K} cmp tally key amount =
     (items : List (K × ℕ)) → TallySums cmp tally items → IsTallyRow cmp items (key, amount.count, amount.sum)
-
--- at most 2^32 items, each with a weight of 64 bits
-abbrev pub AreWeighted : {K : Type 0} → List (K × ℕ) → Type 0
-AreWeighted items = IsShort items × All (λ item. item.1 < 2 ^ 64) items
-
--- both halves of a list of such items are lists of such items
-pub weighted_halves : {K : Type 0} → FitsInHalves {I = K × ℕ} AreWeighted
-weighted_halves {K} first second weighted =
-    let short = short_halves first second weighted.0 in
-    let small = all_halves (λ (item : K × ℕ). item.1 < 2 ^ 64) first second weighted.1 in
-    ((short.0, small.0), (short.1, small.1))

@@ -1,6 +1,7 @@
 //! The number of weights, and their sum.
 
-ghost use Rattle.summary_law.specs.Amount.{AreWeights, IsAmount, weights_halves};
+ghost use Rattle.summary_law.specs.Amount.{IsAmount};
+ghost use Rattle.summary_law.specs.Fits.{IsShort, short_halves};
 
 use crate::summary::Summary;
 use std::alloc::{AllocError, Global};
@@ -15,7 +16,7 @@ pub struct Amount {
 impl Summary for Amount {
     type Item = u64;
 
-    ghost fits = { AreWeights };
+    ghost fits = { IsShort };
 
     ghost sums = { IsAmount };
 
@@ -36,5 +37,5 @@ impl Summary for Amount {
         })
     }
 
-    ghost fits_halves = { weights_halves };
+    ghost fits_halves = { short_halves };
 }

@@ -13,8 +13,8 @@ pub trait Summary: Drop {
     type Item;
 
     /// The lists that can be summarised: they have few enough items (`IsShort`), and if items have
-    /// places, the places rise (`IsPlaced`). In a clause the numbers of an item have no width, so
-    /// the width of a field that is added up belongs here too, as in `AreWeighted`.
+    /// places, the places rise (`IsPlaced`). In a clause the numbers of an item have no width:
+    /// what needs the width of a field that is added up keeps it in `sums`, as `IsAmount` does.
     ghost fits: { List Self.Item → Type 0 };
 
     /// The value is a summary of the list. An implementation names a definition of its `specs/`,

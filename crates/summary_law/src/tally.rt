@@ -1,8 +1,8 @@
 //! The count and the sum of the weights of each key.
 
 ghost use Rattle.std.specs.Prelude.{IfOk};
-ghost use Rattle.summary_law.specs.Tally.{AreWeighted, TallySums, weighted_halves};
-ghost use Rattle.summary_law.specs.Tally.{GivesRows, GivesAmount};
+ghost use Rattle.summary_law.specs.Fits.{IsShort, short_halves};
+ghost use Rattle.summary_law.specs.Tally.{TallySums, GivesRows, GivesAmount};
 
 use crate::amount::Amount;
 use crate::by_key::ByKey;
@@ -41,7 +41,7 @@ impl<K: Ord + Copy> Tally<K> {
 impl<K: Ord + Copy> Summary for Tally<K> {
     type Item = (K, u64);
 
-    ghost fits = { AreWeighted };
+    ghost fits = { IsShort };
 
     ghost sums = { TallySums K.cmp };
 
@@ -60,5 +60,5 @@ impl<K: Ord + Copy> Summary for Tally<K> {
         Ok(Tally { amounts })
     }
 
-    ghost fits_halves = { weighted_halves };
+    ghost fits_halves = { short_halves };
 }

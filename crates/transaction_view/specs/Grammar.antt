@@ -29,17 +29,17 @@ abbrev pub first_content_fault : List PlacedFrame → Option Fault
 first_content_fault [] = None
 first_content_fault (frame ∷ frames) = first_of (content_fault frame) (first_content_fault frames)
 
--- this unit, if there is no fault
+-- this unit, or the fault if there is one
 abbrev pub unless : {U F : Type 0} → Option F → U → Result U F
 unless (Some fault) unit = Err fault
 unless None unit = Ok unit
 
--- the same frame, judged with its content
+-- this frame, unless its header or its content has a fault: then the first fault
 abbrev pub with_content : ℕ → Result FrameText Fault → Result FrameText Fault
 with_content place (Ok frame) = unless (content_fault (placed_at place frame)) frame
 with_content place (Err fault) = Err fault
 
--- how frames are read that are judged with their content
+-- how frames are read if they are judged with their content
 abbrev pub whole_parser : Parser Before FrameText
 whole_parser = record {
   first = λ before place bytes. with_content place (at_place place (frame_at before bytes));
@@ -47,7 +47,7 @@ whole_parser = record {
   after = frame_parser.after;
 }
 
--- what these parts come to
+-- what these parts come to, if frames are judged with their content
 abbrev pub wholes_of : List (List ℕ) → ParsedParts
 wholes_of parts = parts_read whole_parser None parts
 

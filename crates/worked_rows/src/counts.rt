@@ -17,14 +17,19 @@ pub fn frames()
 /// References to handles and nodes.
 pub fn references()
     ensures acquire { answer (acquire ∷ []) ≡ acquire_text }
-    ensures released_before_acquired { answer (released_before_acquired ∷ []) ≡ released_before_acquired_text }
-    ensures handles_of_two_processes { answer (handles_of_two_processes ∷ []) ≡ handles_of_two_processes_text }
+    ensures released_before_acquired { answer (released_before_acquired ∷ [])
+        ≡ released_before_acquired_text }
+    ensures handles_of_two_processes { answer (handles_of_two_processes ∷ [])
+        ≡ handles_of_two_processes_text }
     ensures node_half_confirmed { answer (node_half_confirmed ∷ []) ≡ node_half_confirmed_text }
 {}
 
 /// A free, a death and a clear, each with what it is paired with.
 pub fn pairs()
-    ensures freed_before_delivered { answer (freed_before_delivered ∷ []) ≡ freed_before_delivered_text }
-    ensures death_not_acknowledged { answer (death_not_acknowledged ∷ []) ≡ death_not_acknowledged_text }
-    ensures clear_confirmed_twice { answer (clear_confirmed_twice ∷ []) ≡ clear_confirmed_twice_text }
+    ensures freed_before_delivered { answer (freed_before_delivered ∷ [])
+        ≡ freed_before_delivered_text }
+    ensures death_not_acknowledged { answer (death_not_acknowledged ∷ [])
+        ≡ death_not_acknowledged_text }
+    ensures clear_confirmed_twice { answer (clear_confirmed_twice ∷ [])
+        ≡ clear_confirmed_twice_text }
 {}

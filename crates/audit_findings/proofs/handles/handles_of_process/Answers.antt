@@ -8,7 +8,7 @@ use Rattle.audit_findings.specs.Buffers.{is_leaked}
 use Rattle.audit_findings.specs.Entries.{AreChosen, carried_by, list_bytes}
 use Rattle.audit_findings.specs.Held.{unweighed}
 use Rattle.audit_findings.specs.HeldCounts.{CountsEntries}
-use Rattle.audit_findings.specs.Places.{listed_in}
+use Rattle.audit_findings.specs.Places.{passing_in}
 use Rattle.audit_findings.proofs.FrameLaws.{frames_rise}
 use Rattle.audit_findings.proofs.HandleRows.{is_among, listed_again, listed_chosen}
 use Rattle.audit_findings.proofs.HeldLaws.{held_among, held_by_events}
@@ -20,14 +20,14 @@ returns c =
     (λ rows gives process of unfreed.
     let events = events_of_frames c.args.frames.now in
     let rise = frames_rise c.args.frames.now c.requires.apart in
-    let choice = is_among (listed_in is_leaked process events) in
+    let choice = is_among (passing_in is_leaked process events) in
     let chosen = subst (AreChosen choice events []) (sym unfreed) (listed_chosen is_leaked process events rise) in
     let entries = c.in_ok-entries.entries.items in
     let shown = c.in_ok-entries.ensures.entries choice chosen in
     let counts = subst (λ es. CountsEntries es c.in_ok-held.held) c.as_slice.ensures.value c.in_ok-held.ensures in
     let items = items_of_process handle_item_of process events in
     gives items (unweighed (held_among entries)) of.handles counts
-    ∙ ap (λ (held : List Held). held_rows items (unweighed held)) (held_by_events (listed_in is_leaked process events) entries
+    ∙ ap (λ (held : List Held). held_rows items (unweighed held)) (held_by_events (passing_in is_leaked process events) entries
     (shown ∙ ap carried_by (listed_again is_leaked process events rise))))
     c.rows_held.ensures
 

@@ -2,7 +2,7 @@ use Rattle.std.proofs.Common.{[], ◌∷◌, ◌++◌, ◌+◌, List, Some, None
 use Rattle.object_view.specs.Objects.{ObjectText, objects_of}
 use Rattle.object_view.specs.Reading.{object_text}
 use Rattle.object_view.proofs.ObjectLaws.{objects_short}
-use Rattle.audit_findings.specs.Objects.{count_of, times_of}
+use Rattle.audit_findings.specs.Objects.{sort_count, times_of}
 use Rattle.audit_findings.proofs.ObjectWalk.{room_for_one, has_given_next, left_falls, objects_end, times_of-append, times_of-one, times_of-short}
 use Rattle.audit_findings.proofs.objects.count_entry.Goals as goal
 
@@ -48,7 +48,7 @@ returns-in-Err c =
     let steps = rw (c.in-Some.is, c.in-Err.is) at c.next_object.ensures in
     let all = objects_end (objects_of c.args.entry.body.now c.args.entry.offsets.now) c.loop-next.objects i.0 i.1 (Some c.in-Err.bad) steps.0 in
     record {
-      counted = λ sort. i.2 sort ∙ ap (λ (t : List ObjectText). count_of c.args.counts.now sort + times_of sort t) (sym all.0);
+      counted = λ sort. i.2 sort ∙ ap (λ (t : List ObjectText). sort_count c.args.counts.now sort + times_of sort t) (sym all.0);
       bad = sym all.1;
     }
 
@@ -58,6 +58,6 @@ returns c =
     let steps = rw c.in_default.is at c.next_object.ensures in
     let all = objects_end (objects_of c.args.entry.body.now c.args.entry.offsets.now) c.loop-next.objects i.0 i.1 None steps.0 in
     record {
-      counted = λ sort. i.2 sort ∙ ap (λ (t : List ObjectText). count_of c.args.counts.now sort + times_of sort t) (sym all.0);
+      counted = λ sort. i.2 sort ∙ ap (λ (t : List ObjectText). sort_count c.args.counts.now sort + times_of sort t) (sym all.0);
       bad = sym all.1;
     }

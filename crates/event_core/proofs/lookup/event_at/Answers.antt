@@ -1,7 +1,7 @@
-use Rattle.std.proofs.Common.{◌≡◌, ◌<◌, List, ◌∷◌, length, Some, None, refl, sym, ap, ◌∙◌, arith}
+use Rattle.std.proofs.Common.{◌≡◌, ◌∷◌, length, Some, None, refl, sym, ap, ◌∙◌, arith}
 use Rattle.std.proofs.lemmas.Bool.{eq-eqb, ne_eqb}
 use Rattle.capture_frame.specs.Envelope.{placed_frame}
-use Rattle.event_core.specs.Events.{EventRead, event_at_place}
+use Rattle.event_core.specs.Events.{event_at_place}
 use Rattle.event_core.specs.Reading.{event_text}
 use Rattle.event_core.proofs.RecordAt.{there_exactly}
 use Rattle.event_core.proofs.lookup.event_at.Goals as goal

@@ -1,9 +1,10 @@
 use Rattle.std.proofs.Common.{List, ◌++◌, sym, subst}
 use Rattle.std.specs.Ordering.{nat_cmp}
-use Rattle.summary_law.specs.Tally.{AreWeighted, TallySums}
+use Rattle.summary_law.specs.Fits.{IsShort}
+use Rattle.summary_law.specs.Tally.{TallySums}
 use Rattle.audit_findings.specs.declared.codes.CodeRow.{CodeRow}
 use Rattle.audit_findings.specs.CodeCounts.{CountListed}
-use Rattle.audit_findings.proofs.CodeCountLaws.{items-append, opaque_items, weighted_items}
+use Rattle.audit_findings.proofs.CodeCountLaws.{items-append, opaque_items, opaque_few}
 use Rattle.audit_findings.proofs.code_counts.CodeCounts.join.Goals as goal
 
 pub join-requires : goal.join-requires
@@ -14,7 +15,7 @@ join-requires c =
       opaque_items second,
       c.requires.2.opaque,
       c.requires.3.opaque,
-      subst AreWeighted (items-append first second) (weighted_items (first ++ second) c.requires.4),
+      subst IsShort (items-append first second) (opaque_few (first ++ second) c.requires.4),
     )
 
 pub returns : goal.returns
@@ -24,5 +25,5 @@ returns c first second sums others short =
       listed = c.in_ok-listed.ensures first second sums.listed after short;
       opaque = subst (TallySums nat_cmp c.in_ok-opaque.opaque) (sym (items-append first second))
           (c.in_ok-opaque.ensures (opaque_items first) (opaque_items second) sums.opaque others.opaque
-          (subst AreWeighted (items-append first second) (weighted_items (first ++ second) short)));
+          (subst IsShort (items-append first second) (opaque_few (first ++ second) short)));
     }

@@ -1,9 +1,7 @@
-use Rattle.std.proofs.Common.{◌≡◌, Option, Some, None, ap, ◌∙◌}
+use Rattle.std.proofs.Common.{◌≡◌, Option, Some, None, ◌∙◌}
 use Rattle.capture_frame.specs.declared.fault.Fault.{Fault}
-use Rattle.capture_frame.specs.Envelope.{frame_text, placed_frame}
-use Rattle.record_view.specs.Records.{records_of}
+use Rattle.capture_frame.specs.Envelope.{placed_frame}
 use Rattle.transaction_view.specs.Grammar.{first_of}
-use Rattle.event_core.specs.State.{events_beside}
 use Rattle.event_core.proofs.EventSteps.{left_is}
 use Rattle.event_core.proofs.SideBySide.{side_by_side}
 use Rattle.event_core.proofs.events.Events.of.Goals as goal

@@ -5,6 +5,7 @@ use Rattle.pending_ledger.specs.Requests.{request_place}
 use Rattle.process_ledgers.specs.Items.{buffer_item_of, clear_item_of, death_item_of, handle_item_of, node_item_of, oneway_item_of, request_item_of}
 use Rattle.process_ledgers.proofs.FitLaws.{few_by, placed_by}
 use Rattle.process_ledgers.proofs.ItemPlaces.{buffer_keeps, request_keeps, death_keeps, clear_keeps}
+use Rattle.process_ledgers.proofs.OnewayLaws.{by_derived, by_said}
 use Rattle.process_ledgers.proofs.process_ledgers.ProcessLedgersSummary.join.Goals as goal
 
 pub join-handles-requires : goal.join-handles-requires
@@ -26,7 +27,13 @@ pub join-clears-requires : goal.join-clears-requires
 join-clears-requires c = (c.requires.0, c.requires.1, c.requires.2.clears, c.requires.3.clears, placed_by place_of clear_item_of clear_keeps _ c.requires.4)
 
 pub join-oneway-requires : goal.join-oneway-requires
-join-oneway-requires c = (c.requires.0, c.requires.1, c.requires.2.oneway, c.requires.3.oneway, few_by oneway_item_of _ c.requires.4)
+join-oneway-requires c = (
+  c.requires.0,
+  c.requires.1,
+  by_derived c.args.self.oneway.own _ c.requires.2.oneway,
+  by_derived c.args.later.oneway.own _ c.requires.3.oneway,
+  few_by oneway_item_of _ c.requires.4,
+)
 
 pub returns : goal.returns
 returns c first second sums others fits =
@@ -38,5 +45,7 @@ returns c first second sums others fits =
       requests = c.in_ok-requests.ensures first second sums.requests others.requests (placed_by request_place request_item_of request_keeps all fits);
       deaths = c.in_ok-deaths.ensures first second sums.deaths others.deaths (placed_by place_of death_item_of death_keeps all fits);
       clears = c.in_ok-clears.ensures first second sums.clears others.clears (placed_by place_of clear_item_of clear_keeps all fits);
-      oneway = c.in_ok-oneway.ensures first second sums.oneway others.oneway (few_by oneway_item_of all fits);
+      oneway = by_said c.in_ok-oneway.field-0.own _
+          (c.in_ok-oneway.ensures first second (by_derived c.args.self.oneway.own _ sums.oneway) (by_derived c.args.later.oneway.own _ others.oneway)
+          (few_by oneway_item_of all fits));
     }
