@@ -1,6 +1,8 @@
 -- The calls of the raw table call, by the definitions of call_stacks.
 use Rattle.std.specs.Prelude.{◌≡◌, ℕ, Option, Some, List, map, slice_get}
+use Rattle.std.specs.List.{flat_map}
 use Rattle.std.specs.Option.{option_map}
+use Rattle.std.specs.declared.vec.Vec.{Vec}
 use Rattle.call_stacks.specs.Calls.{Reads, openers_of}
 use Rattle.call_stacks.specs.declared.opener.Opener.{Opener}
 use Rattle.call_stacks.specs.declared.verdict.Verdict.{Verdict}
@@ -37,6 +39,14 @@ row_of_opener opener = record { place = opener.event.place; closer = opener.clos
 -- the calls of a thread in which these records leave a mark, in the order of their openers
 abbrev pub rows_of : List CallStep → List CallRow
 rows_of steps = map row_of_opener (openers_of step_reads steps)
+
+-- the calls of all threads, thread by thread; of each thread these records leave a mark
+abbrev pub rows_of_all : {A : Type 0} → List (Vec CallStep A) → List CallRow
+rows_of_all threads = flat_map (λ steps. rows_of steps.items) threads
+
+-- the place of a call of the table
+abbrev pub call_place : Call → ℕ
+call_place call = call.place
 
 -- the number of a verdict in the table
 abbrev pub verdict_number : Verdict → ℕ

@@ -1,10 +1,11 @@
 //! The calls of each thread, from their openers to their closers.
 
 ghost use Rattle.std.specs.Bool.{OnTrue};
+ghost use Rattle.std.specs.List.Sorted.{IsPermutation, IsNonDecreasingBy};
 ghost use Rattle.std.specs.Prelude.{◌≡◌, ◌++◌, map, true, IfOk, OnOk};
 ghost use Rattle.summary_law.specs.Fits.{IsPlaced};
 ghost use Rattle.call_stacks.specs.Calls.{AreFindings};
-ghost use Rattle.record_tables.specs.Calls.{step_place, step_reads};
+ghost use Rattle.record_tables.specs.Calls.{step_place, step_reads, call_place, rows_of_all};
 ghost use Rattle.record_tables.specs.Calls.{row_of_call, row_of_opener, rows_of, verdict_number};
 
 use crate::numbered::{Numbered, narrow};
@@ -85,10 +86,7 @@ pub(crate) struct Closer {
 }
 
 /// What is found of a thread of which these are the records that leave a mark.
-pub(crate) fn findings_of(
-    alloc: Global,
-    steps: &[CallStep],
-) -> Result<CallFindings<CallStep>, ListingError>
+fn findings_of(alloc: Global, steps: &[CallStep]) -> Result<CallFindings<CallStep>, ListingError>
     ensures { IfOk result (AreFindings step_reads true steps.now) }
 {
     if !is_placed(steps) {
@@ -115,8 +113,26 @@ fn is_placed(steps: &[CallStep]) -> bool
     true
 }
 
+/// The calls of all threads, in the order of their places. Of each thread these are the records that
+/// leave a mark.
+pub(crate) fn all_calls(
+    alloc: Global,
+    threads: &[Vec<CallStep>],
+) -> Result<Numbered<Call>, ListingError>
+    ensures moved { IfOk result (λ calls.
+        IsPermutation (rows_of_all threads.now) (map row_of_call calls.all.items)) }
+    ensures sorted { IfOk result (λ calls. IsNonDecreasingBy call_place calls.all.items) }
+{
+    let mut calls = Numbered::new(alloc);
+    for steps in threads {
+        take_calls(alloc, &mut calls, steps.as_slice())?;
+    }
+    calls.all.sort_unstable_by_key(|call| call.place);
+    Ok(calls)
+}
+
 /// Takes the calls of a thread, of which these are the records that leave a mark.
-pub(crate) fn take_calls(alloc: Global, calls: &mut Numbered<Call>, steps: &[CallStep]) -> Outcome
+fn take_calls(alloc: Global, calls: &mut Numbered<Call>, steps: &[CallStep]) -> Outcome
     ensures { OnOk result (map row_of_call calls.new.all.items ≡
         map row_of_call calls.old.all.items ++ rows_of steps.now) }
 {

@@ -4,7 +4,7 @@
 
 ghost use Rattle.record_tables.specs.Calls.{AreColumns};
 
-use crate::calls::{Call, CallStep, take_calls, verdict_number};
+use crate::calls::{Call, CallStep, all_calls, verdict_number};
 use crate::generations::{Effect, Generations};
 use crate::held::HeldCounts;
 use crate::keys::key_of;
@@ -23,21 +23,15 @@ use record_fields::{EachObject, Item, ListingError, Named, Outcome, is_oneway, i
 use std::alloc::Global;
 use std::collections::VecDeque;
 use std::io::Write;
-use std::mem;
 use transaction_view::{Entry, Transaction};
-
-/// Of a thread: the records that leave a mark, and the sends that wait to be confirmed, by their
-/// index.
-#[derive(Drop)]
-struct ThreadLists {
-    steps: Vec<CallStep>,
-    waiting: VecDeque<u32>,
-}
 
 /// What has come of the records so far.
 #[derive(Drop)]
 pub(crate) struct Lists {
-    threads: Vec<ThreadLists>,
+    /// Of each thread, the records that leave a mark.
+    steps: Vec<Vec<CallStep>>,
+    /// Of each thread, the sends that wait to be confirmed, by their index.
+    waiting: Vec<VecDeque<u32>>,
     pub messages: Messages,
     pub generations: Generations,
     pub levels: Levels,
@@ -62,7 +56,8 @@ impl Lists {
     /// Nothing yet.
     pub(crate) fn new(alloc: Global) -> Lists {
         Lists {
-            threads: Vec::new(alloc),
+            steps: Vec::new(alloc),
+            waiting: Vec::new(alloc),
             messages: Messages::new(alloc),
             generations: Generations::new(alloc),
             levels: Levels::new(alloc),
@@ -74,11 +69,9 @@ impl Lists {
     /// Takes a frame, before its records.
     pub(crate) fn add_frame(&mut self, sequence: u64, utid: u32) -> Outcome {
         self.levels.go_to(sequence);
-        if self.threads.len() as u64 == u64::from(utid.saturating_sub(1)) {
-            self.threads.push(ThreadLists {
-                steps: Vec::new(self.alloc),
-                waiting: VecDeque::new(self.alloc),
-            })?;
+        if self.steps.len() as u64 == u64::from(utid.saturating_sub(1)) {
+            self.steps.push(Vec::new(self.alloc))?;
+            self.waiting.push(VecDeque::new(self.alloc))?;
         }
         Ok(())
     }
@@ -109,8 +102,8 @@ impl Lists {
         }
         let before = self.messages.list.next()?;
         let at = origin.utid.saturating_sub(1) as usize;
-        if let Some(thread) = self.threads.as_mut_slice().get_mut(at) {
-            thread.steps.push(CallStep {
+        if let Some(steps) = self.steps.as_mut_slice().get_mut(at) {
+            steps.push(CallStep {
                 place: origin.place,
                 before,
                 kind,
@@ -203,8 +196,8 @@ impl Lists {
         }
         let index = self.messages.list.next()?;
         let at = origin.utid.saturating_sub(1) as usize;
-        if let Some(thread) = self.threads.as_mut_slice().get_mut(at) {
-            thread.waiting.push_back(index)?;
+        if let Some(waiting) = self.waiting.as_mut_slice().get_mut(at) {
+            waiting.push_back(index)?;
         }
         Ok(Detail::Sent(Sent {
             process: origin.process,
@@ -280,8 +273,8 @@ impl Lists {
     /// Settles the first send of a thread that waits for it.
     fn settle_first(&mut self, utid: u32, settled: Settled) {
         let at = utid.saturating_sub(1) as usize;
-        if let Some(thread) = self.threads.as_mut_slice().get_mut(at)
-            && let Some(index) = thread.waiting.pop_front()
+        if let Some(waiting) = self.waiting.as_mut_slice().get_mut(at)
+            && let Some(index) = waiting.pop_front()
         {
             self.messages.settle(index, settled);
         }
@@ -319,23 +312,12 @@ impl Lists {
     /// Finds the calls, once all records are there, and what follows from them. Then the messages
     /// can be paired.
     pub(crate) fn finish(&mut self, spans: &Spans) -> Outcome {
-        for index in 0..self.threads.len() {
-            self.find_calls(index)?;
-        }
-        self.calls.all.sort_unstable_by_key(|call| call.place);
+        self.calls = all_calls(self.alloc, self.steps.as_slice())?;
+        self.steps.clear();
         for index in 0..self.calls.next()? {
             self.link(index);
         }
         self.follow_all(spans)
-    }
-
-    /// Finds the calls of a thread, and lets go of its records.
-    fn find_calls(&mut self, index: usize) -> Outcome {
-        let Some(thread) = self.threads.as_mut_slice().get_mut(index) else {
-            return Ok(());
-        };
-        let steps = mem::replace(&mut thread.steps, Vec::new(self.alloc));
-        take_calls(self.alloc, &mut self.calls, steps.as_slice())
     }
 
     /// Notes which call its opener opens, and which its closer closes.

@@ -13,7 +13,9 @@ pub(crate) struct Numbered<T> {
 }
 
 impl<T: Copy + Drop> Numbered<T> {
-    pub(crate) fn new(alloc: Global) -> Numbered<T> {
+    pub(crate) fn new(alloc: Global) -> Numbered<T>
+        ensures { result.all.items ≡ [] }
+    {
         Numbered {
             all: Vec::new(alloc),
         }

@@ -16,20 +16,19 @@ one_more steps i least place d within above is rise low =
     let step = get_or steps i d in
     let more : take (i + 1) steps ≡ take i steps ++ step ∷ [] = take_more steps i d within in
     let below : All (λ s. step_place s < step_place step) (take i steps)
-    = All-weaker (λ s. step_place s < least) (λ s. step_place s < step_place step) (λ s h. omega (arith, h, above, is)) (take i steps) low in
-    (
+    = All-weaker (λ s. step_place s < least) (λ s. step_place s < step_place step) (λ s h. omega (arith, h, above, is)) (take i steps) low in (
       subst (PlacesRise step_place) (sym more)
-      (all_pairs_push (λ a b. step_place a < step_place b) (take i steps) step rise (λ k e inside. below k e inside)),
+          (all_pairs_push (λ a b. step_place a < step_place b) (take i steps) step rise (λ k e inside. below k e inside)),
       subst (All (λ s. step_place s < place + 1)) (sym more)
-      (All-push (λ s. step_place s < place + 1) (take i steps) step
-      (All-weaker (λ s. step_place s < least) (λ s. step_place s < place + 1) (λ s h. omega (arith, h, above)) (take i steps) low)
-      (omega (arith, is))),
+          (All-push (λ s. step_place s < place + 1) (take i steps) step
+          (All-weaker (λ s. step_place s < least) (λ s. step_place s < place + 1) (λ s h. omega (arith, h, above)) (take i steps) low)
+          (omega (arith, is))),
     )
 
 pub loop-step-preserved : goal.loop-step-preserved
 loop-step-preserved c =
     let both = one_more c.args.steps.now c.loop-step.step-index c.loop-step.least c.from-least.result _ c.loop-step-test.true
-        (omega (arith, c.if-from-least.false, c.from.ensures, c.from-least.ensures)) c.from-least.ensures c.loop-step.invariant.rise c.loop-step.invariant.below in
+    (omega (arith, c.if-from-least.false, c.from.ensures, c.from-least.ensures)) c.from-least.ensures c.loop-step.invariant.rise c.loop-step.invariant.below in
     record { rise = both.0; below = both.1 }
 
 pub returns : goal.returns
