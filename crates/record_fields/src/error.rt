@@ -26,6 +26,9 @@ pub enum ListingError {
     Closed,
 }
 
+/// What a step of a listing returns that gives nothing.
+pub type Outcome = Result<(), ListingError>;
+
 impl ListingError {
     /// The status that the process ends with.
     pub fn status(self) -> u8 {

@@ -29,12 +29,27 @@ pub enum Shown {
     Whole,
 }
 
-use Form::{Address, Flags, Long, Signed, Word};
-use Shown::{Listed, Whole};
-
-/// A field: its name, where it begins in the bytes, its form, and where it is shown.
+/// A field of a payload or of an object.
 #[derive(Clone, Copy)]
-pub struct Field(pub &'static str, pub usize, pub Form, pub Shown);
+pub struct Field {
+    pub name: &'static str,
+    /// Where it begins in the bytes.
+    pub offset: usize,
+    pub form: Form,
+    pub shown: Shown,
+}
+
+/// Fields, of each its name, its offset, its form, and where it is shown.
+macro_rules! fields {
+    ($($name:literal $offset:literal $form:ident $shown:ident),*) => {
+        [$(Field {
+            name: $name,
+            offset: $offset,
+            form: Form::$form,
+            shown: Shown::$shown,
+        }),*]
+    };
+}
 
 /// What a field holds.
 #[derive(Clone, Copy)]
@@ -48,16 +63,16 @@ pub enum Value {
 impl Field {
     /// What the field holds in these bytes; `None` if they end before it does.
     pub fn value_in(self, bytes: &[u8]) -> Option<Value> {
-        let rest = bytes.get(self.1..)?;
-        match self.2 {
-            Form::Signed | Form::Word | Form::Flags => word_value(self.2, rest),
-            Form::Long | Form::Address => long_value(self.2, rest),
+        let rest = bytes.get(self.offset..)?;
+        match self.form {
+            Form::Signed | Form::Word | Form::Flags => word_value(self.form, rest),
+            Form::Long | Form::Address => long_value(self.form, rest),
         }
     }
 
     /// Whether it is shown in each line of its record.
     pub fn is_listed(self) -> bool {
-        matches!(self.3, Shown::Listed)
+        matches!(self.shown, Shown::Listed)
     }
 }
 
@@ -87,7 +102,7 @@ fn long_value(form: Form, bytes: &[u8]) -> Option<Value> {
 /// Whether a listed field of this name holds this number.
 pub fn has_field(fields: &[Field], bytes: &[u8], name: &str, number: u64) -> bool {
     for field in fields {
-        if field.0 == name && holds(*field, bytes, number) {
+        if field.name == name && holds(*field, bytes, number) {
             return true;
         }
     }
@@ -106,81 +121,81 @@ fn holds(field: Field, bytes: &[u8], number: u64) -> bool {
 
 // The fields of `binder_transaction_data`: of a sent transaction, of a received transaction, and of
 // a reply.
-const SENT: [Field; 11] = [
-    Field("handle", 0, Word, Listed),
-    Field("cookie", 8, Address, Whole),
-    Field("code", 16, Word, Listed),
-    Field("flags", 20, Flags, Listed),
-    Field("sender_pid", 24, Signed, Whole),
-    Field("sender_euid", 28, Word, Whole),
-    Field("data_size", 32, Long, Listed),
-    Field("offsets_size", 40, Long, Listed),
-    Field("buffer", 48, Address, Listed),
-    Field("offsets", 56, Address, Whole),
-    Field("buffers_size", 64, Long, Listed),
+const SENT: [Field; 11] = fields![
+    "handle" 0 Word Listed,
+    "cookie" 8 Address Whole,
+    "code" 16 Word Listed,
+    "flags" 20 Flags Listed,
+    "sender_pid" 24 Signed Whole,
+    "sender_euid" 28 Word Whole,
+    "data_size" 32 Long Listed,
+    "offsets_size" 40 Long Listed,
+    "buffer" 48 Address Listed,
+    "offsets" 56 Address Whole,
+    "buffers_size" 64 Long Listed
 ];
 
-const GOT: [Field; 11] = [
-    Field("ptr", 0, Address, Listed),
-    Field("cookie", 8, Address, Listed),
-    Field("code", 16, Word, Listed),
-    Field("flags", 20, Flags, Listed),
-    Field("sender_pid", 24, Signed, Listed),
-    Field("sender_euid", 28, Word, Listed),
-    Field("data_size", 32, Long, Listed),
-    Field("offsets_size", 40, Long, Listed),
-    Field("buffer", 48, Address, Listed),
-    Field("offsets", 56, Address, Whole),
-    Field("secctx", 64, Address, Listed),
+const GOT: [Field; 11] = fields![
+    "ptr" 0 Address Listed,
+    "cookie" 8 Address Listed,
+    "code" 16 Word Listed,
+    "flags" 20 Flags Listed,
+    "sender_pid" 24 Signed Listed,
+    "sender_euid" 28 Word Listed,
+    "data_size" 32 Long Listed,
+    "offsets_size" 40 Long Listed,
+    "buffer" 48 Address Listed,
+    "offsets" 56 Address Whole,
+    "secctx" 64 Address Listed
 ];
 
-const REPLY: [Field; 11] = [
-    Field("ptr", 0, Address, Whole),
-    Field("cookie", 8, Address, Whole),
-    Field("code", 16, Word, Listed),
-    Field("flags", 20, Flags, Listed),
-    Field("sender_pid", 24, Signed, Whole),
-    Field("sender_euid", 28, Word, Whole),
-    Field("data_size", 32, Long, Listed),
-    Field("offsets_size", 40, Long, Listed),
-    Field("buffer", 48, Address, Listed),
-    Field("offsets", 56, Address, Whole),
-    Field("buffers_size", 64, Long, Listed),
+const REPLY: [Field; 11] = fields![
+    "ptr" 0 Address Whole,
+    "cookie" 8 Address Whole,
+    "code" 16 Word Listed,
+    "flags" 20 Flags Listed,
+    "sender_pid" 24 Signed Whole,
+    "sender_euid" 28 Word Whole,
+    "data_size" 32 Long Listed,
+    "offsets_size" 40 Long Listed,
+    "buffer" 48 Address Listed,
+    "offsets" 56 Address Whole,
+    "buffers_size" 64 Long Listed
 ];
 
-const RESULT: [Field; 1] = [Field("result", 0, Signed, Listed)];
+const RESULT: [Field; 1] = fields!["result" 0 Signed Listed];
 
-const ERROR: [Field; 1] = [Field("error", 0, Signed, Listed)];
+const ERROR: [Field; 1] = fields!["error" 0 Signed Listed];
 
-const BUFFER: [Field; 1] = [Field("address", 0, Address, Listed)];
+const BUFFER: [Field; 1] = fields!["address" 0 Address Listed];
 
-const HANDLE: [Field; 1] = [Field("handle", 0, Word, Listed)];
+const HANDLE: [Field; 1] = fields!["handle" 0 Word Listed];
 
-const COOKIE: [Field; 1] = [Field("cookie", 0, Address, Listed)];
+const COOKIE: [Field; 1] = fields!["cookie" 0 Address Listed];
 
 // `binder_ptr_cookie`
-const NODE: [Field; 2] = [
-    Field("ptr", 0, Address, Listed),
-    Field("cookie", 8, Address, Listed),
+const NODE: [Field; 2] = fields![
+    "ptr" 0 Address Listed,
+    "cookie" 8 Address Listed
 ];
 
 // `binder_handle_cookie`
-const WATCH: [Field; 2] = [
-    Field("handle", 0, Word, Listed),
-    Field("cookie", 4, Address, Listed),
+const WATCH: [Field; 2] = fields![
+    "handle" 0 Word Listed,
+    "cookie" 4 Address Listed
 ];
 
 // `binder_pri_desc`
-const ATTEMPT: [Field; 2] = [
-    Field("priority", 0, Signed, Listed),
-    Field("handle", 4, Word, Listed),
+const ATTEMPT: [Field; 2] = fields![
+    "priority" 0 Signed Listed,
+    "handle" 4 Word Listed
 ];
 
 // `binder_pri_ptr_cookie`
-const ATTEMPTED: [Field; 3] = [
-    Field("priority", 0, Signed, Listed),
-    Field("ptr", 8, Address, Listed),
-    Field("cookie", 16, Address, Listed),
+const ATTEMPTED: [Field; 3] = fields![
+    "priority" 0 Signed Listed,
+    "ptr" 8 Address Listed,
+    "cookie" 16 Address Listed
 ];
 
 const NONE: [Field; 0] = [];
@@ -211,38 +226,38 @@ pub fn fields_of(kind: Kind) -> &'static [Field] {
 }
 
 // `flat_binder_object` with a node or with a handle
-const BINDER_OBJECT: [Field; 3] = [
-    Field("object_flags", 4, Word, Listed),
-    Field("binder", 8, Address, Listed),
-    Field("cookie", 16, Address, Listed),
+const BINDER_OBJECT: [Field; 3] = fields![
+    "object_flags" 4 Word Listed,
+    "binder" 8 Address Listed,
+    "cookie" 16 Address Listed
 ];
 
-const HANDLE_OBJECT: [Field; 3] = [
-    Field("object_flags", 4, Word, Listed),
-    Field("handle", 8, Word, Listed),
-    Field("cookie", 16, Address, Listed),
+const HANDLE_OBJECT: [Field; 3] = fields![
+    "object_flags" 4 Word Listed,
+    "handle" 8 Word Listed,
+    "cookie" 16 Address Listed
 ];
 
 // `binder_fd_object`
-const FD_OBJECT: [Field; 2] = [
-    Field("fd", 8, Word, Listed),
-    Field("cookie", 16, Address, Listed),
+const FD_OBJECT: [Field; 2] = fields![
+    "fd" 8 Word Listed,
+    "cookie" 16 Address Listed
 ];
 
 // `binder_fd_array_object`
-const FDA_OBJECT: [Field; 3] = [
-    Field("num_fds", 8, Long, Listed),
-    Field("parent", 16, Long, Listed),
-    Field("parent_offset", 24, Long, Listed),
+const FDA_OBJECT: [Field; 3] = fields![
+    "num_fds" 8 Long Listed,
+    "parent" 16 Long Listed,
+    "parent_offset" 24 Long Listed
 ];
 
 // `binder_buffer_object`
-const PTR_OBJECT: [Field; 5] = [
-    Field("object_flags", 4, Word, Listed),
-    Field("buffer", 8, Address, Listed),
-    Field("length", 16, Long, Listed),
-    Field("parent", 24, Long, Listed),
-    Field("parent_offset", 32, Long, Listed),
+const PTR_OBJECT: [Field; 5] = fields![
+    "object_flags" 4 Word Listed,
+    "buffer" 8 Address Listed,
+    "length" 16 Long Listed,
+    "parent" 24 Long Listed,
+    "parent_offset" 32 Long Listed
 ];
 
 /// The fields of an object of a sort, in order.

@@ -1,6 +1,6 @@
 //! What a frame and a record say: the thread, the number of the direction, `TF_ONE_WAY`.
 
-use binder_code::TransactionFlags;
+use binder_code::{Kind, TransactionFlags};
 use bitflags::Flags;
 use capture_frame::{Direction, Frame, Thread};
 use record_view::Record;
@@ -12,6 +12,11 @@ pub fn thread_of(frame: Frame<'_>) -> Thread {
         process: frame.of_process(),
         number: frame.thread,
     }
+}
+
+/// Whether records of this kind are replies.
+pub fn is_reply(kind: Kind) -> bool {
+    matches!(kind, Kind::BcReply | Kind::BcReplySg | Kind::BrReply)
 }
 
 /// Whether a record is a transaction or a reply with `TF_ONE_WAY`.

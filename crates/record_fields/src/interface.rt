@@ -16,7 +16,7 @@ ghost use Rattle.std.specs.Prelude.{◌≡◌, IsTrue, IfSome, All, take, length
 ghost use Rattle.record_fields.specs.Interface.{may_spell, string_of, IsToken};
 
 use crate::content::Item;
-use binder_code::Kind;
+use crate::frames::is_reply;
 use capture_frame::u32_at;
 use std::alloc::AllocError;
 use transaction_view::Transaction;
@@ -111,10 +111,6 @@ pub fn reply_name(item: Item<'_>) -> Option<InterfaceName<'_>>
         return None;
     }
     spelled(text, rest)
-}
-
-fn is_reply(kind: Kind) -> bool {
-    matches!(kind, Kind::BcReply | Kind::BcReplySg | Kind::BrReply)
 }
 
 /// The name that the data of a transaction begin with.

@@ -83,15 +83,15 @@ impl Asked {
     /// Whether records of this frame are asked for.
     pub(crate) fn has_frame(&self, frame: Frame<'_>) -> bool {
         self.words.is_empty()
-            || self.has(Narrowing::Device, Held::Is(u64::from(frame.device)))
-                && self.has(Narrowing::Process, Held::Is(u64::from(frame.process)))
-                && self.has(Narrowing::Thread, Held::Is(u64::from(frame.thread)))
+            || self.has(Narrowing::Device, Fit::Is(u64::from(frame.device)))
+                && self.has(Narrowing::Process, Fit::Is(u64::from(frame.process)))
+                && self.has(Narrowing::Thread, Fit::Is(u64::from(frame.thread)))
                 && self.has(
                     Narrowing::Direction,
-                    Held::Is(direction_number(frame.direction)),
+                    Fit::Is(direction_number(frame.direction)),
                 )
-                && self.has(Narrowing::From, Held::From(frame.sequence))
-                && self.has(Narrowing::To, Held::To(frame.sequence))
+                && self.has(Narrowing::From, Fit::From(frame.sequence))
+                && self.has(Narrowing::To, Fit::To(frame.sequence))
     }
 
     /// Whether the record is asked for, its place left aside.
@@ -120,11 +120,11 @@ impl Asked {
     }
 
     /// Whether what a frame or a record holds fits a number of this narrowing, if it is given any.
-    fn has(&self, narrowing: Narrowing, held: Held) -> bool {
+    fn has(&self, narrowing: Narrowing, fit: Fit) -> bool {
         let mut asked = false;
         for word in &self.words {
             if word.narrowing == narrowing {
-                if held.fits(word.number) {
+                if fit.fits(word.number) {
                     return true;
                 }
                 asked = true;
@@ -194,8 +194,8 @@ impl Asked {
         }
         match Transaction::of(record) {
             Some(transaction) => {
-                self.has(Narrowing::Flag, Held::Bits(u64::from(transaction.flags())))
-                    && self.has(Narrowing::Larger, Held::Size(transaction.data_size()))
+                self.has(Narrowing::Flag, Fit::Bits(u64::from(transaction.flags())))
+                    && self.has(Narrowing::Larger, Fit::Size(transaction.data_size()))
             }
             None => false,
         }
@@ -204,7 +204,7 @@ impl Asked {
 
 /// What a frame or a record holds, and how the number of a narrowing is compared with it.
 #[derive(Clone, Copy)]
-enum Held {
+enum Fit {
     /// It must be the number.
     Is(u64),
     /// It must be the number or higher.
@@ -217,14 +217,14 @@ enum Held {
     Size(u64),
 }
 
-impl Held {
+impl Fit {
     fn fits(self, number: u64) -> bool {
         match self {
-            Held::Is(held) => held == number,
-            Held::From(held) => number <= held,
-            Held::To(held) => held <= number,
-            Held::Bits(held) => held & number != 0,
-            Held::Size(held) => held > number,
+            Fit::Is(held) => held == number,
+            Fit::From(held) => number <= held,
+            Fit::To(held) => held <= number,
+            Fit::Bits(held) => held & number != 0,
+            Fit::Size(held) => held > number,
         }
     }
 }

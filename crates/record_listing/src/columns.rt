@@ -69,7 +69,7 @@ fn push_column<'f>(
 ) -> Result<&'f [Field], AllocError> {
     let rest = from_listed(fields);
     if let Some((field, others)) = rest.split_first()
-        && field.0 == name
+        && field.name == name
     {
         push_field(text, *field, payload)?;
         return Ok(others);

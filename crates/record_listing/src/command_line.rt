@@ -126,21 +126,23 @@ pub(crate) fn files_of<'m, 'a>(matches: &'m ArgMatches<'a>) -> Option<&'m [&'a s
 
 /// Which tables are asked for.
 #[derive(Clone, Copy)]
-pub(crate) enum Tables<'a> {
+pub(crate) enum AskedTables<'a> {
     One(Name),
     /// All, into this folder.
     All(&'a str),
 }
 
 /// The tables that the words ask for, if any.
-pub(crate) fn tables_of<'a>(matches: &ArgMatches<'a>) -> Result<Option<Tables<'a>>, ListingError> {
+pub(crate) fn tables_of<'a>(
+    matches: &ArgMatches<'a>,
+) -> Result<Option<AskedTables<'a>>, ListingError> {
     match (matches.get_strs("table"), matches.get_strs("tables")) {
         (None, None) => Ok(None),
         (Some([word]), None) => match name_of(word) {
-            Some(name) => Ok(Some(Tables::One(name))),
+            Some(name) => Ok(Some(AskedTables::One(name))),
             None => Err(ListingError::Usage),
         },
-        (None, Some([folder])) => Ok(Some(Tables::All(folder))),
+        (None, Some([folder])) => Ok(Some(AskedTables::All(folder))),
         _ => Err(ListingError::Usage),
     }
 }

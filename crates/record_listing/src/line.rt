@@ -73,7 +73,7 @@ pub(crate) fn push_fields(
             && let Some(value) = field.value_in(bytes)
         {
             text.push_str(" ")?;
-            text.push_str(field.0)?;
+            text.push_str(field.name)?;
             text.push_str("=")?;
             push_value(text, value)?;
         }

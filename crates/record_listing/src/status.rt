@@ -1,16 +1,16 @@
 //! From the words of a command line to two streams and a status.
 
-use crate::command_line::{Tables, WordsError, asked_of, files_of, matches_of, tables_of};
+use crate::command_line::{AskedTables, WordsError, asked_of, files_of, matches_of, tables_of};
 use crate::help::HELP;
 use crate::parts::{FILE_LIMIT, list_parts, push_fault};
 use audit_streams::{read_parts, write_text};
 use clap::ArgMatches;
 use record_fields::{ListingError, write_error};
-use record_tables::{Book, Ending, NAMES, Name, Rows, write_table};
+use record_tables::{Ending, NAMES, Name, Tables, walk_capture};
 use std::alloc::{AllocError, Global};
 use std::env::Args;
 use std::fs::Files;
-use std::io::{ErrorKind, Write};
+use std::io::{ErrorKind, Write, sink};
 use std::process::ExitCode;
 use std::{fs, io};
 
@@ -55,7 +55,7 @@ fn answer_words<T: Files, W: Write, E: Write>(
         return Err(ListingError::Usage);
     };
     match tables_of(&matches)? {
-        Some(tables) => answer_tables(rt, alloc, tables, files, out, err),
+        Some(asked) => answer_tables(rt, alloc, asked, files, out, err),
         None => answer_listing(rt, alloc, &matches, files, out, err),
     }
 }
@@ -79,21 +79,21 @@ fn answer_listing<T: Files, W: Write, E: Write>(
 fn answer_tables<T: Files, W: Write, E: Write>(
     rt: &T,
     alloc: Global,
-    tables: Tables<'_>,
+    asked: AskedTables<'_>,
     files: &[&str],
     out: &mut W,
     err: &mut E,
 ) -> Result<u8, ListingError> {
     let readers = open_files(rt, alloc, files)?;
     let parts = read_parts(alloc, readers, FILE_LIMIT)?;
-    // The book is dropped here only: its drop is long to prove, and would be proved at each `?`.
-    let mut book = Book::new(alloc);
-    let ended = write_asked(rt, alloc, tables, parts.as_slice(), &mut book, out);
-    drop(book);
+    // They are dropped here only: the drop is long to prove, and would be proved at each `?`.
+    let mut tables = Tables::new(alloc);
+    let ended = write_asked(rt, alloc, asked, parts.as_slice(), &mut tables, out);
+    drop(tables);
     let ending = ended?;
-    match tables {
-        Tables::One(_) => tell_ending(alloc, ending, err),
-        Tables::All(_) => tell_ending(alloc, ending, out),
+    match asked {
+        AskedTables::One(_) => tell_ending(alloc, ending, err),
+        AskedTables::All(_) => tell_ending(alloc, ending, out),
     }
 }
 
@@ -101,48 +101,76 @@ fn answer_tables<T: Files, W: Write, E: Write>(
 fn write_asked<T: Files, W: Write>(
     rt: &T,
     alloc: Global,
-    tables: Tables<'_>,
+    asked: AskedTables<'_>,
     parts: &[Vec<u8>],
-    book: &mut Book,
+    tables: &mut Tables,
     out: &mut W,
 ) -> Result<Ending, ListingError> {
-    match tables {
-        Tables::One(name) => {
-            let mut rows = Rows::new(alloc, out);
-            write_table(alloc, name, parts, book, &mut rows)
-        }
-        Tables::All(folder) => write_tables(rt, alloc, folder, parts, book),
+    match asked {
+        AskedTables::One(name) => write_one(alloc, name, parts, tables, out),
+        AskedTables::All(folder) => write_all(rt, alloc, folder, parts, tables),
     }
 }
 
-/// Writes all tables, each to a file of its own.
-fn write_tables<T: Files>(
+/// Writes one table to the output. Others that are written while the walk goes on are written
+/// nowhere.
+fn write_one<W: Write>(
+    alloc: Global,
+    name: Name,
+    parts: &[Vec<u8>],
+    tables: &mut Tables,
+    out: &mut W,
+) -> Result<Ending, ListingError> {
+    let (mut one, mut other, mut third) = (sink(), sink(), sink());
+    match name {
+        Name::Frame => walk_capture(alloc, parts, tables, out, &mut one, &mut other),
+        Name::Record => walk_capture(alloc, parts, tables, &mut one, out, &mut other),
+        Name::Object => walk_capture(alloc, parts, tables, &mut one, &mut other, out),
+        _ => {
+            let ending = walk_capture(alloc, parts, tables, &mut one, &mut other, &mut third)?;
+            tables.write(alloc, name, ending, out)?;
+            Ok(ending)
+        }
+    }
+}
+
+/// Writes all tables, each to a file of its own in a folder.
+fn write_all<T: Files>(
     rt: &T,
     alloc: Global,
     folder: &str,
     parts: &[Vec<u8>],
-    book: &mut Book,
+    tables: &mut Tables,
 ) -> Result<Ending, ListingError> {
-    let mut ending = Ending::new(parts.len() as u64);
+    let mut frames = create(rt, alloc, folder, "frame")?;
+    let mut records = create(rt, alloc, folder, "record")?;
+    let mut objects = create(rt, alloc, folder, "object")?;
+    let ending = walk_capture(
+        alloc,
+        parts,
+        tables,
+        &mut frames,
+        &mut records,
+        &mut objects,
+    )?;
     for (word, name) in NAMES {
-        ending = write_file(rt, alloc, (folder, word), name, parts, book)?;
+        if !name.is_streamed() {
+            let mut file = create(rt, alloc, folder, word)?;
+            tables.write(alloc, name, ending, &mut file)?;
+        }
     }
     Ok(ending)
 }
 
-/// Writes a table to the file of its name in a folder.
-fn write_file<T: Files>(
+/// Creates the file of a table in a folder.
+fn create<T: Files>(
     rt: &T,
     alloc: Global,
-    path: (&str, &str),
-    name: Name,
-    parts: &[Vec<u8>],
-    book: &mut Book,
-) -> Result<Ending, ListingError> {
-    let path = path_of(alloc, path.0, path.1)?;
-    let mut file = fs::create(rt, path.as_str()).map_err(|error| write_error(&error))?;
-    let mut rows = Rows::new(alloc, &mut file);
-    write_table(alloc, name, parts, book, &mut rows)
+    folder: &str,
+    name: &str,
+) -> Result<T::File, ListingError> {
+    let path = path_of(alloc, folder, name)?;
+    fs::create(rt, path.as_str()).map_err(|error| write_error(&error))
 }
 
 fn path_of(alloc: Global, folder: &str, name: &str) -> Result<String, AllocError> {

@@ -92,9 +92,9 @@ fn push_field_line(
     value: Value,
 ) -> Result<(), AllocError> {
     text.push_str("  ")?;
-    push_place(text, place, CODE.saturating_add(field.1 as u64))?;
+    push_place(text, place, CODE.saturating_add(field.offset as u64))?;
     text.push_str("  ")?;
-    text.push_str(field.0)?;
+    text.push_str(field.name)?;
     text.push_str(" ")?;
     if let Value::Flags(word) = value {
         text.push_str("0x")?;

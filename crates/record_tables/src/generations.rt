@@ -1,9 +1,10 @@
 //! The generations of handles: the spans in which a handle of a process means one object.
 
-use crate::list::List;
-use crate::rows::{Rows, column};
+use crate::messages::Reference;
+use crate::numbered::Numbered;
+use crate::rows::{RowWriter, column};
 use indexmap::IndexMap;
-use record_fields::ListingError;
+use record_fields::{ListingError, Outcome};
 use std::alloc::Global;
 use std::io::Write;
 
@@ -61,7 +62,7 @@ pub(crate) struct Generation {
 /// All generations so far.
 #[derive(Drop)]
 pub(crate) struct Generations {
-    pub list: List<Generation>,
+    pub list: Numbered<Generation>,
     /// For each process and handle, the index of the latest generation.
     latest: IndexMap<(u32, u32), u32>,
 }
@@ -69,7 +70,7 @@ pub(crate) struct Generations {
 impl Generations {
     pub(crate) fn new(alloc: Global) -> Generations {
         Generations {
-            list: List::new(alloc),
+            list: Numbered::new(alloc),
             latest: IndexMap::new(alloc),
         }
     }
@@ -126,28 +127,23 @@ impl Generations {
         }
     }
 
-    /// Takes back a reference that a delivery held.
-    pub(crate) fn let_go(&mut self, index: u32, weak: bool) {
-        if let Some(row) = self.list.get_mut(index) {
-            if weak {
+    /// Takes back a reference that a delivery held. If nothing of its generation is held any more,
+    /// that ends here.
+    pub(crate) fn let_go(&mut self, reference: Reference, place: u32) {
+        if let Some(row) = self.list.get_mut(reference.generation) {
+            if reference.weak {
                 row.held_weak = row.held_weak.saturating_sub(1);
             } else {
                 row.held_strong = row.held_strong.saturating_sub(1);
             }
-        }
-    }
-
-    /// Ends a generation if nothing of it is held any more.
-    pub(crate) fn end_if_empty(&mut self, index: u32, place: u32) {
-        if let Some(row) = self.list.get_mut(index) {
             end_row(row, place);
         }
     }
 
     /// Writes the rows of the table generation.
-    pub(crate) fn write<W: Write>(&self, rows: &mut Rows<'_, W>) -> Result<(), ListingError> {
+    pub(crate) fn write<W: Write>(&self, rows: &mut RowWriter<'_, W>) -> Outcome {
         let mut number = 0u64;
-        for row in &self.list.rows {
+        for row in &self.list.all {
             number = number.saturating_add(1);
             rows.push(&columns_of(number, row))?;
         }

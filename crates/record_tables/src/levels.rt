@@ -2,22 +2,21 @@
 
 ghost use Rattle.std.specs.Prelude.{◌<◌};
 
-use crate::list::List;
-use crate::rows::Rows;
+use crate::rows::RowWriter;
 use indexmap::IndexMap;
-use record_fields::ListingError;
+use record_fields::{ListingError, Outcome};
 use std::alloc::Global;
 use std::io::Write;
 
 /// How many slices there are.
-const SLICES: u32 = 16;
+const SLICES: u8 = 16;
 
 /// The highest number that is written: SQLite has no higher one.
 const MOST: u128 = 9_223_372_036_854_775_807;
 
-/// What a process holds.
+/// What a process holds, by its number among the columns.
 #[derive(Clone, Copy)]
-pub(crate) enum Held {
+pub(crate) enum Resource {
     Buffers,
     Bytes,
     References,
@@ -25,173 +24,152 @@ pub(crate) enum Held {
     Served,
 }
 
-impl Held {
-    /// Its number among the columns.
-    fn number(self) -> usize
-        ensures { result < 5 }
-    {
-        match self {
-            Held::Buffers => 0,
-            Held::Bytes => 1,
-            Held::References => 2,
-            Held::Calls => 3,
-            Held::Served => 4,
-        }
-    }
-}
-
-/// Whether more or less is held.
-#[derive(Clone, Copy)]
-pub(crate) enum Way {
-    Up,
-    Down,
-}
-
-/// What a process holds of each thing.
+/// How much of a resource a process holds, and the index of the latest slice in which that changed.
 #[derive(Clone, Copy)]
 struct Level {
-    now: [u128; 5],
-    /// The indices of its first and of its latest slice in the list of all.
-    first: u32,
-    latest: u32,
+    now: u128,
+    latest: usize,
 }
 
-/// A slice in which what a process holds changes: the most of each thing, and what is held at the
-/// end of the slice, both as they are written.
+/// A slice in which a level changes: the most, and the level at the end of the slice, both as they
+/// are written.
 #[derive(Clone, Copy)]
 struct Slice {
-    number: u32,
-    /// The index of the process's next one.
-    next: Option<u32>,
-    most: [u64; 5],
-    end: [u64; 5],
+    upid: u32,
+    number: u8,
+    resource: u8,
+    most: u64,
+    end: u64,
 }
 
 /// What all processes hold.
 #[derive(Drop)]
 pub(crate) struct Levels {
-    first: u64,
-    last: u64,
-    slice: u32,
-    processes: IndexMap<u32, Level>,
-    slices: List<Slice>,
+    /// The sequences of the first and of the last frame of the capture.
+    span: (u64, u64),
+    /// The number of the slice that is gone through.
+    number: u8,
+    /// By process and resource.
+    levels: IndexMap<(u32, u8), Level>,
+    slices: Vec<Slice>,
 }
 
 impl Levels {
     /// Nothing yet.
     pub(crate) fn new(alloc: Global) -> Levels {
         Levels {
-            first: 0,
-            last: 0,
-            slice: 0,
-            processes: IndexMap::new(alloc),
-            slices: List::new(alloc),
+            span: (0, 0),
+            number: 0,
+            levels: IndexMap::new(alloc),
+            slices: Vec::new(alloc),
         }
     }
 
     /// Sets the sequences of the first and of the last frame of the capture.
-    pub(crate) fn set_span(&mut self, first: u64, last: u64) {
-        self.first = first;
-        self.last = last;
+    pub(crate) fn set_span(&mut self, span: (u64, u64)) {
+        self.span = span;
     }
 
-    /// Goes on to the slice of a frame.
+    /// Goes to the slice of a frame.
     pub(crate) fn go_to(&mut self, sequence: u64) {
-        let gone = u128::from(sequence.saturating_sub(self.first)) * 16;
-        let all = u128::from(self.last.saturating_sub(self.first)) + 1;
-        self.slice = (gone / all).min(15) as u32;
+        let (first, last) = self.span;
+        let gone = u128::from(sequence.saturating_sub(first)) * 16;
+        let all = u128::from(last.saturating_sub(first)) + 1;
+        self.number = (gone / all).min(15) as u8;
     }
 
-    /// Changes what a process holds, by this much.
-    pub(crate) fn change(
-        &mut self,
-        upid: u32,
-        held: Held,
-        way: Way,
-        by: u64,
-    ) -> Result<(), ListingError> {
-        let at = held.number();
-        let mut level = self.level_of(upid)?;
-        let now = changed(level.now[at], way, by);
-        level.now[at] = now;
-        self.processes.insert(upid, level)?;
-        if let Some(slice) = self.slices.get_mut(level.latest) {
-            slice.most[at] = slice.most[at].max(told(now));
-            slice.end[at] = told(now);
+    /// A process holds more, by this much. The changes of a resource come in the order of the
+    /// records that make them.
+    pub(crate) fn raise(&mut self, upid: u32, resource: Resource, by: u64) -> Outcome {
+        let now = self.now(upid, resource).saturating_add(u128::from(by));
+        self.set(upid, resource, now)
+    }
+
+    /// A process holds less, by this much.
+    pub(crate) fn lower(&mut self, upid: u32, resource: Resource, by: u64) -> Outcome {
+        let now = self.now(upid, resource).saturating_sub(u128::from(by));
+        self.set(upid, resource, now)
+    }
+
+    /// What a process holds.
+    fn now(&self, upid: u32, resource: Resource) -> u128 {
+        match self.levels.get(&(upid, resource as u8)) {
+            Some(level) => level.now,
+            None => 0,
+        }
+    }
+
+    fn set(&mut self, upid: u32, resource: Resource, now: u128) -> Outcome {
+        let key = (upid, resource as u8);
+        let index = match self.levels.get(&key).copied() {
+            Some(level) if self.is_now(level.latest) => level.latest,
+            Some(level) => self.begin(key, level.now)?,
+            None => self.begin(key, 0)?,
+        };
+        self.levels.insert(key, Level { now, latest: index })?;
+        if let Some(slice) = self.slices.as_mut_slice().get_mut(index) {
+            slice.most = slice.most.max(told(now));
+            slice.end = told(now);
         }
         Ok(())
     }
 
-    /// What a process holds. Its latest slice is now that of the frame.
-    fn level_of(&mut self, upid: u32) -> Result<Level, ListingError> {
-        let Some(level) = self.processes.get(&upid).copied() else {
-            let index = self.add_slice([0; 5])?;
-            return Ok(Level {
-                now: [0; 5],
-                first: index,
-                latest: index,
-            });
-        };
-        match self.slices.get(level.latest) {
-            Some(slice) if slice.number < self.slice => self.go_on(level, slice),
-            _ => Ok(level),
+    /// Whether the slice at this index is of the number that is gone through.
+    fn is_now(&self, index: usize) -> bool {
+        match self.slices.as_slice().get(index) {
+            Some(slice) => slice.number == self.number,
+            None => false,
         }
     }
 
-    /// Goes on from the latest slice of a process to that of the frame.
-    fn go_on(&mut self, level: Level, latest: Slice) -> Result<Level, ListingError> {
-        let index = self.add_slice(latest.end)?;
-        if let Some(slice) = self.slices.get_mut(level.latest) {
-            slice.next = Some(index);
-        }
-        let mut level = level;
-        level.latest = index;
-        Ok(level)
-    }
-
-    /// Begins a slice of a process that holds this much.
-    fn add_slice(&mut self, held: [u64; 5]) -> Result<u32, ListingError> {
+    /// Begins a slice of a process and a resource that is at this level, and returns its index.
+    fn begin(&mut self, key: (u32, u8), level: u128) -> Result<usize, ListingError> {
+        let index = self.slices.len();
         self.slices.push(Slice {
-            number: self.slice,
-            next: None,
-            most: held,
-            end: held,
-        })
+            upid: key.0,
+            number: self.number,
+            resource: key.1,
+            most: told(level),
+            end: told(level),
+        })?;
+        Ok(index)
     }
 
     /// Writes the rows of the table level, for this many processes.
     pub(crate) fn write<W: Write>(
-        &self,
+        &mut self,
         processes: u32,
-        rows: &mut Rows<'_, W>,
-    ) -> Result<(), ListingError> {
+        rows: &mut RowWriter<'_, W>,
+    ) -> Outcome {
+        self.slices
+            .sort_unstable_by_key(|slice| (slice.upid, slice.number, slice.resource));
+        let mut next = 0usize;
         for index in 0..processes {
-            self.write_process(index.saturating_add(1), rows)?;
+            next = self.write_process(index.saturating_add(1), next, rows)?;
         }
         Ok(())
     }
 
+    /// Writes the rows of a process, whose slices begin at the index `next`, and returns the index
+    /// after them.
     fn write_process<W: Write>(
         &self,
         upid: u32,
-        rows: &mut Rows<'_, W>,
-    ) -> Result<(), ListingError> {
-        let mut next = match self.processes.get(&upid) {
-            Some(level) => self.slices.get(level.first),
-            None => None,
-        };
+        next: usize,
+        rows: &mut RowWriter<'_, W>,
+    ) -> Result<usize, ListingError> {
+        let mut next = next;
         let mut held = [0u64; 5];
         for number in 0..SLICES {
             let mut most = held;
-            if let Some(slice) = next
-                && slice.number == number
-            {
-                most = slice.most;
-                held = slice.end;
-                next = match slice.next {
-                    Some(index) => self.slices.get(index),
-                    None => None,
-                };
+            for resource in 0..5u8 {
+                if let Some(slice) = self.slices.as_slice().get(next)
+                    && (slice.upid, slice.number, slice.resource) == (upid, number, resource)
+                {
+                    most[resource as usize] = slice.most;
+                    held[resource as usize] = slice.end;
+                    next = next.saturating_add(1);
+                }
             }
             rows.push(&[
                 Some(u64::from(upid)),
@@ -203,14 +181,7 @@ impl Levels {
                 Some(most[4]),
             ])?;
         }
-        Ok(())
-    }
-}
-
-fn changed(now: u128, way: Way, by: u64) -> u128 {
-    match way {
-        Way::Up => now.saturating_add(u128::from(by)),
-        Way::Down => now.saturating_sub(u128::from(by)),
+        Ok(next)
     }
 }
 

@@ -2,21 +2,22 @@
 #![tactic(auto)]
 
 mod calls;
-mod deliveries;
-mod frames;
 mod generations;
-mod ledger;
+mod held;
+mod judge;
+mod keys;
 mod levels;
-mod list;
+mod lists;
+mod messages;
 mod names;
-mod objects;
+mod numbered;
 mod pairs;
 mod records;
 mod rows;
-mod sends;
 mod spans;
-mod sums;
+mod tables;
 mod walk;
 
-pub use rows::Rows;
-pub use walk::{Book, Ending, NAMES, Name, name_of, write_table};
+pub use judge::Ending;
+pub use tables::{NAMES, Name, Tables, name_of};
+pub use walk::walk_capture;

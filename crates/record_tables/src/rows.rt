@@ -1,6 +1,8 @@
 //! The rows that are written.
 
-use record_fields::{ListingError, write_error};
+ghost use Rattle.std.specs.Prelude.{◌≡◌};
+
+use record_fields::{Outcome, write_error};
 use std::alloc::Global;
 use std::io::Write;
 
@@ -9,15 +11,15 @@ const PIECE: usize = 65_536;
 
 /// Collects the rows of a table, and writes many of them at a time.
 #[derive(Drop)]
-pub struct Rows<'w, W: Write> {
+pub struct RowWriter<'w, W: Write> {
     /// What is not written yet.
     bytes: Vec<u8>,
     writer: &'w mut W,
 }
 
-impl<'w, W: Write> Rows<'w, W> {
-    pub fn new(alloc: Global, writer: &'w mut W) -> Rows<'w, W> {
-        Rows {
+impl<'w, W: Write> RowWriter<'w, W> {
+    pub fn new(alloc: Global, writer: &'w mut W) -> RowWriter<'w, W> {
+        RowWriter {
             bytes: Vec::new(alloc),
             writer,
         }
@@ -25,7 +27,7 @@ impl<'w, W: Write> Rows<'w, W> {
 
     /// Takes a row: a mask, and then the numbers. The mask has a bit for each column that has a
     /// number, the lowest bit for the first column. There are 64 columns at most.
-    pub(crate) fn push(&mut self, columns: &[Option<u64>]) -> Result<(), ListingError> {
+    pub(crate) fn push(&mut self, columns: &[Option<u64>]) -> Outcome {
         self.push_number(mask_of(columns))?;
         for column in columns {
             if let Some(number) = column {
@@ -38,18 +40,18 @@ impl<'w, W: Write> Rows<'w, W> {
         self.write_out()
     }
 
-    fn push_number(&mut self, number: u64) -> Result<(), ListingError> {
+    fn push_number(&mut self, number: u64) -> Outcome {
         self.bytes.extend_from_slice(&number.to_le_bytes())?;
         Ok(())
     }
 
     /// Writes what is not written yet.
-    pub(crate) fn flush(&mut self) -> Result<(), ListingError> {
+    pub(crate) fn flush(&mut self) -> Outcome {
         self.write_out()?;
         self.writer.flush().map_err(|error| write_error(&error))
     }
 
-    fn write_out(&mut self) -> Result<(), ListingError> {
+    fn write_out(&mut self) -> Outcome {
         let written = self.writer.write_all(self.bytes.as_slice());
         self.bytes.clear();
         written.map_err(|error| write_error(&error))
@@ -70,7 +72,9 @@ fn mask_of(columns: &[Option<u64>]) -> u64 {
 }
 
 /// A column of four bytes.
-pub(crate) fn column(number: Option<u32>) -> Option<u64> {
+pub(crate) fn column(number: Option<u32>) -> Option<u64>
+    ensures { result ≡ number }
+{
     match number {
         Some(number) => Some(u64::from(number)),
         None => None,
