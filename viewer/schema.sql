@@ -472,7 +472,7 @@ INSERT INTO about VALUES
   ('node_interface', 'inferred', 'the interface that most calls to a node name'),
   ('node_service', 'inferred', 'a node that is a service, and its name; rests_on says whether bytes say so'),
   ('listing', 'bytes', 'a line of ./listing'),
-  ('call', 'rule', 'a call of a thread, by the rules of REPORT.md, proved for the list of its records; delivery is inferred'),
+  ('call', 'rule', 'a call, by the rules of REPORT.md, proved for the list of its thread; delivery is inferred'),
   ('delivery', 'rule', 'a buffer that a process got, and the free that gave it back; send is inferred'),
   ('reference', 'rule', 'a reference that is taken or let go, with the counts after it'),
   ('level', 'rule', 'what each process holds at most in each of 16 slices'),
