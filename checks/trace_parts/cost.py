@@ -56,7 +56,7 @@ def repeat(made: pathlib.Path, times: int) -> None:
     """Makes a database in which the records, the times and the findings of this one come so many times, one after
     another."""
     database = sqlite3.connect(made, isolation_level=None)
-    for setting in ("journal_mode=OFF", "synchronous=OFF", "cache_size=-65536"):
+    for setting in ("journal_mode=OFF", "synchronous=OFF"):  # a larger cache would count as memory of what is measured
         database.execute(f"PRAGMA {setting}")
     names = ("bytes", "last", "time", "findings")
     rise = dict(zip(names, database.execute(
