@@ -1,6 +1,5 @@
 -- How many calls have a verdict, by those that are listed.
-use Rattle.std.proofs.Common.{◌≡◌, ℕ, ◌+◌, Bool, true, cond, List, [], ◌∷◌, map, refl, sym, ap, ◌∙◌, arith}
-use Rattle.std.specs.Prelude.{count_by}
+use Rattle.std.proofs.Common.{◌≡◌, ℕ, ◌+◌, Bool, true, cond, List, [], ◌∷◌, map, refl, ◌∙◌, arith}
 use Rattle.std.proofs.lemmas.List.Sums.{sum_by-cons}
 use Rattle.event_core.specs.Events.{EventRead}
 use Rattle.call_stacks.specs.Calls.{how_many, with_verdict}
@@ -10,14 +9,8 @@ use Rattle.call_stacks.specs.declared.verdict.Verdict.{Verdict}
 use Rattle.call_stacks.specs.declared.verdict.Verdict.TheVariants.{Answered, Failed, Replied, Crossed, Open}
 use Rattle.audit_findings.specs.Calls.{is_unanswered}
 use Rattle.audit_findings.specs.Kept.{call_at_place}
+use Rattle.audit_findings.proofs.EventCountLaws.{count_made}
 use Rattle.audit_findings.proofs.Kept.{kept_count}
-
--- to count what is made of a list is to count the list by what is made
-pub count_made : {X Y : Type 0} (make : X → Y) (test : Y → Bool) (xs : List X) → count_by test (map make xs) ≡ count_by (λ x. test (make x)) xs
-count_made make test [] = refl
-count_made {X} {Y} make test (x ∷ xs) =
-    sum_by-cons (λ (y : Y). cond (test y) 1 0) (make x) (map make xs) ∙ ap (λ (n : ℕ). cond (test (make x)) 1 0 + n) (count_made make test xs)
-    ∙ sym (sum_by-cons (λ (x : X). cond (test (make x)) 1 0) x xs)
 
 -- the calls with a verdict that lacks a reply are all kept, so counting the kept ones counts all of them
 pub kept_many : (test : Verdict → Bool) → ((verdict : Verdict) → test verdict ≡ true → lacks_reply verdict ≡ true) → (told : List (Opener EventRead))

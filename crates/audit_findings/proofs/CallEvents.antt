@@ -21,6 +21,10 @@ pub told_if : {Y : Type 0} (passes : Bool) (x y : Y) → cond passes (Some x) No
 told_if true x y is = cc
 told_if false x y is = let no : ⊥ = cc in absurd no
 
+pub told_passes : {Y : Type 0} (passes : Bool) (x y : Y) → cond passes (Some x) None ≡ Some y → passes ≡ true
+told_passes true x y is = refl
+told_passes false x y is = let no : ⊥ = cc in absurd no
+
 opened_by : (event : EventRead) (answer : Option (Bracketed EventRead)) → (opener_by text_reads event answer).event ≡ event
 opened_by event None = refl
 opened_by event (Some answer) = refl

@@ -7,6 +7,7 @@ use Rattle.std.specs.Option.{option_map, option_map_or, option_or}
 use Rattle.std.specs.Ordering.{eq_by_cmp}
 use Rattle.std.proofs.lemmas.List.{length-map, map-append}
 use Rattle.std.proofs.lemmas.List.Concat.{flat_map-cons}
+use Rattle.std.proofs.lemmas.List.Folds.{flat_map-map}
 use Rattle.std.proofs.lemmas.List.Elements.{All-append, All-head, All-map, All-nil, All-tail, All-weaker}
 use Rattle.std.proofs.lemmas.List.Sorted.{IsNonDecreasingBy-from_sort, IsPermutation-map, IsPermutation-sym, IsPermutation-trans}
 use Rattle.capture_frame.proofs.ProcessLaws.{same_process_equiv}
@@ -26,7 +27,6 @@ use Rattle.summary_law.proofs.GatherLaws.{HasKeyOrNothing, gathered_sorted}
 use Rattle.summary_law.proofs.InOrderLaws.{each_among_firsts, firsts_distinct}
 use Rattle.summary_law.proofs.Members.{Rises, in_place, rises-map}
 use Rattle.summary_law.proofs.ReadingLaws.{chosen-is, read-both, read-made, read-picked, read-rises}
-use Rattle.audit_findings.proofs.TurnLaws.{flat_lists}
 use Rattle.audit_findings.specs.declared.open_and_stray.OpenAndStray.{OpenAndStray}
 use Rattle.audit_findings.specs.Kept.{pairs_at_places, places_of}
 use Rattle.audit_findings.specs.Places.{EventTest, RiseInPlace, either, is_stray_close, is_unclosed, item_is, passing_events, open_and_stray, places_in}
@@ -115,7 +115,7 @@ lists_sorted test frames rise lists are places moved sorted =
     let processes = processes_of frames in
     let Has = HasKeyOrNothing same_process_equiv process_of (chosen test) processes in
     let flat : flat_map (λ (own : List ℕ). own) lists ≡ flat_map (places_in test events) processes
-    = ap (flat_map (λ (own : List ℕ). own)) are ∙ flat_lists (places_in test events) processes in
+    = ap (flat_map (λ (own : List ℕ). own)) are ∙ flat_map-map (λ (own : List ℕ). own) (places_in test events) processes in
     gathered_sorted same_process_equiv process_of (chosen test) place_of_event (λ n. n) processes
     (firsts_distinct same_process_equiv (map process_of_placed frames)) events
     (All-weaker (IsKnown processes) Has

@@ -4,7 +4,7 @@ use Rattle.std.specs.Cmp.{both_ways}
 use Rattle.std.specs.List.{cons_option, list_any}
 use Rattle.std.specs.Option.{option_map_or}
 use Rattle.std.specs.Ordering.{eq_by_cmp, nat_cmp}
-use Rattle.std.proofs.lemmas.Bool.{cases_Bool, eq-eqb, lt-ltb, ltb-true}
+use Rattle.std.proofs.lemmas.Bool.{and_parts, and_right, cases_Bool, eq-eqb, lt-ltb, ltb-true}
 use Rattle.std.proofs.lemmas.List.Folds.{list_any-append}
 use Rattle.binder_code.specs.declared.record_kind.Kind.{Kind}
 use Rattle.binder_code.specs.declared.record_kind.Kind.TheVariants.{BcFreeBuffer, BrReply, BrTransaction, BrTransactionSecCtx}
@@ -23,6 +23,7 @@ use Rattle.transaction_view.specs.Transaction.{buffer}
 use Rattle.audit_findings.specs.Buffers.{is_leaked}
 use Rattle.audit_findings.specs.HandleRows.{delivers, frees, frees_after, is_outstanding}
 use Rattle.audit_findings.specs.Places.{RiseInPlace, passing_in}
+use Rattle.audit_findings.proofs.CallEvents.{told_passes}
 use Rattle.audit_findings.proofs.CodeLaws.{same_key}
 use Rattle.audit_findings.proofs.EventLists.{place_of_event}
 use Rattle.audit_findings.proofs.HandleRows.{among_at, is_among, listed_there}
@@ -67,17 +68,13 @@ closes_at address x = by_kind x.kind refl
     free_closes true c same = same
     free_closes false c same = same
 
-    never : (b : Bool) → (b && false) ≡ false
-    never true = refl
-    never false = refl
-
     by_kind : (kind : Kind) → x.kind ≡ kind → option_map_or (closes (eq_by_cmp nat_cmp) address) (buffer_pending_of (record x { kind = kind })) false
         ≡ (frees kind && eqb (number_at 8 0 x.payload) address)
     by_kind BcFreeBuffer is =
         free_closes (eq_by_cmp nat_cmp address (number_at 8 0 x.payload)) (eqb (number_at 8 0 x.payload) address) (same_key address (number_at 8 0 x.payload))
-    by_kind BrTransaction is = never (eq_by_cmp nat_cmp address (buffer x.payload))
-    by_kind BrTransactionSecCtx is = never (eq_by_cmp nat_cmp address (buffer x.payload))
-    by_kind BrReply is = never (eq_by_cmp nat_cmp address (buffer x.payload))
+    by_kind BrTransaction is = and_right (eq_by_cmp nat_cmp address (buffer x.payload)) false refl
+    by_kind BrTransactionSecCtx is = and_right (eq_by_cmp nat_cmp address (buffer x.payload)) false refl
+    by_kind BrReply is = and_right (eq_by_cmp nat_cmp address (buffer x.payload)) false refl
     by_kind _ is = refl
 
 -- an event is leaked if it delivers and no later event frees its address
@@ -121,10 +118,6 @@ not_below m n more = elim (cases_Bool (nat_lt m n)) [
 pub with_true : (a : Bool) → (a && true) ≡ a
 with_true true = refl
 with_true false = refl
-
-pub with_false : (a : Bool) → (a && false) ≡ false
-with_false true = refl
-with_false false = refl
 
 module _ (events : List EventRead) (rise : RiseInPlace events) (process : Process) where
   abbrev in_process : EventRead → Bool
@@ -174,10 +167,6 @@ module _ (events : List EventRead) (rise : RiseInPlace events) (process : Proces
       let rest = in_split xs x there in
       (y ∷ rest.0, rest.1, ap (λ (t : List X). y ∷ t) rest.2)
 
-  first_part : (a b : Bool) → (a && b) ≡ true → a ≡ true
-  first_part true b is = refl
-  first_part false b is = is
-
   -- an event is among the leaked deliveries of the process, by its place, if it is an outstanding one
   pub among_leaked : (e : EventRead) → In e events → is_among (passing_in is_leaked process events) e ≡ is_outstanding events process e
   among_leaked e there = both_ways (is_among (passing_in is_leaked process events) e) (is_outstanding events process e) to from
@@ -190,18 +179,14 @@ module _ (events : List EventRead) (rise : RiseInPlace events) (process : Proces
           let at = read-at (chosen is_leaked) [] own other.0 other.1 in
           let itself : other.0 ≡ at.1 = chosen-is is_leaked at.0 at.1 at.2 other.0 at.4 in
           let split : own ≡ at.0 ++ e ∷ at.2 = at.3 ∙ ap (λ (x : EventRead). at.0 ++ x ∷ at.2) (sym itself ∙ same) in
-          let leaked : is_leaked at.0 at.1 at.2 ≡ true = passed (is_leaked at.0 at.1 at.2) at.1 other.0 at.4 in
+          let leaked : is_leaked at.0 at.1 at.2 ≡ true = told_passes (is_leaked at.0 at.1 at.2) at.1 other.0 at.4 in
           let kept = in_kept in_process events e (subst (In e) (sym split) (in_middle at.0 e at.2)) in
           sym (leaked_there at.0 e at.2 split kept.1) ∙ ap (λ (x : EventRead). is_leaked at.0 x at.2) (sym same ∙ itself) ∙ leaked
-        where
-          passed : {X : Type 0} (b : Bool) (x y : X) → cond b (Some x) None ≡ Some y → b ≡ true
-          passed true x y is = refl
-          passed false x y is = let no : ⊥ = cc in absurd no
 
       from : is_outstanding events process e ≡ true → is_among (passing_in is_leaked process events) e ≡ true
       from is =
           let here : in_process e ≡ true
-          = first_part (in_process e) (delivers e.kind && not (list_any (frees_after process (buffer e.payload) e.place) events)) is in
+          = (and_parts (in_process e) (delivers e.kind && not (list_any (frees_after process (buffer e.payload) e.place) events)) is).0 in
           let split = in_split own e (kept_in in_process events e there here) in
           let leaked : is_leaked split.0 e split.1 ≡ true = leaked_there split.0 e split.1 split.2 here ∙ is in
           let chooses : chosen is_leaked split.0 e split.1 ≡ Some e = ap (λ (b : Bool). cond b (Some e) None) leaked in

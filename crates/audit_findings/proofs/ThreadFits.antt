@@ -2,6 +2,7 @@
 use Rattle.std.proofs.Common.{◌≡◌, ◌<◌, ◌≤◌, Bool, true, false, cond, List, [], ◌∷◌, ◌++◌, length, map, filter, ap, subst, ◌∙◌, arith}
 use Rattle.std.proofs.lemmas.List.{length-map, map-append}
 use Rattle.std.proofs.lemmas.List.Elements.{filter-append}
+use Rattle.std.proofs.lemmas.List.Sums.{count_by-le-length, length-filter}
 use Rattle.call_stacks.specs.Calls.{event_place, CallsSum, event_reads}
 use Rattle.call_stacks.specs.declared.call_record.CallEvent.{CallEvent}
 use Rattle.call_stacks.specs.declared.calls.Calls.{Calls}
@@ -27,10 +28,10 @@ abbrev pub SumsFedCalls : List (Thread × Calls CallEvent) → List (Thread × C
 SumsFedCalls entries fed = SumsInOrder same_thread (CallsSum event_reads false) entries fed
 
 pub filter_short : {X : Type 0} (test : X → Bool) (xs : List X) → length (filter test xs) ≤ length xs
-filter_short test [] = omega arith
-filter_short test (x ∷ xs) =
-    let rest = filter_short test xs in
-    elim (test x) as (λ b. length (cond b (x ∷ filter test xs) (filter test xs)) ≤ length (x ∷ xs)) [ true ↦ omega arith | false ↦ omega arith ]
+filter_short test xs =
+    let kept = length-filter test xs in
+    let most = count_by-le-length test xs in
+    omega (arith, kept, most)
 
 pub fit_calls : (events : List EventRead) → IsPlaced (λ (e : EventRead). e.place) events → FitThreads (fed_calls events)
 fit_calls events placed key =

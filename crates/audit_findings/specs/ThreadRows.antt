@@ -68,22 +68,17 @@ pub record TakesOver (old : ThreadRows) (found : CallFindings CallEvent) (new : 
 abbrev pub IsCountIfSmall : ℕ → ℕ → Type 0
 IsCountIfSmall number count = count < 2 ^ 64 → number ≡ count
 
--- what is kept of the threads of these entries, one thread after another, and how many of their calls have their reply
-pub record AreRowsOfThreads (entries : List (Thread × Calls CallEvent)) (made served : List (Opener ℕ)) (answered replied : ℕ)
-    (strays : List ℕ) (sends : List (RefusedSend ℕ)) : Type 0 where
+-- the rows are those of the threads of these entries, one thread after another, with how many of their calls have their
+-- reply
+pub record AreGatheredRows (entries : List (Thread × Calls CallEvent)) (rows : ThreadRows) : Type 0 where
   pub founds : List (CallFindings CallEvent)
   pub are : AllZip (λ (e : Thread × Calls CallEvent) found. GivesFindings event_reads false e.1 found) entries founds
-  pub made_are : made ≡ flat_map made_in founds
-  pub served_are : served ≡ flat_map served_in founds
-  pub answered_is : IsCountIfSmall answered (sum_by (λ found. found.answered) founds)
-  pub replied_is : IsCountIfSmall replied (sum_by (λ found. found.replied) founds)
-  pub strays_are : strays ≡ flat_map strays_of founds
-  pub sends_are : sends ≡ flat_map sends_in founds
-
--- the rows are those of the threads of these entries, one thread after another
-abbrev pub AreGatheredRows : List (Thread × Calls CallEvent) → ThreadRows → Type 0
-AreGatheredRows entries rows =
-    AreRowsOfThreads entries rows.made.items rows.served.items rows.answered rows.replied rows.strays.items rows.sends.items
+  pub made_are : rows.made.items ≡ flat_map made_in founds
+  pub served_are : rows.served.items ≡ flat_map served_in founds
+  pub answered_is : IsCountIfSmall rows.answered (sum_by (λ found. found.answered) founds)
+  pub replied_is : IsCountIfSmall rows.replied (sum_by (λ found. found.replied) founds)
+  pub strays_are : rows.strays.items ≡ flat_map strays_of founds
+  pub sends_are : rows.sends.items ≡ flat_map sends_in founds
 
 -- the lists are the old ones, each in the order of its places, and the numbers are the same
 pub record AreSortedRows (old new : ThreadRows) : Type 0 where

@@ -4,7 +4,7 @@ use Rattle.std.specs.Prelude.{count_by}
 use Rattle.event_core.specs.Events.{EventRead}
 use Rattle.call_stacks.specs.declared.findings.RefusedSend.{RefusedSend}
 use Rattle.audit_findings.specs.ThreadRows.{send_at_place}
-use Rattle.audit_findings.proofs.CallCounts.{count_made}
+use Rattle.audit_findings.proofs.EventCountLaws.{count_made}
 use Rattle.audit_findings.proofs.refused.Refused+u64.of.Goals as goal
 
 pub returns : goal.returns

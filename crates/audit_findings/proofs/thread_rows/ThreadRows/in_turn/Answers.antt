@@ -1,22 +1,41 @@
-use Rattle.std.proofs.Common.{◌≡◌, ◌+◌, List, [], ◌∷◌, ◌++◌, sym, subst, rules}
-use Rattle.audit_findings.specs.ThreadRows.{made_in, served_in, strays_of, sends_in, AreRowsOfThreads}
-use Rattle.audit_findings.proofs.ThreadTurns.{no_threads, thread_in_front, taken_over, all_turned}
+use Rattle.std.proofs.Common.{◌≡◌, List, [], ◌∷◌, ◌++◌, refl, sym, ap, subst, ◌∙◌, append_assoc, rules}
+use Rattle.std.proofs.lemmas.List.{append-nil}
+use Rattle.call_stacks.specs.declared.call_record.CallEvent.{CallEvent}
+use Rattle.call_stacks.specs.declared.calls.Calls.{Calls}
+use Rattle.capture_frame.specs.declared.process.Thread.{Thread}
+use Rattle.audit_findings.specs.ThreadRows.{AreGatheredRows}
+use Rattle.audit_findings.proofs.ThreadTurns.{thread_more}
 use Rattle.audit_findings.proofs.thread_rows.ThreadRows.in_turn.Goals as goal
 
+pub loop-thread-init : goal.loop-thread-init
+loop-thread-init c =
+    let all : c.into_iter-thread-iterator.result ≡ c.args.ledger.threads.entries.entries = search rules in
+    let none : AreGatheredRows [] (record { made = c.new.result; served = c.new-2.result; answered = 0; replied = 0; strays = c.new-3.result; sends = c.new-4.result })
+    = record {
+      founds = [];
+      are = tt;
+      made_are = c.new.ensures.items;
+      served_are = c.new-2.ensures.items;
+      answered_is = λ few. refl;
+      replied_is = λ few. refl;
+      strays_are = c.new-3.ensures.items;
+      sends_are = c.new-4.ensures.items;
+    } in
+    ([], all, none)
+
 pub loop-thread-preserved : goal.loop-thread-preserved
-loop-thread-preserved c = λ made served answered replied strays sends are.
-    let all = c.args.ledger.threads.entries.entries in
-    let found = c.in_ok-found.found in
-    let rest : c.loop-thread._thread-iterator ≡ (c.in-Some._thread, c.in-Some.calls) ∷ c.next.new.self = search rules in
-    let after = thread_in_front (c.in-Some._thread, c.in-Some.calls) c.next.new.self found made served answered replied strays sends c.in_ok-found.ensures are in
-    taken_over all c.loop-thread.rows c.take_over.new.self found made served answered replied strays sends c.in_ok-take_over.ensures
-    (c.loop-thread.invariant (made_in found ++ made) (served_in found ++ served) (found.answered + answered) (found.replied + replied)
-    (strays_of found ++ strays) (sends_in found ++ sends)
-    (subst (λ (es : List _). AreRowsOfThreads es (made_in found ++ made) (served_in found ++ served) (found.answered + answered)
-    (found.replied + replied) (strays_of found ++ strays) (sends_in found ++ sends)) (sym rest) after))
+loop-thread-preserved c =
+    let so_far = c.loop-thread.invariant in
+    let e : Thread × Calls CallEvent = (c.in-Some._thread, c.in-Some.calls) in
+    let rest : c.loop-thread._thread-iterator ≡ e ∷ c.next.new.self = search rules in (
+      so_far.0 ++ e ∷ [],
+      append_assoc so_far.0 (e ∷ []) c.next.new.self ∙ ap (λ (t : List _). so_far.0 ++ t) (sym rest) ∙ so_far.1,
+      thread_more so_far.0 e c.in_ok-found.found c.loop-thread.rows c.take_over.new.self c.in_ok-found.ensures c.in_ok-take_over.ensures so_far.2,
+    )
 
 pub returns : goal.returns
 returns c =
+    let so_far = c.loop-thread.invariant in
     let rest : c.loop-thread._thread-iterator ≡ [] = search rules in
-    all_turned c.args.ledger.threads.entries.entries c.loop-thread.rows
-    (c.loop-thread.invariant [] [] 0 0 [] [] (subst (λ (es : List _). AreRowsOfThreads es [] [] 0 0 [] []) (sym rest) no_threads))
+    subst (λ (done : List _). AreGatheredRows done c.loop-thread.rows)
+    (sym (append-nil so_far.0) ∙ ap (λ (t : List _). so_far.0 ++ t) (sym rest) ∙ so_far.1) so_far.2
