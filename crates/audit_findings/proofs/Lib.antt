@@ -38,4 +38,3 @@ mod Outstanding
 mod HeldObjects
 mod HandleRowLaws
 mod NodeRowLaws
-pub mod RowKinds

@@ -105,18 +105,8 @@ at_places s = record {
 abbrev pub AreSectionsOf : List PlacedFrame → Sections ℕ → Type 0
 AreSectionsOf frames sections = sections ≡ at_places (findings_of frames)
 
--- the frames are good, they follow one another after a file header, and the sections keep their findings
-pub record AreOfFrames (frames : List PlacedFrame) (sections : Sections ℕ) : Type 0 where
+-- the frames are good, and they follow one another after a file header
+pub record AreOfCapture (frames : List PlacedFrame) : Type 0 where
   pub texts : List FrameText
   pub in_order : frames ≡ joined_frames texts
   pub good : All IsGood frames
-  pub are : AreSectionsOf frames sections
-
--- findings as the code keeps them: the frames, and the sections
-pub record KeptFindings : Type 0 where
-  pub frames : List PlacedFrame
-  pub sections : Sections ℕ
-
--- these frames and these sections, as findings
-abbrev pub kept_findings : List PlacedFrame → Sections ℕ → KeptFindings
-kept_findings frames sections = record { frames = frames; sections = sections }

@@ -26,7 +26,8 @@ pub struct Sections<E> {
 }
 
 /// What the report says of a capture: its frames, its numbers and its rows. Of a listed record the
-/// place is kept; the rest of its row is read again from the frames.
+/// place is kept; the rest of its row is read again from the frames. Contracts see findings as their
+/// frames, which determine all else.
 #[derive(Drop)]
 pub struct Findings<'c> {
     frames: FrameList<'c>,
@@ -34,55 +35,58 @@ pub struct Findings<'c> {
 }
 
 impl<'c> Model for Findings<'c> {
-    ghost use Rattle.audit_findings.specs.Kept.{KeptFindings, kept_findings, AreOfFrames};
+    ghost use Rattle.std.specs.Prelude.{List};
+    ghost use Rattle.capture_frame.specs.Envelope.{PlacedFrame};
+    ghost use Rattle.audit_findings.specs.Kept.{AreOfCapture, AreSectionsOf};
 
-    ghost Value = { KeptFindings };
+    ghost Value = { List PlacedFrame };
 
-    ghost view = { λ f. kept_findings f.frames f.sections };
+    ghost view = { λ f. f.frames };
 
     // The frames are good and follow one another, and the sections keep their findings.
-    ghost invariant = { λ f. AreOfFrames f.frames f.sections };
+    ghost invariant = { λ f. AreOfCapture f.frames × AreSectionsOf f.frames f.sections };
 }
 
 impl<'c> Findings<'c> {
-    ghost use Rattle.audit_findings.specs.Kept.{kept_findings, AreOfFrames};
+    ghost use Rattle.audit_findings.specs.Kept.{AreOfCapture, AreSectionsOf};
     ghost use Rattle.capture_frame.specs.Lookup.{IsFrameAt};
     ghost use Rattle.audit_findings.specs.Lookup.{HasRecordIn, SaysEventAt};
 
     /// The findings of these frames and sections.
     pub fn new(frames: FrameList<'c>, sections: Sections<u64>) -> Findings<'c>
-        requires { AreOfFrames frames sections }
-        ensures { result ≡ kept_findings frames.entry sections }
+        requires capture { AreOfCapture frames }
+        requires sections { AreSectionsOf frames sections }
+        ensures { result ≡ frames.entry }
     {
         Findings { frames, sections }
     }
 
     /// The frames of the capture, in order.
     pub fn frames(&self) -> FrameSlice<'_, 'c>
-        ensures { result ≡ self.now.frames }
+        ensures value { result ≡ self.now }
+        ensures capture { AreOfCapture self.now }
     {
         self.frames.as_slice()
     }
 
     /// The numbers and the rows of the sections.
     pub fn sections(&self) -> &Sections<u64>
-        ensures value { result.now ≡ self.now.sections }
-        ensures told { AreOfFrames self.now.frames self.now.sections }
+        ensures { AreSectionsOf self.now result.now }
     {
         &self.sections
     }
 
     /// The frame that holds the byte at a place of the capture; None if no frame does.
     pub fn frame_at(&self, place: u64) -> Option<Frame<'c>>
-        ensures { IsFrameAt self.now.frames place result }
+        ensures { IsFrameAt self.now place result }
     {
         self.frames.as_slice().frame_at(place)
     }
 
     /// The event of the record that begins at a place of the capture, with the attachment left out.
     pub fn record_at(&self, place: u64) -> Event<'c>
-        requires { HasRecordIn self.now.frames place }
-        ensures { SaysEventAt self.now.frames place result }
+        requires { HasRecordIn self.now place }
+        ensures { SaysEventAt self.now place result }
     {
         // A record begins there, so there is a frame.
         let frame = self.frame_at(place).unwrap();

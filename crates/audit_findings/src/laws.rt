@@ -6,7 +6,7 @@ ghost use Rattle.audit_findings.specs.RowsInTurn.{HaveHandleRows, HaveNodeRows};
 
 /// In a capture in the grammar, the rows of `objects` and of `flags` rise strictly in place, so no
 /// two rows of a section have the same place. For a value of `Findings` this needs `found` of
-/// `audit_one`; `told` of `Findings::sections` alone is not enough.
+/// `audit_one`; `capture` of `Findings::frames` alone is not enough.
 pub fn rows_rise()
     ensures objects { BadObjectsRise }
     ensures flags { FlagsRise }

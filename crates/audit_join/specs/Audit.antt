@@ -1,24 +1,15 @@
 -- What an audit answers.
-use Rattle.std.specs.Prelude.{◌≡◌, ℕ, List, [], ◌∷◌, Ok, Err, ⊤}
+use Rattle.std.specs.Prelude.{◌≡◌, ℕ, List, [], ◌∷◌, Err, ⊤}
 use Rattle.capture_frame.specs.declared.fault.Fault.{Fault}
 use Rattle.capture_frame.specs.declared.fault.PartFault.{PartFault}
 use Rattle.transaction_view.specs.Grammar.{frames_of_parts}
 use Rattle.audit_join.specs.declared.audit_error.AuditError.{AuditError}
 use Rattle.audit_join.specs.declared.audit_error.AuditError.TheVariants.{Memory, Malformed}
-use Rattle.audit_findings.specs.Kept.{KeptFindings, AreSectionsOf}
-
--- what was found are the frames of the parts, and their findings
-abbrev pub AreAudited : List (List ℕ) → KeptFindings → Type 0
-AreAudited parts found = (frames_of_parts parts ≡ Ok found.frames) × AreSectionsOf found.frames found.sections
 
 -- if the error names a fault, this is the first fault of the parts; if memory was refused, nothing is said
 abbrev pub AreMalformed : List (List ℕ) → AuditError PartFault → Type 0
 AreMalformed parts Memory = ⊤
 AreMalformed parts (Malformed found) = frames_of_parts parts ≡ Err found
-
--- what was found are the frames of the capture, and their findings
-abbrev pub IsAudited : List ℕ → KeptFindings → Type 0
-IsAudited capture found = AreAudited (capture ∷ []) found
 
 -- if the error names a fault, this is the first fault of the capture; if memory was refused, nothing is said
 abbrev pub IsMalformed : List ℕ → AuditError Fault → Type 0

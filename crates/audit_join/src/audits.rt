@@ -1,6 +1,6 @@
 //! From a capture, or from its parts, to its findings or its first fault.
 
-ghost use Rattle.std.specs.Prelude.{◌≡◌, ◌<◌, ◌≤◌, ◌^◌, List, length, map, IfErr, IfOk, Err, Some};
+ghost use Rattle.std.specs.Prelude.{◌≡◌, ◌<◌, ◌≤◌, ◌^◌, ◌∷◌, [], List, length, map, IfErr, IfOk, Ok, Err, Some};
 ghost use Rattle.std.specs.List.{sum_by};
 ghost use Rattle.capture_frame.specs.declared.fault.Fault.{Fault};
 ghost use Rattle.capture_frame.specs.Envelope.{FrameText};
@@ -9,7 +9,7 @@ ghost use Rattle.transaction_view.specs.Grammar.{first_content_fault, frames_of_
 ghost use Rattle.audit_findings.specs.Kept.{AreSectionsOf};
 ghost use Rattle.audit_findings.specs.Ledgers.{AreListedHandles, AreUnfreed};
 ghost use Rattle.audit_findings.specs.Summary.{SumsPiece, process_count};
-ghost use Rattle.audit_join.specs.Audit.{AreAudited, AreMalformed, IsAudited, IsMalformed};
+ghost use Rattle.audit_join.specs.Audit.{AreMalformed, IsMalformed};
 ghost use Rattle.audit_join.specs.Jobs.{AreCut, AreSound};
 ghost use Rattle.audit_join.specs.Parts.{IsInPart, in_part};
 ghost use Rattle.audit_join.specs.declared.limits.TheConstants.{CAPTURE_LIMIT};
@@ -41,7 +41,8 @@ pub fn audit_parts<'c, T: Threads + Sync, G: Gate + Sync>(
 ) -> Result<Findings<'c>, PartsError>
     requires few { length parts.now < 2 ^ 32 }
     requires limit { sum_by length (map (λ part. part.now) parts.now) ≤ CAPTURE_LIMIT }
-    ensures found { IfOk result (λ found. AreAudited (map (λ part. part.now) parts.now) found) }
+    ensures found { IfOk result
+        (λ found. frames_of_parts (map (λ part. part.now) parts.now) ≡ Ok found) }
     ensures malformed { IfErr result (AreMalformed (map (λ part. part.now) parts.now)) }
 {
     match cut_parts(alloc, parts) {
@@ -94,7 +95,7 @@ pub fn audit<'c, T: Threads + Sync, G: Gate + Sync>(
     gate: &G,
 ) -> Result<Findings<'c>, AuditError>
     requires { length capture.now ≤ CAPTURE_LIMIT }
-    ensures found { IfOk result (λ found. IsAudited capture.now found) }
+    ensures found { IfOk result (λ found. frames_of_parts (capture.now ∷ []) ≡ Ok found) }
     ensures malformed { IfErr result (IsMalformed capture.now) }
 {
     Ok(audit_parts(rt, alloc, &[capture], workers, piece, gate)?)
@@ -107,7 +108,7 @@ pub fn audit_one<'c, T: Threads + Sync>(
     capture: &'c [u8],
 ) -> Result<Findings<'c>, AuditError>
     requires { length capture.now ≤ CAPTURE_LIMIT }
-    ensures found { IfOk result (λ found. IsAudited capture.now found) }
+    ensures found { IfOk result (λ found. frames_of_parts (capture.now ∷ []) ≡ Ok found) }
     ensures malformed { IfErr result (IsMalformed capture.now) }
 {
     let workers = Workers::new(1).unwrap();
@@ -125,8 +126,7 @@ fn findings_of<'c, T: Threads + Sync>(
     requires joined { (texts : List FrameText) × (frames ≡ joined_frames texts) }
     requires cut { AreCut frames }
     requires sound { AreSound frames }
-    ensures frames { IfOk result (λ found. found.frames ≡ frames.entry) }
-    ensures sections { IfOk result (λ found. AreSectionsOf frames.entry found.sections) }
+    ensures { IfOk result (λ found. found ≡ frames.entry) }
 {
     let sections = sections_of(rt, alloc, &frames.as_slice(), workers)?;
     Ok(Findings::new(frames, sections))

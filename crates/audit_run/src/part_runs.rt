@@ -5,11 +5,12 @@ ghost use Rattle.std.specs.Io.KnownBytes.{Appends};
 ghost use Rattle.std.specs.Result.{result_err};
 ghost use Rattle.capture_frame.specs.Units.{IsBytes};
 ghost use Rattle.transaction_view.specs.Grammar.{frames_of_parts};
+ghost use Rattle.audit_findings.specs.Findings.{findings_of};
 ghost use Rattle.audit_join.specs.Audit.{AreMalformed};
 ghost use Rattle.audit_join.specs.declared.limits.TheConstants.{CAPTURE_LIMIT};
 ghost use Rattle.report_text.specs.Fault.{part_fault_line};
 ghost use Rattle.report_text.specs.Answers.{answer, first_fault_line};
-ghost use Rattle.report_text.specs.Text.{IsReportOf};
+ghost use Rattle.report_text.specs.Text.{report_text};
 ghost use Rattle.audit_streams.specs.KnownBytes.{AppendsPrefix};
 ghost use Rattle.audit_streams.specs.Parts.{AreRead, bytes_of};
 ghost use Rattle.audit_run.specs.PartRuns.{ReadersGive};
@@ -176,7 +177,7 @@ fn report_of<T: Threads + Sync>(
     alloc: Global,
     found: Findings<'_>,
 ) -> Result<String, AllocError>
-    ensures { IfOk result (λ text. IsReportOf found.entry (string_bytes text)) }
+    ensures { IfOk result (λ text. string_bytes text ≡ report_text (findings_of found.entry)) }
 {
     text(rt, alloc, &found)
 }

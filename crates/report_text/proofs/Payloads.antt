@@ -6,7 +6,7 @@ use Rattle.binder_code.specs.Commands.{row_of}
 use Rattle.binder_code.specs.contracts.record_kind.Kind.{the_type}
 use Rattle.binder_code.specs.declared.record_kind.Kind.{Kind}
 use Rattle.binder_code.specs.declared.record_kind.Kind.TheVariants.{BcFreeBuffer, BcRequestDeathNotification, BcClearDeathNotification, BcDeadBinderDone, BrDeadBinder, BrClearDeathNotificationDone}
-use Rattle.audit_findings.proofs.RowKinds.{is_free, is_of_clear, is_of_death, is_request}
+use Rattle.audit_findings.proofs.RowsThere.{is_free, is_of_clear, is_of_death, is_request}
 use denote.Enum.Bare.{sameb}
 
 -- the payload of this kind is as long as the header's line says

@@ -1,8 +1,6 @@
 -- A section of the report: a head, and then a line for each of its rows (docs/REPORT.md).
-use Rattle.std.specs.Prelude.{◌≡◌, ℕ, List, ◌∷◌, length, map}
+use Rattle.std.specs.Prelude.{ℕ, List, ◌∷◌, length, map}
 use Rattle.event_core.specs.Events.{EventRead}
-use Rattle.audit_findings.specs.Findings.{findings_of}
-use Rattle.audit_findings.specs.Kept.{AreSectionsOf, KeptFindings}
 use Rattle.audit_findings.specs.declared.findings.Sections.{Sections}
 
 -- a section: its head, given how many rows it has; its rows; and the line of a row
@@ -14,8 +12,3 @@ pub record SectionText (Row : Type 0) : Type 0 where
 -- the lines of a section: its head, then the line of each row
 abbrev pub lines_of : {Row : Type 0} → SectionText Row → Sections EventRead → List (List ℕ)
 lines_of section found = section.head found (length (section.rows found)) ∷ map section.line (section.rows found)
-
--- if the kept findings are those of their frames, these are their lines
-abbrev pub AreLinesOf : (Sections EventRead → List (List ℕ)) → KeptFindings → List (List ℕ) → Type 0
-AreLinesOf lines_of kept lines =
-    AreSectionsOf kept.frames kept.sections → lines ≡ lines_of (findings_of kept.frames)

@@ -1,10 +1,8 @@
 -- The report on a capture (docs/REPORT.md).
-use Rattle.std.specs.Prelude.{◌≡◌, ℕ, List, [], ◌∷◌, ◌++◌, codes}
+use Rattle.std.specs.Prelude.{ℕ, List, [], ◌∷◌, ◌++◌, codes}
 use Rattle.std.specs.List.{flat_map}
 use Rattle.std.specs.Fmt.{decimal}
 use Rattle.event_core.specs.Events.{EventRead}
-use Rattle.audit_findings.specs.Findings.{findings_of}
-use Rattle.audit_findings.specs.Kept.{AreSectionsOf, KeptFindings}
 use Rattle.audit_findings.specs.declared.findings.Sections.{Sections}
 use Rattle.report_text.specs.Line.{ended}
 use Rattle.report_text.specs.Section.{lines_of}
@@ -33,14 +31,14 @@ abbrev pub title_lines : Sections EventRead → List (List ℕ)
 title_lines found = title ∷ []
 
 -- the totals: how many frames and records there are, how many of the records are opaque, how many frames are missing
-abbrev pub totals : ℕ → ℕ → ℕ → ℕ → List ℕ
-totals frames records opaque missing =
-    codes "frames " ++ decimal frames ++ codes " records " ++ decimal records
-    ++ codes " opaque " ++ decimal opaque ++ codes " missing " ++ decimal missing
+abbrev pub totals : Sections EventRead → List ℕ
+totals found =
+    codes "frames " ++ decimal found.frames ++ codes " records " ++ decimal found.events.records
+    ++ codes " opaque " ++ decimal found.events.opaque ++ codes " missing " ++ decimal found.missing
 
 -- the second line
 abbrev pub totals_lines : Sections EventRead → List (List ℕ)
-totals_lines found = totals found.frames found.events.records found.events.opaque found.missing ∷ []
+totals_lines found = totals found ∷ []
 
 -- the lines of the report, in order: the first two lines, then the sections
 abbrev pub lines_in_order : List (Sections EventRead → List (List ℕ))
@@ -57,8 +55,3 @@ report_lines found = flat_map (λ lines. lines found) lines_in_order
 -- the text of the report: each of its lines, ended by one line feed
 unfoldable pub report_text : Sections EventRead → List ℕ
 report_text found = flat_map ended (report_lines found)
-
--- if the kept findings are those of their frames, the text is the report on them
-abbrev pub IsReportOf : KeptFindings → List ℕ → Type 0
-IsReportOf kept text =
-    AreSectionsOf kept.frames kept.sections → text ≡ report_text (findings_of kept.frames)

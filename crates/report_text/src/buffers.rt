@@ -2,7 +2,7 @@
 
 use crate::events::{EventSection, fields, row_start};
 use crate::line::{Row, push_counted, push_hex_number};
-use audit_findings::{Findings, Sections};
+use audit_findings::Findings;
 use event_core::Event;
 
 /// The section.
@@ -11,32 +11,25 @@ pub(crate) struct Buffers;
 
 impl EventSection for Buffers {
     ghost use Rattle.std.specs.Prelude.{refl};
-    ghost use Rattle.event_core.specs.Events.{events_of_frames};
-    ghost use Rattle.audit_findings.specs.Buffers.{is_leaked};
     ghost use Rattle.transaction_view.specs.Transaction.{has_transaction_data};
-    ghost use Rattle.audit_findings.proofs.RowKinds.{leaked_kinds};
-    ghost use Rattle.audit_findings.proofs.RowsThere.{listed_there};
-    ghost use Rattle.report_text.specs.Buffers.{buffers_head, buffers_section};
+    ghost use Rattle.audit_findings.proofs.RowsThere.{leaked_there};
+    ghost use Rattle.report_text.specs.Buffers.{buffers_section};
 
     ghost section = { buffers_section };
 
-    ghost head_of = { λ kept. buffers_head kept.events.counts.deliveries };
-
-    ghost rows_of = { λ kept. kept.processes.leaked };
-
-    ghost keeps = { record { head = λ found rows. refl; rows = λ found. refl } };
-
-    ghost events = { λ frames. listed_there is_leaked (events_of_frames frames) };
-
     ghost kinds = { has_transaction_data };
 
-    ghost of_kinds = { λ frames. leaked_kinds (events_of_frames frames) };
+    ghost events = { leaked_there };
 
     ghost bare = { λ e. refl };
 
-    fn head(&self, sections: &Sections<u64>, rows: usize) -> Row {
+    fn head(&self, found: &Findings<'_>, rows: usize) -> Row {
         let mut line = Row::new();
-        push_counted(&mut line, "buffers ", sections.events.counts.deliveries);
+        push_counted(
+            &mut line,
+            "buffers ",
+            found.sections().events.counts.deliveries,
+        );
         push_counted(&mut line, " leaked ", rows as u64);
         line
     }

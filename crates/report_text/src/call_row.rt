@@ -9,7 +9,7 @@ ghost use Rattle.report_text.specs.CallRow.{verdict_name, closer_field, record_f
 use crate::events::{fields, thread_start};
 use crate::line::{Row, push_counted, push_decimal};
 use crate::section::Section;
-use audit_findings::{Findings, Sections};
+use audit_findings::Findings;
 use call_stacks::{Opener, Verdict};
 use event_core::Event;
 use transaction_view::Transaction;
@@ -17,34 +17,22 @@ use transaction_view::Transaction;
 /// A section of calls. Of each call the place of its record, its verdict and the place of its
 /// closer are kept.
 pub(crate) trait CallSection {
-    ghost use Rattle.std.specs.Prelude.{◌≡◌, ◌≤◌, ◌+◌, ◌++◌, ℕ, List};
+    ghost use Rattle.std.specs.Prelude.{◌≡◌, ◌≤◌, ◌+◌, ◌++◌, ℕ, List, map};
     ghost use Rattle.arrayvec.specs.ArrayString.{array_string_len};
     ghost use Rattle.event_core.specs.Events.{EventRead};
     ghost use Rattle.call_stacks.specs.declared.opener.Opener.{Opener};
     ghost use Rattle.transaction_view.specs.Transaction.{has_transaction_data};
-    ghost use Rattle.audit_findings.specs.declared.findings.Sections.{Sections};
+    ghost use Rattle.audit_findings.specs.Findings.{findings_of};
     ghost use Rattle.audit_findings.specs.Kept.{call_at_place};
     ghost use Rattle.report_text.specs.CallRow.{call_row};
-    ghost use Rattle.report_text.specs.Pushed.{AreOfKinds, HaveEvents, Keeps};
+    ghost use Rattle.report_text.specs.Pushed.{HaveEvents};
     ghost use Rattle.report_text.specs.Section.{SectionText};
 
     /// The section.
     ghost section: { SectionText (Opener EventRead) };
 
-    /// Its head, from what findings keep and from how many rows it has.
-    ghost head_of: { Sections ℕ → ℕ → List ℕ };
-
-    /// Its rows, from what findings keep.
-    ghost rows_of: { Sections ℕ → List (Opener ℕ) };
-
-    /// Both are those of the section.
-    ghost keeps: { Keeps section call_at_place head_of rows_of };
-
-    /// The events of its calls are events of the frames.
-    ghost events: { HaveEvents section (λ call. call.event) };
-
-    /// They are transactions.
-    ghost of_kinds: { AreOfKinds section (λ call. call.event) has_transaction_data };
+    /// The events of its calls are events of the frames, and are transactions.
+    ghost events: { HaveEvents section (λ call. call.event) has_transaction_data };
 
     /// What a row says of the other side of a call, from the payload of the call's record.
     ghost field: { List ℕ → List ℕ };
@@ -53,12 +41,12 @@ pub(crate) trait CallSection {
     ghost tells: { (call : Opener EventRead) → call_row field call ≡ section.line call };
 
     /// The head, without its line feed.
-    fn head(&self, sections: &Sections<u64>, rows: usize) -> Row
-        ensures { result.bytes ≡ head_of sections.now rows };
+    fn head(&self, found: &Findings<'_>, rows: usize) -> Row
+        ensures { result.bytes ≡ section.head (findings_of found.now) rows };
 
     /// What is kept of the calls.
     fn calls<'f>(&self, found: &'f Findings<'_>) -> &'f [Opener<u64>]
-        ensures { result.now ≡ rows_of found.now.sections };
+        ensures { result.now ≡ map call_at_place (section.rows (findings_of found.now)) };
 
     /// Pushes the field.
     fn push_field(&self, line: &mut Row, transaction: Transaction<'_>)
@@ -82,15 +70,15 @@ impl<S: CallSection> Section for OfCalls<S> {
 
     ghost lines = { lines_of S.section };
 
-    ghost head_of = { S.head_of };
+    ghost head_of = { S.section.head };
 
     ghost can_show = { λ frames call. IsRowAt has_transaction_data frames call.event };
 
     ghost shows = { λ frames call line.
         ShowsEvent (row_of_kept S.field call) frames call.event line };
 
-    fn head(&self, sections: &Sections<u64>, rows: usize) -> Row {
-        self.0.head(sections, rows)
+    fn head(&self, found: &Findings<'_>, rows: usize) -> Row {
+        self.0.head(found, rows)
     }
 
     fn rows<'f>(&self, found: &'f Findings<'_>) -> &'f [Opener<u64>] {

@@ -3,7 +3,7 @@
 use crate::events::EventSection;
 use crate::line::Row;
 use crate::open_and_stray::{open_and_stray_head, open_and_stray_row};
-use audit_findings::{Findings, Sections};
+use audit_findings::Findings;
 use binder_code::Kind;
 use capture_frame::u64_at;
 use event_core::Event;
@@ -14,31 +14,19 @@ pub(crate) struct Clears;
 
 impl EventSection for Clears {
     ghost use Rattle.std.specs.Prelude.{refl};
-    ghost use Rattle.event_core.specs.Events.{events_of_frames};
-    ghost use Rattle.process_ledgers.specs.Items.{clear_item_of};
-    ghost use Rattle.audit_findings.proofs.RowKinds.{clear_kinds, is_of_clear};
-    ghost use Rattle.audit_findings.proofs.RowsThere.{both_there};
-    ghost use Rattle.report_text.specs.Clears.{clears_head, clears_section};
+    ghost use Rattle.audit_findings.proofs.RowsThere.{clears_there, is_of_clear};
+    ghost use Rattle.report_text.specs.Clears.{clears_section};
 
     ghost section = { clears_section };
 
-    ghost head_of = { λ kept _.
-        clears_head kept.events.counts.clears kept.processes.clears.unclosed
-        kept.processes.clears.strays };
-
-    ghost rows_of = { λ kept. kept.processes.clears.rows };
-
-    ghost keeps = { record { head = λ found rows. refl; rows = λ found. refl } };
-
-    ghost events = { λ frames. both_there clear_item_of (events_of_frames frames) };
-
     ghost kinds = { is_of_clear };
 
-    ghost of_kinds = { λ frames. clear_kinds (events_of_frames frames) };
+    ghost events = { clears_there };
 
     ghost bare = { λ e. refl };
 
-    fn head(&self, sections: &Sections<u64>, _rows: usize) -> Row {
+    fn head(&self, found: &Findings<'_>, _rows: usize) -> Row {
+        let sections = found.sections();
         open_and_stray_head(
             "clears",
             "unconfirmed",

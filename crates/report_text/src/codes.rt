@@ -5,7 +5,7 @@ ghost use Rattle.binder_code.specs.Commands.{kind_of_word, protocol_of_word};
 
 use crate::line::{Row, push_counted, push_hex_word};
 use crate::whole_rows::WholeSection;
-use audit_findings::{CodeRow, Findings, Sections};
+use audit_findings::{CodeRow, Findings};
 use binder_code::{Code, Kind, Protocol, kind};
 
 /// The section.
@@ -13,24 +13,13 @@ use binder_code::{Code, Kind, Protocol, kind};
 pub(crate) struct Codes;
 
 impl WholeSection for Codes {
-    ghost use Rattle.std.proofs.Common.{refl, sym};
-    ghost use Rattle.std.proofs.lemmas.List.{map-id};
-    ghost use Rattle.report_text.specs.Codes.{codes_head, codes_section};
+    ghost use Rattle.report_text.specs.Codes.{codes_section};
 
     type Kept = CodeRow;
 
     ghost section = { codes_section };
 
-    ghost head_of = { λ _. codes_head };
-
-    ghost rows_of = { λ kept. kept.events.codes };
-
-    ghost keeps = { record {
-      head = λ found rows. refl;
-      rows = λ found. sym (map-id (found.events.codes));
-    } };
-
-    fn head(&self, _sections: &Sections<u64>, rows: usize) -> Row {
+    fn head(&self, _found: &Findings<'_>, rows: usize) -> Row {
         let mut line = Row::new();
         push_counted(&mut line, "codes ", rows as u64);
         line

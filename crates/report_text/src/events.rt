@@ -9,51 +9,40 @@ ghost use Rattle.report_text.specs.EventRow.{row_start, thread_start, kind_row};
 use crate::line::{Row, push_counted};
 use crate::process::{push_process, push_thread};
 use crate::section::Section;
-use audit_findings::{Findings, Sections};
+use audit_findings::Findings;
 use event_core::Event;
 use transaction_view::Transaction;
 
 /// A section of events. Of each event the place of its record is kept.
 pub(crate) trait EventSection {
-    ghost use Rattle.std.specs.Prelude.{◌≡◌, ℕ, Bool, IsTrue, List, None};
+    ghost use Rattle.std.specs.Prelude.{◌≡◌, Bool, IsTrue, None};
     ghost use Rattle.binder_code.specs.declared.record_kind.Kind.{Kind};
     ghost use Rattle.event_core.specs.Events.{EventRead};
     ghost use Rattle.event_core.specs.Reading.{event_text};
-    ghost use Rattle.audit_findings.specs.declared.findings.Sections.{Sections};
-    ghost use Rattle.report_text.specs.Pushed.{AreOfKinds, HaveEvents, Keeps};
+    ghost use Rattle.audit_findings.specs.Findings.{findings_of};
+    ghost use Rattle.audit_findings.specs.Kept.{places_of};
+    ghost use Rattle.report_text.specs.Pushed.{HaveEvents};
     ghost use Rattle.report_text.specs.Section.{SectionText};
 
     /// The section.
     ghost section: { SectionText EventRead };
 
-    /// Its head, from what findings keep and from how many rows it has.
-    ghost head_of: { Sections ℕ → ℕ → List ℕ };
-
-    /// The places of its rows, from what findings keep.
-    ghost rows_of: { Sections ℕ → List ℕ };
-
-    /// Both are those of the section.
-    ghost keeps: { Keeps section (λ e. e.place) head_of rows_of };
-
-    /// Its rows are events of the frames.
-    ghost events: { HaveEvents section (λ e. e) };
-
     /// The kinds that the records of its rows can have.
     ghost kinds: { Kind → Bool };
 
-    /// They have them.
-    ghost of_kinds: { AreOfKinds section (λ e. e) kinds };
+    /// Its rows are events of the frames, with records of these kinds.
+    ghost events: { HaveEvents section (λ e. e) kinds };
 
     /// A row says nothing of an attachment.
     ghost bare: { (e : EventRead) → section.line (record e { entry = None }) ≡ section.line e };
 
     /// The head, without its line feed.
-    fn head(&self, sections: &Sections<u64>, rows: usize) -> Row
-        ensures { result.bytes ≡ head_of sections.now rows };
+    fn head(&self, found: &Findings<'_>, rows: usize) -> Row
+        ensures { result.bytes ≡ section.head (findings_of found.now) rows };
 
     /// The places of the rows' records.
     fn places<'f>(&self, found: &'f Findings<'_>) -> &'f [u64]
-        ensures { result.now ≡ rows_of found.now.sections };
+        ensures { result.now ≡ places_of (section.rows (findings_of found.now)) };
 
     /// The row of an event, without its line feed.
     fn line(&self, event: Event<'_>) -> Row
@@ -73,14 +62,14 @@ impl<S: EventSection> Section for OfEvents<S> {
 
     ghost lines = { lines_of S.section };
 
-    ghost head_of = { S.head_of };
+    ghost head_of = { S.section.head };
 
     ghost can_show = { IsRowAt S.kinds };
 
     ghost shows = { ShowsEvent S.section.line };
 
-    fn head(&self, sections: &Sections<u64>, rows: usize) -> Row {
-        self.0.head(sections, rows)
+    fn head(&self, found: &Findings<'_>, rows: usize) -> Row {
+        self.0.head(found, rows)
     }
 
     fn rows<'f>(&self, found: &'f Findings<'_>) -> &'f [u64] {

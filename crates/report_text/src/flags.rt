@@ -6,7 +6,7 @@ ghost use Rattle.audit_findings.specs.Flags.{unknown_flags};
 
 use crate::events::{EventSection, row_start};
 use crate::line::{Row, push_counted, push_hex_word};
-use audit_findings::{Findings, Sections};
+use audit_findings::Findings;
 use binder_code::unknown_bits;
 use event_core::Event;
 
@@ -16,27 +16,18 @@ pub(crate) struct Flags;
 
 impl EventSection for Flags {
     ghost use Rattle.std.specs.Prelude.{refl, true};
-    ghost use Rattle.event_core.specs.Events.{events_of_frames};
     ghost use Rattle.audit_findings.proofs.RowsThere.{flagged_there};
-    ghost use Rattle.report_text.specs.Flags.{flags_head, flags_section};
+    ghost use Rattle.report_text.specs.Flags.{flags_section};
 
     ghost section = { flags_section };
 
-    ghost head_of = { λ _. flags_head };
-
-    ghost rows_of = { λ kept. kept.events.flags };
-
-    ghost keeps = { record { head = λ found rows. refl; rows = λ found. refl } };
-
-    ghost events = { λ frames. flagged_there (events_of_frames frames) };
-
     ghost kinds = { λ _. true };
 
-    ghost of_kinds = { λ _ _ _ _. refl };
+    ghost events = { flagged_there };
 
     ghost bare = { λ e. refl };
 
-    fn head(&self, _sections: &Sections<u64>, rows: usize) -> Row {
+    fn head(&self, _found: &Findings<'_>, rows: usize) -> Row {
         let mut line = Row::new();
         push_counted(&mut line, "flags ", rows as u64);
         line

@@ -3,7 +3,7 @@
 use crate::line::{Row, push_counted};
 use crate::process_row::{process_start, push_count, unbalanced_head};
 use crate::whole_rows::WholeSection;
-use audit_findings::{Findings, ProcessRow, Sections};
+use audit_findings::{Findings, ProcessRow};
 use handle_ledger::HeldRow;
 
 /// The section.
@@ -11,28 +11,18 @@ use handle_ledger::HeldRow;
 pub(crate) struct Handles;
 
 impl WholeSection for Handles {
-    ghost use Rattle.std.proofs.Common.{refl, sym};
-    ghost use Rattle.std.proofs.lemmas.List.{map-id};
-    ghost use Rattle.std.specs.Prelude.{codes};
     ghost use Rattle.report_text.specs.Handles.{handles_section};
-    ghost use Rattle.report_text.specs.ProcessRow.{unbalanced_head};
 
     type Kept = ProcessRow<HeldRow>;
 
     ghost section = { handles_section };
 
-    ghost head_of = { λ kept rows.
-        unbalanced_head (codes "handles") rows kept.processes.handles.unbalanced };
-
-    ghost rows_of = { λ kept. kept.processes.handles.rows };
-
-    ghost keeps = { record {
-      head = λ found rows. refl;
-      rows = λ found. sym (map-id (found.processes.handles.rows));
-    } };
-
-    fn head(&self, sections: &Sections<u64>, rows: usize) -> Row {
-        unbalanced_head("handles", rows, sections.processes.handles.unbalanced)
+    fn head(&self, found: &Findings<'_>, rows: usize) -> Row {
+        unbalanced_head(
+            "handles",
+            rows,
+            found.sections().processes.handles.unbalanced,
+        )
     }
 
     fn rows<'f>(&self, found: &'f Findings<'_>) -> &'f [ProcessRow<HeldRow>] {

@@ -3,7 +3,7 @@
 use crate::line::{Row, push_hex_number, push_signed};
 use crate::process_row::{process_start, push_count, unbalanced_head};
 use crate::whole_rows::WholeSection;
-use audit_findings::{Findings, ProcessRow, Sections};
+use audit_findings::{Findings, ProcessRow};
 use handle_ledger::NodeRow;
 
 /// The section.
@@ -11,28 +11,14 @@ use handle_ledger::NodeRow;
 pub(crate) struct Nodes;
 
 impl WholeSection for Nodes {
-    ghost use Rattle.std.proofs.Common.{refl, sym};
-    ghost use Rattle.std.proofs.lemmas.List.{map-id};
-    ghost use Rattle.std.specs.Prelude.{codes};
     ghost use Rattle.report_text.specs.Nodes.{nodes_section};
-    ghost use Rattle.report_text.specs.ProcessRow.{unbalanced_head};
 
     type Kept = ProcessRow<NodeRow>;
 
     ghost section = { nodes_section };
 
-    ghost head_of = { λ kept rows.
-        unbalanced_head (codes "nodes") rows kept.processes.nodes.unbalanced };
-
-    ghost rows_of = { λ kept. kept.processes.nodes.rows };
-
-    ghost keeps = { record {
-      head = λ found rows. refl;
-      rows = λ found. sym (map-id (found.processes.nodes.rows));
-    } };
-
-    fn head(&self, sections: &Sections<u64>, rows: usize) -> Row {
-        unbalanced_head("nodes", rows, sections.processes.nodes.unbalanced)
+    fn head(&self, found: &Findings<'_>, rows: usize) -> Row {
+        unbalanced_head("nodes", rows, found.sections().processes.nodes.unbalanced)
     }
 
     fn rows<'f>(&self, found: &'f Findings<'_>) -> &'f [ProcessRow<NodeRow>] {

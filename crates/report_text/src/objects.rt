@@ -7,7 +7,7 @@ ghost use Rattle.report_text.specs.Objects.{objects_row, cause_name};
 use crate::events::row_start;
 use crate::line::{Row, push_counted};
 use crate::section::Section;
-use audit_findings::{BadRow, Findings, Sections};
+use audit_findings::{BadRow, Findings};
 use event_core::Event;
 use object_view::{BadObject, Cause};
 
@@ -16,24 +16,24 @@ use object_view::{BadObject, Cause};
 pub(crate) struct Objects;
 
 impl Section for Objects {
-    ghost use Rattle.audit_findings.specs.Lookup.{HasRecordIn};
-    ghost use Rattle.report_text.specs.Objects.{objects_head, objects_row, objects_section};
-    ghost use Rattle.report_text.specs.Pushed.{ShowsEvent};
+    ghost use Rattle.std.specs.Prelude.{true};
+    ghost use Rattle.report_text.specs.Objects.{objects_row, objects_section};
+    ghost use Rattle.report_text.specs.Pushed.{IsRowAt, ShowsEvent};
     ghost use Rattle.report_text.specs.Section.{lines_of};
 
     type Kept = BadRow<u64>;
 
     ghost lines = { lines_of objects_section };
 
-    ghost head_of = { λ kept. objects_head kept.events.objects };
+    ghost head_of = { objects_section.head };
 
-    ghost can_show = { λ frames row. HasRecordIn frames row.owner };
+    ghost can_show = { λ frames row. IsRowAt (λ _. true) frames row.owner };
 
     ghost shows = { λ frames row line.
         ShowsEvent (λ e. objects_row (record { owner = e; bad = row.bad })) frames row.owner line };
 
-    fn head(&self, sections: &Sections<u64>, rows: usize) -> Row {
-        let counts = sections.events.objects;
+    fn head(&self, found: &Findings<'_>, rows: usize) -> Row {
+        let counts = found.sections().events.objects;
         let mut line = Row::new();
         push_counted(&mut line, "objects binder ", counts.binder);
         push_counted(&mut line, " weak_binder ", counts.weak_binder);

@@ -7,7 +7,7 @@ ghost use Rattle.report_text.specs.Oneway.{oneway_fields};
 use crate::line::{Row, push_counted, push_wide};
 use crate::process_row::process_start;
 use crate::whole_rows::WholeSection;
-use audit_findings::{Findings, OnewayRow, ProcessRow, Sections};
+use audit_findings::{Findings, OnewayRow, ProcessRow};
 use event_core::OnewayKey;
 
 /// The section.
@@ -15,25 +15,14 @@ use event_core::OnewayKey;
 pub(crate) struct Oneway;
 
 impl WholeSection for Oneway {
-    ghost use Rattle.std.proofs.Common.{refl, sym};
-    ghost use Rattle.std.proofs.lemmas.List.{map-id};
-    ghost use Rattle.report_text.specs.Oneway.{oneway_head, oneway_section};
+    ghost use Rattle.report_text.specs.Oneway.{oneway_section};
 
     type Kept = ProcessRow<OnewayRow>;
 
     ghost section = { oneway_section };
 
-    ghost head_of = { λ kept _.
-        oneway_head kept.events.oneway.sent kept.events.oneway.received kept.calls.refused.oneway };
-
-    ghost rows_of = { λ kept. kept.processes.oneway };
-
-    ghost keeps = { record {
-      head = λ found rows. refl;
-      rows = λ found. sym (map-id (found.processes.oneway));
-    } };
-
-    fn head(&self, sections: &Sections<u64>, _rows: usize) -> Row {
+    fn head(&self, found: &Findings<'_>, _rows: usize) -> Row {
+        let sections = found.sections();
         let mut line = Row::new();
         push_counted(&mut line, "oneway sent ", sections.events.oneway.sent);
         push_counted(&mut line, " received ", sections.events.oneway.received);

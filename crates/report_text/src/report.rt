@@ -1,9 +1,9 @@
 //! The whole report.
 
 ghost use Rattle.std.specs.Prelude.{◌≡◌, ◌≤◌, List, All, map, length, IfOk, OnOk, string_bytes};
-ghost use Rattle.report_text.specs.Section.{AreLinesOf};
+ghost use Rattle.audit_findings.specs.Findings.{findings_of};
 ghost use Rattle.report_text.specs.Pushed.{TakesLines};
-ghost use Rattle.report_text.specs.Text.{IsReportOf, title, totals, report_lines};
+ghost use Rattle.report_text.specs.Text.{title, totals, report_lines, report_text};
 
 use crate::buffers::Buffers;
 use crate::call_row::OfCalls;
@@ -38,7 +38,7 @@ pub fn rows<T: Threads + Sync>(
     found: &Findings<'_>,
 ) -> Result<Vec<Row>, AllocError>
     ensures lines { IfOk result
-        (λ rows. AreLinesOf report_lines found.now (map (λ row. row.bytes) rows.items)) }
+        (λ rows. map (λ row. row.bytes) rows.items ≡ report_lines (findings_of found.now)) }
     ensures short { IfOk result (λ rows. All (λ row. length row.bytes ≤ 256) rows.items) }
 {
     let mut rows = Vec::new(alloc);
@@ -53,7 +53,7 @@ pub fn text<T: Threads + Sync>(
     alloc: Global,
     found: &Findings<'_>,
 ) -> Result<String, AllocError>
-    ensures { IfOk result (λ text. IsReportOf found.now (string_bytes text)) }
+    ensures { IfOk result (λ text. string_bytes text ≡ report_text (findings_of found.now)) }
 {
     let mut text = String::new(alloc);
     push_report(rt, alloc, found, &mut text)?;
@@ -69,7 +69,8 @@ fn push_report<T: Threads + Sync, L: Lines>(
     found: &Findings<'_>,
     lines: &mut L,
 ) -> Result<(), AllocError>
-    ensures { OnOk result (TakesLines L.takes report_lines found.now lines.old lines.new) }
+    ensures { OnOk result
+        (TakesLines L.takes (report_lines (findings_of found.now)) lines.old lines.new) }
 {
     lines.push_line(&title_line())?;
     lines.push_line(&totals_line(found))?;
@@ -99,8 +100,7 @@ fn title_line() -> Row
 }
 
 fn totals_line(found: &Findings<'_>) -> Row
-    ensures { result.bytes ≡ totals (length found.now.frames) found.now.sections.events.records
-        found.now.sections.events.opaque found.now.sections.missing }
+    ensures { result.bytes ≡ totals (findings_of found.now) }
 {
     let sections = found.sections();
     let mut line = Row::new();

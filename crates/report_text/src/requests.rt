@@ -2,7 +2,7 @@
 
 use crate::events::{EventSection, row_start};
 use crate::line::{Row, push_counted, push_hex_number};
-use audit_findings::{Findings, Sections};
+use audit_findings::Findings;
 use capture_frame::{u32_at, u64_at};
 use event_core::Event;
 
@@ -12,31 +12,24 @@ pub(crate) struct Requests;
 
 impl EventSection for Requests {
     ghost use Rattle.std.specs.Prelude.{refl};
-    ghost use Rattle.event_core.specs.Events.{events_of_frames};
-    ghost use Rattle.audit_findings.specs.Requests.{is_standing_request};
-    ghost use Rattle.audit_findings.proofs.RowKinds.{is_request, request_kinds};
-    ghost use Rattle.audit_findings.proofs.RowsThere.{listed_there};
-    ghost use Rattle.report_text.specs.Requests.{requests_head, requests_section};
+    ghost use Rattle.audit_findings.proofs.RowsThere.{is_request, requests_there};
+    ghost use Rattle.report_text.specs.Requests.{requests_section};
 
     ghost section = { requests_section };
 
-    ghost head_of = { λ kept. requests_head kept.events.counts.requests };
-
-    ghost rows_of = { λ kept. kept.processes.standing };
-
-    ghost keeps = { record { head = λ found rows. refl; rows = λ found. refl } };
-
-    ghost events = { λ frames. listed_there is_standing_request (events_of_frames frames) };
-
     ghost kinds = { is_request };
 
-    ghost of_kinds = { λ frames. request_kinds (events_of_frames frames) };
+    ghost events = { requests_there };
 
     ghost bare = { λ e. refl };
 
-    fn head(&self, sections: &Sections<u64>, rows: usize) -> Row {
+    fn head(&self, found: &Findings<'_>, rows: usize) -> Row {
         let mut line = Row::new();
-        push_counted(&mut line, "requests ", sections.events.counts.requests);
+        push_counted(
+            &mut line,
+            "requests ",
+            found.sections().events.counts.requests,
+        );
         push_counted(&mut line, " standing ", rows as u64);
         line
     }

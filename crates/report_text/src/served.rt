@@ -2,7 +2,7 @@
 
 use crate::call_row::CallSection;
 use crate::line::{Row, push_counted, push_signed};
-use audit_findings::{Findings, Sections};
+use audit_findings::Findings;
 use call_stacks::Opener;
 use transaction_view::Transaction;
 
@@ -12,32 +12,20 @@ pub(crate) struct Served;
 
 impl CallSection for Served {
     ghost use Rattle.std.specs.Prelude.{refl};
-    ghost use Rattle.event_core.specs.Events.{events_of_frames};
     ghost use Rattle.audit_findings.specs.Calls.{is_served};
-    ghost use Rattle.audit_findings.proofs.RowKinds.{lacking_kinds};
     ghost use Rattle.audit_findings.proofs.RowsThere.{lacking_there};
-    ghost use Rattle.report_text.specs.Served.{served_head, served_section, sender_field};
+    ghost use Rattle.report_text.specs.Served.{served_section, sender_field};
 
     ghost section = { served_section };
 
-    ghost head_of = { λ kept _.
-        served_head kept.calls.served.all kept.calls.served.replied kept.calls.served.crossed
-        kept.calls.served.left_open };
-
-    ghost rows_of = { λ kept. kept.calls.served.rows };
-
-    ghost keeps = { record { head = λ found rows. refl; rows = λ found. refl } };
-
-    ghost events = { λ frames. lacking_there is_served (events_of_frames frames) };
-
-    ghost of_kinds = { λ frames. lacking_kinds is_served (events_of_frames frames) };
+    ghost events = { lacking_there is_served };
 
     ghost field = { sender_field };
 
     ghost tells = { λ call. refl };
 
-    fn head(&self, sections: &Sections<u64>, _rows: usize) -> Row {
-        let served = &sections.calls.served;
+    fn head(&self, found: &Findings<'_>, _rows: usize) -> Row {
+        let served = &found.sections().calls.served;
         let mut line = Row::new();
         push_counted(&mut line, "served ", served.all);
         push_counted(&mut line, " replied ", served.replied);

@@ -2,7 +2,7 @@
 
 use crate::events::{EventSection, kind_row};
 use crate::line::{Row, push_counted};
-use audit_findings::{Findings, Sections};
+use audit_findings::Findings;
 use event_core::Event;
 
 /// The section, whose rows end with the kind of the stray.
@@ -11,27 +11,18 @@ pub(crate) struct Strays;
 
 impl EventSection for Strays {
     ghost use Rattle.std.specs.Prelude.{refl, true};
-    ghost use Rattle.event_core.specs.Events.{events_of_frames};
     ghost use Rattle.audit_findings.proofs.RowsThere.{strays_there};
-    ghost use Rattle.report_text.specs.Strays.{strays_head, strays_section};
+    ghost use Rattle.report_text.specs.Strays.{strays_section};
 
     ghost section = { strays_section };
 
-    ghost head_of = { λ _. strays_head };
-
-    ghost rows_of = { λ kept. kept.calls.strays };
-
-    ghost keeps = { record { head = λ found rows. refl; rows = λ found. refl } };
-
-    ghost events = { λ frames. strays_there (events_of_frames frames) };
-
     ghost kinds = { λ _. true };
 
-    ghost of_kinds = { λ _ _ _ _. refl };
+    ghost events = { strays_there };
 
     ghost bare = { λ e. refl };
 
-    fn head(&self, _sections: &Sections<u64>, rows: usize) -> Row {
+    fn head(&self, _found: &Findings<'_>, rows: usize) -> Row {
         let mut line = Row::new();
         push_counted(&mut line, "strays ", rows as u64);
         line

@@ -2,13 +2,12 @@
 
 use crate::line::Row;
 use crate::section::Section;
-use audit_findings::{Findings, Sections};
+use audit_findings::Findings;
 
 /// A section whose rows are kept whole.
 pub(crate) trait WholeSection {
-    ghost use Rattle.std.specs.Prelude.{◌≡◌, ℕ, List};
-    ghost use Rattle.audit_findings.specs.declared.findings.Sections.{Sections};
-    ghost use Rattle.report_text.specs.Pushed.{Keeps};
+    ghost use Rattle.std.specs.Prelude.{◌≡◌};
+    ghost use Rattle.audit_findings.specs.Findings.{findings_of};
     ghost use Rattle.report_text.specs.Section.{SectionText};
 
     /// A row.
@@ -17,22 +16,13 @@ pub(crate) trait WholeSection {
     /// The section.
     ghost section: { SectionText Self.Kept };
 
-    /// Its head, from what findings keep and from how many rows it has.
-    ghost head_of: { Sections ℕ → ℕ → List ℕ };
-
-    /// Its rows, from what findings keep.
-    ghost rows_of: { Sections ℕ → List Self.Kept };
-
-    /// Both are those of the section.
-    ghost keeps: { Keeps section (λ row. row) head_of rows_of };
-
     /// The head, without its line feed.
-    fn head(&self, sections: &Sections<u64>, rows: usize) -> Row
-        ensures { result.bytes ≡ head_of sections.now rows };
+    fn head(&self, found: &Findings<'_>, rows: usize) -> Row
+        ensures { result.bytes ≡ section.head (findings_of found.now) rows };
 
     /// The rows.
     fn rows<'f>(&self, found: &'f Findings<'_>) -> &'f [Self::Kept]
-        ensures { result.now ≡ rows_of found.now.sections };
+        ensures { result.now ≡ section.rows (findings_of found.now) };
 
     /// The line of a row, without its line feed.
     fn line(&self, row: &Self::Kept) -> Row
@@ -51,14 +41,14 @@ impl<S: WholeSection> Section for OfRows<S> {
 
     ghost lines = { lines_of S.section };
 
-    ghost head_of = { S.head_of };
+    ghost head_of = { S.section.head };
 
     ghost can_show = { λ _ _. ⊤ };
 
     ghost shows = { λ _ row line. line ≡ S.section.line row };
 
-    fn head(&self, sections: &Sections<u64>, rows: usize) -> Row {
-        self.0.head(sections, rows)
+    fn head(&self, found: &Findings<'_>, rows: usize) -> Row {
+        self.0.head(found, rows)
     }
 
     fn rows<'f>(&self, found: &'f Findings<'_>) -> &'f [S::Kept] {

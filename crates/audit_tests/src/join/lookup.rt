@@ -59,7 +59,7 @@ fn expect_frame(rt: &impl Abort, found: &Findings<'_>, place: u64, sequence: Opt
 
 /// The record at a place is the one of `RECORDS`.
 fn expect_record(rt: &impl Abort, found: &Findings<'_>, place: u64)
-    requires { HasRecordIn found.now.frames place }
+    requires { HasRecordIn found.now place }
 {
     let event = found.record_at(place);
     let flags = event
@@ -73,7 +73,7 @@ fn expect_record(rt: &impl Abort, found: &Findings<'_>, place: u64)
 
 /// The records at these places are ones of `RECORDS`.
 fn expect_records(rt: &impl Abort, found: &Findings<'_>, places: &[u64])
-    requires { All (HasRecordIn found.now.frames) places.now }
+    requires { All (HasRecordIn found.now) places.now }
 {
     for place in places {
         expect_record(rt, found, *place);

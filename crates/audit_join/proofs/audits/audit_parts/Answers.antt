@@ -1,6 +1,4 @@
-use Rattle.std.proofs.Common.{List, Ok, sym, ap, subst, ◌∙◌}
-use Rattle.capture_frame.specs.Envelope.{PlacedFrame}
-use Rattle.audit_findings.specs.Kept.{AreSectionsOf}
+use Rattle.std.proofs.Common.{Ok, sym, ap, subst, ◌∙◌}
 use Rattle.transaction_view.specs.Grammar.{first_content_fault}
 use Rattle.audit_join.specs.Jobs.{AreCut, AreSound}
 use Rattle.audit_join.proofs.CutLaws.{all_sound, cut_so, first_bad}
@@ -37,10 +35,7 @@ judge_parts-requires-in-Err-Bad-clause-there g c κs within fault first =
 pub returns-in_ok-findings_of-in-Ok-clause-found : goal.returns-in_ok-findings_of-in-Ok-clause-found
 returns-in_ok-findings_of-in-Ok-clause-found g c =
     let sound = subst AreSound c.as_slice.ensures c.in_ok-judge_parts-in-Ok.ensures.sound in
-    let found = c.in_ok-findings_of-in-Ok.ensures in (
-      all_sound (bytes_of c.args.parts.now) c.in-Ok.frames _ c.in-Ok.ensures sound ∙ ap Ok (sym found.frames),
-      subst (λ (fs : List PlacedFrame). AreSectionsOf fs c.in_ok-findings_of-in-Ok.field-0.sections) (sym found.frames) found.sections,
-    )
+    all_sound (bytes_of c.args.parts.now) c.in-Ok.frames _ c.in-Ok.ensures sound ∙ ap Ok (sym c.in_ok-findings_of-in-Ok.ensures)
 
 pub returns-in_ok-judge_parts-in-Err-Bad-clause-malformed : goal.returns-in_ok-judge_parts-in-Err-Bad-clause-malformed
 returns-in_ok-judge_parts-in-Err-Bad-clause-malformed g c =

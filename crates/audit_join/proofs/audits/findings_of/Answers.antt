@@ -10,15 +10,9 @@ sections_of-requires-clause-cut g c κs within = subst AreCut (sym c.as_slice.en
 pub sections_of-requires-clause-sound : goal.sections_of-requires-clause-sound
 sections_of-requires-clause-sound g c κs within = subst AreSound (sym c.as_slice.ensures) c.requires.sound
 
-pub new-requires : goal.new-requires
-new-requires g c = record {
-  texts = c.requires.joined.0;
-  in_order = c.requires.joined.1;
-  good = c.requires.sound;
-  are = subst (λ (fs : List PlacedFrame). AreSectionsOf fs c.in_ok-sections.sections) c.as_slice.ensures c.in_ok-sections.ensures;
-}
+pub new-requires-clause-capture : goal.new-requires-clause-capture
+new-requires-clause-capture g c = record { texts = c.requires.joined.0; in_order = c.requires.joined.1; good = c.requires.sound }
 
-pub returns-clause-sections : goal.returns-clause-sections
-returns-clause-sections g c =
-    rw c.new.ensures
-    (subst (λ (fs : List PlacedFrame). AreSectionsOf fs c.in_ok-sections.sections) c.as_slice.ensures c.in_ok-sections.ensures)
+pub new-requires-clause-sections : goal.new-requires-clause-sections
+new-requires-clause-sections g c =
+    subst (λ (fs : List PlacedFrame). AreSectionsOf fs c.in_ok-sections.sections) c.as_slice.ensures c.in_ok-sections.ensures

@@ -16,11 +16,11 @@ loop-some-preserved g c =
     let bytes : ArrayString → List ℕ = λ row. row.bytes in
     let so_far = c.loop-some.invariant in
     let lines = map bytes c.in_ok-rows.rows.items in
-    let shows = AllZip-mapped (g.S.Section.shows c.args.found.now.frames) bytes c.in-Some.some.now c.in_ok-rows.rows.items c.in_ok-rows.ensures in
+    let shows = AllZip-mapped (g.S.Section.shows c.args.found.now) bytes c.in-Some.some.now c.in_ok-rows.rows.items c.in_ok-rows.ensures in
     let takes : FoldsTo g.L.Lines.takes c.loop-some.lines lines c.push_all.new.lines = rw c.as_slice.ensures.value at c.in_ok-push_all.ensures in (
       so_far.0 ++ c.in-Some.some.now,
       so_far.1 ++ lines,
       so_far.2 ∙ ap (λ t. so_far.0 ++ t) c.in-Some.ensures.steps.1.0 ∙ sym (append_assoc so_far.0 c.in-Some.some.now c.next.new.self.rest.now),
-      AllZip-append (g.S.Section.shows c.args.found.now.frames) so_far.0 c.in-Some.some.now so_far.1 lines so_far.3 shows,
+      AllZip-append (g.S.Section.shows c.args.found.now) so_far.0 c.in-Some.some.now so_far.1 lines so_far.3 shows,
       FoldsTo-append g.L.Lines.takes c.args.lines.now c.loop-some.lines c.push_all.new.lines so_far.1 lines so_far.4 takes,
     )

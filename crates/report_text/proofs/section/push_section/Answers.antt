@@ -1,19 +1,18 @@
-use Rattle.std.proofs.Common.{◌≡◌, ℕ, List, ◌∷◌, length, ap, ◌∙◌}
+use Rattle.std.proofs.Common.{ℕ, List, ◌∷◌, ap, subst, ◌∙◌}
+use Rattle.std.specs.List.{FoldsTo}
 use Rattle.std.proofs.lemmas.Result.{on_ok_weaker}
-use Rattle.audit_findings.specs.declared.findings.Sections.{Sections}
 use Rattle.report_text.proofs.section.push_section.Goals as goal
 
 pub push_rows-requires-after_bounds : goal.push_rows-requires-after_bounds
-push_rows-requires-after_bounds g c κs within = c.rows-rows.ensures.readable c.sections.ensures.told.are
+push_rows-requires-after_bounds g c κs within = c.rows-rows.ensures.readable
 
 pub returns : goal.returns
 returns g c =
-    let head : c.head.result.bytes ≡ g.S.Section.head_of c.args.found.now.sections (length c.rows-rows.result.now) =
-    c.head.ensures ∙ ap (λ (s : Sections ℕ). g.S.Section.head_of s (length c.rows-rows.result.now)) c.sections.ensures.value in
     on_ok_weaker c.push_rows.result
-    (λ pushed. record {
-      lines = c.head.result.bytes ∷ pushed.0;
-      taken = (c.push_line.new.self, c.in_ok-push_line.ensures, pushed.2);
-      told = λ are. ap (λ (line : List ℕ). line ∷ pushed.0) head ∙ c.rows-rows.ensures.told pushed.0 pushed.1 are;
+    (λ pushed.
+    let lines = ap (λ (line : List ℕ). line ∷ pushed.0) c.head.ensures ∙ c.rows-rows.ensures.told pushed.0 pushed.1 in
+    record {
+      taken = subst (λ (ls : List (List ℕ)). FoldsTo g.L.Lines.takes c.args.lines.now ls c.push_rows.new.lines) lines
+          (c.push_line.new.self, c.in_ok-push_line.ensures, pushed.2);
     })
     c.push_rows.ensures

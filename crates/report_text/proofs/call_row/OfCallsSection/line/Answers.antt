@@ -6,7 +6,7 @@ use Rattle.report_text.proofs.call_row.OfCallsSection.line.Goals as goal
 
 pub call_row-requires : goal.call_row-requires
 call_row-requires g c =
-    row_kind has_transaction_data c.args.found.now.frames c.args.kept.now.event c.record_at.result c.requires c.record_at.ensures
+    row_kind has_transaction_data c.args.found.now c.args.kept.now.event c.record_at.result c.requires c.record_at.ensures
 
 pub returns : goal.returns
 returns g c = λ e there is.

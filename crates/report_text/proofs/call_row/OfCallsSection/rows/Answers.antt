@@ -8,11 +8,11 @@ use Rattle.report_text.proofs.call_row.OfCallsSection.rows.Goals as goal
 pub returns-clause-readable : goal.returns-clause-readable
 returns-clause-readable g c =
     let S = g.S.CallSection in
-    listed_rows S.section call_at_place S.head_of S.rows_of S.keeps c.args.found.now c.calls.result.now c.calls.ensures (λ call. call.event)
-    (λ call. call.event) (λ call. refl) S.events has_transaction_data S.of_kinds
+    listed_rows S.section call_at_place c.args.found.now c.calls.result.now c.calls.ensures (λ call. call.event) (λ call. call.event) (λ call. refl) has_transaction_data
+    S.events
 
 pub returns-clause-told : goal.returns-clause-told
 returns-clause-told g c =
     let S = g.S.CallSection in
-    listed_lines S.section call_at_place S.head_of S.rows_of S.keeps c.args.found.now c.calls.result.now c.calls.ensures (λ call. call.event)
-    (λ call. call.event) (λ call. refl) S.events (row_of_kept S.field) S.tells
+    listed_lines S.section call_at_place c.args.found.now c.calls.result.now c.calls.ensures (λ call. call.event) (λ call. call.event) (λ call. refl) has_transaction_data
+    S.events (row_of_kept S.field) S.tells

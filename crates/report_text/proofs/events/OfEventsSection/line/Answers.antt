@@ -3,7 +3,7 @@ use Rattle.report_text.proofs.Listed.{row_kind}
 use Rattle.report_text.proofs.events.OfEventsSection.line.Goals as goal
 
 pub line-requires : goal.line-requires
-line-requires g c = row_kind g.S.EventSection.kinds c.args.found.now.frames c.args.kept.now c.record_at.result c.requires c.record_at.ensures
+line-requires g c = row_kind g.S.EventSection.kinds c.args.found.now c.args.kept.now c.record_at.result c.requires c.record_at.ensures
 
 pub returns : goal.returns
 returns g c = λ e there is.
