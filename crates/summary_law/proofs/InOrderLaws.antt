@@ -12,7 +12,7 @@ use Rattle.std.specs.Map.{lookup, keys_of}
 use Rattle.std.specs.Prelude.{⊤}
 use Rattle.summary_law.specs.ByKey.{items_of, items_of-append, IsOwn}
 use Rattle.summary_law.specs.InOrder.{firsts, SumsInOrder}
-use Rattle.summary_law.proofs.ByKeyLaws.{not_nil}
+use Rattle.summary_law.proofs.ByKeyLaws.{not_nil, none_own}
 use Rattle.summary_law.proofs.FirstLaws.{list_any-firsts, firsts_stay}
 
 -- the keys that stay are still different
@@ -68,13 +68,9 @@ module _ {K : Type 0} {eq : K → K → Bool} (laws : IsEquivalence eq) where
         let found : lookup (eq e.0) entries ≡ Some e.1 = lookup-from_Contains laws e.0 e.1 entries entries_distinct (Contains-get_or entries k d within) in
         subst (λ (o : Option S). IsOwn Sums o (items_of eq e.0 items)) found (sums.parts e.0)
 
-    no_part : (part : Option S) (own : List I) → IsOwn Sums part own → is_some part ≡ false → own ≡ []
-    no_part None own is none = is
-    no_part (Some part) own is none = absurd (true≢false none)
-
     -- a key that is not in any entry has no items
     pub none_else : (key : K) → list_any (eq key) (keys_of entries) ≡ false → items_of eq key items ≡ []
-    none_else key missing = no_part (lookup (eq key) entries) (items_of eq key items) (sums.parts key) (is_some-lookup (eq key) entries ∙ missing)
+    none_else key missing = none_own Sums (lookup (eq key) entries) (items_of eq key items) (sums.parts key) (is_some-lookup (eq key) entries ∙ missing)
 
   -- a map that keeps only the keys stays right if one more item follows whose key is there
   pub same_keys : {S I : Type 0} (entries : List (K × S)) (items : List (K × I)) (key : K) (item : I)

@@ -1,5 +1,5 @@
 -- What a list has, and lists in rising order.
-use Rattle.std.proofs.Common.{◌≡◌, ◌≢◌, ℕ, zero, suc, ◌<◌, ◌≤◌, ◌⊎◌, Some, eqb, refl, sym, ap, subst, ◌∙◌, ⊎_elim, inl, inr, arith}
+use Rattle.std.proofs.Common.{◌≡◌, ◌≢◌, ℕ, zero, suc, ◌<◌, ◌≤◌, ◌⊎◌, Some, eqb, refl, sym, ap, ap₂, subst, ◌∙◌, ⊎_elim, inl, inr, arith}
 use Rattle.std.proofs.Common.{List, [], ◌∷◌, ◌++◌, map, length, get_or}
 use Rattle.std.specs.Prelude.{Contains, AllPairs, slice_get}
 use Rattle.std.proofs.lemmas.Bool.{cases_lt}
@@ -61,9 +61,13 @@ in_middle (y ∷ front) x back = inr (in_middle front x back)
 
 -- ---- rising order
 
+-- each thing is before all later ones
+abbrev pub InOrder : {X : Type 0} → (X → X → Type 0) → List X → Type 0
+InOrder Before [] = Unit {0}
+InOrder {X} Before (x ∷ later) = ((y : X) → In y later → Before x y) × InOrder Before later
+
 abbrev pub Rises : {X : Type 0} → (X → ℕ) → List X → Type 0
-Rises rank [] = Unit {0}
-Rises {X} rank (x ∷ later) = ((y : X) → In y later → rank x < rank y) × Rises rank later
+Rises rank xs = InOrder (λ x y. rank x < rank y) xs
 
 pub rises_from_pairs : {X : Type 0} (rank : X → ℕ) (xs : List X) → AllPairs (λ x y. rank x < rank y) xs → Rises rank xs
 rises_from_pairs rank [] pairs = tt
@@ -99,41 +103,35 @@ pub map-rises : {X Y : Type 0} (f : X → Y) (rank : Y → ℕ) (xs : List X) �
 map-rises f rank [] rises = tt
 map-rises f rank (x ∷ xs) rises = (λ y there. rises.0 (f y) (map-in f xs y there), map-rises f rank xs rises.1)
 
--- ---- two lists in rising order that have the same
+-- ---- two lists in one order that have the same
 
-not_before : {X : Type 0} (rank : X → ℕ) (x y : X) (ys : List X) → Rises rank (y ∷ ys) → In x (y ∷ ys) → rank x < rank y → ⊥
-not_before {X} rank x y ys rises (inl e) below = let same : rank x ≡ rank y = ap rank e in omega arith
-not_before rank x y ys rises (inr there) below = let above = rises.0 x there in omega arith
+module _ {X : Type 0} (Before : X → X → Type 0) (one_way : (x y : X) → Before x y → Before y x → ⊥) where
+  same_first : (x y : X) (xs ys : List X) → InOrder Before (x ∷ xs) → InOrder Before (y ∷ ys) → In x (y ∷ ys) → In y (x ∷ xs) → x ≡ y
+  same_first x y xs ys first second (inl e) other = e
+  same_first x y xs ys first second (inr there) (inl e) = sym e
+  same_first x y xs ys first second (inr there) (inr other) = absurd (one_way x y (first.0 y other) (second.0 x there))
 
-same_first : {X : Type 0} (rank : X → ℕ) (x y : X) (xs ys : List X) → Rises rank (x ∷ xs) → Rises rank (y ∷ ys) → In x (y ∷ ys) → In y (x ∷ xs) → x ≡ y
-same_first rank x y xs ys first second (inl e) other = e
-same_first rank x y xs ys first second (inr there) other =
-    let above = second.0 x there in
-    absurd (not_before rank y x xs first other above)
+  in_tail : (x y z : X) (xs ys : List X) → InOrder Before (x ∷ xs) → x ≡ y → In z xs → In z (y ∷ ys) → In z ys
+  in_tail x y z xs ys order e there (inl same) =
+      let itself : Before x x = subst (Before x) (same ∙ sym e) (order.0 z there) in
+      absurd (one_way x x itself itself)
+  in_tail x y z xs ys order e there (inr other) = other
 
-not_again : {X : Type 0} (rank : X → ℕ) (x z : X) (xs : List X) → Rises rank (x ∷ xs) → In z xs → z ≡ x → ⊥
-not_again rank x z xs rises there e =
-    let above = rises.0 z there in
-    let same : rank z ≡ rank x = ap rank e in
-    omega arith
-
-in_tail : {X : Type 0} (rank : X → ℕ) (x y z : X) (xs ys : List X) → Rises rank (x ∷ xs) → x ≡ y → In z xs → In z (y ∷ ys) → In z ys
-in_tail rank x y z xs ys rises e there (inl same) = absurd (not_again rank x z xs rises there (same ∙ sym e))
-in_tail rank x y z xs ys rises e there (inr other) = other
+  pub one_order : (xs ys : List X) → InOrder Before xs → InOrder Before ys
+      → ((x : X) → In x xs → In x ys) → ((x : X) → In x ys → In x xs) → xs ≡ ys
+  one_order [] [] first second to from = refl
+  one_order [] (y ∷ ys) first second to from = absurd (from y (inl refl))
+  one_order (x ∷ xs) [] first second to from = absurd (to x (inl refl))
+  one_order (x ∷ xs) (y ∷ ys) first second to from =
+      let e : x ≡ y = same_first x y xs ys first second (to x (inl refl)) (from y (inl refl)) in
+      ap₂ (λ (z : X) (zs : List X). z ∷ zs) e
+      (one_order xs ys first.1 second.1 (λ z there. in_tail x y z xs ys first e there (to z (inr there)))
+      (λ z there. in_tail y x z ys xs second (sym e) there (from z (inr there))))
 
 pub same_lists : {X : Type 0} (rank : X → ℕ) (xs ys : List X) → Rises rank xs → Rises rank ys
     → ((x : X) → In x xs → In x ys) → ((x : X) → In x ys → In x xs) → xs ≡ ys
-same_lists rank [] [] first second to from = refl
-same_lists rank [] (y ∷ ys) first second to from = absurd (from y (inl refl))
-same_lists rank (x ∷ xs) [] first second to from = absurd (to x (inl refl))
-same_lists {X} rank (x ∷ xs) (y ∷ ys) first second to from =
-    let e : x ≡ y = same_first rank x y xs ys first second (to x (inl refl)) (from y (inl refl)) in
-    let rest : xs ≡ ys
-    = same_lists rank xs ys first.1 second.1
-    (λ z there. in_tail rank x y z xs ys first e there (to z (inr there)))
-    (λ z there. in_tail rank y x z ys xs second (sym e) there (from z (inr there)))
-    in
-    ap (λ (t : X). t ∷ xs) e ∙ ap (λ t. y ∷ t) rest
+same_lists rank xs ys first second to from =
+    one_order (λ x y. rank x < rank y) (λ x y less more. omega arith) xs ys first second to from
 
 -- ---- from the words of the definitions to these, and back
 
