@@ -1,41 +1,24 @@
 -- What is kept of calls, one after another and in the order of their places.
-use Rattle.std.proofs.Common.{◌≡◌, ℕ, Bool, true, false, cond, not, refl, sym, ap, subst, ◌∙◌, inl, inr, List, [], ◌∷◌, ◌++◌, append_assoc}
+use Rattle.std.proofs.Common.{◌≡◌, ℕ, ◌<◌, Bool, true, false, cond, not, refl, sym, ap, subst, ◌∙◌, List, [], ◌∷◌, ◌++◌, append_assoc}
 use Rattle.std.proofs.lemmas.List.Elements.{filter-append}
+use Rattle.std.proofs.lemmas.List.Kept.{AllPairs-filter}
 use Rattle.std.proofs.lemmas.List.Sorted.{IsPermutation-append, IsPermutation-append_right, IsPermutation-cons, IsPermutation-middle, IsPermutation-refl, IsPermutation-sym, IsPermutation-trans}
 use Rattle.std.specs.List.{filter}
 use Rattle.std.specs.List.Sorted.{IsPermutation, IsNonDecreasingBy}
 use Rattle.call_stacks.specs.declared.opener.Opener.{Opener}
 use Rattle.call_stacks.specs.declared.verdict.Verdict.{Verdict}
-use Rattle.call_stacks.specs.declared.verdict.Verdict.TheVariants.{Answered, Failed, Replied, Crossed, Open}
+use Rattle.call_stacks.specs.declared.verdict.Verdict.TheVariants.{Open}
 use Rattle.call_stacks.specs.Calls.{with_verdict, kept_of}
 use Rattle.call_stacks.specs.Verdicts.{is_open, is_closed, lacks_reply}
-use Rattle.summary_law.proofs.Members.{In, Rises, in_place}
-
--- ---- lists whose places rise
-
-kept_in : {X : Type 0} (test : X → Bool) (xs : List X) (x : X) → In x (filter test xs) → In x xs
-kept_in test [] x here = absurd here
-kept_in test (y ∷ xs) x here =
-    elim (test y) as (λ b. In x (cond b (y ∷ filter test xs) (filter test xs)) → In x (y ∷ xs)) [
-      | true ↦ λ there. elim there [ inl same ↦ inl same | inr later ↦ inr (kept_in test xs x later) ]
-      | false ↦ λ later. inr (kept_in test xs x later)
-    ] here
+use Rattle.summary_law.proofs.Members.{Rises, in_place, pairs_from_rises, rises_from_pairs}
 
 rises-filter : {X : Type 0} (rank : X → ℕ) (test : X → Bool) (xs : List X) → Rises rank xs → Rises rank (filter test xs)
-rises-filter rank test [] rises = tt
-rises-filter rank test (x ∷ xs) rises =
-    let rest = rises-filter rank test xs rises.1 in
-    elim (test x) as (λ b. Rises rank (cond b (x ∷ filter test xs) (filter test xs))) [
-      | true ↦ (λ y there. rises.0 y (kept_in test xs y there), rest)
-      | false ↦ rest
-    ]
+rises-filter rank test xs rises =
+    rises_from_pairs rank (filter test xs) (AllPairs-filter (λ x y. rank x < rank y) test xs (pairs_from_rises rank xs rises))
 
-open_lacks : (verdict : Verdict) → is_open verdict ≡ true → lacks_reply verdict ≡ true
-open_lacks Answered is = absurd cc
-open_lacks Failed is = refl
-open_lacks Replied is = absurd cc
-open_lacks Crossed is = refl
+pub open_lacks : (verdict : Verdict) → is_open verdict ≡ true → lacks_reply verdict ≡ true
 open_lacks Open is = refl
+open_lacks _ is = let no : ⊥ = cc in absurd no
 
 module _ {E : Type 0} where
   pub kept-append : (all_kept : Bool) (first second : List (Opener E)) → kept_of all_kept (first ++ second) ≡ kept_of all_kept first ++ kept_of all_kept second
