@@ -73,17 +73,9 @@ module _ (jobs : List Job) (workers next least : ℕ) (views : List View) (k : I
       let n = k.claim_word in
       omega arith
 
-  -- the jobs of a view are below the claim word
-  pub under : (id : ℕ) (v : View) → get_elem? views id ≡ some v → All (λ c. c.job < next) v.claimed
-  under id v at = claimed_below next v.claimed (λ x le.
-      let t = total-at (λ u. job_weight (one_at x) u.claimed) views id v at in
-      let c = k.each_job_once (one_at x) in
-      let b = weight_below-none x (min next (length jobs)) (omega arith) in
-      omega arith)
-
-  -- the jobs of a view are jobs of the table
-  pub inside : (id : ℕ) (v : View) → get_elem? views id ≡ some v → All (λ c. c.job < length jobs) v.claimed
-  inside id v at = claimed_below (length jobs) v.claimed (λ x le.
+  -- the jobs of a view are below the claim word, and jobs of the table
+  pub below : (n id : ℕ) (v : View) → min next (length jobs) ≤ n → get_elem? views id ≡ some v → All (λ c. c.job < n) v.claimed
+  below n id v fits at = claimed_below n v.claimed (λ x le.
       let t = total-at (λ u. job_weight (one_at x) u.claimed) views id v at in
       let c = k.each_job_once (one_at x) in
       let b = weight_below-none x (min next (length jobs)) (omega arith) in
@@ -255,7 +247,7 @@ claim_allowed jobs workers slots id me w one free s held _ at _ =
       (
         refl,
         refl,
-        under jobs workers next least s.views k id me.0 at,
+        below jobs workers next least s.views k next id me.0 (omega arith) at,
         subst (λ u. first_of u.crew < u.workers) (sym is) (works jobs workers next least s.views k id w me.0.claimed there),
       ),
     )
@@ -285,7 +277,7 @@ look_allowed jobs workers slots id me w i cs one top s held _ at _ =
         refl,
         refl,
         subst (λ u. All (λ c. c.job < length u.jobs) u.claimed) (sym is)
-            (inside jobs workers next least s.views k id (solo jobs workers (claimed_job i (Held w) ∷ cs) w false) there),
+            (below jobs workers next least s.views k (length jobs) id (solo jobs workers (claimed_job i (Held w) ∷ cs) w false) (omega arith) there),
         subst (λ u. first_of u.crew < u.workers) (sym is) (works jobs workers next least s.views k id w (claimed_job i (Held w) ∷ cs) there),
       ),
     )
@@ -308,7 +300,7 @@ lower_allowed jobs workers slots id me w i place cs one top fault fits s held _ 
     let P : List ℕ → Type 0 = λ l. (u : View) × (a : Act (Unit {0})) × Valid s.homes me.1 a
     × IsRuled jobs workers (record { words = set l 1 (min (slice_index l 1) place); homes = homes_after s.homes me.1 a; views = set s.views id u })
     × TellsLower (step slots 1 place 0 none) me (slice_index l 1) (u, carried_after me.1 a) in
-    let within = inside jobs workers next least s.views k id (solo jobs workers (claimed_job i (Faulty w) ∷ cs) w false) there in
+    let within = below jobs workers next least s.views k (length jobs) id (solo jobs workers (claimed_job i (Faulty w) ∷ cs) w false) (omega arith) there in
     let lt : i < length jobs = All-head (λ (c : ClaimedJob). c.job < length jobs) (claimed_job i (Faulty w)) cs within in
     let placed = All-get_or (λ (a : Job). (a.start < no_place) × IfSome a.fault (λ x. x < no_place)) jobs i blank_job lt k.key.listed.places in
     let low : place < no_place = subst (λ f. IfSome f (λ x. x < no_place)) fault' placed.1 in
