@@ -5,6 +5,9 @@ use Rattle.std.specs.Prelude.{Contains, AllPairs, slice_get}
 use Rattle.std.proofs.lemmas.Bool.{cases_lt}
 use Rattle.std.proofs.lemmas.Bool.Decides.{Decides-eqb}
 use Rattle.std.proofs.lemmas.Cmp.{nat_eq_equiv}
+use Rattle.std.proofs.lemmas.List.{get_or_default}
+use Rattle.std.proofs.lemmas.List.Elements.{All-contains}
+use Rattle.std.proofs.lemmas.Option.{get_or_from_slice_get, slice_get-get_or, slice_get_within}
 use Rattle.std.proofs.lemmas.List.Sorted.{Contains-permutation, IsPermutation-map, IsPermutation-sym}
 use Rattle.std.proofs.lemmas.Map.Keys.{IsDistinct-IsPermutation}
 use Rattle.std.proofs.lemmas.Map.Made.{AllPairs-from_IsDistinct, IsDistinct-from_AllPairs}
@@ -44,16 +47,12 @@ map-in f (y ∷ xs) x (inl e) = inl (ap f e)
 map-in f (y ∷ xs) x (inr there) = inr (map-in f xs x there)
 
 pub in_get : {X : Type 0} (xs : List X) (x : X) → In x xs → (k : ℕ) × (slice_get xs k ≡ Some x)
-in_get [] x here = absurd here
-in_get (y ∷ xs) x (inl e) = (0, ap Some (sym e))
-in_get (y ∷ xs) x (inr there) =
-    let found = in_get xs x there in
-    (suc found.0, found.1)
+in_get xs x here =
+    let has = contained xs x here in
+    (has.0, slice_get-get_or xs has.0 x has.1 ∙ ap Some has.2)
 
 pub get_in : {X : Type 0} (xs : List X) (k : ℕ) (x : X) → slice_get xs k ≡ Some x → In x xs
-get_in [] k x e = absurd cc
-get_in (y ∷ xs) zero x e = inl (let same : x ≡ y = cc in same)
-get_in (y ∷ xs) (suc k) x e = inr (get_in xs k x e)
+get_in xs k x e = in_at xs k x (slice_get_within xs k x e) (get_or_from_slice_get xs k x x e)
 
 pub in_middle : {X : Type 0} (front : List X) (x : X) (back : List X) → In x (front ++ x ∷ back)
 in_middle [] x back = inl refl
@@ -71,23 +70,15 @@ Rises rank xs = InOrder (λ x y. rank x < rank y) xs
 
 pub rises_from_pairs : {X : Type 0} (rank : X → ℕ) (xs : List X) → AllPairs (λ x y. rank x < rank y) xs → Rises rank xs
 rises_from_pairs rank [] pairs = tt
-rises_from_pairs {X} rank (x ∷ xs) pairs = (
-  λ y there.
-      let has = contained xs y there in
-      let within = has.1 in
-      subst (λ (z : X). rank x < rank z) has.2 (pairs 0 (suc has.0) y (omega arith) (omega arith)),
+rises_from_pairs rank (x ∷ xs) pairs = (
+  λ y there. All-contains (λ z. rank x < rank z) xs y (λ j d within. pairs 0 (suc j) d (omega arith) (omega arith)) (contained xs y there),
   rises_from_pairs rank xs (λ i j d below within. pairs (suc i) (suc j) d (omega arith) (omega arith)),
 )
-
-get_or_in : {X : Type 0} (xs : List X) (k : ℕ) (d : X) → k < length xs → In (get_or xs k d) xs
-get_or_in [] k d within = absurd (omega arith)
-get_or_in (x ∷ xs) zero d within = inl refl
-get_or_in (x ∷ xs) (suc k) d within = inr (get_or_in xs k d (omega arith))
 
 pub pairs_from_rises : {X : Type 0} (rank : X → ℕ) (xs : List X) → Rises rank xs → AllPairs (λ x y. rank x < rank y) xs
 pairs_from_rises rank [] rises i j d below within = absurd (omega arith)
 pairs_from_rises rank (x ∷ xs) rises i zero d below within = absurd (omega arith)
-pairs_from_rises rank (x ∷ xs) rises zero (suc j) d below within = rises.0 (get_or xs j d) (get_or_in xs j d (omega arith))
+pairs_from_rises rank (x ∷ xs) rises zero (suc j) d below within = rises.0 (get_or xs j d) (in_at xs j (get_or xs j d) (omega arith) (get_or_default xs j (get_or xs j d) d (omega arith)))
 pairs_from_rises rank (x ∷ xs) rises (suc i) (suc j) d below within = pairs_from_rises rank xs rises.1 i j d (omega arith) (omega arith)
 
 pub rises-map : {X Y : Type 0} (f : X → Y) (rank : Y → ℕ) (xs : List X) → Rises (λ x. rank (f x)) xs → Rises rank (map f xs)

@@ -10,12 +10,12 @@ use Rattle.std.specs.Ordering.{eq_by_cmp, match_ordering, ordering_reverse}
 use Rattle.std.specs.declared.cmp.Ordering.{Ordering}
 use Rattle.std.specs.declared.cmp.Ordering.TheVariants.{Less, Equal, Greater}
 use Rattle.std.proofs.lemmas.Cmp.{eq_by_cmp_equiv}
-use Rattle.std.proofs.lemmas.List.Elements.{All-contains, All-head, All-tail}
+use Rattle.std.proofs.lemmas.List.Elements.{All-contains, All-from_recursion, All-head, All-tail, recursion_from_All}
 use Rattle.std.proofs.lemmas.Map.Keys.{sorted_head, sorted_tail}
 use Rattle.std.proofs.lemmas.Map.Views.{Contains-from_any, tells_apart}
 use Rattle.summary_law.specs.ByKey.{SumsByKey, items_of}
 use Rattle.summary_law.specs.Sorted.{put, sorted}
-use Rattle.summary_law.proofs.GatherLaws.{in_any, key_among, map_each, map_none, map_parts}
+use Rattle.summary_law.proofs.GatherLaws.{all_in, in_any, key_among, map_each, map_none, map_parts}
 use Rattle.summary_law.proofs.Members.{In, InOrder, contained, in-map, in_list, one_order}
 
 module _ {X : Type 0} (cmp : X → X → Ordering) where
@@ -64,14 +64,11 @@ module _ {X : Type 0} (cmp : X → X → Ordering) where
       (put_here y (sorted cmp ys) (λ z there. exact y z (inl refl) (inr (in_sorted ys z there))))
   sorted_in (y ∷ ys) exact x (inr there) = put_in y x (sorted cmp ys) (sorted_in ys (λ a b at_a at_b. exact a b (inr at_a) (inr at_b)) x there)
 
-below_all : {X : Type 0} (cmp : X → X → Ordering) (x : X) (ys : List X) → ((y : X) → In y ys → cmp x y ≡ Less) → AllByRecursion (λ y. cmp x y ≡ Less) ys
-below_all cmp x [] all = tt
-below_all cmp x (y ∷ ys) all = (all y (inl refl), below_all cmp x ys (λ z there. all z (inr there)))
-
 strictly : {X : Type 0} (cmp : X → X → Ordering) (ys : List X) → Ascends cmp ys → IsStrictlySortedBy cmp ys
 unfolding IsStrictlySortedBy
 strictly cmp [] up = tt
-strictly cmp (y ∷ ys) up = (below_all cmp y ys up.0, strictly cmp ys up.1)
+strictly cmp (y ∷ ys) up =
+    (recursion_from_All (λ z. cmp y z ≡ Less) ys (all_in (λ z. cmp y z ≡ Less) ys up.0), strictly cmp ys up.1)
 
 module _ {X : Type 0} (cmp : X → X → Ordering) (laws : IsTotalOrder cmp) where
   put_ascends : (x : X) (ys : List X) → Ascends cmp ys → Ascends cmp (put cmp x ys)
@@ -102,14 +99,11 @@ module _ {X : Type 0} (cmp : X → X → Ordering) (laws : IsTotalOrder cmp) whe
 -- ---- two rising lists with the same elements
 
 module _ {X : Type 0} (cmp : X → X → Ordering) where
-  above_all : (x : X) (ys : List X) → AllByRecursion (λ y. cmp x y ≡ Less) ys → (y : X) → In y ys → cmp x y ≡ Less
-  above_all x [] all y here = absurd here
-  above_all x (z ∷ ys) all y (inl is) = ap (cmp x) is ∙ all.0
-  above_all x (z ∷ ys) all y (inr there) = above_all x ys all.1 y there
-
   pub ascends : (xs : List X) → IsStrictlySortedBy cmp xs → Ascends cmp xs
   ascends [] up = tt
-  ascends (x ∷ xs) up = (above_all x xs (sorted_head cmp x xs up), ascends xs (sorted_tail cmp x xs up))
+  ascends (x ∷ xs) up =
+      let above = All-from_recursion (λ y. cmp x y ≡ Less) xs (sorted_head cmp x xs up) in
+      (λ y there. All-contains (λ y. cmp x y ≡ Less) xs y above (contained xs y there), ascends xs (sorted_tail cmp x xs up))
 
 module _ {X : Type 0} (cmp : X → X → Ordering) (laws : IsTotalOrder cmp) where
   not_both : (x y : X) → cmp x y ≡ Less → cmp y x ≡ Less → ⊥
