@@ -1,6 +1,5 @@
 -- How many calls have a verdict, by those that are listed.
-use Rattle.std.proofs.Common.{◌≡◌, ℕ, ◌+◌, Bool, true, cond, List, [], ◌∷◌, map, refl, sym, ap, ◌∙◌, arith}
-use Rattle.std.specs.Prelude.{count_by}
+use Rattle.std.proofs.Common.{◌≡◌, ℕ, ◌+◌, Bool, true, cond, List, [], ◌∷◌, map, refl, ◌∙◌, arith}
 use Rattle.std.proofs.lemmas.List.Sums.{sum_by-cons}
 use Rattle.event_core.specs.Events.{EventRead}
 use Rattle.call_stacks.specs.Calls.{how_many, with_verdict}
@@ -10,20 +9,14 @@ use Rattle.call_stacks.specs.declared.verdict.Verdict.{Verdict}
 use Rattle.call_stacks.specs.declared.verdict.Verdict.TheVariants.{Answered, Failed, Replied, Crossed, Open}
 use Rattle.audit_findings.specs.Calls.{is_unanswered}
 use Rattle.audit_findings.specs.Kept.{call_at_place}
+use Rattle.summary_law.proofs.FilterLaws.{count_by-map}
 use Rattle.audit_findings.proofs.Kept.{kept_count}
-
--- to count what is made of a list is to count the list by what is made
-pub count_made : {X Y : Type 0} (make : X → Y) (test : Y → Bool) (xs : List X) → count_by test (map make xs) ≡ count_by (λ x. test (make x)) xs
-count_made make test [] = refl
-count_made {X} {Y} make test (x ∷ xs) =
-    sum_by-cons (λ (y : Y). cond (test y) 1 0) (make x) (map make xs) ∙ ap (λ (n : ℕ). cond (test (make x)) 1 0 + n) (count_made make test xs)
-    ∙ sym (sum_by-cons (λ (x : X). cond (test (make x)) 1 0) x xs)
 
 -- the calls with a verdict that lacks a reply are all kept, so counting the kept ones counts all of them
 pub kept_many : (test : Verdict → Bool) → ((verdict : Verdict) → test verdict ≡ true → lacks_reply verdict ≡ true) → (told : List (Opener EventRead))
     → how_many test (map call_at_place (with_verdict lacks_reply told)) ≡ how_many test told
 kept_many test lacks told =
-    count_made call_at_place (λ (o : Opener ℕ). test o.verdict) (with_verdict lacks_reply told)
+    count_by-map call_at_place (λ (o : Opener ℕ). test o.verdict) (with_verdict lacks_reply told)
     ∙ kept_count (λ (o : Opener EventRead). test o.verdict) (λ o. lacks_reply o.verdict) told (λ o there is. lacks o.verdict is)
 
 one_unanswered : (verdict : Verdict) → cond (is_crossed verdict) 1 0 + cond (is_open verdict) 1 0 ≡ cond (is_unanswered verdict) 1 0

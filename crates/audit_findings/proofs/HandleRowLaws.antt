@@ -24,7 +24,8 @@ use Rattle.audit_findings.specs.Handles.{handle_references, handles_in}
 use Rattle.audit_findings.specs.Held.{held_of_process, unweighed}
 use Rattle.audit_findings.specs.Places.{RiseInPlace}
 use Rattle.audit_findings.specs.RowsInTurn.{AreRowsInTurn}
-use Rattle.audit_findings.proofs.EventCountLaws.{count_made, items_value, value_once}
+use Rattle.summary_law.proofs.FilterLaws.{count_by-map}
+use Rattle.audit_findings.proofs.EventCountLaws.{items_value, value_once}
 use Rattle.audit_findings.proofs.HandleValues.{change, handle_lower, handle_named, handle_raise}
 use Rattle.audit_findings.proofs.HeldObjects.{both_strengths, held_is, strong_held, weak_held}
 use Rattle.audit_findings.proofs.KeyRows.{count_items, counted_in, in_counted, rows_exact, rows_rising}
@@ -50,7 +51,7 @@ module _ (events : List EventRead) (rise : RiseInPlace events) (process : Proces
       let listed_and_held : count_by test (handles_of items held) ≡ count_by test (map handle_of items) + count_by test (map (λ (r : Held × ℕ). r.0.0) held)
       = sum_by-append (λ (k : ℕ). cond (test k) 1 0) (map handle_of items) (map (λ (r : Held × ℕ). r.0.0) held) in
       let listed : count_by test (map handle_of items) ≡ times_in process (names_handle changes_handle handle) events
-      = count_made handle_of test items
+      = count_by-map handle_of test items
       ∙ count_items handle_item_of (λ item. test (handle_of item)) (names_handle changes_handle handle) (λ e. handle_named handle e.kind e.payload) process events in
       listed_and_held
       ∙ ap₂ (λ (a b : ℕ). a + b) listed

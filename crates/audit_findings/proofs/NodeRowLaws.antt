@@ -21,7 +21,8 @@ use Rattle.audit_findings.specs.EventCounts.{HasValue, times_in}
 use Rattle.audit_findings.specs.NodeRows.{IsNodeRow, acknowledges, asks, changes_node, lets_go, names_node, node_due, node_value}
 use Rattle.audit_findings.specs.Nodes.{node_references, nodes_in}
 use Rattle.audit_findings.specs.RowsInTurn.{AreRowsInTurn}
-use Rattle.audit_findings.proofs.EventCountLaws.{count_made, items_value, value_once}
+use Rattle.summary_law.proofs.FilterLaws.{count_by-map}
+use Rattle.audit_findings.proofs.EventCountLaws.{items_value, value_once}
 use Rattle.audit_findings.proofs.KeyRows.{count_items, counted_in, in_counted, rows_exact, rows_rising}
 use Rattle.audit_findings.proofs.NodeValues.{change, due_lower, due_raise, node_lower, node_named, node_raise}
 
@@ -42,7 +43,7 @@ module _ (events : List EventRead) (process : Process) where
   -- how often a node is listed
   named : (key : NodeKey) → count_by (λ k. eq_by_cmp node_cmp key k) (map node_of items) ≡ times_in process (names_node changes_node key) events
   named key =
-      count_made node_of (λ k. eq_by_cmp node_cmp key k) items
+      count_by-map node_of (λ k. eq_by_cmp node_cmp key k) items
       ∙ count_items node_item_of (λ item. eq_by_cmp node_cmp key (node_of item)) (names_node changes_node key) (λ e. node_named key e.kind e.payload) process events
 
   sound : (key : NodeKey) → In key (map node_of items) → IsNodeRow events process (node_row items key)

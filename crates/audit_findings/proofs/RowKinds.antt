@@ -5,6 +5,7 @@ use Rattle.std.specs.List.{fold, filter_map, last_or, list_any}
 use Rattle.std.specs.Ordering.{eq_by_cmp, nat_cmp}
 use Rattle.std.specs.Option.{option_map, option_map_or}
 use Rattle.std.proofs.lemmas.List.Elements.{All-filter}
+use Rattle.std.proofs.lemmas.Option.{cond_some}
 use Rattle.binder_code.specs.declared.record_kind.Kind.{Kind}
 use Rattle.binder_code.specs.declared.record_kind.Kind.TheVariants.{BcTransaction, BcTransactionSg, BrTransaction, BrTransactionSecCtx, BrReply, BcReply, BcReplySg, BcFreeBuffer, BcRequestDeathNotification, BcClearDeathNotification, BcDeadBinderDone, BrDeadBinder, BrClearDeathNotificationDone, BrDeadReply, BrFailedReply, BrFrozenReply}
 use Rattle.capture_frame.specs.Process.{same_process, same_thread}
@@ -216,10 +217,6 @@ opener_kind mark BrFailedReply oneway is = let never = error_opens_none mark in 
 opener_kind mark BrFrozenReply oneway is = let never = error_opens_none mark in let none : ⊥ = cc in absurd none
 opener_kind mark _ oneway is = let none : ⊥ = cc in absurd none
 
-told_only_if : {Y : Type 0} (passes : Bool) (x y : Y) → cond passes (Some x) None ≡ Some y → passes ≡ true
-told_only_if true x y is = refl
-told_only_if false x y is = let no : ⊥ = cc in absurd no
-
 openers_kinds : (events : List EventRead) → All (λ (o : Opener EventRead). IsTrue (has_transaction_data o.event.kind)) (openers events)
 openers_kinds events =
     all_in (λ (o : Opener EventRead). IsTrue (has_transaction_data o.event.kind)) (openers events)
@@ -230,7 +227,7 @@ openers_kinds events =
     let mark = fold (mark_after text_reads) None before in
     let rest = bracketed_with text_reads (bracket_read text_reads) (mark_after text_reads mark at.1) later in
     let answer = slice_get (unmatched_closers rest) 0 in
-    let opens = told_only_if (is_opener (side_of (bracket_read text_reads mark at.1))) (opener_by text_reads at.1 answer) o at.4 in
+    let opens = (cond_some (is_opener (side_of (bracket_read text_reads mark at.1))) (opener_by text_reads at.1 answer) o at.4).0 in
     let same = opener_event (bracketed_of text_reads before) rest (record { event = at.1; before = mark; bracket = bracket_read text_reads mark at.1 }) o at.4 in
     subst (λ (e : EventRead). has_transaction_data e.kind ≡ true) (sym same) (opener_kind mark at.1.kind _ opens))
 
