@@ -18,10 +18,10 @@ use Rattle.summary_law.specs.Summary.{Adds}
 use Rattle.call_stacks.specs.declared.findings.CallFindings.{CallFindings}
 use Rattle.call_stacks.specs.declared.findings.RefusedSend.{RefusedSend}
 use Rattle.call_stacks.specs.declared.calls.Calls.{Calls}
-use Rattle.call_stacks.specs.Calls.{Reads, bracketed_with, bracketed_of, bracketed_piece, opener_place, bracket_read, bracket_in_piece, mark_after, last_mark, is_error, is_refused, if_error_reply, undecided_of, refused_of, openers_of, strays_in, CallsSum, AreFindings, how_many, kept_of, open_call}
+use Rattle.call_stacks.specs.Calls.{Reads, bracketed_with, bracketed_of, bracketed_piece, opener_place, bracket_read, bracket_in_piece, mark_after, last_mark, is_error, is_refused, if_error_reply, undecided_of, refused_of, openers_of, strays_in, CallsSum, AreFindings, how_many, kept_of, open_call, with_verdict}
 use Rattle.call_stacks.specs.Content.{Content, content_of, sum_64, ClosesAll, appended}
 use Rattle.call_stacks.specs.Matching.{Side}
-use Rattle.call_stacks.specs.Verdicts.{side_of, is_answered, is_replied}
+use Rattle.call_stacks.specs.Verdicts.{side_of, is_answered, is_open, is_replied}
 use Rattle.call_stacks.proofs.MarkLaws.{error_bracket, none_refused}
 use Rattle.call_stacks.proofs.Bracketing.{pair, side, paired, same_bracketing, decided, error_openers, decided_pairs, decided_refused}
 use Rattle.call_stacks.proofs.Found.{openers-found, strays-found}
@@ -290,6 +290,15 @@ module _ {E : Type 0} (reads : Reads E) (all_kept : Bool) where
 
   -- ---- the end
 
+  -- the calls of a whole thread are those of it as a piece
+  whole_openers : (events : List E) → all_found reads (paired reads (bracket_in_piece reads) None events) ≡ openers_of reads events
+  whole_openers events =
+      ap (map (found reads)) (sym (decided reads None events).openers_are) ∙ sym (openers-found reads (bracketed_of reads events))
+
+  pub left_open : (calls : Calls E) (events : List E) → Holds reads all_kept (content_of calls) events
+      → map open_call calls.unmatched.items ≡ with_verdict is_open (openers_of reads events)
+  left_open calls events held = held.models.calls.unmatched_are ∙ ap (with_verdict is_open) (whole_openers events)
+
   pub finished : (calls : Calls E) (findings : CallFindings E) (events : List E) → Holds reads all_kept (content_of calls) events
       → IsPermutation (calls.closed.items ++ map open_call calls.unmatched.items) findings.openers.items
       → IsNonDecreasingBy (opener_place reads) findings.openers.items
@@ -300,8 +309,7 @@ module _ {E : Type 0} (reads : Reads E) (all_kept : Bool) where
       let rises = rises_from_pairs reads.place events held.placed.1 in
       let settled = decided reads None events in
       let part = paired reads (bracket_in_piece reads) None events in
-      let openers_are : all_found reads part ≡ openers_of reads events
-      = ap (map (found reads)) (sym settled.openers_are) ∙ sym (openers-found reads (bracketed_of reads events)) in
+      let openers_are = whole_openers events in
       let listed = openers_listed reads (bracket_read reads) None events rises in
       let rising = rises_from_pairs (opener_place reads) (openers_found reads (bracketed_of reads events)) listed.rising in
       let strays_are : findings.strays.items ≡ strays_in (bracketed_of reads events)

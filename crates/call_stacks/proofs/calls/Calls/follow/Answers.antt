@@ -8,8 +8,8 @@ use Rattle.call_stacks.specs.declared.calls.Calls.{Calls}
 use Rattle.call_stacks.specs.Calls.{bracket_read, is_error, mark_read}
 use Rattle.call_stacks.specs.Content.{Content, content_of}
 use Rattle.call_stacks.proofs.Sums.{holds, sums, add_undecided, add_entered, enters_last}
-use Rattle.call_stacks.proofs.calls.CallsSummary.add.Goals as goal
-use Rattle.call_stacks.proofs.calls.CallsSummary.add.Goals.{then-is_none+then-eq, else-is_none+in_ok-enter, else-is_none-via-then-is_none+else-eq, else-is_none-via-else-is_none}
+use Rattle.call_stacks.proofs.calls.Calls.follow.Goals as goal
+use Rattle.call_stacks.proofs.calls.Calls.follow.Goals.{then-is_none+then-eq, else-is_none+in_ok-enter, else-is_none-via-then-is_none+else-eq, else-is_none-via-else-is_none}
 use denote.Enum.Bare.{sameb}
 
 same_error : (bracket : Bracket) → sameb the_type bracket Error ≡ is_error bracket
@@ -38,7 +38,7 @@ returns g c = λ events summed placed.
     let reads = g.E.CallRecord.reads in
     let all_kept = g.E.CallRecord.all_kept in
     let old = content_of c.args.self.now in
-    let event = c.args.item in
+    let event = c.args.event in
     let held = holds reads all_kept c.args.self.now events summed in
     let last = λ (o : Option Mark). option_or (mark_read reads event) o in
     let mark_is : c.or-self.result ≡ last c.if-is_none.self.last
