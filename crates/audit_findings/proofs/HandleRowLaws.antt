@@ -69,10 +69,9 @@ module _ (events : List EventRead) (rise : RiseInPlace events) (process : Proces
     held_weak = weak_held events rise process handle;
   }
 
-  whole : (row : HeldRow) → IsHandleRow events process row
-      → In row.taken.handle (handles_of items held) × (held_row items held row.taken.handle ≡ row)
+  whole : (row : HeldRow) → IsHandleRow events process row → In row.handle (handles_of items held) × (held_row items held row.handle ≡ row)
   whole row is =
-      let handle = row.taken.handle in
+      let handle = row.handle in
       let strong = value_once (handle_value process handle Strong) events (handle_count items handle Strong) row.taken.strong (counts handle Strong) is.strong in
       let weak = value_once (handle_value process handle Weak) events (handle_count items handle Weak) row.taken.weak (counts handle Weak) is.weak in
       let held_strong : held_count held handle false ≡ row.held_strong = strong_held events rise process handle ∙ sym is.held_strong in
@@ -81,11 +80,11 @@ module _ (events : List EventRead) (rise : RiseInPlace events) (process : Proces
       = subst (λ (n : ℕ). 0 < n)
       (sym (named handle ∙ ap₂ (λ (a b : ℕ). times_in process (names_handle changes_handle handle) events + a + b) held_strong held_weak)) is.listed in (
         in_counted (λ k. eqb k handle) handle (λ k same. eqb-true k handle same) (handles_of items held) listed,
-        λ i. record { taken = record { handle = handle; strong = strong i; weak = weak i }; held_strong = held_strong i; held_weak = held_weak i },
+        λ i. record { handle = handle; taken = record { strong = strong i; weak = weak i }; held_strong = held_strong i; held_weak = held_weak i },
       )
 
 pub handle_rows_are : (frames : List PlacedFrame) → RiseInPlace (events_of_frames frames)
-    → AreRowsInTurn nat_cmp (λ (row : HeldRow). row.taken.handle) (IsHandleRow (events_of_frames frames)) (processes_of frames)
+    → AreRowsInTurn nat_cmp (λ (row : HeldRow). row.handle) (IsHandleRow (events_of_frames frames)) (processes_of frames)
     (handle_references frames).rows
 handle_rows_are frames rise =
     let events = events_of_frames frames in
@@ -95,8 +94,8 @@ handle_rows_are frames rise =
       own = handles_in events;
       rows_are = refl;
       rising = λ process.
-          rows_rising nat_cmp nat_cmp_total exact_unsigned (λ (row : HeldRow). row.taken.handle) (row_of process) (λ handle. refl) (handles process);
+          rows_rising nat_cmp nat_cmp_total exact_unsigned (λ (row : HeldRow). row.handle) (row_of process) (λ handle. refl) (handles process);
       exact = λ process.
-          rows_exact nat_cmp nat_cmp_total exact_unsigned (λ (row : HeldRow). row.taken.handle) (row_of process) (λ handle. refl) (handles process)
+          rows_exact nat_cmp nat_cmp_total exact_unsigned (λ (row : HeldRow). row.handle) (row_of process) (λ handle. refl) (handles process)
           (IsHandleRow events process) (sound events rise process) (whole events rise process);
     }

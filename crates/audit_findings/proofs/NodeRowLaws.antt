@@ -58,13 +58,13 @@ module _ (events : List EventRead) (process : Process) where
   whole : (row : NodeRow) → IsNodeRow events process row → In row.key (map node_of items) × (node_row items row.key ≡ row)
   whole row is =
       let key = row.key in
-      let strong = value_once (node_value process key Strong) events (node_count items key Strong) row.strong (counts key Strong) is.strong in
-      let weak = value_once (node_value process key Weak) events (node_count items key Weak) row.weak (counts key Weak) is.weak in
+      let strong = value_once (node_value process key Strong) events (node_count items key Strong) row.counts.strong (counts key Strong) is.strong in
+      let weak = value_once (node_value process key Weak) events (node_count items key Weak) row.counts.weak (counts key Weak) is.weak in
       let strong_due = due key Strong ∙ sym is.strong_due in
       let weak_due = due key Weak ∙ sym is.weak_due in (
         in_counted (λ k. eq_by_cmp node_cmp key k) key (λ k same. sym (tells_apart node_cmp_exact key k same)) (map node_of items)
             (subst (λ (n : ℕ). 0 < n) (sym (named key)) is.listed),
-        λ i. record { key = key; strong = strong i; weak = weak i; strong_due = strong_due i; weak_due = weak_due i },
+        λ i. record { key = key; counts = record { strong = strong i; weak = weak i; strong_due = strong_due i; weak_due = weak_due i } },
       )
 
 pub node_rows_are : (frames : List PlacedFrame)

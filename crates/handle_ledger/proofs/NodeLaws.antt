@@ -12,7 +12,7 @@ use Rattle.event_core.specs.declared.node.NodeKey.{NodeKey}
 use Rattle.event_core.specs.declared.strength.Strength.TheVariants.{Strong, Weak}
 use Rattle.handle_ledger.proofs.Counting.{IsSmall, count_more, sum_more, sum_small}
 use Rattle.handle_ledger.proofs.KeyLaws.{counted_at, own, sum_at}
-use Rattle.handle_ledger.specs.Nodes.{node_cmp, node_change, node_due_change, node_of, node_row, node_rows, by_node, NodeCountsSum}
+use Rattle.handle_ledger.specs.Nodes.{node_cmp, node_change, node_counts, node_due_change, node_of, node_row, node_rows, by_node, NodeCountsSum}
 use Rattle.handle_ledger.specs.declared.node_counts.NodeCounts.{NodeCounts}
 use Rattle.handle_ledger.specs.declared.node_row.NodeRow.{NodeRow}
 use Rattle.summary_law.proofs.SortedLaws.{map_rows}
@@ -32,23 +32,23 @@ node_cmp_exact x y e =
 
 -- an entry of the map as a row
 abbrev pub entry_row : NodeKey × NodeCounts → NodeRow
-entry_row e = record { key = e.0; strong = e.1.strong; weak = e.1.weak; strong_due = e.1.strong_due; weak_due = e.1.weak_due }
+entry_row e = record { key = e.0; counts = e.1 }
 
--- the counts of the items of a node are its row
-row_of : (key : NodeKey) (items : List NodeItem) (counts : NodeCounts) → NodeCountsSum counts (own node_cmp node_of key items)
-    → entry_row (key, counts) ≡ node_row items key
-row_of key items counts sums =
+-- the counts of the items of a node are its counts among all items
+counts_are : (key : NodeKey) (items : List NodeItem) (counts : NodeCounts) → NodeCountsSum counts (own node_cmp node_of key items)
+    → counts ≡ node_counts items key
+counts_are key items counts sums =
     let strong = counted_at node_cmp node_of (node_change Strong) counts.strong key items sums.strong in
     let weak = counted_at node_cmp node_of (node_change Weak) counts.weak key items sums.weak in
     let strong_due = sum_at node_cmp node_of (node_due_change Strong) counts.strong_due key items sums.strong_due in
     let weak_due = sum_at node_cmp node_of (node_due_change Weak) counts.weak_due key items sums.weak_due in
-    λ i. record { key = key; strong = strong i; weak = weak i; strong_due = strong_due i; weak_due = weak_due i }
+    λ i. record { strong = strong i; weak = weak i; strong_due = strong_due i; weak_due = weak_due i }
 
 pub rows_are : (m : BTreeMap NodeKey NodeCounts) → IsOrdered node_cmp m → (items : List NodeItem)
     → SumsByKey node_cmp NodeCountsSum m (by_node items) → map entry_row m.entries ≡ node_rows items
 rows_are m ordered items sums =
     map_rows node_cmp node_cmp_total node_cmp_exact NodeCountsSum m ordered (by_node items) sums (node_row items) entry_row
-    (λ e counts. row_of e.0 items e.1 counts)
+    (λ e sums. ap (λ (counts : NodeCounts). entry_row (e.0, counts)) (counts_are e.0 items e.1 sums))
     ∙ ap (λ (keys : List NodeKey). map (node_row items) (sorted node_cmp keys))
     (map-map (λ (e : NodeKey × NodeItem). e.0) (λ (item : NodeItem). (node_of item, item)) items)
 

@@ -7,7 +7,6 @@ use Rattle.event_core.specs.declared.handle.HandleItem.{HandleItem}
 use Rattle.event_core.specs.declared.strength.Strength.{Strength}
 use Rattle.event_core.specs.declared.strength.Strength.TheVariants.{Strong, Weak}
 use Rattle.handle_ledger.specs.declared.handle_counts.HandleCounts.{HandleCounts}
-use Rattle.handle_ledger.specs.declared.handle_row.HandleRow.{HandleRow}
 use Rattle.handle_ledger.specs.declared.handles.HandleLedger.{HandleLedger}
 use Rattle.handle_ledger.specs.Rows.{change_at}
 use Rattle.handle_ledger.specs.Strengths.{change_of}
@@ -33,18 +32,15 @@ handle_of item = item.handle
 abbrev pub handle_count : List HandleItem → ℕ → Strength → Count
 handle_count items handle strength = count_of (map (change_at nat_cmp handle_of (handle_change strength) handle) items)
 
--- the row of a handle: its strong count and its weak count
-abbrev pub handle_row : List HandleItem → ℕ → HandleRow
-handle_row items handle =
-    record { handle = handle; strong = handle_count items handle Strong; weak = handle_count items handle Weak }
+-- the strong count and the weak count of a handle
+abbrev pub handle_counts : List HandleItem → ℕ → HandleCounts
+handle_counts items handle =
+    record { strong = handle_count items handle Strong; weak = handle_count items handle Weak }
 
--- a row for each handle that an item names, handles rising
-abbrev pub handle_rows : List HandleItem → List HandleRow
-handle_rows items = map (handle_row items) (sorted nat_cmp (map handle_of items))
-
--- the row of the handle that has these counts
-abbrev pub counts_row : ℕ → HandleCounts → HandleRow
-counts_row handle counts = record { handle = handle; strong = counts.strong; weak = counts.weak }
+-- each handle that an item names, with its counts, handles rising
+abbrev pub handle_rows : List HandleItem → List (ℕ × HandleCounts)
+handle_rows items =
+    map (λ handle. (handle, handle_counts items handle)) (sorted nat_cmp (map handle_of items))
 
 -- the counts are those of these items, which all name one handle
 pub record HandleCountsSum (counts : HandleCounts) (items : List HandleItem) : Type 0 where
@@ -60,6 +56,6 @@ abbrev pub HandleLedgerSums : HandleLedger → List HandleItem → Type 0
 HandleLedgerSums ledger items = SumsByKey nat_cmp HandleCountsSum ledger.handles.entries (by_handle items)
 
 -- for whatever items the ledger sums, these are the rows
-abbrev pub GivesHandleRows : HandleLedger → List HandleRow → Type 0
+abbrev pub GivesHandleRows : HandleLedger → List (ℕ × HandleCounts) → Type 0
 GivesHandleRows ledger rows =
     (items : List HandleItem) → HandleLedgerSums ledger items → rows ≡ handle_rows items

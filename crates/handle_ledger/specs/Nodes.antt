@@ -61,15 +61,18 @@ node_count items key strength = count_of (map (change_at node_cmp node_of (node_
 abbrev pub due_count : List NodeItem → NodeKey → Strength → ℤ
 due_count items key strength = total (map (change_at node_cmp node_of (node_due_change strength) key) items)
 
--- the row of a node: its strong count and its weak count, and what is due of each strength
-abbrev pub node_row : List NodeItem → NodeKey → NodeRow
-node_row items key = record {
-  key = key;
+-- the strong count and the weak count of a node, and what is due of each strength
+abbrev pub node_counts : List NodeItem → NodeKey → NodeCounts
+node_counts items key = record {
   strong = node_count items key Strong;
   weak = node_count items key Weak;
   strong_due = due_count items key Strong;
   weak_due = due_count items key Weak;
 }
+
+-- the row of a node
+abbrev pub node_row : List NodeItem → NodeKey → NodeRow
+node_row items key = record { key = key; counts = node_counts items key }
 
 -- a row for each node that an item names, by rising ptr and then by rising cookie
 abbrev pub node_rows : List NodeItem → List NodeRow

@@ -1,34 +1,23 @@
 //! The counts of one handle.
 
-ghost use Rattle.handle_ledger.specs.Handles.{HandleCountsSum, counts_row};
-ghost use Rattle.std.specs.Prelude.{◌≡◌};
+ghost use Rattle.handle_ledger.specs.Handles.{HandleCountsSum};
 ghost use Rattle.summary_law.specs.Fits.{IsShort, short_halves};
 
-use crate::handle_row::HandleRow;
 use event_core::{HandleChange, HandleItem, Strength};
 use std::alloc::{AllocError, Global};
 use summary_law::{Count, Summary};
 
-/// The counts of the references to one handle, over items that all name it.
-#[derive(Drop)]
-pub(crate) struct HandleCounts {
-    pub(crate) strong: Count,
-    pub(crate) weak: Count,
+/// The counts of a process's references to one handle, by the BC_ACQUIRE, BC_RELEASE, BC_INCREFS
+/// and BC_DECREFS that name it.
+#[derive(Clone, Copy, Debug, PartialEq, Eq)]
+pub struct HandleCounts {
+    /// BC_ACQUIRE raises it, and BC_RELEASE lowers it.
+    pub strong: Count,
+    /// BC_INCREFS raises it, and BC_DECREFS lowers it.
+    pub weak: Count,
 }
 
-impl HandleCounts {
-    /// The row of the handle that these are the counts of.
-    pub(crate) fn row(&self, handle: u32) -> HandleRow
-        ensures { result ≡ counts_row handle self.now }
-    {
-        HandleRow {
-            handle,
-            strong: self.strong,
-            weak: self.weak,
-        }
-    }
-}
-
+/// The items all name the handle.
 impl Summary for HandleCounts {
     type Item = HandleItem;
 

@@ -5,7 +5,6 @@ ghost use Rattle.std.specs.Prelude.{IfOk};
 ghost use Rattle.summary_law.specs.Fits.{IsShort, short_halves};
 
 use crate::handle_counts::HandleCounts;
-use crate::handle_row::HandleRow;
 use event_core::HandleItem;
 use std::alloc::{AllocError, Global};
 use summary_law::{ByKey, Summary};
@@ -17,13 +16,13 @@ pub struct HandleLedger {
 }
 
 impl HandleLedger {
-    /// A row for each handle that an item names, even if its counts are 0, handles rising.
-    pub fn rows(&self) -> Result<Vec<HandleRow>, AllocError>
+    /// Each handle that an item names, with its counts, even if they are 0, handles rising.
+    pub fn rows(&self) -> Result<Vec<(u32, HandleCounts)>, AllocError>
         ensures { IfOk result (λ rows. GivesHandleRows self.now rows.items) }
     {
         let mut rows = Vec::new(self.handles.allocator());
         for (handle, counts) in &self.handles.entries {
-            rows.push(counts.row(*handle))?;
+            rows.push((*handle, *counts))?;
         }
         Ok(rows)
     }

@@ -27,10 +27,7 @@ impl NodeLedger {
         for (key, counts) in &self.nodes.entries {
             rows.push(NodeRow {
                 key: *key,
-                strong: counts.strong,
-                weak: counts.weak,
-                strong_due: counts.strong_due,
-                weak_due: counts.weak_due,
+                counts: *counts,
             })?;
         }
         Ok(rows)

@@ -1,7 +1,7 @@
 //! Handles.
 
 use event_core::{HandleChange, HandleItem, Strength};
-use handle_ledger::{HandleLedger, HandleRow, HeldRow};
+use handle_ledger::{HandleCounts, HandleLedger, HeldRow};
 use std::test::Fail;
 use summary_law::{Count, Tally, summary_of};
 
@@ -19,17 +19,19 @@ macro_rules! item {
 /// A handle, its strong count and low, and its weak count and low.
 macro_rules! row {
     ($handle:literal, $strong:literal, $strong_low:literal, $weak:literal, $weak_low:literal) => {
-        HandleRow {
-            handle: $handle,
-            strong: Count {
-                sum: $strong,
-                low: $strong_low,
+        (
+            $handle,
+            HandleCounts {
+                strong: Count {
+                    sum: $strong,
+                    low: $strong_low,
+                },
+                weak: Count {
+                    sum: $weak,
+                    low: $weak_low,
+                },
             },
-            weak: Count {
-                sum: $weak,
-                low: $weak_low,
-            },
-        }
+        )
     };
 }
 
@@ -50,7 +52,7 @@ const ITEMS: &[HandleItem] = &[
     item!(0, Strong, Lower),
 ];
 
-const ROWS: &[HandleRow] = &[
+const ROWS: &[(u32, HandleCounts)] = &[
     row!(0, 0, 0, 0, 0),
     row!(1, 1, 0, 0, 0),
     row!(2, -2, -2, 0, 0),
@@ -75,9 +77,10 @@ const HELD: &[((u32, bool), u64)] = &[
 
 /// A row, and how many strong and how many weak references are held.
 macro_rules! held_row {
-    ($taken:expr, $strong:literal, $weak:literal) => {
+    ($row:expr, $strong:literal, $weak:literal) => {
         HeldRow {
-            taken: $taken,
+            handle: $row.0,
+            taken: $row.1,
             held_strong: $strong,
             held_weak: $weak,
         }
@@ -124,7 +127,7 @@ fn ten_thousand_handles_come_in_falling_order(rt: HostRuntime) -> Result<(), Fai
     let rows = ledger.rows()?;
     assert!(rt; rows.len() == 10000);
     for (place, row) in rows.iter().enumerate() {
-        assert!(rt; row.handle as usize == place);
+        assert!(rt; row.0 as usize == place);
     }
     Ok(())
 }

@@ -1,7 +1,7 @@
 //! Nodes.
 
 use event_core::{NodeChange, NodeItem, NodeKey, Strength};
-use handle_ledger::{NodeLedger, NodeRow};
+use handle_ledger::{NodeCounts, NodeLedger, NodeRow};
 use std::test::Fail;
 use summary_law::{Count, summary_of};
 
@@ -31,16 +31,18 @@ macro_rules! row {
                 ptr: $ptr,
                 cookie: $cookie,
             },
-            strong: Count {
-                sum: $strong,
-                low: $strong_low,
+            counts: NodeCounts {
+                strong: Count {
+                    sum: $strong,
+                    low: $strong_low,
+                },
+                weak: Count {
+                    sum: $weak,
+                    low: $weak_low,
+                },
+                strong_due: $strong_due,
+                weak_due: $weak_due,
             },
-            weak: Count {
-                sum: $weak,
-                low: $weak_low,
-            },
-            strong_due: $strong_due,
-            weak_due: $weak_due,
         }
     };
 }
