@@ -6,7 +6,7 @@ use Rattle.capture_frame.specs.Envelope.{number_at}
 use Rattle.transaction_view.specs.Transaction.{buffer, data_size}
 use Rattle.event_core.specs.declared.buffer.BufferItem.{BufferItem}
 use Rattle.event_core.specs.declared.buffer.BufferItem.TheVariants.{Delivery, Free}
-use Rattle.event_core.specs.declared.pending.PendingItem.{PendingItem}
+use Rattle.event_core.specs.declared.pending.KeyEvent.{KeyEvent}
 use Rattle.event_core.specs.declared.pending.PendingChange.TheVariants.{Open, Close}
 
 -- the delivery by a transaction or reply at this place, at the address in its `buffer` and with its data_size
@@ -23,6 +23,6 @@ buffer_item place BcFreeBuffer payload = Some (Free place (number_at 8 0 payload
 buffer_item place _ payload = None
 
 -- a delivery opens its address, and a free closes it
-abbrev pub buffer_pending : BufferItem → PendingItem ℕ
-buffer_pending (Delivery place address size kind) = record { place = place; key = address; change = Open }
-buffer_pending (Free place address) = record { place = place; key = address; change = Close }
+abbrev pub buffer_pending : BufferItem → ℕ × KeyEvent
+buffer_pending (Delivery place address size kind) = (address, record { place = place; change = Open })
+buffer_pending (Free place address) = (address, record { place = place; change = Close })

@@ -2,15 +2,15 @@
 use Rattle.std.specs.Prelude.{ℕ, List, Option, Some, None}
 use Rattle.binder_code.specs.declared.record_kind.Kind.{Kind}
 use Rattle.binder_code.specs.declared.record_kind.Kind.TheVariants.{BcClearDeathNotification, BrClearDeathNotificationDone}
-use Rattle.event_core.specs.declared.pending.PendingItem.{PendingItem}
+use Rattle.event_core.specs.declared.pending.KeyEvent.{KeyEvent}
 use Rattle.event_core.specs.declared.pending.PendingChange.TheVariants.{Open, Close}
 use Rattle.event_core.specs.Requests.{request_key, cookie_alone}
 
 -- what a record at this place does to its cookie: BC_CLEAR_DEATH_NOTIFICATION opens it, and
 -- BR_CLEAR_DEATH_NOTIFICATION_DONE, which confirms that, closes it; other kinds do nothing
-abbrev pub clear_item : ℕ → Kind → List ℕ → Option (PendingItem ℕ)
+abbrev pub clear_item : ℕ → Kind → List ℕ → Option (ℕ × KeyEvent)
 clear_item place BcClearDeathNotification payload =
-    Some (record { place = place; key = (request_key payload).cookie; change = Open })
+    Some ((request_key payload).cookie, record { place = place; change = Open })
 clear_item place BrClearDeathNotificationDone payload =
-    Some (record { place = place; key = cookie_alone payload; change = Close })
+    Some (cookie_alone payload, record { place = place; change = Close })
 clear_item place _ payload = None

@@ -30,6 +30,6 @@ pub use lookup::{event_at, event_without_attachment_at};
 pub use marks::{Bracket, Mark};
 pub use node::{NodeChange, NodeItem, NodeKey, node_step};
 pub use oneway::{OnewayKey, oneway_step};
-pub use pending::{PendingChange, PendingItem};
+pub use pending::{KeyEvent, PendingChange};
 pub use request::{RequestChange, RequestItem, RequestKey, request_step};
 pub use strength::Strength;

@@ -9,7 +9,7 @@ use binder_code::Kind;
 use capture_frame::{Frame, Frames, Process, Thread};
 use captures::{COMMANDS, DEVICE, RETURNS, WITH_ATTACHMENTS};
 use event_core::{
-    BufferItem, Event, Events, Mark, PendingChange, PendingItem, bracket, buffer_step, clear_step,
+    BufferItem, Event, Events, KeyEvent, Mark, PendingChange, bracket, buffer_step, clear_step,
     death_step, event_at, event_without_attachment_at, handle_step, mark, node_step, oneway_step,
     request_step,
 };
@@ -158,12 +158,9 @@ fn expect_buffer(rt: &impl Abort, event: Event<'_>, row: &Row) {
 }
 
 /// The open or close of the cookie.
-fn pending(place: u64, change: Option<PendingChange>) -> Option<PendingItem<u64>> {
-    Some(PendingItem {
-        place,
-        key: COOKIE,
-        change: change?,
-    })
+fn pending(place: u64, change: Option<PendingChange>) -> Option<(u64, KeyEvent)> {
+    let change = change?;
+    Some((COOKIE, KeyEvent { place, change }))
 }
 
 /// What an event does to requests, deaths and clears.
