@@ -13,13 +13,17 @@ use Rattle.event_core.specs.declared.pending.PendingChange.TheVariants.{Open, Cl
 abbrev pub delivery : ℕ → Kind → List ℕ → BufferItem
 delivery place kind payload = Delivery place (buffer payload) (data_size payload) kind
 
+-- the address that a free names: its payload
+abbrev pub freed_address : List ℕ → ℕ
+freed_address payload = number_at 8 0 payload
+
 -- what a record at this place does to a buffer of its process: BR_TRANSACTION, BR_TRANSACTION_SEC_CTX and BR_REPLY
 -- deliver one, and BC_FREE_BUFFER frees the one at its address; other kinds do nothing
 abbrev pub buffer_item : ℕ → Kind → List ℕ → Option BufferItem
 buffer_item place BrTransaction payload = Some (delivery place BrTransaction payload)
 buffer_item place BrTransactionSecCtx payload = Some (delivery place BrTransactionSecCtx payload)
 buffer_item place BrReply payload = Some (delivery place BrReply payload)
-buffer_item place BcFreeBuffer payload = Some (Free place (number_at 8 0 payload))
+buffer_item place BcFreeBuffer payload = Some (Free place (freed_address payload))
 buffer_item place _ payload = None
 
 -- a delivery opens its address, and a free closes it
