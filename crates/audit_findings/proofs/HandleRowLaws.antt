@@ -1,5 +1,6 @@
 -- The rows of `handles` are those of the counts over all events.
 use Rattle.std.proofs.Common.{◌≡◌, ℕ, ◌+◌, ◌<◌, Bool, true, false, cond, eqb, List, map, refl, sym, ap₂, subst, ◌∙◌, arith}
+use Rattle.std.specs.Map.{keys_of}
 use Rattle.std.specs.Ordering.{nat_cmp}
 use Rattle.std.specs.Prelude.{count_by}
 use Rattle.std.proofs.lemmas.Bool.{eq-eqb, eqb-true}
@@ -9,10 +10,10 @@ use Rattle.std.proofs.lemmas.Map.Lookups.{exact_unsigned}
 use Rattle.capture_frame.specs.Envelope.{PlacedFrame}
 use Rattle.capture_frame.specs.declared.process.Process.{Process}
 use Rattle.event_core.specs.Events.{EventRead, events_of_frames}
-use Rattle.event_core.specs.declared.handle.HandleItem.{HandleItem}
+use Rattle.event_core.specs.Handles.{HandleItem}
 use Rattle.event_core.specs.declared.strength.Strength.{Strength}
 use Rattle.event_core.specs.declared.strength.Strength.TheVariants.{Strong, Weak}
-use Rattle.handle_ledger.specs.Handles.{handle_count, handle_of}
+use Rattle.handle_ledger.specs.Handles.{handle_count}
 use Rattle.handle_ledger.specs.Held.{Held, handles_of, held_count, held_row}
 use Rattle.handle_ledger.specs.declared.held_row.HeldRow.{HeldRow}
 use Rattle.process_ledgers.specs.Items.{handle_item_of}
@@ -47,11 +48,11 @@ module _ (events : List EventRead) (rise : RiseInPlace events) (process : Proces
   named handle =
       let test : ℕ → Bool = λ k. eqb k handle in
       let own = held_of_process events process in
-      let listed_and_held : count_by test (handles_of items held) ≡ count_by test (map handle_of items) + count_by test (map (λ (r : Held × ℕ). r.0.0) held)
-      = sum_by-append (λ (k : ℕ). cond (test k) 1 0) (map handle_of items) (map (λ (r : Held × ℕ). r.0.0) held) in
-      let listed : count_by test (map handle_of items) ≡ times_in process (names_handle changes_handle handle) events
-      = count_made handle_of test items
-      ∙ count_items handle_item_of (λ item. test (handle_of item)) (names_handle changes_handle handle) (λ e. handle_named handle e.kind e.payload) process events in
+      let listed_and_held : count_by test (handles_of items held) ≡ count_by test (keys_of items) + count_by test (map (λ (r : Held × ℕ). r.0.0) held)
+      = sum_by-append (λ (k : ℕ). cond (test k) 1 0) (keys_of items) (map (λ (r : Held × ℕ). r.0.0) held) in
+      let listed : count_by test (keys_of items) ≡ times_in process (names_handle changes_handle handle) events
+      = count_made (λ (item : HandleItem). item.0) test items
+      ∙ count_items handle_item_of (λ item. test item.0) (names_handle changes_handle handle) (λ e. handle_named handle e.kind e.payload) process events in
       listed_and_held
       ∙ ap₂ (λ (a b : ℕ). a + b) listed
       (both_strengths handle own ∙ ap₂ (λ (a b : ℕ). a + b) (sym (held_is handle false own)) (sym (held_is handle true own)))

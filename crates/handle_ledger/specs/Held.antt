@@ -2,13 +2,14 @@
 use Rattle.std.specs.Prelude.{◌≡◌, ℕ, Bool, true, false, List, ◌++◌, map}
 use Rattle.std.specs.BTreeSet.{BTreeSet, contains}
 use Rattle.std.specs.List.{list_any}
+use Rattle.std.specs.Map.{keys_of}
 use Rattle.std.specs.Ordering.{eq_by_cmp, nat_cmp, bool_cmp, ordering_then}
 use Rattle.std.specs.declared.cmp.Ordering.{Ordering}
-use Rattle.event_core.specs.declared.handle.HandleItem.{HandleItem}
+use Rattle.event_core.specs.Handles.{HandleItem}
 use Rattle.handle_ledger.specs.declared.handle_counts.HandleCounts.{HandleCounts}
 use Rattle.handle_ledger.specs.declared.handles.HandleLedger.{HandleLedger}
 use Rattle.handle_ledger.specs.declared.held_row.HeldRow.{HeldRow}
-use Rattle.handle_ledger.specs.Handles.{handle_of, handle_counts, HandleLedgerSums}
+use Rattle.handle_ledger.specs.Handles.{handle_counts, HandleLedgerSums}
 use Rattle.summary_law.specs.Sorted.{sorted}
 use Rattle.summary_law.specs.Tally.{count_of_key, TallySums}
 use Rattle.summary_law.specs.declared.tally.Tally.{Tally}
@@ -36,7 +37,7 @@ held_row items held handle = record {
 
 -- the handles that an item names, and those to which a reference is held
 abbrev pub handles_of : List HandleItem → List (Held × ℕ) → List ℕ
-handles_of items held = map handle_of items ++ map (λ reference. reference.0.0) held
+handles_of items held = keys_of items ++ map (λ reference. reference.0.0) held
 
 -- a row for each handle that an item names or to which a reference is held, handles rising
 abbrev pub held_rows : List HandleItem → List (Held × ℕ) → List HeldRow

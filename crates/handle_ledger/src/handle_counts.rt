@@ -3,7 +3,7 @@
 ghost use Rattle.handle_ledger.specs.Handles.{HandleCountsSum};
 ghost use Rattle.summary_law.specs.Fits.{IsShort, short_halves};
 
-use event_core::{HandleChange, HandleItem, Strength};
+use event_core::{HandleChange, Strength};
 use std::alloc::{AllocError, Global};
 use summary_law::{Count, Summary};
 
@@ -17,9 +17,8 @@ pub struct HandleCounts {
     pub weak: Count,
 }
 
-/// The items all name the handle.
 impl Summary for HandleCounts {
-    type Item = HandleItem;
+    type Item = (Strength, HandleChange);
 
     ghost fits = { IsShort };
 
@@ -32,8 +31,8 @@ impl Summary for HandleCounts {
         }
     }
 
-    fn add(&mut self, item: HandleItem) -> Result<(), AllocError> {
-        match (item.strength, item.change) {
+    fn add(&mut self, item: (Strength, HandleChange)) -> Result<(), AllocError> {
+        match (item.0, item.1) {
             (Strength::Strong, HandleChange::Raise) => self.strong.raise(),
             (Strength::Strong, HandleChange::Lower) => self.strong.lower(),
             (Strength::Weak, HandleChange::Raise) => self.weak.raise(),

@@ -5,7 +5,7 @@ ghost use Rattle.std.specs.Prelude.{IfOk};
 ghost use Rattle.summary_law.specs.Fits.{IsShort, short_halves};
 
 use crate::handle_counts::HandleCounts;
-use event_core::HandleItem;
+use event_core::{HandleChange, Strength};
 use std::alloc::{AllocError, Global};
 use summary_law::{ByKey, Summary};
 
@@ -30,7 +30,7 @@ impl HandleLedger {
 
 /// An `add` takes at most two look-ups, and a `join` two for each handle of the later ledger.
 impl Summary for HandleLedger {
-    type Item = HandleItem;
+    type Item = (u32, (Strength, HandleChange));
 
     ghost fits = { IsShort };
 
@@ -42,8 +42,8 @@ impl Summary for HandleLedger {
         }
     }
 
-    fn add(&mut self, item: HandleItem) -> Result<(), AllocError> {
-        self.handles.add((item.handle, item))
+    fn add(&mut self, item: (u32, (Strength, HandleChange))) -> Result<(), AllocError> {
+        self.handles.add(item)
     }
 
     fn join(self, later: HandleLedger) -> Result<HandleLedger, AllocError> {

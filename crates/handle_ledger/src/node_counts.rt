@@ -3,7 +3,7 @@
 ghost use Rattle.handle_ledger.specs.Nodes.{NodeCountsSum};
 ghost use Rattle.summary_law.specs.Fits.{IsShort, short_halves};
 
-use event_core::{NodeChange, NodeItem, Strength};
+use event_core::{NodeChange, Strength};
 use std::alloc::{AllocError, Global};
 use summary_law::{Count, Summary};
 
@@ -20,9 +20,8 @@ pub struct NodeCounts {
     pub weak_due: i64,
 }
 
-/// The items all name the node.
 impl Summary for NodeCounts {
-    type Item = NodeItem;
+    type Item = (Strength, NodeChange);
 
     ghost fits = { IsShort };
 
@@ -37,8 +36,8 @@ impl Summary for NodeCounts {
         }
     }
 
-    fn add(&mut self, item: NodeItem) -> Result<(), AllocError> {
-        match (item.strength, item.change) {
+    fn add(&mut self, item: (Strength, NodeChange)) -> Result<(), AllocError> {
+        match (item.0, item.1) {
             (Strength::Strong, NodeChange::Raise) => {
                 self.strong.raise();
                 self.strong_due += 1;

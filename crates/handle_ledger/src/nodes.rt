@@ -6,7 +6,7 @@ ghost use Rattle.summary_law.specs.Fits.{IsShort, short_halves};
 
 use crate::node_counts::NodeCounts;
 use crate::node_row::NodeRow;
-use event_core::{NodeItem, NodeKey};
+use event_core::{NodeChange, NodeKey, Strength};
 use std::alloc::{AllocError, Global};
 use summary_law::{ByKey, Summary};
 
@@ -36,7 +36,7 @@ impl NodeLedger {
 
 /// An `add` takes at most two look-ups, and a `join` two for each node of the later ledger.
 impl Summary for NodeLedger {
-    type Item = NodeItem;
+    type Item = (NodeKey, (Strength, NodeChange));
 
     ghost fits = { IsShort };
 
@@ -48,8 +48,8 @@ impl Summary for NodeLedger {
         }
     }
 
-    fn add(&mut self, item: NodeItem) -> Result<(), AllocError> {
-        self.nodes.add((item.node, item))
+    fn add(&mut self, item: (NodeKey, (Strength, NodeChange))) -> Result<(), AllocError> {
+        self.nodes.add(item)
     }
 
     fn join(self, later: NodeLedger) -> Result<NodeLedger, AllocError> {

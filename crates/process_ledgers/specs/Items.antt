@@ -5,13 +5,11 @@ use Rattle.event_core.specs.Buffers.{buffer_item, buffer_pending}
 use Rattle.event_core.specs.Clears.{clear_item}
 use Rattle.event_core.specs.Deaths.{death_item}
 use Rattle.event_core.specs.Events.{EventRead}
-use Rattle.event_core.specs.Handles.{handle_item}
-use Rattle.event_core.specs.Nodes.{node_item}
+use Rattle.event_core.specs.Handles.{HandleItem, handle_item}
+use Rattle.event_core.specs.Nodes.{NodeItem, node_item}
 use Rattle.event_core.specs.Oneway.{oneway_item}
 use Rattle.event_core.specs.Requests.{request_item}
 use Rattle.event_core.specs.declared.buffer.BufferItem.{BufferItem}
-use Rattle.event_core.specs.declared.handle.HandleItem.{HandleItem}
-use Rattle.event_core.specs.declared.node.NodeItem.{NodeItem}
 use Rattle.event_core.specs.declared.oneway.OnewayKey.{OnewayKey}
 use Rattle.event_core.specs.declared.pending.KeyEvent.{KeyEvent}
 use Rattle.event_core.specs.declared.request.RequestItem.{RequestItem}

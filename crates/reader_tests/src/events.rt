@@ -124,15 +124,15 @@ fn expect_start(rt: &impl Abort, event: Event<'_>, start: Start) {
 
 /// What an event does to the counts of handles and nodes.
 fn expect_counts(rt: &impl Abort, event: Event<'_>, row: &Row) {
-    let handle = handle_step(event).map(|item| (item.strength, item.change));
+    let handle = handle_step(event).map(|item| item.1);
     same_at(rt, row.place, handle, row.handle);
     if let Some(item) = handle_step(event) {
-        same(rt, item.handle, HANDLE);
+        same(rt, item.0, HANDLE);
     }
-    let node = node_step(event).map(|item| (item.strength, item.change));
+    let node = node_step(event).map(|item| item.1);
     same_at(rt, row.place, node, row.node);
     if let Some(item) = node_step(event) {
-        same(rt, item.node, NODE);
+        same(rt, item.0, NODE);
     }
     let oneway = oneway_step(event).map(|item| item.0);
     same_at(rt, row.place, oneway, row.oneway);

@@ -1,6 +1,6 @@
 //! Handles.
 
-use event_core::{HandleChange, HandleItem, Strength};
+use event_core::{HandleChange, Strength};
 use handle_ledger::{HandleCounts, HandleLedger, HeldRow};
 use std::test::Fail;
 use summary_law::{Count, Tally, summary_of};
@@ -8,11 +8,7 @@ use summary_law::{Count, Tally, summary_of};
 /// A handle, and what is done to its references of a strength.
 macro_rules! item {
     ($handle:literal, $strength:ident, $change:ident) => {
-        HandleItem {
-            handle: $handle,
-            strength: Strength::$strength,
-            change: HandleChange::$change,
-        }
+        ($handle, (Strength::$strength, HandleChange::$change))
     };
 }
 
@@ -37,7 +33,7 @@ macro_rules! row {
 
 /// The least and the greatest handle; 1 to 4 named by one command each; 5 by a strong and a weak
 /// one; and 6 let go before it is taken.
-const ITEMS: &[HandleItem] = &[
+const ITEMS: &[(u32, (Strength, HandleChange))] = &[
     item!(4, Weak, Lower),
     item!(6, Strong, Lower),
     item!(1, Strong, Raise),
@@ -116,11 +112,7 @@ fn rows_of_a_dozen_items(rt: HostRuntime) -> Result<(), Fail> {
 fn ten_thousand_handles_come_in_falling_order(rt: HostRuntime) -> Result<(), Fail> {
     let mut items = Vec::new(rt.alloc());
     for handle in (0..10000).rev() {
-        items.push(HandleItem {
-            handle,
-            strength: Strength::Weak,
-            change: HandleChange::Raise,
-        })?;
+        items.push((handle, (Strength::Weak, HandleChange::Raise)))?;
     }
     assert!(rt; items.len() == 10000);
     let ledger: HandleLedger = summary_of(rt.alloc(), items.as_slice())?;
