@@ -20,7 +20,7 @@ use Rattle.audit_findings.specs.Flags.{flagged, has_unknown_flags}
 use Rattle.audit_findings.specs.Objects.{objects_in, bad_objects, bad_of}
 use Rattle.audit_findings.specs.declared.objects.BadRow.{BadRow}
 use Rattle.audit_findings.specs.Places.{EventTest, either, is_stray_close, is_unclosed, passing_events, open_and_stray}
-use Rattle.event_core.specs.declared.pending.PendingItem.{PendingItem}
+use Rattle.event_core.specs.declared.pending.KeyEvent.{KeyEvent}
 use Rattle.audit_findings.specs.TextReads.{text_reads}
 use Rattle.audit_findings.specs.Threads.{in_threads}
 use Rattle.audit_findings.proofs.CallEvents.{Reading, opener_event, send_event, send_read, stray_event}
@@ -47,7 +47,7 @@ listed_there test events =
     chosen-is test before e later y is)
     events
 
-pub both_there : (read : EventRead → Option (PendingItem ℕ)) (events : List EventRead) → All (Contains events) (open_and_stray read events).rows
+pub both_there : (read : EventRead → Option (ℕ × KeyEvent)) (events : List EventRead) → All (Contains events) (open_and_stray read events).rows
 both_there read events = listed_there (either (is_unclosed read) (is_stray_close read)) events
 
 -- what is read of each thread, if each item has the event that it is read of

@@ -162,7 +162,8 @@ unfolding digits
 address_number = refl
 
 negative_row : handles_row (process_row (numbered 100) (record {
-  taken = record { handle = 2; strong = record { sum = pos 0; low = negsuc 1 }; weak = record { sum = pos 1; low = pos 0 } };
+  handle = 2;
+  taken = record { strong = record { sum = pos 0; low = negsuc 1 }; weak = record { sum = pos 1; low = pos 0 } };
   held_strong = 0;
   held_weak = 2;
 })) ≡ codes "  1 100 2 0 -2 1 0 0 2"
@@ -226,8 +227,8 @@ widest_objects = refl
 
 -- the least number is `negsuc` of one less than its amount
 widest_handle : handles_row (process_row (numbered 4294967295) (record {
+  handle = 0;
   taken = record {
-    handle = 0;
     strong = record { sum = negsuc 0; low = negsuc 9223372036854775807 };
     weak = record { sum = pos 9223372036854775807; low = pos 0 };
   };
@@ -239,10 +240,12 @@ widest_handle = refl
 
 widest_node : nodes_row (process_row (numbered 7) (record {
   key = record { ptr = 0; cookie = most };
-  strong = record { sum = pos 10; low = negsuc 9 };
-  weak = record { sum = pos 2; low = negsuc 2 };
-  strong_due = pos 4;
-  weak_due = negsuc 9223372036854775807;
+  counts = record {
+    strong = record { sum = pos 10; low = negsuc 9 };
+    weak = record { sum = pos 2; low = negsuc 2 };
+    strong_due = pos 4;
+    weak_due = negsuc 9223372036854775807;
+  };
 })) ≡ codes "  1 7 0x0 0xffffffffffffffff 10 -10 2 -3 4 -9223372036854775808"
 unfolding most digits
 widest_node = refl
