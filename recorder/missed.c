@@ -3,9 +3,9 @@
 #include "side.h"
 #include "window.h"
 
-/* So many at a time when the last number taken was at least `from` and at most `after`. */
+/* So many, told at this time, when the last number taken was at least `from` and at most `after`. */
 struct amount {
-	u64 count, from, after;
+	u64 time, count, from, after;
 };
 
 static struct kind {
@@ -32,7 +32,7 @@ void missed_begin(void)
 
 static void tell(const struct kind *kind, struct amount amount)
 {
-	side_line(now(), "%s %llu what=%s from=%llu after=%llu", kind->line, (unsigned long long)amount.count,
+	side_line(amount.time, "%s %llu what=%s from=%llu after=%llu", kind->line, (unsigned long long)amount.count,
 		  kind->word, (unsigned long long)amount.from, (unsigned long long)amount.after);
 }
 
@@ -58,7 +58,7 @@ void missed_tell(void)
 		u64 count = kind->counted();
 		if (count == kind->told)
 			continue;
-		struct amount amount = { count - kind->told, number_at_last_look, kernel_last_number() };
+		struct amount amount = { now(), count - kind->told, number_at_last_look, kernel_last_number() };
 		tell(kind, amount);
 		add_pending(kind, amount);
 		kind->told = count;
